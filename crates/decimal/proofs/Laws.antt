@@ -1,0 +1,154 @@
+-- Laws of a number in decimal: its digits by the number of its tens, what they read as, how many there are. Assumes nothing.
+use mathlib.Core.Path.{_≡_, refl, ap}
+use mathlib.Core.List.{List, [], _∷_, _++_, foldl-append}
+use Prim.Native.Nat.{ℕ, zero, suc, _+_, _-_, _*_, _/_, _%_, _^_, _≤_, _<_}
+use native.Mathlib.Nat.{add-zero, div-one, div-div-eq-div-mul, pow-succ', one-le-pow}
+use native.Mathlib.Decide.{decLe}
+use native.Mathlib.Omega.{arith}
+use lib.ListN.{length, getD, length-append, List·getD-append}
+use lib.Seq.{getD-at}
+use Rattle.decimal.specs.Decimal.{significant, decimalOf, decimalValue}
+
+-- one order or the other
+split {ℓ} : {X : Type ℓ} (a b : ℕ) → (a ≤ b → X) → (b < a → X) → X
+split a b f g = elim (decLe a b) [ yes h ↦ f h | no h ↦ g (omega arith) ]
+
+-- induction over the digits: a number of one digit, and a longer one from the number of its tens
+pub by-tens {ℓ} : (P : ℕ → Type ℓ) → ((n : ℕ) → n < 10 → P n) → ((n : ℕ) → 10 ≤ n → P (n / 10) → P n) → (n : ℕ) → P n
+by-tens P one more n = go n n (omega arith)
+  where
+    go : (steps m : ℕ) → m ≤ steps → P m
+    go zero m h = one m (omega arith)
+    go (suc steps) m h = split 10 m (λ k. more m k (go steps (m / 10) (omega arith))) (one m)
+
+-- any bound that suffices gives the same digits
+same-steps : (f g n : ℕ) → n ≤ f → n ≤ g → significant f n ≡ significant g n
+unfolding significant
+same-steps zero zero n hf hg = refl
+same-steps zero (suc g) zero hf hg = refl
+same-steps zero (suc g) (suc n) hf hg = absurd (omega arith)
+same-steps (suc f) zero zero hf hg = refl
+same-steps (suc f) zero (suc n) hf hg = absurd (omega arith)
+same-steps (suc f) (suc g) zero hf hg = refl
+same-steps (suc f) (suc g) (suc n) hf hg =
+    ap (λ (l : List ℕ). l ++ ((48 + suc n % 10) ∷ [])) (same-steps f g (suc n / 10) (omega arith) (omega arith))
+
+-- 0 has no significant digit
+none : (f : ℕ) → significant f 0 ≡ []
+unfolding significant
+none zero = refl
+none (suc f) = refl
+
+-- another number has those of its tens and its last digit, as in decimal
+some : (f n : ℕ) → 0 < n → n ≤ f → significant f n ≡ decimalOf n
+unfolding significant decimalOf
+some zero n p h = absurd (omega arith)
+some (suc f) zero p h = absurd (omega arith)
+some (suc f) (suc n) p h =
+    ap (λ (l : List ℕ). l ++ ((48 + suc n % 10) ∷ [])) (same-steps f (suc n) (suc n / 10) (omega arith) (omega arith))
+
+-- a number below ten is its one digit
+pub one-digit : (n : ℕ) → n < 10 → decimalOf n ≡ (48 + n) ∷ []
+unfolding decimalOf
+one-digit n h =
+    let tens : n / 10 ≡ 0 = omega arith in
+    let last : n % 10 ≡ n = omega arith in
+    rw (tens, last, none n)
+
+-- another number is the number of its tens in decimal, and then its last digit
+pub more-digits : (n : ℕ) → 10 ≤ n → decimalOf n ≡ decimalOf (n / 10) ++ ((48 + n % 10) ∷ [])
+unfolding decimalOf
+more-digits n h = ap (λ (l : List ℕ). l ++ ((48 + n % 10) ∷ [])) (some n (n / 10) (omega arith) (omega arith))
+
+-- digits and one more read as ten times the number and the last digit
+value-more : (os : List ℕ) (o : ℕ) → decimalValue (os ++ (o ∷ [])) ≡ decimalValue os * 10 + (o - 48)
+unfolding decimalValue
+value-more os o = foldl-append _ 0 os (o ∷ [])
+
+-- a number in decimal reads back as the number
+pub reads-back : (n : ℕ) → decimalValue (decimalOf n) ≡ n
+unfolding decimalValue
+reads-back = by-tens (λ (n : ℕ). decimalValue (decimalOf n) ≡ n) one more
+  where
+    one : (n : ℕ) → n < 10 → decimalValue (decimalOf n) ≡ n
+    one n h = rw (one-digit n h) (omega arith)
+
+    more : (n : ℕ) → 10 ≤ n → decimalValue (decimalOf (n / 10)) ≡ n / 10 → decimalValue (decimalOf n) ≡ n
+    more n h back = rw (more-digits n h, value-more (decimalOf (n / 10)), back) (omega arith)
+
+-- a number of more than one digit has one more than the number of its tens
+pub one-more : (n : ℕ) → 10 ≤ n → length (decimalOf n) ≡ length (decimalOf (n / 10)) + 1
+one-more n h = rw (more-digits n h, length-append)
+
+-- a number from 10 ^ k on has k digits more than what is left where its last k are cut off
+pub cut-off : (k n : ℕ) → 10 ^ k ≤ n → length (decimalOf n) ≡ length (decimalOf (n / 10 ^ k)) + k
+cut-off zero n h = rw (div-one, add-zero)
+cut-off (suc k) n h =
+    let p : 1 ≤ 10 ^ k = one-le-pow k 10 (omega arith) in
+    let e : 10 ^ suc k ≡ 10 * 10 ^ k = pow-succ' 10 k in
+    let d : n / 10 ^ suc k ≡ n / 10 / 10 ^ k = rw (e, div-div-eq-div-mul n 10 (10 ^ k)) in
+    rw d (omega (arith, one-more n (omega arith), cut-off k (n / 10) (omega arith)))
+
+-- there is always a digit
+pub never-empty : (n : ℕ) → 0 < length (decimalOf n)
+never-empty =
+    by-tens (λ (n : ℕ). 0 < length (decimalOf n)) (λ n h. omega (arith, ap length (one-digit n h)))
+    (λ n h some. omega (arith, one-more n h))
+
+-- the first digit of a number other than 0 is not `0`
+pub no-leading-zero : (n : ℕ) → 0 < n → getD (decimalOf n) 0 0 ≡ 48 → ⊥
+no-leading-zero = by-tens (λ (n : ℕ). 0 < n → getD (decimalOf n) 0 0 ≡ 48 → ⊥) one more
+  where
+    one : (n : ℕ) → n < 10 → 0 < n → getD (decimalOf n) 0 0 ≡ 48 → ⊥
+    one n h p e = let f : 48 + n ≡ 48 = rw (one-digit n h) at e in omega arith
+
+    more : (n : ℕ) → 10 ≤ n → (0 < n / 10 → getD (decimalOf (n / 10)) 0 0 ≡ 48 → ⊥) → 0 < n → getD (decimalOf n) 0 0 ≡ 48 → ⊥
+    more n h not-so p e =
+        not-so (omega arith) (rw (more-digits n h, List·getD-append (decimalOf (n / 10)) _ 0 0 (never-empty (n / 10))) at e)
+
+-- an ASCII digit
+abbrev pub Digit : ℕ → Type 0
+Digit o = (48 ≤ o) × (o ≤ 57)
+
+-- every octet is a digit
+pub all-digits : (n i : ℕ) → i < length (decimalOf n) → Digit (getD (decimalOf n) i 0)
+all-digits = by-tens (λ (n : ℕ). (i : ℕ) → i < length (decimalOf n) → Digit (getD (decimalOf n) i 0)) one more
+  where
+    one : (n : ℕ) → n < 10 → (i : ℕ) → i < length (decimalOf n) → Digit (getD (decimalOf n) i 0)
+    one n h i b =
+        let z : i ≡ 0 = omega (arith, ap length (one-digit n h)) in
+        rw (z, one-digit n h) (omega arith)
+
+    at-end : (n : ℕ) → 10 ≤ n → (i : ℕ) → length (decimalOf (n / 10)) ≡ i → Digit (getD (decimalOf n) i 0)
+    at-end n h i e = rw (more-digits n h, getD-at (decimalOf (n / 10)) _ [] 0 i e) (omega arith)
+
+    more : (n : ℕ) → 10 ≤ n → ((i : ℕ) → i < length (decimalOf (n / 10)) → Digit (getD (decimalOf (n / 10)) i 0))
+        → (i : ℕ) → i < length (decimalOf n) → Digit (getD (decimalOf n) i 0)
+    more n h so i b =
+        split (length (decimalOf (n / 10))) i (λ k. at-end n h i (omega (arith, one-more n h)))
+        (λ k. rw (more-digits n h, List·getD-append (decimalOf (n / 10)) _ 0 i k) (so i k))
+
+-- a number below 10 ^ k has at most k digits, where k is not 0
+pub at-most : (k n : ℕ) → 0 < k → n < 10 ^ k → length (decimalOf n) ≤ k
+at-most zero n p h = absurd (omega arith)
+at-most (suc zero) n p h = omega (arith, ap length (one-digit n (omega arith)))
+at-most (suc (suc k)) n p h =
+    split 10 n
+    (λ t. omega (arith, one-more n t, at-most (suc k) (n / 10) (omega arith) (omega (arith, pow-succ' 10 (suc k)))))
+    (λ t. omega (arith, ap length (one-digit n t)))
+
+-- a number from 10 ^ k on has more than k digits
+pub at-least : (k n : ℕ) → 10 ^ k ≤ n → k < length (decimalOf n)
+at-least zero n h = never-empty n
+at-least (suc k) n h =
+    let p : 1 ≤ 10 ^ k = one-le-pow k 10 (omega arith) in
+    let e : 10 ^ suc k ≡ 10 * 10 ^ k = pow-succ' 10 k in
+    omega (arith, one-more n (omega arith), at-least k (n / 10) (omega arith))
+
+-- so a number from 10 ^ k up to 10 ^ (k + 1) has k + 1
+pub exactly : (k n : ℕ) → 10 ^ k ≤ n → n < 10 ^ (k + 1) → length (decimalOf n) ≡ k + 1
+exactly k n l h = omega (arith, at-least k n l, at-most (k + 1) n (omega arith) h)
+
+-- a number of 64 bits has at most 20 digits
+pub at-most-20 : (n : ℕ) → n < 2 ^ 64 → length (decimalOf n) ≤ 20
+at-most-20 n h = at-most 20 n (omega arith) (omega arith)

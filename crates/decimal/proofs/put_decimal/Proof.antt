@@ -1,0 +1,40 @@
+-- `put_decimal` meets its contract: the test before `write` is that of `put`. Assumes nothing.
+use mathlib.Core.Path.{sym, _∙_}
+use native.Mathlib.Omega.{arith}
+use borrow.Author.Needs.{needs}
+use Rattle.octets.proofs.Memory.{put-room, put-none}
+use Rattle.decimal.specs.Decimal.{decimalOf}
+use Rattle.decimal.proofs.put_decimal.Statement.{statement}
+use Rattle.decimal.proofs.put_decimal.Tie as tie
+
+count-requires : tie.Need-count-requires
+count-requires c κs = search needs
+
+sub-if2 : tie.Need-sub-if2
+sub-if2 c = search needs
+
+write-requires : tie.Need-write-requires
+write-requires c κs = search needs
+
+same-length : tie.Need-same-length
+same-length c = search needs
+
+returns : tie.Need-returns
+returns c =
+    let a = c .before .before .before .before .before .before .before .before .args in
+    (search needs, c .before .before .write .ensures ∙ sym (put-room (a .at) (decimalOf (a .v)) (a .out .now) (omega arith)))
+
+returns-2 : tie.Need-returns-2
+returns-2 c =
+    let a = c .before .before .before .before .args in
+    (search needs, sym (put-none (a .at) (decimalOf (a .v)) (a .out .now) (omega arith)))
+
+returns-3 : tie.Need-returns-3
+returns-3 c =
+    let a = c .before .before .before .args in
+    (search needs, sym (put-none (a .at) (decimalOf (a .v)) (a .out .now) (omega arith)))
+
+pub put-decimal-spec : {M : Type 1} → statement M
+put-decimal-spec =
+    tie.close
+    (tie.spec count-requires sub-if2 write-requires same-length returns returns-2 returns-3)

@@ -1,0 +1,101 @@
+-- `write` meets its contract. The loop's invariant: memory as it is with the last i digits of the rest still to be written from `at` on is memory
+-- at the entry with all of `v`'s digits written there; i is at most `n`, and memory keeps its length. The measure is i. Assumes nothing.
+use mathlib.Core.Path.{_≡_, refl, _∙_}
+use Prim.Native.Nat.{_≤_}
+use native.Mathlib.Omega.{arith}
+use borrow.Author.Needs.{needs}
+use lib.ListN.{length, length-set}
+use Rattle.octets.specs.Memory.{splice}
+use Rattle.decimal.specs.Decimal.{decimalOf}
+use Rattle.decimal.proofs.Backward.{lowest, all-lowest, write-none, write-two, write-first}
+use Rattle.decimal.proofs.write.Statement.{statement}
+use Rattle.decimal.proofs.write.Tie as tie
+
+abbrev Inv-loop : tie.InvT-loop
+Inv-loop out₀ at n v rest₀ i₀ out rest i =
+    (i ≤ n) × (length out ≡ length out₀) × (splice at (lowest i rest) out ≡ splice at (decimalOf v) out₀)
+
+abbrev μ-loop : tie.MeasureT-loop
+μ-loop out₀ at n v rest₀ i₀ out rest i = i
+
+loop-holds : tie.Need-loop-holds Inv-loop μ-loop
+loop-holds c = (search needs, refl, rw (c .before .pre .0, all-lowest))
+
+sub-i : tie.Need-sub-i Inv-loop μ-loop
+sub-i c = search needs
+
+add-place : tie.Need-add-place Inv-loop μ-loop
+add-place c = search needs
+
+last-requires : tie.Need-last-requires Inv-loop μ-loop
+last-requires c κs = search needs
+
+add-out : tie.Need-add-out Inv-loop μ-loop
+add-out c = search needs
+
+slice-write-out : tie.Need-slice-write-out Inv-loop μ-loop
+slice-write-out c = search needs
+
+last-requires-2 : tie.Need-last-requires-2 Inv-loop μ-loop
+last-requires-2 c κs = search needs
+
+slice-write-out-2 : tie.Need-slice-write-out-2 Inv-loop μ-loop
+slice-write-out-2 c = simp length-set (omega arith)
+
+loop-less : tie.Need-loop-less Inv-loop μ-loop
+loop-less c = search needs
+
+loop-again : tie.Need-loop-again Inv-loop μ-loop
+loop-again c =
+    let l = c .before .before .before .loop in
+    let a = c .before .before .before .before .before .args in
+    (omega arith, simp length-set (l .inv .1), rw (c .before .last .ensures, c .last2 .ensures) (write-two (a .at) (l .i) (l .rest) (l .out) (omega arith) (omega arith) ∙ l .inv .2))
+
+last-requires-3 : tie.Need-last-requires-3 Inv-loop μ-loop
+last-requires-3 c κs = search needs
+
+slice-write-out-3 : tie.Need-slice-write-out-3 Inv-loop μ-loop
+slice-write-out-3 c = search needs
+
+same-length : tie.Need-same-length Inv-loop μ-loop
+same-length c = search needs
+
+returns : tie.Need-returns Inv-loop μ-loop
+returns c =
+    let l = c .before .before .before .loop in
+    let a = c .before .before .before .before .before .args in
+    let one : l .i ≡ 1 = omega arith in
+    rw (c .last3 .ensures) (write-first (a .at) (l .rest) (l .out) (omega arith) ∙ (rw one at (l .inv .2)))
+
+same-length-2 : tie.Need-same-length-2 Inv-loop μ-loop
+same-length-2 c = search needs
+
+returns-2 : tie.Need-returns-2 Inv-loop μ-loop
+returns-2 c =
+    let l = c .before .before .loop in
+    let a = c .before .before .before .before .args in
+    let none : l .i ≡ 0 = omega arith in
+    write-none (a .at) (l .rest) (l .out) ∙ (rw none at (l .inv .2))
+
+pub write-spec : {M : Type 1} → statement M
+write-spec =
+    tie.close
+    (tie.spec
+    Inv-loop
+    μ-loop
+    loop-holds
+    sub-i
+    add-place
+    last-requires
+    add-out
+    slice-write-out
+    last-requires-2
+    slice-write-out-2
+    loop-less
+    loop-again
+    last-requires-3
+    slice-write-out-3
+    same-length
+    returns
+    same-length-2
+    returns-2)

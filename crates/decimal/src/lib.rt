@@ -1,0 +1,84 @@
+// The decimal digits of a number of 64 bits as ASCII octets, by value and into lent memory.
+ghost use mathlib.Core.Path.{_≡_};
+ghost use Prim.Native.Nat.{_+_, _%_, _≤_};
+ghost use lib.ListN.{length};
+ghost use Rattle.octets.specs.Memory.{put, splice};
+ghost use Rattle.decimal.specs.Decimal.{decimalOf};
+ghost use Rattle.decimal.specs.Digits.{digitsOf};
+
+// The digits of a number: the first `len` places, the most significant first; the places after them are 0.
+pub struct Digits {
+    pub octets: [u8; 20],
+    pub len: usize,
+}
+
+// How many digits a number has, 1 to 20: four are cut off at a time.
+pub fn count(v: u64) -> usize
+    ensures { λ r. ⌜ r ≡ length (decimalOf v) ⌝ }
+{
+    let mut rest = v;
+    let mut cut = 0;
+    while 10000 <= rest {
+        rest = rest / 10000;
+        cut += 4;
+    }
+    if rest < 10 {
+        return cut + 1;
+    }
+    if rest < 100 {
+        return cut + 2;
+    }
+    if rest < 1000 {
+        return cut + 3;
+    }
+    cut + 4
+}
+
+// The last digit of a number, as an ASCII octet.
+fn last(n: u64) -> u8
+    ensures { λ r. ⌜ r ≡ 48 + n % 10 ⌝ }
+{
+    (48 + n % 10) as u8
+}
+
+// Writes the `n` digits of `v` from `at` on, the last ones first and two at a time.
+fn write(out: &mut [u8], at: usize, n: usize, v: u64)
+    requires { ⌜ (n ≡ length (decimalOf v)) × (at + n ≤ length (now out)) ⌝ }
+    ensures { λ _. ⌜ now (out .exit) ≡ splice at (decimalOf v) (now (out .entry)) ⌝ }
+{
+    let mut rest = v;
+    let mut i = n;
+    while 1 < i {
+        i -= 2;
+        let place = at + i;
+        let pair = rest % 100;
+        out[place + 1] = last(pair);
+        out[place] = last(pair / 10);
+        rest = rest / 100;
+    }
+    if 0 < i {
+        out[at] = last(rest);
+    }
+}
+
+// Writes the digits of `v` from `at` on if there is room for all of them, and answers how many there are.
+pub fn put_decimal(out: &mut [u8], at: usize, v: u64) -> usize
+    ensures { λ r. ⌜ (r ≡ length (decimalOf v)) × (now (out .exit) ≡ put at (decimalOf v) (now (out .entry))) ⌝ }
+{
+    let n = count(v);
+    if at <= out.len() {
+        if n <= out.len() - at {
+            write(out, at, n, v);
+        }
+    }
+    n
+}
+
+// The digits of `v`, by value.
+pub fn digits_of(v: u64) -> Digits
+    ensures { λ r. ⌜ r ≡ digitsOf v ⌝ }
+{
+    let mut octets = [0u8; 20];
+    let len = put_decimal(&mut octets, 0, v);
+    Digits { octets, len }
+}

@@ -1,0 +1,79 @@
+-- `octets::write_number` meets its contract. The loop's invariant: what stands there, with the rest written in the first i octets, is the
+-- whole number written into what stood there at first. The measure is i. Assumes nothing.
+use Prim.Native.Nat.{ℕ, _+_, _-_, _/_, _%_, _≤_, _<_}
+use native.Mathlib.Omega.{arith}
+use mathlib.Core.Path.{_≡_, refl, sym, _∙_}
+use mathlib.Core.List.{List}
+use lib.ListN.{length, set, length-set}
+use Rattle.octets.specs.BigEndian.{beOctets}
+use Rattle.octets.specs.Memory.{splice}
+use Rattle.octets.proofs.BigEndian.{octets-length, octets-snoc}
+use Rattle.octets.proofs.Memory.{splice-nil, splice-last}
+use Rattle.octets.proofs.write_number.Statement.{statement}
+use Rattle.octets.proofs.write_number.Tie as tie
+
+abbrev Inv-loop : tie.InvT-loop
+Inv-loop out₀ at n v rest₀ i₀ out rest i =
+    (i ≤ n) × (length out ≡ length out₀) × (splice at (beOctets i rest) out ≡ splice at (beOctets n v) out₀)
+
+abbrev μ-loop : tie.MeasureT-loop
+μ-loop out₀ at n v rest₀ i₀ out rest i = i
+
+loop-holds : tie.Need-loop-holds Inv-loop μ-loop
+loop-holds c = (omega arith, refl, refl)
+
+sub-i : tie.Need-sub-i Inv-loop μ-loop
+sub-i c = omega arith
+
+cast-out : tie.Need-cast-out Inv-loop μ-loop
+cast-out c = omega arith
+
+add-out : tie.Need-add-out Inv-loop μ-loop
+add-out c = omega arith
+
+slice-write-out : tie.Need-slice-write-out Inv-loop μ-loop
+slice-write-out c = omega arith
+
+loop-less : tie.Need-loop-less Inv-loop μ-loop
+loop-less c = omega arith
+
+-- the last of j + 1 octets stored before the others are written: all of them written
+turn : (at j v : ℕ) (old : List ℕ) → at + j < length old
+    → splice at (beOctets j (v / 256)) (set old (at + j) (v % 256)) ≡ splice at (beOctets (j + 1) v) old
+turn at j v old h = rw (splice-last at j (beOctets j (v / 256)) old (v % 256) (octets-length j (v / 256)) h, octets-snoc)
+
+loop-again : tie.Need-loop-again Inv-loop μ-loop
+loop-again c =
+    let at-loop = c .before in
+    let j = at-loop .loop .i - 1 in
+    let e : j + 1 ≡ at-loop .loop .i = omega arith in (
+      omega arith,
+      simp length-set (omega arith),
+      turn (at-loop .before .args .at) j (at-loop .loop .rest) (at-loop .loop .out) (omega arith) ∙ rw e (at-loop .loop .inv .2),
+    )
+
+same-length : tie.Need-same-length Inv-loop μ-loop
+same-length c = omega arith
+
+returns : tie.Need-returns Inv-loop μ-loop
+unfolding beOctets
+returns c =
+    let e : c .before .loop .i ≡ 0 = omega arith in
+    sym (splice-nil (c .before .before .args .at) (c .before .loop .out))
+    ∙ rw e at (c .before .loop .inv .2)
+
+pub write-number-spec : {M : Type 1} → statement M
+write-number-spec =
+    tie.close
+    (tie.spec
+    Inv-loop
+    μ-loop
+    loop-holds
+    sub-i
+    cast-out
+    add-out
+    slice-write-out
+    loop-less
+    loop-again
+    same-length
+    returns)

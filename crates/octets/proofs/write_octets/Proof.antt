@@ -1,0 +1,64 @@
+-- `octets::write_octets` meets its contract. The loop's invariant: the first i octets of s are written into what stood there at first. The
+-- measure is what is left of s. Assumes nothing.
+use Prim.Native.Nat.{_-_, _≤_}
+use native.Mathlib.Omega.{arith}
+use mathlib.Core.Path.{_≡_, refl}
+use lib.ListN.{length, take, length-set}
+use Rattle.octets.specs.Memory.{splice}
+use Rattle.octets.proofs.Memory.{copy-start, copy-next, copy-done}
+use Rattle.octets.proofs.write_octets.Statement.{statement}
+use Rattle.octets.proofs.write_octets.Tie as tie
+
+abbrev Inv-loop : tie.InvT-loop
+Inv-loop out₀ at s i₀ out i = (i ≤ length s) × (length out ≡ length out₀) × (out ≡ splice at (take i s) out₀)
+
+abbrev μ-loop : tie.MeasureT-loop
+μ-loop out₀ at s i₀ out i = length s - i
+
+loop-holds : tie.Need-loop-holds Inv-loop μ-loop
+loop-holds c = (omega arith, refl, copy-start (c .args .at) (c .args .s .now) (c .args .out .now))
+
+shared-slice-read-out : tie.Need-shared-slice-read-out Inv-loop μ-loop
+shared-slice-read-out c = omega arith
+
+add-out : tie.Need-add-out Inv-loop μ-loop
+add-out c = omega arith
+
+slice-write-out : tie.Need-slice-write-out Inv-loop μ-loop
+slice-write-out c = omega arith
+
+add-i : tie.Need-add-i Inv-loop μ-loop
+add-i c = omega arith
+
+loop-less : tie.Need-loop-less Inv-loop μ-loop
+loop-less c = omega arith
+
+loop-again : tie.Need-loop-again Inv-loop μ-loop
+loop-again c =
+    let at-loop = c .before .before in
+    let args = at-loop .before .args in
+    (omega arith, simp length-set (omega arith), copy-next (args .at) (args .s .now) (args .out .now) (at-loop .loop .i) 0 (omega arith) (omega arith) (at-loop .loop .inv .2) refl)
+
+same-length : tie.Need-same-length Inv-loop μ-loop
+same-length c = omega arith
+
+returns : tie.Need-returns Inv-loop μ-loop
+returns c =
+    let args = c .before .before .args in
+    copy-done (args .at) (args .s .now) (args .out .now) (c .before .loop .i) (omega arith) (c .before .loop .inv .2)
+
+pub write-octets-spec : {M : Type 1} → statement M
+write-octets-spec =
+    tie.close
+    (tie.spec
+    Inv-loop
+    μ-loop
+    loop-holds
+    shared-slice-read-out
+    add-out
+    slice-write-out
+    add-i
+    loop-less
+    loop-again
+    same-length
+    returns)

@@ -1,0 +1,7 @@
+-- Laws of the definitions of specs/, which the crates above cite. Assumes nothing.
+pub mod Lists
+pub mod Arrivals
+pub mod Folds
+pub mod Jumps
+pub mod Packets
+pub mod Cases

@@ -1,0 +1,107 @@
+-- Laws of lists of any elements: induction by one element more at the end, what holds of every element, what holds of every
+-- element and each that follows it, and the lists that `each` and `flatten` make of one element more. Assumes nothing.
+use mathlib.Core.Path.{_≡_, refl}
+use mathlib.Core.List.{List, [], _∷_, _++_, List·Memᴰ, append-nil, append-assoc, flatten}
+use Rattle.rfc4737.specs.Arrivals.{eachAfter, each}
+
+module _ {ℓ κ} {A : Type ℓ} (P : List A → Type κ) (more : (l : List A) (a : A) → P l → P (l ++ (a ∷ []))) where
+  -- what holds of the elements before holds of them with the list
+  from : (before l : List A) → P before → P (before ++ l)
+  from before [] h = rw append-nil h
+  from before (a ∷ l) h = let k = from (before ++ (a ∷ [])) l (more before a h) in rw append-assoc at k
+
+  -- what holds of no elements, and of a list with one element more where it holds of the list, holds of all
+  pub snoc-ind : P [] → (l : List A) → P l
+  snoc-ind none l = from [] l none
+
+module _ {ℓ} {A : Type ℓ} where
+  -- P holds of every element
+  abbrev pub All : (A → Type 0) → List A → Type 0
+  All P [] = Unit
+  All P (a ∷ l) = P a × All P l
+
+  -- R holds of every element and each that follows it
+  abbrev pub Ordered : (A → A → Type 0) → List A → Type 0
+  Ordered R [] = Unit
+  Ordered R (a ∷ l) = All (R a) l × Ordered R l
+
+  -- what follows of each element follows of every element
+  pub all-weaken : {P Q : A → Type 0} → ((a : A) → P a → Q a) → (l : List A) → All P l → All Q l
+  all-weaken f [] h = tt
+  all-weaken f (a ∷ l) h = (f a (h .0), all-weaken f l (h .1))
+
+  -- what holds of each element and what else holds hold together
+  pub all-both : {P Q : A → Type 0} {R : A → Type 0} → ((a : A) → P a → Q a → R a) → (l : List A) → All P l → All Q l → All R l
+  all-both f [] h g = tt
+  all-both f (a ∷ l) h g = (f a (h .0) (g .0), all-both f l (h .1) (g .1))
+
+  module _ (P : A → Type 0) where
+    -- of every element of two lists, one after the other
+    pub all-append : (l m : List A) → All P l → All P m → All P (l ++ m)
+    all-append [] m h g = g
+    all-append (a ∷ l) m h g = (h .0, all-append l m (h .1) g)
+
+    -- of every element of the first part
+    pub all-left : (l m : List A) → All P (l ++ m) → All P l
+    all-left [] m h = tt
+    all-left (a ∷ l) m h = (h .0, all-left l m (h .1))
+
+    -- of every element of the second part
+    pub all-right : (l m : List A) → All P (l ++ m) → All P m
+    all-right [] m h = h
+    all-right (a ∷ l) m h = all-right l m (h .1)
+
+    -- what holds of every element holds of any one
+    pub all-member : {a : A} {l : List A} → List·Memᴰ a l → All P l → P a
+    all-member (List·Memᴰ.List·Memᴰ·head e) h = rw e (h .0)
+    all-member (List·Memᴰ.List·Memᴰ·tail m) h = all-member m (h .1)
+
+  module _ (R : A → A → Type 0) where
+    -- one element more at the end, of which R holds after each before it
+    pub ordered-more : (l : List A) (b : A) → Ordered R l → All (λ (a : A). R a b) l → Ordered R (l ++ (b ∷ []))
+    ordered-more [] b h g = (tt, tt)
+    ordered-more (a ∷ l) b h g = (all-append (R a) l (b ∷ []) (h .0) (g .0, tt), ordered-more l b (h .1) (g .1))
+
+    -- the first part of an ordered list is ordered
+    pub ordered-left : (l m : List A) → Ordered R (l ++ m) → Ordered R l
+    ordered-left [] m h = tt
+    ordered-left (a ∷ l) m h = (all-left (R a) l m (h .0), ordered-left l m (h .1))
+
+    -- the second part of an ordered list is ordered
+    pub ordered-right : (l m : List A) → Ordered R (l ++ m) → Ordered R m
+    ordered-right [] m h = h
+    ordered-right (a ∷ l) m h = ordered-right l m (h .1)
+
+    -- R holds of every element of the first part and each of the second
+    pub ordered-across : (l m : List A) → Ordered R (l ++ m) → All (λ (a : A). All (R a) m) l
+    ordered-across [] m h = tt
+    ordered-across (a ∷ l) m h = (all-right (R a) l m (h .0), ordered-across l m (h .1))
+
+  -- `flatten` under one list more
+  pub flatten-more : (ls : List (List A)) (l : List A) → flatten (ls ++ (l ∷ [])) ≡ flatten ls ++ l
+  unfolding flatten
+  flatten-more [] l = append-nil l
+  flatten-more (k ∷ ls) l = rw (flatten-more ls l, append-assoc)
+
+module _ {ℓ κ} {A : Type ℓ} {B : Type κ} (f : List A → A → B) where
+  -- `eachAfter` under one element more
+  eachAfter-more : (before l : List A) (a : A) → eachAfter f before (l ++ (a ∷ [])) ≡ eachAfter f before l ++ (f (before ++ l) a ∷ [])
+  unfolding eachAfter
+  eachAfter-more before [] a = rw append-nil
+  eachAfter-more before (b ∷ l) a = rw (eachAfter-more (before ++ (b ∷ [])) l a, append-assoc)
+
+  -- `each` under one element more
+  pub each-more : (l : List A) (a : A) → each f (l ++ (a ∷ [])) ≡ each f l ++ (f l a ∷ [])
+  unfolding each
+  each-more l a = eachAfter-more [] l a
+
+-- `each` of two functions that agree
+pub each-same {ℓ κ} : {A : Type ℓ} {B : Type κ} (f g : List A → A → B)
+    → ((l : List A) (a : A) → f l a ≡ g l a)
+    → (l : List A)
+    → each f l ≡ each g l
+unfolding each eachAfter
+each-same {A} f g h = snoc-ind (λ (l : List A). each f l ≡ each g l) more refl
+  where
+    more : (l : List A) (a : A) → each f l ≡ each g l → each f (l ++ (a ∷ [])) ≡ each g (l ++ (a ∷ []))
+    more l a e = rw (each-more f l a, each-more g l a, e, h l a)

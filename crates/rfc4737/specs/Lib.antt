@@ -1,0 +1,12 @@
+-- What is measured, after RFC 4737, a file for each section, in the order of the scope. Assumes nothing.
+pub mod Arrivals
+pub mod Times
+pub mod Order
+pub mod Extent
+pub mod Answer
+pub mod Gaps
+pub mod Runs
+pub mod Tally
+pub mod Ratios
+pub mod Cases
+pub mod Refusals

@@ -1,0 +1,47 @@
+-- The reordered ratio (RFC 4737, section 4.1) and the degree of n-reordering (5.3), over the answers of a sample. The
+-- counts are whole numbers; a ratio is two counts, made f64 and divided once. Assumes nothing.
+use Prim.Native.Nat.{ℕ}
+use mathlib.Core.Bool.{Bool, false, cond}
+use mathlib.Core.List.{List}
+use lib.Dec.{leb, eqb}
+use lib.IntN.{pos}
+use lib.Ieee.{Float, binary64, div, ofInt}
+use Rattle.rfc4737.specs.declared.Answer.{Answer}
+use Rattle.rfc4737.specs.declared.Answer.the-variants.{Duplicate, InOrder, Reordered}
+use Rattle.rfc4737.specs.declared.Ratio.{Ratio}
+use Rattle.rfc4737.specs.declared.Ratios.{Ratios}
+use Rattle.rfc4737.specs.Arrivals.{count}
+use Rattle.rfc4737.specs.Runs.{arrived, isReordered}
+
+-- a packet is n-reordered, n from 1, if its largest n is n or more
+unfoldable pub isNReordered : ℕ → Answer → Bool
+isNReordered n (Duplicate d) = false
+isNReordered n (InOrder d) = false
+isNReordered n (Reordered d) = leb n (d .largest)
+
+-- how many packets are n-reordered
+unfoldable pub nReordered : ℕ → List Answer → ℕ
+nReordered n l = count (isNReordered n) l
+
+-- a count over another, both made f64 and divided once
+unfoldable pub quotient : ℕ → ℕ → Float
+quotient part whole = div binary64 (ofInt binary64 (pos part)) (ofInt binary64 (pos whole))
+
+-- a ratio of counts: undefined over 0
+unfoldable pub ratioOf : ℕ → ℕ → Ratio
+ratioOf part whole = cond (eqb whole 0) Ratio.Undefined (Ratio.Known (quotient part whole))
+
+-- the degree of n-reordering: the n-reordered packets over L
+unfoldable pub degree : ℕ → List Answer → Ratio
+degree n l = ratioOf (nReordered n l) (arrived l)
+
+-- the ratio figures of a sample: the reordered packets over L, and the degrees for n = 1 and n = 3; undefined if L = 0
+unfoldable pub ratios : List Answer → Ratios
+ratios l =
+    cond (eqb (arrived l) 0) Ratios.Undefined
+    (Ratios.Known
+    (record {
+      reordered = quotient (count isReordered l) (arrived l);
+      degree1 = quotient (nReordered 1 l) (arrived l);
+      degree3 = quotient (nReordered 3 l) (arrived l);
+    }))

@@ -1,0 +1,72 @@
+-- The numbers given back instead of an answer, each with its case, and the rule that the first that is due is given.
+-- Assumes nothing.
+use Prim.Native.Nat.{ℕ, zero, suc}
+use mathlib.Core.Bool.{Bool, cond, not, _&&_}
+use mathlib.Core.List.{List, [], _∷_}
+use lib.Dec.{leb}
+
+-- 1: the file ends before a count or a section does
+abbrev pub endsEarly : ℕ
+endsEarly = 1
+
+-- 2: octets follow the last section
+abbrev pub octetsFollow : ℕ
+octetsFollow = 2
+
+-- 3: label over 64 octets
+abbrev pub longLabel : ℕ
+longLabel = 3
+
+-- 4: K is 0 or over 4,096
+abbrev pub sentOutside : ℕ
+sentOutside = 4
+
+-- 5: over 4,096 arrivals
+abbrev pub manyArrivals : ℕ
+manyArrivals = 5
+
+-- 6: sequence number outside 1 to K
+abbrev pub numberOutside : ℕ
+numberOutside = 6
+
+-- 7: arrival time before that of the arrival before
+abbrev pub timeBack : ℕ
+timeBack = 7
+
+-- 8: lent output too short
+abbrev pub outputShort : ℕ
+outputShort = 8
+
+-- 9: record outside 1 to A, or n outside 1 to 100
+abbrev pub askedOutside : ℕ
+askedOutside = 9
+
+-- 10: receiver state unfit, or a reordered packet with no greater kept jump
+abbrev pub stateUnfit : ℕ
+stateUnfit = 10
+
+-- 11: receiver has accepted 4,096 arrivals
+abbrev pub stateFull : ℕ
+stateFull = 11
+
+-- 12: the writer's lists of numbers and of times differ in length
+abbrev pub listsDiffer : ℕ
+listsDiffer = 12
+
+-- whether a number lies in low to high
+abbrev pub within : ℕ → ℕ → ℕ → Bool
+within low high n = leb low n && leb n high
+
+-- whether a number lies outside low to high
+unfoldable pub outside : ℕ → ℕ → ℕ → Bool
+outside low high n = not (within low high n)
+
+-- a refusal in its case, else 0, which is no refusal
+abbrev pub inCase : Bool → ℕ → ℕ
+inCase due refusal = cond due refusal 0
+
+-- of refusals in their order, each 0 where it is not due, the first that is due; 0 if none is
+abbrev pub firstOf : List ℕ → ℕ
+firstOf [] = 0
+firstOf (zero ∷ rs) = firstOf rs
+firstOf (suc r ∷ rs) = suc r

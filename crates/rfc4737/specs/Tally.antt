@@ -1,0 +1,27 @@
+-- The extent tally, a term of the scope, over the answers of a sample: 101 counts, place e for the extents 1 to 100 and
+-- place 0 for all greater ones. Assumes nothing.
+use Prim.Native.Nat.{ℕ, _+_}
+use mathlib.Core.Bool.{cond}
+use mathlib.Core.List.{List, foldl}
+use lib.Dec.{leb}
+use lib.ListN.{getD, set, replicate}
+use Rattle.rfc4737.specs.declared.Answer.{Answer}
+use Rattle.rfc4737.specs.declared.Answer.the-variants.{Duplicate, InOrder, Reordered}
+
+-- the place of an extent
+unfoldable pub tallyPlace : ℕ → ℕ
+tallyPlace extent = cond (leb extent 100) extent 0
+
+-- one more at a place
+unfoldable pub oneMoreAt : ℕ → List ℕ → List ℕ
+oneMoreAt at t = set t at (getD t at 0 + 1)
+
+-- the tally under one answer more
+unfoldable pub tallyAfter : List ℕ → Answer → List ℕ
+tallyAfter t (Duplicate d) = t
+tallyAfter t (InOrder d) = t
+tallyAfter t (Reordered d) = oneMoreAt (tallyPlace (d .extent)) t
+
+-- the tally of a sample
+unfoldable pub tally : List Answer → List ℕ
+tally l = foldl tallyAfter (replicate 101 0) l

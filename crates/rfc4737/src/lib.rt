@@ -1,0 +1,86 @@
+// The values that the definitions of specs/ name: an arrival, the answer for a record, and the figures
+// of a sample. What each value means is said in specs/, after RFC 4737. Beside them stand the refusals'
+// numbers and the three rules about times, which every crate above shares.
+
+// The numbers given back instead of an answer.
+pub mod refusal;
+
+// What is asked of arrival times.
+pub mod time;
+
+// An arrival of a test packet: its sequence number, and its arrival time in microseconds.
+pub struct Arrival {
+    pub number: u32,
+    pub time: u64,
+}
+
+// Of a duplicate: the record of the packet's first arrival.
+pub struct DuplicateFigures {
+    pub first: u32,
+}
+
+// Of an in-order packet: its position among the first arrivals, and its jump size.
+pub struct InOrderFigures {
+    pub position: u32,
+    pub jump: u32,
+}
+
+// Of a reordered packet: its position, extent, late time, byte offset and largest n.
+pub struct ReorderedFigures {
+    pub position: u32,
+    pub extent: u32,
+    pub late: u64,
+    pub offset: u32,
+    pub largest: u32,
+}
+
+// The answer for a record.
+pub enum Answer {
+    Duplicate(DuplicateFigures),
+    InOrder(InOrderFigures),
+    Reordered(ReorderedFigures),
+}
+
+// The runs of in-order packets: how many are closed, the sum of the squares of their lengths, and the
+// length of the open run.
+#[repr(C)]
+pub struct Runs {
+    pub closed: u32,
+    pub squares: u32,
+    pub current: u32,
+}
+
+// The counts of a sample: first arrivals (L), reordered packets, duplicates, in-order packets, and runs.
+#[repr(C)]
+pub struct Counts {
+    pub arrived: u32,
+    pub reordered: u32,
+    pub duplicates: u32,
+    pub inorder: u32,
+    pub runs: Runs,
+}
+
+// The gap of a discontinuity, in positions, where it has one.
+pub enum Gap {
+    None,
+    Positions(u32),
+}
+
+// A ratio of two counts, undefined where the lower one is 0.
+pub enum Ratio {
+    Undefined,
+    Known(f64),
+}
+
+// The ratio figures of a sample: the reordered ratio, and the degrees of n-reordering for n = 1 and n = 3.
+pub struct RatioFigures {
+    pub reordered: f64,
+    pub degree1: f64,
+    pub degree3: f64,
+}
+
+// The ratio figures of a sample, undefined where it has no first arrival.
+pub enum Ratios {
+    Undefined,
+    Known(RatioFigures),
+}

@@ -1,0 +1,27 @@
+// The numbers given back instead of an answer; 0 is no refusal. specs/Refusals.antt has each case's sentence.
+
+pub const NONE: u32 = 0;
+
+pub const ENDS_EARLY: u32 = 1;
+
+pub const OCTETS_FOLLOW: u32 = 2;
+
+pub const LONG_LABEL: u32 = 3;
+
+pub const SENT_OUTSIDE: u32 = 4;
+
+pub const MANY_ARRIVALS: u32 = 5;
+
+pub const NUMBER_OUTSIDE: u32 = 6;
+
+pub const TIME_BACK: u32 = 7;
+
+pub const OUTPUT_SHORT: u32 = 8;
+
+pub const ASKED_OUTSIDE: u32 = 9;
+
+pub const STATE_UNFIT: u32 = 10;
+
+pub const STATE_FULL: u32 = 11;
+
+pub const LISTS_DIFFER: u32 = 12;
