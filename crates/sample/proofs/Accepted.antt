@@ -1,0 +1,114 @@
+-- An accepted file, for the crates above: what its sample satisfies, and that the values found in the file by its layout are the sample's.
+-- Assumes nothing.
+use Prim.Native.Nat.{ℕ, _+_, _*_, _^_, _≤_, _<_}
+use native.Mathlib.Omega.{arith}
+use mathlib.Core.Path.{_≡_, sym, ap, _∙_, subst}
+use mathlib.Core.List.{List}
+use lib.ListN.{length, getD, List·getD-map}
+use Rattle.octets.specs.Below.{Below, Octets}
+use Rattle.octets.specs.BigEndian.{beValue}
+use Rattle.octets.specs.Memory.{part}
+use Rattle.rfc4737.specs.declared.Arrival.{Arrival}
+use Rattle.sample.specs.Format.{Sample, fileOf, longest}
+use Rattle.sample.specs.Judge.{Fit}
+use Rattle.sample.specs.Decode.{labelCount, sentAt, sentCount, arrivedAt, arrivalCount, sampleIn, decode, accepted, sampleOf, layoutOf}
+use Rattle.sample.specs.Places.{sizeFound, numberFound, timeFound, arrivalsAt}
+use Rattle.sample.specs.declared.Layout.{Layout}
+use Rattle.sample.proofs.Items.{items-stand, arrival-stands}
+use Rattle.sample.proofs.Judged.{judged-number, judged-times}
+use Rattle.sample.proofs.Decoded.{accepted-decode, layout-accepted}
+use Rattle.sample.proofs.Exact.{Limits, limits, file-length, exact}
+use Rattle.sample.proofs.Answers.{found-accepted}
+
+-- ---- from the layout that the check answers
+
+-- no refusal: the file is accepted
+pub found-sample : (file : List ℕ) (y : Layout) → y ≡ layoutOf (decode file) → y .refusal ≡ 0 → decode file ≡ accepted (sampleOf (decode file))
+found-sample file y e z =
+    let d = found-accepted file y e z in
+    d ∙ sym (ap (λ x. accepted (sampleOf x)) d)
+
+module _ (file : List ℕ) (s : Sample) (e : decode file ≡ accepted s) where
+  -- the layout has the sample's lengths
+  pub accepted-layout : layoutOf (decode file) ≡ record { refusal = 0; label = length (s .label); sent = length (s .sizes); arrivals = length (s .arrivals) }
+  accepted-layout = ap layoutOf e
+
+  -- ---- the values found are the sample's
+
+  module _ (y : Layout) (f : y ≡ layoutOf (decode file)) where
+    -- the counts of the layout are those of the file
+    counts : (y .label ≡ labelCount file) × (y .sent ≡ sentCount file) × (y .arrivals ≡ arrivalCount file)
+    counts =
+        let c = f ∙ layout-accepted file (accepted-decode file s e .0) in
+        (ap (λ (x : Layout). x .label) c, ap (λ (x : Layout). x .sent) c, ap (λ (x : Layout). x .arrivals) c)
+
+    -- the payload size of packet j + 1
+    pub size-found : (j : ℕ) → j < y .sent → sizeFound file y j ≡ getD (s .sizes) j 0
+    unfolding sizeFound sampleIn
+    size-found j h =
+        let c = counts in
+        let p : 4 + y .label + 2 * j ≡ sentAt file + 2 + 2 * j = omega arith in
+        ap (λ (n : ℕ). beValue (part n 2 file)) p
+        ∙ sym (items-stand 2 beValue (sentCount file) (sentAt file + 2) file j 0 (omega arith))
+        ∙ ap (λ (x : Sample). getD (x .sizes) j 0) (accepted-decode file s e .1)
+
+    -- the arrival of record i + 1
+    pub arrival-found : (i : ℕ) (z : Arrival) → i < y .arrivals → record { number = numberFound file y i; time = timeFound file y i } ≡ getD (s .arrivals) i z
+    unfolding numberFound timeFound sampleIn
+    arrival-found i z h =
+        let c = counts in
+        let p : arrivalsAt y + 12 * i ≡ arrivedAt file + 2 + 12 * i = omega arith in
+        arrival-stands (arrivalCount file) (arrivedAt file + 2) file i (numberFound file y i) (timeFound file y i) z (omega arith)
+        (ap (λ (n : ℕ). beValue (part n 4 file)) p) (ap (λ (n : ℕ). beValue (part (n + 4) 8 file)) p)
+        ∙ ap (λ (x : Sample). getD (x .arrivals) i z) (accepted-decode file s e .1)
+
+    -- its sequence number
+    pub number-found : (i : ℕ) (z : Arrival) → i < y .arrivals → numberFound file y i ≡ getD (s .arrivals) i z .number
+    number-found i z h = ap (λ (a : Arrival). a .number) (arrival-found i z h)
+
+    -- its arrival time
+    pub time-found : (i : ℕ) (z : Arrival) → i < y .arrivals → timeFound file y i ≡ getD (s .arrivals) i z .time
+    time-found i z h = ap (λ (a : Arrival). a .time) (arrival-found i z h)
+
+  -- ---- what the sample satisfies, for a file of octets
+
+  module _ (o : Octets file) where
+    -- it is fit
+    pub accepted-fit : Fit s
+    accepted-fit = exact file o s .0 e .0
+
+    -- the file is its file
+    pub accepted-file : file ≡ fileOf s
+    accepted-file = exact file o s .0 e .1
+
+    -- the label has at most 64 octets, K is 1 to 4,096, A is at most 4,096
+    pub accepted-limits : Limits s
+    accepted-limits = limits s (accepted-fit .judged)
+
+    -- the length of the file
+    pub accepted-length : length file ≡ 6 + length (s .label) + 2 * length (s .sizes) + 12 * length (s .arrivals)
+    accepted-length = ap length accepted-file ∙ file-length s
+
+    -- which is at most that of the longest sample
+    pub accepted-most : length file ≤ longest
+    accepted-most =
+        let l = accepted-limits in
+        let n = accepted-length in
+        omega arith
+
+    -- every payload size fits two octets
+    pub size-fits : Below (2 ^ 16) (s .sizes)
+    size-fits = accepted-fit .sizes
+
+    module _ (z : Arrival) where
+      -- every sequence number lies in 1 to K
+      pub number-within : (i : ℕ) → i < length (s .arrivals) → (1 ≤ getD (s .arrivals) i z .number) × (getD (s .arrivals) i z .number ≤ length (s .sizes))
+      number-within i h = judged-number (length (s .sizes)) 0 (s .arrivals) (accepted-limits .judged) i z h
+
+      -- arrival times never go back
+      pub times-rise : (i j : ℕ) → i ≤ j → j < length (s .arrivals) → getD (s .arrivals) i z .time ≤ getD (s .arrivals) j z .time
+      times-rise i j p h = judged-times (length (s .sizes)) 0 (s .arrivals) (accepted-limits .judged) i j z p h
+
+    -- every arrival time fits eight octets
+    pub time-fits : (i : ℕ) → getD (s .arrivals) i (record { number = 0; time = 0 }) .time < 2 ^ 64
+    time-fits i = subst (λ (n : ℕ). n < 2 ^ 64) (List·getD-map (λ (a : Arrival). a .time) (s .arrivals) i (record { number = 0; time = 0 })) (accepted-fit .times i)

@@ -1,0 +1,202 @@
+-- What the reader, the label call and the writer answer, case by case. Assumes nothing.
+use Prim.Native.Nat.{ℕ, zero, suc, _+_, _*_, _≤_, _<_, zero-le}
+use native.Mathlib.Omega.{arith}
+use mathlib.Core.Bool.{true, false, _||_}
+use mathlib.Core.Path.{_≡_, sym, ap, _∙_, subst}
+use mathlib.Core.List.{List, [], _∷_, _++_, append-assoc}
+use borrow.Author.Tests.{le-ltb, lt-ltb, ltb-false}
+use lib.Dec.{ltb}
+use lib.ListN.{length, drop, length-append}
+use Rattle.octets.specs.BigEndian.{beValue}
+use Rattle.octets.specs.Memory.{over, splice}
+use Rattle.octets.proofs.Memory.{splice-next, over-splice}
+use Rattle.rfc4737.specs.Refusals.{inCase, firstOf, outputShort}
+use Rattle.sample.specs.Format.{section, sizeOctets, arrivalOctets, itemOctets, itemsIn, fileOf, numbersOf, timesOf, arrivalsOf}
+use Rattle.sample.specs.Decode.{labelCount, sentAt, sentCount, arrivedAt, arrivalCount, arrivalIn, sampleIn, refusalIn, Decoded, refused, accepted, decode, sampleOf, layoutOf}
+use Rattle.sample.specs.Places.{sizesAt, arrivalsAt}
+use Rattle.sample.specs.Calls.{listsShort, decodeInto, ReadFrom, sampleFrom, refusalFrom, refusalInto, octetsInto, unlessRefused, WrittenTo}
+use Rattle.sample.specs.declared.Layout.{Layout}
+use Rattle.sample.proofs.Due.{first-due, or-false}
+use Rattle.sample.proofs.Items.{size-long, octets-many, arrivals-length}
+use Rattle.sample.proofs.Decoded.{refused-none, decided-refusal, decode-accepted, decode-refused, layout-accepted}
+use Rattle.sample.proofs.Exact.{section-length, file-length}
+
+-- ---- what was found, y, is the layout of the file
+
+module _ (file : List ℕ) (y : Layout) (e : y ≡ layoutOf (decode file)) where
+  -- its refusal is the first that is due
+  pub found-refusal : refusalIn file ≡ y .refusal
+  unfolding decode
+  found-refusal = sym (ap (λ (x : Layout). x .refusal) e ∙ decided-refusal (refusalIn file) (sampleIn file))
+
+  -- a refusal
+  pub found-refused : 0 < y .refusal → decode file ≡ refused (y .refusal)
+  found-refused h = decode-refused file (y .refusal) h found-refusal
+
+  module _ (z : y .refusal ≡ 0) where
+    -- no refusal: the counts are those of the file
+    pub found-counts : y ≡ record { refusal = 0; label = labelCount file; sent = sentCount file; arrivals = arrivalCount file }
+    found-counts = e ∙ layout-accepted file (found-refusal ∙ z)
+
+    -- and the file decodes to what its sections hold
+    pub found-accepted : decode file ≡ accepted (sampleIn file)
+    found-accepted = decode-accepted file (found-refusal ∙ z)
+
+-- ---- the reader
+
+-- the values that were found lie within the file, and the lists have places for them
+pub record Room (file sizes numbers times : List ℕ) (y : Layout) : Type 0 where
+  pub sizesStand : sizesAt y + 2 * y .sent ≤ length file
+  pub arrivalsStand : arrivalsAt y + 12 * y .arrivals ≤ length file
+  pub sizesRoom : y .sent ≤ length sizes
+  pub numbersRoom : y .arrivals ≤ length numbers
+  pub timesRoom : y .arrivals ≤ length times
+
+module _ (file sizes numbers times : List ℕ) where
+  -- a refusal: the lists are as they were
+  refused-read : (n : ℕ) → decodeInto (length sizes) (length numbers) (length times) file ≡ refused n
+      → ReadFrom file sizes numbers times (layoutOf (refused n)) sizes numbers times
+  refused-read n e =
+      record {
+        layout = sym (ap layoutOf e);
+        filledSizes = sym (ap (λ (d : Decoded). over (sampleOf d .sizes) sizes) e);
+        filledNumbers = sym (ap (λ (d : Decoded). over (numbersOf (sampleOf d .arrivals)) numbers) e);
+        filledTimes = sym (ap (λ (d : Decoded). over (timesOf (sampleOf d .arrivals)) times) e);
+      }
+
+  -- the first refusal that is due, 8 the last
+  into-refused : (n : ℕ) → 0 < n → firstOf (refusalIn file ∷ inCase (listsShort (layoutOf (decode file)) (length sizes) (length numbers) (length times)) outputShort ∷ []) ≡ n
+      → decodeInto (length sizes) (length numbers) (length times) file ≡ refused n
+  unfolding decodeInto
+  into-refused zero h e = absurd (omega arith)
+  into-refused (suc n) h e = rw e
+
+  module _ (y : Layout) (e : y ≡ layoutOf (decode file)) where
+    -- the file is refused
+    pub read-refused : 0 < y .refusal → ReadFrom file sizes numbers times y sizes numbers times
+    read-refused h =
+        let r = found-refusal file y e in
+        let p : 0 < refusalIn file = omega arith in
+        let s = inCase (listsShort (layoutOf (decode file)) (length sizes) (length numbers) (length times)) outputShort in
+        let d = found-refused file y e h in
+        subst (λ (x : Layout). ReadFrom file sizes numbers times x sizes numbers times) (sym (e ∙ ap layoutOf d))
+        (refused-read (y .refusal) (into-refused (y .refusal) h (first-due (refusalIn file) (s ∷ []) p ∙ r)))
+
+    module _ (z : y .refusal ≡ 0) where
+      -- a list is too short
+      pub read-short : listsShort y (length sizes) (length numbers) (length times) ≡ true
+          → ReadFrom file sizes numbers times (layoutOf (refused outputShort)) sizes numbers times
+      read-short t =
+          let s : listsShort (layoutOf (decode file)) (length sizes) (length numbers) (length times) ≡ true = rw (← e) t in
+          let r : refusalIn file ≡ 0 = found-refusal file y e ∙ z in
+          refused-read outputShort (into-refused outputShort (omega arith) (simp (r, s)))
+
+      -- no list is too short
+      pub room-found : listsShort y (length sizes) (length numbers) (length times) ≡ false → Room file sizes numbers times y
+      unfolding listsShort
+      room-found t =
+          let a = or-false (ltb (length sizes) (y .sent)) (ltb (length numbers) (y .arrivals) || ltb (length times) (y .arrivals)) t in
+          let b = or-false (ltb (length numbers) (y .arrivals)) (ltb (length times) (y .arrivals)) (a .1) in
+          let c = found-counts file y e z in
+          let k = ap (λ (x : Layout). x .sent) c in
+          let l = ap (λ (x : Layout). x .label) c in
+          let n = ap (λ (x : Layout). x .arrivals) c in
+          let w = refused-none file (found-refusal file y e ∙ z) in
+          let f = w .ends in
+          record {
+            sizesStand = omega arith;
+            arrivalsStand = omega arith;
+            sizesRoom = ltb-false (length sizes) (y .sent) (a .0);
+            numbersRoom = ltb-false (length numbers) (y .arrivals) (b .0);
+            timesRoom = ltb-false (length times) (y .arrivals) (b .1);
+          }
+
+      -- the lists are filled
+      pub read-filled : (sizes′ numbers′ times′ : List ℕ) → listsShort y (length sizes) (length numbers) (length times) ≡ false
+          → sizes′ ≡ over (itemsIn 2 beValue (y .sent) (drop (sizesAt y) file)) sizes
+          → numbers′ ≡ over (numbersOf (itemsIn 12 arrivalIn (y .arrivals) (drop (arrivalsAt y) file))) numbers
+          → times′ ≡ over (timesOf (itemsIn 12 arrivalIn (y .arrivals) (drop (arrivalsAt y) file))) times
+          → ReadFrom file sizes numbers times y sizes′ numbers′ times′
+      unfolding decodeInto sampleIn
+      read-filled sizes′ numbers′ times′ t p q r =
+          let s : listsShort (layoutOf (decode file)) (length sizes) (length numbers) (length times) ≡ false = rw (← e) t in
+          let n : refusalIn file ≡ 0 = found-refusal file y e ∙ z in
+          let d : decodeInto (length sizes) (length numbers) (length times) file ≡ accepted (sampleIn file) = simp (n, s) in
+          let c = found-counts file y e z in
+          let k = ap (λ (x : Layout). x .sent) c in
+          let l = ap (λ (x : Layout). x .label) c in
+          let a = ap (λ (x : Layout). x .arrivals) c in
+          let u : sizesAt y ≡ sentAt file + 2 = omega arith in
+          let v : arrivalsAt y ≡ arrivedAt file + 2 = omega arith in
+          record {
+            layout = e ∙ ap layoutOf (found-accepted file y e z ∙ sym d);
+            filledSizes = p ∙ (λ i. over (itemsIn 2 beValue (k i) (drop (u i) file)) sizes) ∙ sym (ap (λ (x : Decoded). over (sampleOf x .sizes) sizes) d);
+            filledNumbers = q ∙ (λ i. over (numbersOf (itemsIn 12 arrivalIn (a i) (drop (v i) file))) numbers) ∙ sym (ap (λ (x : Decoded). over (numbersOf (sampleOf x .arrivals)) numbers) d);
+            filledTimes = r ∙ (λ i. over (timesOf (itemsIn 12 arrivalIn (a i) (drop (v i) file))) times) ∙ sym (ap (λ (x : Decoded). over (timesOf (sampleOf x .arrivals)) times) d);
+          }
+
+-- ---- the writer
+
+module _ (label sizes numbers times out : List ℕ) where
+  -- a refusal: the lent octets are as they were
+  refused-written : (n : ℕ) → 0 < n → refusalInto (length out) label sizes numbers times ≡ n
+      → WrittenTo label sizes numbers times out (record { refusal = n; length = 0 }) out
+  refused-written zero h e = absurd (omega arith)
+  refused-written (suc n) h e =
+      let o : octetsInto (length out) label sizes numbers times ≡ [] = ap (λ (k : ℕ). unlessRefused k (fileOf (sampleFrom label sizes numbers times))) e in
+      record { refusal = sym e; octets = sym (ap length o); filled = sym (ap (λ (os : List ℕ). over os out) o) }
+
+  -- the label or a list is refused
+  pub write-refused : (n : ℕ) → 0 < n → n ≡ refusalFrom label sizes numbers times → WrittenTo label sizes numbers times out (record { refusal = n; length = 0 }) out
+  unfolding refusalInto
+  write-refused n h e =
+      refused-written n h
+      (rw (← e) (first-due n (inCase (ltb (length out) (length (fileOf (sampleFrom label sizes numbers times)))) outputShort ∷ []) h))
+
+  module _ (e : 0 ≡ refusalFrom label sizes numbers times) (same : length times ≡ length numbers) where
+    -- the file's length
+    octets-long : length (fileOf (sampleFrom label sizes numbers times)) ≡ 2 + length label + 2 + 2 * length sizes + 2 + 12 * length numbers
+    octets-long =
+        let n = arrivals-length numbers times same in
+        let f = file-length (sampleFrom label sizes numbers times) in
+        omega arith
+
+    -- the lent octets are too few
+    pub write-short : length out < 2 + length label + 2 + 2 * length sizes + 2 + 12 * length numbers
+        → WrittenTo label sizes numbers times out (record { refusal = outputShort; length = 0 }) out
+    unfolding refusalInto
+    write-short h =
+        let l = octets-long in
+        let t : ltb (length out) (length (fileOf (sampleFrom label sizes numbers times))) ≡ true = lt-ltb (length out) (length (fileOf (sampleFrom label sizes numbers times))) (omega arith) in
+        refused-written outputShort (omega arith) (simp (sym e, t))
+
+    -- the file is written
+    pub write-filled : (out′ : List ℕ) → 2 + length label + 2 + 2 * length sizes + 2 + 12 * length numbers ≤ length out
+        → out′ ≡ splice (2 + length label + 2 + 2 * length sizes) (section (length numbers) (itemOctets arrivalOctets (arrivalsOf numbers times)))
+        (splice (2 + length label) (section (length sizes) (itemOctets sizeOctets sizes)) (splice 0 (section (length label) label) out))
+        → WrittenTo label sizes numbers times out (record { refusal = 0; length = 2 + length label + 2 + 2 * length sizes + 2 + 12 * length numbers }) out′
+    unfolding refusalInto fileOf
+    write-filled out′ h w =
+        let l = octets-long in
+        let n = arrivals-length numbers times same in
+        let t : ltb (length out) (length (fileOf (sampleFrom label sizes numbers times))) ≡ false = le-ltb (length out) (length (fileOf (sampleFrom label sizes numbers times))) (omega arith) in
+        let r : refusalInto (length out) label sizes numbers times ≡ 0 = simp (sym e, t) in
+        let o : octetsInto (length out) label sizes numbers times ≡ fileOf (sampleFrom label sizes numbers times) =
+        ap (λ (k : ℕ). unlessRefused k (fileOf (sampleFrom label sizes numbers times))) r in
+        let a = section (length label) label in
+        let b = section (length sizes) (itemOctets sizeOctets sizes) in
+        let c = section (length numbers) (itemOctets arrivalOctets (arrivalsOf numbers times)) in
+        let m = section-length (length label) label in
+        let k = section-length (length sizes) (itemOctets sizeOctets sizes) in
+        let s = octets-many sizeOctets 2 size-long sizes in
+        let p : 0 + length a ≡ 2 + length label = omega arith in
+        let q : 0 + length (a ++ b) ≡ 2 + length label + 2 + 2 * length sizes = simp length-append (omega arith) in
+        record {
+          refusal = sym r;
+          octets = sym (ap length o ∙ l);
+          filled = w ∙ ap (splice (2 + length label + 2 + 2 * length sizes) c) (splice-next 0 (2 + length label) a b out p zero-le)
+              ∙ splice-next 0 (2 + length label + 2 + 2 * length sizes) (a ++ b) c out q zero-le
+              ∙ ap (λ (os : List ℕ). splice 0 os out) (append-assoc a b c ∙ ap (λ (j : ℕ). a ++ (b ++ section j (itemOctets arrivalOctets (arrivalsOf numbers times)))) (sym n))
+              ∙ sym (over-splice (fileOf (sampleFrom label sizes numbers times)) out)
+              ∙ sym (ap (λ (os : List ℕ). over os out) o);
+        }

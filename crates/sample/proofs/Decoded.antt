@@ -1,0 +1,179 @@
+-- Decoding: what it says of a file that nothing is refused, and when that is so. Assumes nothing.
+use Prim.Native.Nat.{ℕ, zero, suc, _+_, _≤_, _<_}
+use native.Mathlib.Omega.{arith}
+use mathlib.Core.Bool.{false}
+use mathlib.Core.Path.{_≡_, refl, ap, _∙_}
+use mathlib.Core.List.{List, [], _∷_}
+use borrow.Author.Tests.{le-ltb, ltb-false}
+use lib.Dec.{ltb}
+use lib.ListN.{length}
+use Rattle.octets.specs.BigEndian.{beValue}
+use Rattle.octets.proofs.Memory.{part-length}
+use Rattle.rfc4737.specs.Refusals.{outside, endsEarly, octetsFollow, longLabel, sentOutside, manyArrivals}
+use Rattle.sample.specs.Format.{Sample, labelMost, sentMost, arrivalsMost}
+use Rattle.sample.specs.Judge.{judge, judgeLabel, judgeSent, judgeArrivals}
+use Rattle.sample.specs.Decode.{countAt, endOf, labelCount, sentAt, sentCount, arrivedAt, arrivalCount, fileEnd, arrivalIn, arrivalsIn, sampleIn, countStage, lengthStage, sectionStage, labelStage, sentStage, arrivedStage, endStage, arrivalsStage, refusalIn, refused, accepted, decided, decode, refusalOf, layoutOf}
+use Rattle.sample.proofs.Due.{first-none, first-due, first-one, case-none, between, not-outside}
+use Rattle.sample.proofs.Items.{items-length}
+
+-- ---- a section
+
+-- nothing of it is refused: its count is there, is not refused, and its items are all there
+pub stage-none : (at width : ℕ) (judged : ℕ → ℕ) (file : List ℕ) → sectionStage at width judged file ≡ 0
+    → (at + 2 ≤ length file) × (judged (countAt at file) ≡ 0) × (endOf at width (countAt at file) ≤ length file)
+unfolding sectionStage
+stage-none at width judged file e =
+    let p = first-none (countStage at file) (judged (countAt at file) ∷ lengthStage at width file ∷ []) e in
+    let q = first-none (judged (countAt at file)) (lengthStage at width file ∷ []) (p .1) in
+    let r = first-none (lengthStage at width file) [] (q .1) in (
+      ltb-false (length file) (at + 2) (case-none (ltb (length file) (at + 2)) endsEarly (omega arith) (p .0)),
+      q .0,
+      ltb-false (length file) (endOf at width (countAt at file)) (case-none (ltb (length file) (endOf at width (countAt at file))) endsEarly (omega arith) (r .0)),
+    )
+
+-- and when that is so
+pub none-stage : (at width : ℕ) (judged : ℕ → ℕ) (file : List ℕ) → judged (countAt at file) ≡ 0 → endOf at width (countAt at file) ≤ length file
+    → sectionStage at width judged file ≡ 0
+unfolding sectionStage
+none-stage at width judged file e h =
+    let p : at + 2 ≤ length file = omega arith in
+    simp (le-ltb (length file) (at + 2) p, le-ltb (length file) (endOf at width (countAt at file)) h, e)
+
+-- ---- a file
+
+-- what holds of a file of which nothing is refused
+pub record WholeFile (file : List ℕ) : Type 0 where
+  pub labelFits : labelCount file ≤ labelMost
+  pub sentSome : 1 ≤ sentCount file
+  pub sentFits : sentCount file ≤ sentMost
+  pub arrivalsFit : arrivalCount file ≤ arrivalsMost
+  pub ends : fileEnd file ≡ length file
+  pub judged : judge (sentCount file) 0 (arrivalsIn file) ≡ 0
+
+-- each stage refuses nothing
+pub none-stages : (file : List ℕ) → refusalIn file ≡ 0
+    → (labelStage file ≡ 0) × (sentStage file ≡ 0) × (arrivedStage file ≡ 0) × (endStage file ≡ 0) × (arrivalsStage file ≡ 0)
+unfolding refusalIn
+none-stages file e =
+    let a = first-none (labelStage file) (sentStage file ∷ arrivedStage file ∷ endStage file ∷ arrivalsStage file ∷ []) e in
+    let b = first-none (sentStage file) (arrivedStage file ∷ endStage file ∷ arrivalsStage file ∷ []) (a .1) in
+    let c = first-none (arrivedStage file) (endStage file ∷ arrivalsStage file ∷ []) (b .1) in
+    let d = first-none (endStage file) (arrivalsStage file ∷ []) (c .1) in
+    let f = first-none (arrivalsStage file) [] (d .1) in
+    (a .0, b .0, c .0, d .0, f .0)
+
+-- nothing is refused: all of that holds
+pub refused-none : (file : List ℕ) → refusalIn file ≡ 0 → WholeFile file
+refused-none file e =
+    let s = none-stages file e in
+    let l = stage-none 0 1 judgeLabel file (s .0) in
+    let k = stage-none (sentAt file) 2 judgeSent file (s .1) in
+    let a = stage-none (arrivedAt file) 12 judgeArrivals file (s .2) in
+    let p = between 0 labelMost (labelCount file) (case-none (outside 0 labelMost (labelCount file)) longLabel (omega arith) (l .1)) in
+    let q = between 1 sentMost (sentCount file) (case-none (outside 1 sentMost (sentCount file)) sentOutside (omega arith) (k .1)) in
+    let r = between 0 arrivalsMost (arrivalCount file) (case-none (outside 0 arrivalsMost (arrivalCount file)) manyArrivals (omega arith) (a .1)) in
+    let t : length file ≤ fileEnd file = ltb-false (fileEnd file) (length file) (case-none (ltb (fileEnd file) (length file)) octetsFollow (omega arith) (s .3)) in
+    let u : fileEnd file ≤ length file = a .2 in
+    record {
+      labelFits = p .1;
+      sentSome = q .0;
+      sentFits = q .1;
+      arrivalsFit = r .1;
+      ends = omega arith;
+      judged = s .4;
+    }
+
+-- all of that holds: nothing is refused
+pub none-refused : (file : List ℕ) → WholeFile file → refusalIn file ≡ 0
+unfolding refusalIn
+none-refused file w =
+    let e = w .ends in
+    let p : labelStage file ≡ 0 = none-stage 0 1 judgeLabel file (simp (not-outside 0 labelMost (labelCount file) (omega arith) (w .labelFits))) (omega arith) in
+    let q : sentStage file ≡ 0 = none-stage (sentAt file) 2 judgeSent file (simp (not-outside 1 sentMost (sentCount file) (w .sentSome) (w .sentFits))) (omega arith) in
+    let r : arrivedStage file ≡ 0 = none-stage (arrivedAt file) 12 judgeArrivals file (simp (not-outside 0 arrivalsMost (arrivalCount file) (omega arith) (w .arrivalsFit))) (omega arith) in
+    let f : ltb (fileEnd file) (length file) ≡ false = le-ltb (fileEnd file) (length file) (omega arith) in
+    simp (p, q, r, f, w .judged)
+
+-- ---- the answer
+
+-- a refusal of an answer is the one that was due
+pub decided-refusal : (r : ℕ) (s : Sample) → refusalOf (decided r s) ≡ r
+decided-refusal zero s = refl
+decided-refusal (suc r) s = refl
+
+-- a refusal that is due
+pub decode-refused : (file : List ℕ) (r : ℕ) → 0 < r → refusalIn file ≡ r → decode file ≡ refused r
+unfolding decode
+decode-refused file zero h e = absurd (omega arith)
+decode-refused file (suc r) h e = rw e
+
+-- no refusal is due
+pub decode-accepted : (file : List ℕ) → refusalIn file ≡ 0 → decode file ≡ accepted (sampleIn file)
+unfolding decode
+decode-accepted file e = rw e
+
+-- an answer that accepts
+decided-accepted : (r : ℕ) (s t : Sample) → decided r s ≡ accepted t → (r ≡ 0) × (s ≡ t)
+decided-accepted zero s t e = (refl, cc)
+decided-accepted (suc r) s t e = absurd (let z : _≡_ {A = ℕ} 0 1 = cc in omega arith)
+
+-- an accepted file: nothing is refused, and the sample is what its sections hold
+pub accepted-decode : (file : List ℕ) (s : Sample) → decode file ≡ accepted s → (refusalIn file ≡ 0) × (sampleIn file ≡ s)
+unfolding decode
+accepted-decode file s e = decided-accepted (refusalIn file) (sampleIn file) s e
+
+-- the counts are the lengths of what the sections hold: of the label
+pub label-length : (file : List ℕ) → WholeFile file → length (sampleIn file .label) ≡ labelCount file
+unfolding sampleIn
+label-length file w =
+    let e = w .ends in
+    part-length 2 (labelCount file) file (omega arith)
+
+-- of the sizes
+pub sizes-length : (file : List ℕ) → length (sampleIn file .sizes) ≡ sentCount file
+unfolding sampleIn
+sizes-length file = items-length 2 beValue (sentCount file) _
+
+-- of the arrivals
+pub arrivals-number : (file : List ℕ) → length (sampleIn file .arrivals) ≡ arrivalCount file
+unfolding sampleIn
+arrivals-number file = items-length 12 arrivalIn (arrivalCount file) _
+
+-- the layout of a file of which nothing is refused
+pub layout-accepted : (file : List ℕ) → refusalIn file ≡ 0
+    → layoutOf (decode file) ≡ record { refusal = 0; label = labelCount file; sent = sentCount file; arrivals = arrivalCount file }
+layout-accepted file e =
+    let p = label-length file (refused-none file e) in
+    let q = sizes-length file in
+    let r = arrivals-number file in
+    ap layoutOf (decode-accepted file e) ∙ (λ i. record { refusal = 0; label = p i; sent = q i; arrivals = r i })
+
+-- ---- a refusal, by the stage that refuses
+
+module _ (file : List ℕ) (p : labelStage file ≡ 0) where
+  module _ (q : sentStage file ≡ 0) where
+    module _ (r : arrivedStage file ≡ 0) where
+      -- octets follow the last section
+      pub refused-end : (n : ℕ) → 0 < n → endStage file ≡ n → refusalIn file ≡ n
+      unfolding refusalIn
+      refused-end n h e = simp (p, q, r, e) (first-due n (arrivalsStage file ∷ []) h)
+
+      -- an arrival is refused, or nothing is
+      pub refused-arrivals : (n : ℕ) → endStage file ≡ 0 → arrivalsStage file ≡ n → refusalIn file ≡ n
+      unfolding refusalIn
+      refused-arrivals n e f = simp (p, q, r, e, f) (first-one n)
+
+    -- the section of arrivals is refused
+    pub refused-arrived : (n : ℕ) → 0 < n → arrivedStage file ≡ n → refusalIn file ≡ n
+    unfolding refusalIn
+    refused-arrived n h e = simp (p, q, e) (first-due n (endStage file ∷ arrivalsStage file ∷ []) h)
+
+  -- the section of sent packets is refused
+  pub refused-sent : (n : ℕ) → 0 < n → sentStage file ≡ n → refusalIn file ≡ n
+  unfolding refusalIn
+  refused-sent n h e = simp (p, e) (first-due n (arrivedStage file ∷ endStage file ∷ arrivalsStage file ∷ []) h)
+
+-- the section of the label is refused
+pub refused-label : (file : List ℕ) (n : ℕ) → 0 < n → labelStage file ≡ n → refusalIn file ≡ n
+unfolding refusalIn
+refused-label file n h e = simp e (first-due n (sentStage file ∷ arrivedStage file ∷ endStage file ∷ arrivalsStage file ∷ []) h)

@@ -1,0 +1,197 @@
+-- Items of so many octets each, one after the other: where each stands, and that reading and writing them undo each other.
+-- Assumes nothing.
+use Prim.Native.Nat.{ℕ, zero, suc, _+_, _*_, _^_, _≤_, _<_}
+use native.Mathlib.Nat.{mul-zero, mul-suc}
+use native.Mathlib.Omega.{arith}
+use mathlib.Core.Path.{_≡_, refl, sym, ap, ap₂, _∙_, subst}
+use mathlib.Core.List.{List, [], _∷_, _++_, append-assoc, append-nil}
+use lib.ListN.{length, getD, take, drop, length-append, length-take, length-drop, take-append-drop, List·getD-map}
+use lib.Seq.{take-take, take-at, drop-at, drop-drop, take-add, length-take-le}
+use Rattle.octets.specs.Below.{Octets}
+use Rattle.octets.specs.BigEndian.{beValue, beOctets}
+use Rattle.octets.specs.Memory.{part}
+use Rattle.octets.proofs.Below.{below-take, below-drop, below-part}
+use Rattle.octets.proofs.BigEndian.{octets-length, value-octets, octets-value, value-fits}
+use Rattle.octets.proofs.Memory.{take-snoc, drop-take, part-most}
+use Rattle.rfc4737.specs.declared.Arrival.{Arrival}
+use Rattle.sample.specs.Format.{itemOctets, itemsIn, arrivalOctets, arrivalsOf, numbersOf, timesOf}
+use Rattle.sample.specs.Decode.{arrivalIn}
+
+-- the value of so many octets of a file
+pub part-fits : (width at : ℕ) (file : List ℕ) → Octets file → beValue (part at width file) < 256 ^ width
+part-fits width at file o = value-fits width (part at width file) (below-part 256 at width file o) (part-most at width file)
+
+module _ {ℓ} {A : Type ℓ} (width : ℕ) (item : List ℕ → A) where
+  -- as many as asked
+  pub items-length : (n : ℕ) (os : List ℕ) → length (itemsIn width item n os) ≡ n
+  unfolding itemsIn
+  items-length zero os = refl
+  items-length (suc n) os = ap suc (items-length n (drop width os))
+
+  -- where each stands
+  pub items-getD : (n : ℕ) (os : List ℕ) (i : ℕ) (z : A) → i < n → getD (itemsIn width item n os) i z ≡ item (part (width * i) width os)
+  unfolding itemsIn
+  items-getD zero os i z h = absurd (omega arith)
+  items-getD (suc n) os zero z h = rw mul-zero
+  items-getD (suc n) os (suc i) z h =
+      items-getD n (drop width os) i z (omega arith)
+      ∙ ap (λ (l : List ℕ). item (take width l)) (drop-drop (width * i) width os ∙ ap (λ (k : ℕ). drop k os) (let e : width + width * i ≡ width * suc i = rw mul-suc (omega arith) in e))
+
+  -- where each stands in a file, from a place on
+  pub items-stand : (n at : ℕ) (file : List ℕ) (i : ℕ) (z : A) → i < n → getD (itemsIn width item n (drop at file)) i z ≡ item (part (at + width * i) width file)
+  items-stand n at file i z h =
+      items-getD n (drop at file) i z h ∙ ap (λ (l : List ℕ). item (take width l)) (drop-drop (width * i) at file)
+
+module _ {ℓ} {A : Type ℓ} (octets : A → List ℕ) where
+  -- items after items
+  pub octets-append : (xs ys : List A) → itemOctets octets (xs ++ ys) ≡ itemOctets octets xs ++ itemOctets octets ys
+  unfolding itemOctets
+  octets-append [] ys = refl
+  octets-append (x ∷ xs) ys = rw (octets-append xs ys, append-assoc)
+
+  -- under one item more
+  pub octets-snoc : (xs : List A) (i : ℕ) (z : A) → i < length xs → itemOctets octets (take (i + 1) xs) ≡ itemOctets octets (take i xs) ++ octets (getD xs i z)
+  unfolding itemOctets
+  octets-snoc xs i z h =
+      ap (itemOctets octets) (take-snoc xs i z h) ∙ octets-append (take i xs) (getD xs i z ∷ [])
+      ∙ ap (λ (l : List ℕ). itemOctets octets (take i xs) ++ l) (append-nil (octets (getD xs i z)))
+
+  module _ (width : ℕ) (long : (x : A) → length (octets x) ≡ width) where
+    -- their number
+    pub octets-many : (xs : List A) → length (itemOctets octets xs) ≡ width * length xs
+    unfolding itemOctets
+    octets-many [] = sym (mul-zero width)
+    octets-many (x ∷ xs) =
+        length-append (octets x) (itemOctets octets xs)
+        ∙ ap₂ (λ (a b : ℕ). a + b) (long x) (octets-many xs)
+        ∙ (let e : width + width * length xs ≡ width * suc (length xs) = rw mul-suc (omega arith) in e)
+
+    module _ (item : List ℕ → A) where
+      -- items that each read back as themselves do so one after the other
+      pub read-written : (xs : List A) (z : A) (rest : List ℕ) → ((i : ℕ) → i < length xs → item (octets (getD xs i z)) ≡ getD xs i z)
+          → itemsIn width item (length xs) (itemOctets octets xs ++ rest) ≡ xs
+      unfolding itemOctets itemsIn
+      read-written [] z rest h = refl
+      read-written (x ∷ xs) z rest h =
+          let e : (octets x ++ itemOctets octets xs) ++ rest ≡ octets x ++ (itemOctets octets xs ++ rest) = append-assoc (octets x) (itemOctets octets xs) rest in
+          rw (e, take-at (octets x) (itemOctets octets xs ++ rest) width (long x), drop-at (octets x) (itemOctets octets xs ++ rest) width (long x), h 0 (omega arith), read-written xs z rest (λ i p. h (suc i) (omega arith)))
+
+      -- octets of which each item's are written back as themselves are so one after the other
+      pub written-read : ((os : List ℕ) → Octets os → length os ≡ width → octets (item os) ≡ os)
+          → (n : ℕ) (os : List ℕ) → Octets os → width * n ≤ length os → itemOctets octets (itemsIn width item n os) ≡ take (width * n) os
+      unfolding itemOctets itemsIn
+      written-read back zero os o h = rw mul-zero
+      written-read back (suc n) os o h =
+          let m : width * suc n ≡ width + width * n = rw mul-suc (omega arith) in
+          let p : width ≤ length os = omega arith in
+          let q : width * n ≤ length (drop width os) = simp length-drop (omega arith) in
+          rw (m, take-add width (width * n) os, back (take width os) (below-take 256 width os o) (length-take-le width os p), written-read back n (drop width os) (below-drop 256 width os o) q)
+
+-- ---- an arrival
+
+-- twelve octets
+pub arrival-long : (a : Arrival) → length (arrivalOctets a) ≡ 12
+unfolding arrivalOctets
+arrival-long a = simp (length-append, octets-length)
+
+-- an arrival whose values fit reads back as itself
+pub arrival-read : (a : Arrival) → a .number < 2 ^ 32 → a .time < 2 ^ 64 → arrivalIn (arrivalOctets a) ≡ a
+unfolding arrivalIn arrivalOctets
+arrival-read a h k =
+    let e : take 4 (beOctets 4 (a .number) ++ beOctets 8 (a .time)) ≡ beOctets 4 (a .number) = take-at (beOctets 4 (a .number)) (beOctets 8 (a .time)) 4 (octets-length 4 (a .number)) in
+    let f : drop 4 (beOctets 4 (a .number) ++ beOctets 8 (a .time)) ≡ beOctets 8 (a .time) = drop-at (beOctets 4 (a .number)) (beOctets 8 (a .time)) 4 (octets-length 4 (a .number)) in
+    rw (e, f, value-octets 4 (a .number) h, value-octets 8 (a .time) k)
+
+-- twelve octets are written back as themselves
+pub arrival-back : (os : List ℕ) → Octets os → length os ≡ 12 → arrivalOctets (arrivalIn os) ≡ os
+unfolding arrivalIn arrivalOctets
+arrival-back os o h =
+    let p : length (take 4 os) ≡ 4 = simp length-take (omega arith) in
+    let q : length (drop 4 os) ≡ 8 = simp length-drop (omega arith) in
+    let a : beOctets 4 (beValue (take 4 os)) ≡ take 4 os = subst (λ (n : ℕ). beOctets n (beValue (take 4 os)) ≡ take 4 os) p (octets-value (take 4 os) (below-take 256 4 os o)) in
+    let b : beOctets 8 (beValue (drop 4 os)) ≡ drop 4 os = subst (λ (n : ℕ). beOctets n (beValue (drop 4 os)) ≡ drop 4 os) q (octets-value (drop 4 os) (below-drop 256 4 os o)) in
+    rw (a, b) (take-append-drop 4 os)
+
+-- its number, where it stands
+pub number-stands : (at : ℕ) (file : List ℕ) → arrivalIn (part at 12 file) .number ≡ beValue (part at 4 file)
+unfolding arrivalIn
+number-stands at file = ap beValue (take-take 4 12 (drop at file) (omega arith))
+
+-- its time
+pub time-stands : (at : ℕ) (file : List ℕ) → arrivalIn (part at 12 file) .time ≡ beValue (part (at + 4) 8 file)
+unfolding arrivalIn
+time-stands at file = ap beValue (drop-take 4 12 (drop at file) ∙ ap (take 8) (drop-drop 4 at file))
+
+-- the arrival that stands at a place, by its number and its time
+pub arrival-stands : (count at : ℕ) (file : List ℕ) (i n t : ℕ) (z : Arrival) → i < count
+    → n ≡ beValue (part (at + 12 * i) 4 file) → t ≡ beValue (part (at + 12 * i + 4) 8 file)
+    → record { number = n; time = t } ≡ getD (itemsIn 12 arrivalIn count (drop at file)) i z
+arrival-stands count at file i n t z h e f =
+    let p : n ≡ arrivalIn (part (at + 12 * i) 12 file) .number = e ∙ sym (number-stands (at + 12 * i) file) in
+    let q : t ≡ arrivalIn (part (at + 12 * i) 12 file) .time = f ∙ sym (time-stands (at + 12 * i) file) in
+    (λ j. record { number = p j; time = q j }) ∙ sym (items-stand 12 arrivalIn count at file i z h)
+
+-- its number, as one of the numbers
+pub number-found : (count at : ℕ) (file : List ℕ) (i n : ℕ) → i < count → n ≡ beValue (part (at + 12 * i) 4 file)
+    → n ≡ getD (numbersOf (itemsIn 12 arrivalIn count (drop at file))) i 0
+number-found count at file i n h e =
+    let z : Arrival = record { number = 0; time = 0 } in
+    ap (λ (a : Arrival). a .number) (arrival-stands count at file i n (beValue (part (at + 12 * i + 4) 8 file)) z h e refl)
+    ∙ sym (List·getD-map (λ (a : Arrival). a .number) (itemsIn 12 arrivalIn count (drop at file)) i z)
+
+-- its time, as one of the times
+pub time-found : (count at : ℕ) (file : List ℕ) (i t : ℕ) → i < count → t ≡ beValue (part (at + 12 * i + 4) 8 file)
+    → t ≡ getD (timesOf (itemsIn 12 arrivalIn count (drop at file))) i 0
+time-found count at file i t h e =
+    let z : Arrival = record { number = 0; time = 0 } in
+    ap (λ (a : Arrival). a .time) (arrival-stands count at file i (beValue (part (at + 12 * i) 4 file)) t z h refl e)
+    ∙ sym (List·getD-map (λ (a : Arrival). a .time) (itemsIn 12 arrivalIn count (drop at file)) i z)
+
+-- ---- a size
+
+-- two octets
+pub size-long : (size : ℕ) → length (beOctets 2 size) ≡ 2
+size-long size = octets-length 2 size
+
+-- two octets are written back as themselves
+pub size-back : (os : List ℕ) → Octets os → length os ≡ 2 → beOctets 2 (beValue os) ≡ os
+size-back os o h = subst (λ (n : ℕ). beOctets n (beValue os) ≡ os) h (octets-value os o)
+
+-- ---- arrivals as two lists of one length
+
+-- as many as each list has
+pub arrivals-length : (ns ts : List ℕ) → length ts ≡ length ns → length (arrivalsOf ns ts) ≡ length ns
+unfolding arrivalsOf
+arrivals-length [] ts h = refl
+arrivals-length (n ∷ ns) [] h = absurd (omega arith)
+arrivals-length (n ∷ ns) (t ∷ ts) h = ap suc (arrivals-length ns ts (omega arith))
+
+-- each has the number and the time at its place
+pub arrivals-getD : (ns ts : List ℕ) (i : ℕ) (z : Arrival) → length ts ≡ length ns → i < length ns
+    → record { number = getD ns i 0; time = getD ts i 0 } ≡ getD (arrivalsOf ns ts) i z
+unfolding arrivalsOf
+arrivals-getD [] ts i z h p = absurd (omega arith)
+arrivals-getD (n ∷ ns) [] i z h p = absurd (omega arith)
+arrivals-getD (n ∷ ns) (t ∷ ts) zero z h p = refl
+arrivals-getD (n ∷ ns) (t ∷ ts) (suc i) z h p = arrivals-getD ns ts i z (omega arith) (omega arith)
+
+-- their numbers are the first list
+pub numbers-back : (ns ts : List ℕ) → length ts ≡ length ns → numbersOf (arrivalsOf ns ts) ≡ ns
+unfolding arrivalsOf
+numbers-back [] ts h = refl
+numbers-back (n ∷ ns) [] h = absurd (omega arith)
+numbers-back (n ∷ ns) (t ∷ ts) h = ap (λ (l : List ℕ). n ∷ l) (numbers-back ns ts (omega arith))
+
+-- their times are the second list
+pub times-back : (ns ts : List ℕ) → length ts ≡ length ns → timesOf (arrivalsOf ns ts) ≡ ts
+unfolding arrivalsOf
+times-back [] [] h = refl
+times-back [] (t ∷ ts) h = absurd (omega arith)
+times-back (n ∷ ns) [] h = absurd (omega arith)
+times-back (n ∷ ns) (t ∷ ts) h = ap (λ (l : List ℕ). t ∷ l) (times-back ns ts (omega arith))
+
+-- the arrivals of their numbers and times are themselves
+pub arrivals-back : (l : List Arrival) → arrivalsOf (numbersOf l) (timesOf l) ≡ l
+unfolding arrivalsOf
+arrivals-back [] = refl
+arrivals-back (a ∷ l) = ap (λ (k : List Arrival). a ∷ k) (arrivals-back l)

@@ -1,0 +1,97 @@
+-- The judge of arrivals: one arrival more, and what it says of arrivals that none is refused. Assumes nothing.
+use Prim.Native.Nat.{ℕ, zero, suc, _+_, _≤_, _<_}
+use native.Mathlib.Numerals.{add-one}
+use native.Mathlib.Omega.{arith}
+use mathlib.Core.Bool.{false}
+use mathlib.Core.Path.{_≡_, refl, sym, ap, _∙_}
+use mathlib.Core.List.{List, [], _∷_}
+use borrow.Author.Tests.{ltb-false}
+use lib.ListN.{length, getD, drop, drop-of-length-le}
+use lib.Seq.{drop-cons}
+use Rattle.rfc4737.specs.declared.Arrival.{Arrival}
+use Rattle.rfc4737.specs.Refusals.{outside, inCase, numberOutside, timeBack}
+use Rattle.rfc4737.specs.Times.{tooEarly, nextReference}
+use Rattle.sample.specs.Judge.{judgeOne, judge}
+use Rattle.sample.proofs.Due.{first-none, first-due, first-next, first-one, case-none, between}
+
+-- a number that is not 0
+positive : (n : ℕ) → (n ≡ 0 → ⊥) → 0 < n
+positive zero h = absurd (h refl)
+positive (suc n) h = omega arith
+
+-- ---- a loop over a list l of arrivals, `a` the one at i: before it the whole is as what is left, `judge k 0 l ≡ judge k reference (drop i l)`
+
+module _ (k : ℕ) (l : List Arrival) (reference i : ℕ) (z a : Arrival) (h : i < length l) (here : a ≡ getD l i z)
+    (inv : judge k 0 l ≡ judge k reference (drop i l)) where
+  -- what is left, as its first and the rest
+  left : judge k 0 l ≡ judge k reference (a ∷ drop (suc i) l)
+  left = inv ∙ ap (judge k reference) (drop-cons l i z h ∙ ap (λ (x : Arrival). x ∷ drop (suc i) l) (sym here))
+
+  -- it is refused
+  pub judge-stop : (r : ℕ) → r ≡ judgeOne k reference a → (r ≡ 0 → ⊥) → r ≡ judge k 0 l
+  unfolding judge
+  judge-stop r e n =
+      let p : 0 < judgeOne k reference a = positive (judgeOne k reference a) (λ q. n (e ∙ q)) in
+      e ∙ sym (left ∙ first-due (judgeOne k reference a) (judge k (nextReference reference (a .time)) (drop (suc i) l) ∷ []) p)
+
+  -- it is not refused
+  pub judge-next : (r : ℕ) → r ≡ judgeOne k reference a → r ≡ 0 → judge k 0 l ≡ judge k (nextReference reference (a .time)) (drop (i + 1) l)
+  unfolding judge
+  judge-next r e n =
+      left ∙ first-next (judgeOne k reference a) (judge k (nextReference reference (a .time)) (drop (suc i) l) ∷ []) (sym e ∙ n)
+      ∙ first-one (judge k (nextReference reference (a .time)) (drop (suc i) l))
+      ∙ ap (λ (n : ℕ). judge k (nextReference reference (a .time)) (drop n l)) (sym (add-one i))
+
+-- at the end
+pub judge-done : (k : ℕ) (l : List Arrival) (reference i : ℕ) → length l ≤ i → judge k 0 l ≡ judge k reference (drop i l) → 0 ≡ judge k 0 l
+unfolding judge
+judge-done k l reference i h inv = sym (inv ∙ ap (judge k reference) (drop-of-length-le l h))
+
+-- ---- arrivals of which none is refused
+
+-- the first is not refused, nor one of the others
+judge-split : (k reference : ℕ) (a : Arrival) (l : List Arrival) → judge k reference (a ∷ l) ≡ 0
+    → (judgeOne k reference a ≡ 0) × (judge k (nextReference reference (a .time)) l ≡ 0)
+unfolding judge
+judge-split k reference a l e =
+    let p = first-none (judgeOne k reference a) (judge k (nextReference reference (a .time)) l ∷ []) e in
+    (p .0, sym (first-one (judge k (nextReference reference (a .time)) l)) ∙ p .1)
+
+-- of one arrival: its number lies in 1 to k, and its time is not too early
+one-split : (k reference : ℕ) (a : Arrival) → judgeOne k reference a ≡ 0
+    → ((1 ≤ a .number) × (a .number ≤ k)) × (tooEarly reference (a .time) ≡ false)
+unfolding judgeOne
+one-split k reference a e =
+    let p = first-none (inCase (outside 1 k (a .number)) numberOutside) (inCase (tooEarly reference (a .time)) timeBack ∷ []) e in
+    let q = first-none (inCase (tooEarly reference (a .time)) timeBack) [] (p .1) in
+    (between 1 k (a .number) (case-none (outside 1 k (a .number)) numberOutside (omega arith) (p .0)), case-none (tooEarly reference (a .time)) timeBack (omega arith) (q .0))
+
+-- every number lies in 1 to k
+pub judged-number : (k reference : ℕ) (l : List Arrival) → judge k reference l ≡ 0 → (i : ℕ) (z : Arrival) → i < length l
+    → (1 ≤ getD l i z .number) × (getD l i z .number ≤ k)
+judged-number k reference [] e i z h = absurd (omega arith)
+judged-number k reference (a ∷ l) e zero z h = one-split k reference a (judge-split k reference a l e .0) .0
+judged-number k reference (a ∷ l) e (suc i) z h =
+    judged-number k (nextReference reference (a .time)) l (judge-split k reference a l e .1) i z (omega arith)
+
+-- no time is before the reference
+judged-reference : (k reference : ℕ) (l : List Arrival) → judge k reference l ≡ 0 → (i : ℕ) (z : Arrival) → i < length l
+    → reference ≤ getD l i z .time
+unfolding tooEarly nextReference
+judged-reference k reference [] e i z h = absurd (omega arith)
+judged-reference k reference (a ∷ l) e zero z h = ltb-false (a .time) reference (one-split k reference a (judge-split k reference a l e .0) .1)
+judged-reference k reference (a ∷ l) e (suc i) z h =
+    let p = judge-split k reference a l e in
+    let q : reference ≤ a .time = ltb-false (a .time) reference (one-split k reference a (p .0) .1) in
+    let r : a .time ≤ getD l i z .time = judged-reference k (a .time) l (p .1) i z (omega arith) in
+    omega arith
+
+-- times never fall
+pub judged-times : (k reference : ℕ) (l : List Arrival) → judge k reference l ≡ 0 → (i j : ℕ) (z : Arrival) → i ≤ j → j < length l
+    → getD l i z .time ≤ getD l j z .time
+unfolding nextReference
+judged-times k reference [] e i j z p h = absurd (omega arith)
+judged-times k reference (a ∷ l) e zero zero z p h = omega arith
+judged-times k reference (a ∷ l) e zero (suc j) z p h = judged-reference k (a .time) l (judge-split k reference a l e .1) j z (omega arith)
+judged-times k reference (a ∷ l) e (suc i) zero z p h = absurd (omega arith)
+judged-times k reference (a ∷ l) e (suc i) (suc j) z p h = judged-times k (a .time) l (judge-split k reference a l e .1) i j z (omega arith) (omega arith)

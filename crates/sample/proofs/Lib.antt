@@ -1,0 +1,13 @@
+-- Laws of the definitions of specs/, for the proofs of this crate and of the crates above it.
+pub mod Cases
+pub mod Due
+pub mod Items
+pub mod Judged
+pub mod Readings
+pub mod Writing
+pub mod Decoded
+pub mod Exact
+pub mod RoundTrips
+pub mod Answers
+pub mod Accepted
+pub mod Longer

@@ -1,0 +1,118 @@
+-- The readings of a file: what an answer says of the tests behind it, and the section that they make. Assumes nothing.
+use Prim.Native.Nat.{ℕ, zero, suc, _+_, _*_, _^_, _≤_, _<_}
+use native.Mathlib.Nat.{mul-le-mul}
+use native.Mathlib.Omega.{arith}
+use mathlib.Core.Bool.{Bool, true, false, cond}
+use mathlib.Core.Path.{_≡_, refl}
+use mathlib.Core.List.{List, [], _∷_}
+use lib.Dec.{ltb}
+use lib.ListN.{length}
+use Rattle.octets.specs.Below.{Octets}
+use Rattle.rfc4737.specs.Refusals.{outside, inCase, firstOf, endsEarly}
+use Rattle.sample.specs.Decode.{countAt, endOf, sectionStage}
+use Rattle.sample.specs.Readings.{countReading, placeReading, settled, sectionReading, refusalOfSection}
+use Rattle.sample.specs.declared.sections.Reading.the-variants.{Value, Ended}
+use Rattle.sample.specs.declared.sections.Section.the-variants.{Whole, Refused}
+use Rattle.sample.proofs.Items.{part-fits}
+
+-- ---- one reading
+
+-- the file ended: the test for it holds
+ended : (t : Bool) (n : ℕ) → cond t Ended (Value n) ≡ Ended → t ≡ true
+ended true n e = refl
+ended false n e = absurd (let z : _≡_ {A = ℕ} 0 1 = cc in omega arith)
+
+-- a value was read: the test fails, and it is that value
+valued : (t : Bool) (n v : ℕ) → cond t Ended (Value n) ≡ Value v → (t ≡ false) × (v ≡ n)
+valued true n v e = absurd (let z : _≡_ {A = ℕ} 0 1 = cc in omega arith)
+valued false n v e = (refl, cc)
+
+-- no count: the file ends before it
+pub count-ended : (at : ℕ) (file : List ℕ) → countReading at file ≡ Ended → ltb (length file) (at + 2) ≡ true
+unfolding countReading
+count-ended at file e = ended (ltb (length file) (at + 2)) (countAt at file) e
+
+-- a count: the file has it, and it is that count
+pub count-valued : (at : ℕ) (file : List ℕ) {v : ℕ} → countReading at file ≡ Value v → (ltb (length file) (at + 2) ≡ false) × (v ≡ countAt at file)
+unfolding countReading
+count-valued at file {v} e = valued (ltb (length file) (at + 2)) (countAt at file) v e
+
+-- no place: the file ends before it
+pub place-ended : (place : ℕ) (file : List ℕ) → placeReading place file ≡ Ended → ltb (length file) place ≡ true
+unfolding placeReading
+place-ended place file e = ended (ltb (length file) place) place e
+
+-- a place: the file has it, and it is that place
+pub place-valued : (place : ℕ) (file : List ℕ) {v : ℕ} → placeReading place file ≡ Value v → (ltb (length file) place ≡ false) × (v ≡ place)
+unfolding placeReading
+place-valued place file {v} e = valued (ltb (length file) place) place v e
+
+-- ---- bounds
+
+-- a count of two octets
+pub count-fits : (at : ℕ) (file : List ℕ) → Octets file → countAt at file < 2 ^ 16
+unfolding countAt
+count-fits at file o = part-fits 2 at file o
+
+-- a section of items of at most twelve octets
+pub section-fits : (width count : ℕ) → width ≤ 12 → count < 2 ^ 16 → width * count ≤ 12 * 65535
+section-fits width count h k =
+    let p : count ≤ 65535 = omega arith in
+    mul-le-mul h p
+
+-- ---- a section
+
+module _ (at width least most refusal : ℕ) (file : List ℕ) where
+  -- its count is missing
+  pub section-ended : ltb (length file) (at + 2) ≡ true → Refused endsEarly ≡ sectionReading at width least most refusal file
+  unfolding sectionReading sectionStage
+  section-ended e = simp e
+
+  module _ (e : ltb (length file) (at + 2) ≡ false) where
+    -- its count is refused
+    pub section-judged : 0 < refusal → outside least most (countAt at file) ≡ true → Refused refusal ≡ sectionReading at width least most refusal file
+    unfolding sectionReading sectionStage
+    section-judged p f = simp (e, f) (due refusal p) where
+      due : (r : ℕ) → 0 < r → Refused r ≡ settled (firstOf (r ∷ inCase (ltb (length file) (endOf at width (countAt at file))) endsEarly ∷ [])) (Whole (countAt at file) (endOf at width (countAt at file)))
+      due zero p = absurd (omega arith)
+      due (suc r) p = refl
+
+    module _ (f : outside least most (countAt at file) ≡ false) where
+      -- its items are not all there
+      pub section-short : ltb (length file) (endOf at width (countAt at file)) ≡ true → Refused endsEarly ≡ sectionReading at width least most refusal file
+      unfolding sectionReading sectionStage
+      section-short g = simp (e, f, g)
+
+      -- it is whole
+      pub section-whole : ltb (length file) (endOf at width (countAt at file)) ≡ false
+          → Whole (countAt at file) (endOf at width (countAt at file)) ≡ sectionReading at width least most refusal file
+      unfolding sectionReading sectionStage
+      section-whole g = simp (e, f, g)
+
+  -- it is whole: nothing of it is refused, and it is that count and that end
+  pub whole-section : {n e : ℕ} → sectionReading at width least most refusal file ≡ Whole n e
+      → (sectionStage at width (λ (k : ℕ). inCase (outside least most k) refusal) file ≡ 0) × (n ≡ countAt at file) × (e ≡ endOf at width (countAt at file))
+  unfolding sectionReading
+  whole-section {n} {e} p = go (sectionStage at width (λ (k : ℕ). inCase (outside least most k) refusal) file) refl p where
+    go : (r : ℕ) → sectionStage at width (λ (k : ℕ). inCase (outside least most k) refusal) file ≡ r
+        → settled r (Whole (countAt at file) (endOf at width (countAt at file))) ≡ Whole n e
+        → (r ≡ 0) × (n ≡ countAt at file) × (e ≡ endOf at width (countAt at file))
+    go zero q p = (refl, cc, cc)
+    go (suc r) q p = absurd (let z : _≡_ {A = ℕ} 0 1 = cc in omega arith)
+
+  -- its refusal is the one that is due
+  pub refusal-section : refusalOfSection (sectionReading at width least most refusal file) ≡ sectionStage at width (λ (k : ℕ). inCase (outside least most k) refusal) file
+  unfolding sectionReading
+  refusal-section = go (sectionStage at width (λ (k : ℕ). inCase (outside least most k) refusal) file) where
+    go : (r : ℕ) → refusalOfSection (settled r (Whole (countAt at file) (endOf at width (countAt at file)))) ≡ r
+    go zero = refl
+    go (suc r) = refl
+
+  -- it is refused: a refusal is due
+  pub refused-section : {r : ℕ} → sectionReading at width least most refusal file ≡ Refused r
+      → 0 < sectionStage at width (λ (k : ℕ). inCase (outside least most k) refusal) file
+  unfolding sectionReading
+  refused-section {r} p = go (sectionStage at width (λ (k : ℕ). inCase (outside least most k) refusal) file) p where
+    go : (n : ℕ) → settled n (Whole (countAt at file) (endOf at width (countAt at file))) ≡ Refused r → 0 < n
+    go zero p = absurd (let z : _≡_ {A = ℕ} 0 1 = cc in omega arith)
+    go (suc n) p = omega arith

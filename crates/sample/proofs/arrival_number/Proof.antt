@@ -1,0 +1,50 @@
+-- `sample::arrival_number` meets its contract: the four octets at the arrival's place. Assumes nothing.
+use borrow.Author.Needs.{needs}
+use Prim.Native.Nat.{ℕ, _+_, _*_, _^_, _<_}
+use native.Mathlib.Omega.{arith}
+use mathlib.Core.Path.{ap, _∙_}
+use mir.Syntax.{w8}
+use denote.Ref.{now}
+use Rattle.octets.specs.BigEndian.{beValue}
+use Rattle.octets.specs.Memory.{part}
+use Rattle.octets.proofs.Below.{below-fits}
+use Rattle.sample.specs.Places.{numberFound}
+use Rattle.sample.proofs.Items.{part-fits}
+use Rattle.sample.proofs.arrival_number.Statement.{statement}
+use Rattle.sample.proofs.arrival_number.Tie as tie
+
+arrivals-at-requires : tie.Need-arrivals-at-requires
+arrivals-at-requires c κs = search needs
+
+mul-number-at : tie.Need-mul-number-at
+mul-number-at c = search needs
+
+add-number-at : tie.Need-add-number-at
+add-number-at c = search needs
+
+number-at-requires : tie.Need-number-at-requires
+number-at-requires c κs = search needs
+
+cast-result : tie.Need-cast-result
+cast-result c =
+    let a = c .before .before .before .args in
+    let o = below-fits w8 (now (a .file)) (c .before .before .shared-slice-known .given) in
+    let b : c .number-at .result < 2 ^ 32 = rw (c .number-at .ensures) (part-fits 4 (c .before .arrivals-at .result + 12 * a .i) (now (a .file)) o) in
+    omega arith
+
+returns : tie.Need-returns
+unfolding numberFound
+returns c =
+    let a = c .before .before .before .args in
+    c .number-at .ensures ∙ ap (λ (n : ℕ). beValue (part (n + 12 * a .i) 4 (now (a .file)))) (c .before .arrivals-at .ensures)
+
+pub arrival-number-spec : {M : Type 1} → statement M
+arrival-number-spec =
+    tie.close
+    (tie.spec
+    arrivals-at-requires
+    mul-number-at
+    add-number-at
+    number-at-requires
+    cast-result
+    returns)

@@ -1,0 +1,113 @@
+-- `sample::fill::fill_sizes` meets its contract. The loop's invariant: the list holds the first i sizes, then what it held. The measure is
+-- the number of sizes left. Assumes nothing.
+use borrow.Author.Needs.{needs}
+use Prim.Native.Nat.{ℕ, _+_, _*_, _^_, _-_, _≤_, _<_}
+use native.Mathlib.Omega.{arith}
+use mathlib.Core.Path.{_≡_, refl, ap, sym, _∙_}
+use mathlib.Core.List.{List, _++_}
+use lib.ListN.{length, take, drop}
+use mir.Syntax.{w8}
+use denote.Ref.{now}
+use Rattle.octets.specs.BigEndian.{beValue}
+use Rattle.octets.proofs.Below.{below-fits}
+use Rattle.octets.proofs.Memory.{fill-length, fill-next, fill-done}
+use Rattle.sample.specs.Format.{itemsIn}
+use Rattle.sample.proofs.Items.{items-length, items-stand, part-fits}
+use Rattle.sample.proofs.fill.fill_sizes.Statement.{statement}
+use Rattle.sample.proofs.fill.fill_sizes.Tie as tie
+
+-- the payload sizes, so many, which stand from a place on
+abbrev sizesFrom : List ℕ → ℕ → ℕ → List ℕ
+sizesFrom file at count = itemsIn 2 beValue count (drop at file)
+
+abbrev Inv-loop : tie.InvT-loop
+Inv-loop file at count sizes₀ i₀ sizes i =
+    (i ≤ count) × (sizes ≡ take i (sizesFrom file at count) ++ drop i sizes₀)
+
+abbrev μ-loop : tie.MeasureT-loop
+μ-loop file at count sizes₀ i₀ sizes i =
+    count - i
+
+-- the list keeps its length
+kept : (c : tie.At-loop Inv-loop μ-loop) → length (c .loop .sizes) ≡ length (now (c .before .before .before .args .sizes))
+kept c =
+    let a = c .before .before .before .args in
+    let e = items-length 2 beValue (a .count) (drop (a .at) (now (a .file))) in
+    let p : c .loop .i ≤ length (sizesFrom (now (a .file)) (a .at) (a .count)) = omega arith in
+    let q : c .loop .i ≤ length (now (a .sizes)) = omega arith in
+    ap length (c .loop .inv .1) ∙ fill-length (sizesFrom (now (a .file)) (a .at) (a .count)) (now (a .sizes)) (c .loop .i) p q
+
+loop-holds : tie.Need-loop-holds Inv-loop μ-loop
+loop-holds c =
+    (search needs, refl)
+
+mul-number-at : tie.Need-mul-number-at Inv-loop μ-loop
+mul-number-at c = search needs
+
+add-number-at : tie.Need-add-number-at Inv-loop μ-loop
+add-number-at c = search needs
+
+number-at-requires : tie.Need-number-at-requires Inv-loop μ-loop
+number-at-requires c κs = search needs
+
+cast-sizes : tie.Need-cast-sizes Inv-loop μ-loop
+cast-sizes c =
+    let a = c .before .before .before .before .before .args in
+    let o = below-fits w8 (now (a .file)) (c .before .before .before .before .shared-slice-known .given) in
+    let b : c .number-at .result < 2 ^ 16 = rw (c .number-at .ensures) (part-fits 2 (a .at + 2 * c .before .before .loop .i) (now (a .file)) o) in
+    omega arith
+
+mul-sizes : tie.Need-mul-sizes Inv-loop μ-loop
+mul-sizes c = search needs
+
+slice-write-sizes : tie.Need-slice-write-sizes Inv-loop μ-loop
+slice-write-sizes c =
+    let s = kept (c .before .before) in
+    omega arith
+
+add-i : tie.Need-add-i Inv-loop μ-loop
+add-i c = search needs
+
+loop-less : tie.Need-loop-less Inv-loop μ-loop
+loop-less c = search needs
+
+loop-again : tie.Need-loop-again Inv-loop μ-loop
+loop-again c =
+    let l = c .before .before in
+    let a = l .before .before .before .args in
+    let e = items-length 2 beValue (a .count) (drop (a .at) (now (a .file))) in
+    let p : l .loop .i < length (sizesFrom (now (a .file)) (a .at) (a .count)) = omega arith in
+    let q : l .loop .i < length (now (a .sizes)) = omega arith in (
+      search needs,
+      fill-next (sizesFrom (now (a .file)) (a .at) (a .count)) (now (a .sizes)) (l .loop .i) 0 p q (l .loop .inv .1)
+          (c .number-at .ensures ∙ sym (items-stand 2 beValue (a .count) (a .at) (now (a .file)) (l .loop .i) 0 (c .before .loop-test .taken))),
+    )
+
+same-length : tie.Need-same-length Inv-loop μ-loop
+same-length c =
+    kept (c .before)
+
+returns : tie.Need-returns Inv-loop μ-loop
+returns c =
+    let a = c .before .before .before .before .args in
+    let e = items-length 2 beValue (a .count) (drop (a .at) (now (a .file))) in
+    fill-done (sizesFrom (now (a .file)) (a .at) (a .count)) (now (a .sizes)) (c .before .loop .i) (omega arith) (c .before .loop .inv .1)
+
+pub fill-sizes-spec : {M : Type 1} → statement M
+fill-sizes-spec =
+    tie.close
+    (tie.spec
+    Inv-loop
+    μ-loop
+    loop-holds
+    mul-number-at
+    add-number-at
+    number-at-requires
+    cast-sizes
+    mul-sizes
+    slice-write-sizes
+    add-i
+    loop-less
+    loop-again
+    same-length
+    returns)

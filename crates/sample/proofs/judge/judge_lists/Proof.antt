@@ -1,0 +1,113 @@
+-- `sample::judge::judge_lists` meets its contract. The loop's invariant: judging all arrivals is judging what is left of them from the
+-- reference. The measure is the number of arrivals left. Assumes nothing.
+use borrow.Author.Needs.{needs}
+use Prim.Native.Nat.{ℕ, _+_, _-_, _≤_, _<_}
+use native.Mathlib.Omega.{arith}
+use mathlib.Core.Path.{_≡_, refl, ap, sym, _∙_}
+use lib.ListN.{length, getD, drop}
+use denote.Ref.{now}
+use Rattle.rfc4737.specs.declared.Arrival.{Arrival}
+use Rattle.sample.specs.Format.{arrivalsOf}
+use Rattle.sample.specs.Judge.{judge}
+use Rattle.sample.proofs.Items.{arrivals-length, arrivals-getD}
+use Rattle.sample.proofs.Judged.{judge-stop, judge-next, judge-done}
+use Rattle.sample.proofs.judge.judge_lists.Statement.{statement}
+use Rattle.sample.proofs.judge.judge_lists.Tie as tie
+
+-- what stands past the last
+abbrev none : Arrival
+none = record { number = 0; time = 0 }
+
+abbrev Inv-loop : tie.InvT-loop
+Inv-loop sent numbers times reference₀ i₀ reference i =
+    (i ≤ length numbers) × (judge sent 0 (arrivalsOf numbers times) ≡ judge sent reference (drop i (arrivalsOf numbers times)))
+
+abbrev μ-loop : tie.MeasureT-loop
+μ-loop sent numbers times reference₀ i₀ reference i =
+    length numbers - i
+
+-- in a turn there is an arrival at i
+turn : (c : tie.In-loop Inv-loop μ-loop) → c .before .loop .i < length (arrivalsOf (now (c .before .before .before .before .args .numbers)) (now (c .before .before .before .before .args .times)))
+turn c =
+    let a = c .before .before .before .before .args in
+    let e = arrivals-length (now (a .numbers)) (now (a .times)) (search needs) in
+    omega arith
+
+loop-holds : tie.Need-loop-holds Inv-loop μ-loop
+loop-holds c =
+    (search needs, refl)
+
+mul-time : tie.Need-mul-time Inv-loop μ-loop
+mul-time c = search needs
+
+shared-slice-read-time : tie.Need-shared-slice-read-time Inv-loop μ-loop
+shared-slice-read-time c = search needs
+
+mul-judge-one : tie.Need-mul-judge-one Inv-loop μ-loop
+mul-judge-one c = search needs
+
+shared-slice-read-judge-one : tie.Need-shared-slice-read-judge-one Inv-loop μ-loop
+shared-slice-read-judge-one c = search needs
+
+cast-judge-one : tie.Need-cast-judge-one Inv-loop μ-loop
+cast-judge-one c =
+    omega (arith, c .shared-slice-known4 .given (c .before .before .before .loop .i))
+
+judge-one-requires : tie.Need-judge-one-requires Inv-loop μ-loop
+judge-one-requires c κs = search needs
+
+returns : tie.Need-returns Inv-loop μ-loop
+returns c =
+    let l = c .before .before .before .before .before in
+    let a = l .before .before .before .args in
+    judge-stop (a .sent) (arrivalsOf (now (a .numbers)) (now (a .times))) (l .loop .reference) (l .loop .i) none
+    (record { number = getD (now (a .numbers)) (l .loop .i) 0; time = getD (now (a .times)) (l .loop .i) 0 })
+    (turn (c .before .before .before .before)) (arrivals-getD (now (a .numbers)) (now (a .times)) (l .loop .i) none (search needs) (c .before .before .before .before .loop-test .taken)) (l .loop .inv .1)
+    (c .before .judge-one .result) (c .before .judge-one .ensures) (c .if1 .taken)
+
+next-reference-requires : tie.Need-next-reference-requires Inv-loop μ-loop
+next-reference-requires c κs = search needs
+
+add-i : tie.Need-add-i Inv-loop μ-loop
+add-i c = search needs
+
+loop-less : tie.Need-loop-less Inv-loop μ-loop
+loop-less c = search needs
+
+loop-again : tie.Need-loop-again Inv-loop μ-loop
+loop-again c =
+    let l = c .before .before .before .before .before .before in
+    let a = l .before .before .before .args in (
+      search needs,
+      judge-next (a .sent) (arrivalsOf (now (a .numbers)) (now (a .times))) (l .loop .reference) (l .loop .i) none
+          (record { number = getD (now (a .numbers)) (l .loop .i) 0; time = getD (now (a .times)) (l .loop .i) 0 })
+          (turn (c .before .before .before .before .before)) (arrivals-getD (now (a .numbers)) (now (a .times)) (l .loop .i) none (search needs) (c .before .before .before .before .before .loop-test .taken)) (l .loop .inv .1)
+          (c .before .before .judge-one .result) (c .before .before .judge-one .ensures) (c .before .if1 .left)
+          ∙ ap (λ (r : ℕ). judge (a .sent) r (drop (l .loop .i + 1) (arrivalsOf (now (a .numbers)) (now (a .times))))) (sym (c .next-reference .ensures)),
+    )
+
+returns-2 : tie.Need-returns-2 Inv-loop μ-loop
+returns-2 c =
+    let a = c .before .before .before .before .args in
+    let e = arrivals-length (now (a .numbers)) (now (a .times)) (search needs) in
+    judge-done (a .sent) (arrivalsOf (now (a .numbers)) (now (a .times))) (c .before .loop .reference) (c .before .loop .i) (omega arith) (c .before .loop .inv .1)
+
+pub judge-lists-spec : {M : Type 1} → statement M
+judge-lists-spec =
+    tie.close
+    (tie.spec
+    Inv-loop
+    μ-loop
+    loop-holds
+    mul-time
+    shared-slice-read-time
+    mul-judge-one
+    shared-slice-read-judge-one
+    cast-judge-one
+    judge-one-requires
+    returns
+    next-reference-requires
+    add-i
+    loop-less
+    loop-again
+    returns-2)

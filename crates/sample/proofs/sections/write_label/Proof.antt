@@ -1,0 +1,30 @@
+-- `sample::sections::write_label` meets its contract: the count, and the label after it, are one write of both. Assumes nothing.
+use borrow.Author.Needs.{needs}
+use mathlib.Core.Path.{_∙_}
+use native.Mathlib.Omega.{arith}
+use lib.ListN.{length}
+use denote.Ref.{now}
+use Rattle.octets.proofs.Memory.{put-room}
+use Rattle.sample.proofs.Writing.{section-done}
+use Rattle.sample.proofs.sections.write_label.Statement.{statement}
+use Rattle.sample.proofs.sections.write_label.Tie as tie
+
+put-number-requires : tie.Need-put-number-requires
+put-number-requires c κs = search needs
+
+put-octets-requires : tie.Need-put-octets-requires
+put-octets-requires c κs = search needs
+
+same-length : tie.Need-same-length
+same-length c = search needs
+
+returns : tie.Need-returns
+returns c =
+    let a = c .before .before .before .before .before .before .before .before .before .before .args in
+    let k = c .before .before .before .before .before .before .put-number .kept .0 in
+    section-done 0 (length (now (a .label))) (now (a .label)) (now (a .out)) (search needs)
+    (c .before .before .before .before .before .before .put-number .ensures)
+    (c .before .before .put-octets .ensures ∙ put-room 2 (now (a .label)) (c .before .before .before .before .before .before .put-number .last .0) (omega arith))
+
+pub write-label-spec : {M : Type 1} → statement M
+write-label-spec = tie.close (tie.spec put-number-requires put-octets-requires same-length returns)

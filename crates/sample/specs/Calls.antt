@@ -1,0 +1,80 @@
+-- What the calls answer, and what lent memory holds after them. Assumes nothing.
+use Prim.Native.Nat.{ℕ, zero, suc}
+use mathlib.Core.Bool.{Bool, not, _||_}
+use mathlib.Core.List.{List, [], _∷_}
+use mathlib.Core.Path.{_≡_}
+use lib.Dec.{ltb, eqb}
+use lib.ListN.{length}
+use Rattle.octets.specs.Memory.{over}
+use Rattle.rfc4737.specs.Refusals.{inCase, firstOf, outputShort, listsDiffer}
+use Rattle.sample.specs.Format.{Sample, fileOf, numbersOf, timesOf, arrivalsOf}
+use Rattle.sample.specs.Judge.{judge, judgeLabel, judgeSent, judgeArrivals}
+use Rattle.sample.specs.Decode.{Decoded, refused, accepted, refusalIn, sampleIn, decided, decode, sampleOf, layoutOf}
+use Rattle.sample.specs.declared.Layout.{Layout}
+use Rattle.sample.specs.declared.Written.{Written}
+
+-- ---- the label
+
+-- where the part of the file begins that is shown as the label: after the count, or with a refusal at the file's start
+abbrev pub labelPlace : Decoded → ℕ
+labelPlace (refused r) = 0
+labelPlace (accepted s) = 2
+
+-- ---- the reader
+
+-- whether one of three lists is too short for what was found, lists of so many places for the sizes, the numbers and the times
+unfoldable pub listsShort : Layout → ℕ → ℕ → ℕ → Bool
+listsShort found sizes numbers times = ltb sizes (found .sent) || (ltb numbers (found .arrivals) || ltb times (found .arrivals))
+
+-- what a file decodes to where lists of so many places are filled: 8 comes last
+unfoldable pub decodeInto : ℕ → ℕ → ℕ → List ℕ → Decoded
+decodeInto sizes numbers times file =
+    decided (firstOf (refusalIn file ∷ inCase (listsShort (layoutOf (decode file)) sizes numbers times) outputShort ∷ [])) (sampleIn file)
+
+-- the reader's answer, and the three lists after it: the sample's values from their start, all else as it was
+pub record ReadFrom (file sizes numbers times : List ℕ) (answer : Layout) (sizes′ numbers′ times′ : List ℕ) : Type 0 where
+  pub layout : answer ≡ layoutOf (decodeInto (length sizes) (length numbers) (length times) file)
+  pub filledSizes : sizes′ ≡ over (sampleOf (decodeInto (length sizes) (length numbers) (length times) file) .sizes) sizes
+  pub filledNumbers : numbers′ ≡ over (numbersOf (sampleOf (decodeInto (length sizes) (length numbers) (length times) file) .arrivals)) numbers
+  pub filledTimes : times′ ≡ over (timesOf (sampleOf (decodeInto (length sizes) (length numbers) (length times) file) .arrivals)) times
+
+-- ---- the writer
+
+-- the sample of a label and lists
+abbrev pub sampleFrom : List ℕ → List ℕ → List ℕ → List ℕ → Sample
+sampleFrom label sizes numbers times = record { label = label; sizes = sizes; arrivals = arrivalsOf numbers times }
+
+-- the first refusal that is due of a label and lists: 3, 4, 5 (by the list of numbers), 12, the arrivals in turn
+unfoldable pub refusalFrom : List ℕ → List ℕ → List ℕ → List ℕ → ℕ
+refusalFrom label sizes numbers times =
+    firstOf
+    (judgeLabel (length label)
+    ∷ judgeSent (length sizes)
+    ∷ judgeArrivals (length numbers)
+    ∷ inCase (not (eqb (length numbers) (length times))) listsDiffer
+    ∷ judge (length sizes) 0 (arrivalsOf numbers times)
+    ∷ [])
+
+-- the same where so many octets can be written: 8 comes last
+unfoldable pub refusalInto : ℕ → List ℕ → List ℕ → List ℕ → List ℕ → ℕ
+refusalInto room label sizes numbers times =
+    firstOf
+    (refusalFrom label sizes numbers times
+    ∷ inCase (ltb room (length (fileOf (sampleFrom label sizes numbers times)))) outputShort
+    ∷ [])
+
+-- octets, or none with a refusal
+abbrev pub unlessRefused : ℕ → List ℕ → List ℕ
+unlessRefused zero os = os
+unlessRefused (suc r) os = []
+
+-- the octets that are written where there is room for so many: those of the sample's file, or none with a refusal
+abbrev pub octetsInto : ℕ → List ℕ → List ℕ → List ℕ → List ℕ → List ℕ
+octetsInto room label sizes numbers times =
+    unlessRefused (refusalInto room label sizes numbers times) (fileOf (sampleFrom label sizes numbers times))
+
+-- the writer's answer, and the lent octets after it: those of the file from their start, all else as it was
+pub record WrittenTo (label sizes numbers times out : List ℕ) (answer : Written) (out′ : List ℕ) : Type 0 where
+  pub refusal : answer .refusal ≡ refusalInto (length out) label sizes numbers times
+  pub octets : answer .length ≡ length (octetsInto (length out) label sizes numbers times)
+  pub filled : out′ ≡ over (octetsInto (length out) label sizes numbers times) out

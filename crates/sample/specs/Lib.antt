@@ -1,0 +1,8 @@
+-- The sample file: what it is, what is refused and in which order, and what the calls leave. Assumes nothing.
+pub mod Format
+pub mod Judge
+pub mod Decode
+pub mod Readings
+pub mod Places
+pub mod Calls
+pub mod RoundTrip

@@ -1,0 +1,48 @@
+-- The statements that tie decoding to the format and the reader to the writer, over all input. The calls' contracts carry them.
+-- Assumes nothing.
+use Prim.Native.Nat.{ℕ, _≤_}
+use mathlib.Core.List.{List}
+use mathlib.Core.Logic.{_↔_}
+use mathlib.Core.Path.{_≡_}
+use lib.ListN.{length, take}
+use Rattle.octets.specs.Memory.{over}
+use Rattle.sample.specs.Format.{Sample, fileOf}
+use Rattle.sample.specs.Judge.{Fit}
+use Rattle.sample.specs.Decode.{decode, accepted, sampleOf}
+use Rattle.sample.specs.Calls.{ReadFrom, WrittenTo}
+use Rattle.sample.specs.declared.Layout.{Layout}
+use Rattle.sample.specs.declared.Written.{Written}
+
+-- decoding accepts exactly the octets of fit samples
+abbrev pub Exact : List ℕ → Type 0
+Exact file = (s : Sample) → (decode file ≡ accepted s) ↔ (Fit s × (file ≡ fileOf s))
+
+-- an accepted file that is read and written again, its label with it, gives the same octets
+abbrev pub WrittenAgain : List ℕ → Type 0
+WrittenAgain file =
+    (sizes numbers times sizes′ numbers′ times′ out out′ : List ℕ) (read : Layout) (written : Written)
+    → ReadFrom file sizes numbers times read sizes′ numbers′ times′
+    → read .refusal ≡ 0
+    → length file ≤ length out
+    → WrittenTo (sampleOf (decode file) .label) (take (read .sent) sizes′) (take (read .arrivals) numbers′) (take (read .arrivals) times′) out written out′
+    → (written ≡ record { refusal = 0; length = length file }) × (out′ ≡ over file out)
+
+-- what reading a file gives that was written from a label and lists: the same label and lists
+pub record SameLists (label sizes numbers times file sizes₀ numbers₀ times₀ : List ℕ) (answer : Layout) (sizes′ numbers′ times′ : List ℕ) : Type 0 where
+  pub layout : answer ≡ record { refusal = 0; label = length label; sent = length sizes; arrivals = length numbers }
+  pub sameLabel : sampleOf (decode file) .label ≡ label
+  pub sameSizes : sizes′ ≡ over sizes sizes₀
+  pub sameNumbers : numbers′ ≡ over numbers numbers₀
+  pub sameTimes : times′ ≡ over times times₀
+
+-- an accepted label and lists that are written and read again, into lists that are long enough, are the same label and lists
+abbrev pub ReadAgain : (label sizes numbers times : List ℕ) → Type 0
+ReadAgain label sizes numbers times =
+    (out out′ sizes₀ numbers₀ times₀ sizes′ numbers′ times′ : List ℕ) (written : Written) (read : Layout)
+    → WrittenTo label sizes numbers times out written out′
+    → written .refusal ≡ 0
+    → length sizes ≤ length sizes₀
+    → length numbers ≤ length numbers₀
+    → length times ≤ length times₀
+    → ReadFrom (take (written .length) out′) sizes₀ numbers₀ times₀ read sizes′ numbers′ times′
+    → SameLists label sizes numbers times (take (written .length) out′) sizes₀ numbers₀ times₀ read sizes′ numbers′ times′
