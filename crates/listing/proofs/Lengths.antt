@@ -1,0 +1,43 @@
+-- How long the lines are. Assumes nothing.
+use Prim.Native.Nat.{ℕ, _^_, _≤_, _<_}
+use native.Mathlib.Omega.{arith}
+use lib.ListN.{length, length-append}
+use Rattle.decimal.proofs.Laws.{at-most, at-most-20}
+use Rattle.rfc4737.specs.declared.Answer.{Answer}
+use Rattle.rfc4737.specs.declared.Answer.the-variants.{Duplicate, InOrder, Reordered}
+use Rattle.rfc4737.specs.declared.Counts.{Counts}
+use Rattle.listing.specs.Lines.{number, headerLine, recordLine, endLine, refusedLine}
+use Rattle.listing.specs.Room.{Small, AnswerWithin, CountsWithin}
+
+-- a number of at most four digits
+small : (n : ℕ) → Small n → length (number n) ≤ 4
+small n h = at-most 4 n (omega arith) h
+
+-- the first line
+pub header-octets : (k a : ℕ) → Small k → Small a → length (headerLine k a) ≤ 24
+unfolding headerLine
+header-octets k a hk ha = simp length-append (omega (arith, small k hk, small a ha))
+
+-- a record's line
+pub record-octets : (r n : ℕ) (a : Answer) → Small r → Small n → AnswerWithin a → length (recordLine r n a) ≤ 61
+unfolding recordLine
+record-octets r n (Duplicate f) hr hn h = simp length-append (omega (arith, small r hr, small n hn, small (f .first) h))
+record-octets r n (InOrder f) hr hn h =
+    simp length-append (omega (arith, small r hr, small n hn, small (f .position) (h .0), small (f .jump) (h .1)))
+record-octets r n (Reordered f) hr hn h =
+    simp length-append
+    (omega
+    (arith, small r hr, small n hn, small (f .position) (h .position), small (f .extent) (h .extent), at-most-20 (f .late) (h .late), at-most 9 (f .offset) (omega arith) (h .offset), small (f .largest) (h .largest)))
+
+-- the last line
+pub end-octets : (c : Counts) → CountsWithin c → length (endLine c) ≤ 38
+unfolding endLine
+end-octets c h =
+    simp length-append
+    (omega
+    (arith, small (c .arrived) (h .arrived), small (c .reordered) (h .reordered), small (c .duplicates) (h .duplicates), small (c .runs .closed) (h .closed), at-most 8 (c .runs .squares) (omega arith) (h .squares), small (c .runs .current) (h .current)))
+
+-- the line of a refused input, whatever the number
+pub refused-octets : (n : ℕ) → n < 2 ^ 32 → length (refusedLine n) ≤ 19
+unfolding refusedLine
+refused-octets n h = simp length-append (omega (arith, at-most 10 n (omega arith) (omega arith)))

@@ -1,0 +1,69 @@
+-- Parts of a line written one after the other, and a line that is written whole. Assumes nothing.
+use Prim.Native.Nat.{ℕ, _+_, _≤_, _<_}
+use native.Mathlib.Omega.{arith}
+use mathlib.Core.Path.{_≡_, refl, sym, ap, _∙_}
+use mathlib.Core.List.{List, [], _∷_, _++_, append-assoc}
+use lib.ListN.{length, take, set, length-append}
+use Rattle.octets.specs.Memory.{splice, put}
+use Rattle.octets.proofs.Memory.{splice-length, splice-next, splice-part, splice-set, put-room}
+use Rattle.rfc4737.specs.declared.Answer.{Answer}
+use Rattle.rfc4737.specs.declared.Answer.the-variants.{Duplicate, InOrder, Reordered}
+use Rattle.listing.specs.Words.{space}
+use Rattle.listing.specs.Lines.{number, line, answerFields, recordLine}
+use Rattle.listing.specs.Written.{Written}
+
+-- octets put where there is room, and one octet stored after them
+pub with-after : (at : ℕ) (xs : List ℕ) (x : ℕ) (old : List ℕ) → at + (length xs + 1) ≤ length old
+    → Written at (length xs + 1) (at + length xs + 1) (xs ++ (x ∷ [])) old (set (put at xs old) (at + length xs) x)
+with-after at xs x old h =
+    let room : at + length xs ≤ length old = omega arith in
+    let more : at + length xs < length (splice at xs old) = rw (splice-length at xs old room) (omega arith) in
+    let start : at ≤ length old = omega arith in
+    record {
+      place = simp length-append (omega arith);
+      within = simp length-append (omega arith);
+      memory =
+          rw (put-room at xs old room, splice-set (at + length xs) x (splice at xs old) more)
+          (splice-next at (at + length xs) xs (x ∷ []) old refl start);
+    }
+
+-- a part of at most so many octets is one of at most more
+pub weaken : {at most next : ℕ} {xs old new : List ℕ} (more : ℕ) → most ≤ more → Written at most next xs old new → Written at more next xs old new
+weaken more h w = record { place = w .place; within = omega arith; memory = w .memory }
+
+-- a part, and one at the place after it, are one part
+pub then : {at a mid b next : ℕ} {xs ys old new newer : List ℕ} → at ≤ length old → Written at a mid xs old new → Written mid b next ys new newer
+    → Written at (a + b) next (xs ++ ys) old newer
+then {at} {a} {mid} {b} {next} {xs} {ys} {old} {new} {newer} h w v =
+    record {
+      place = simp length-append (omega (arith, w .place, v .place));
+      within = simp length-append (omega (arith, w .within, v .within));
+      memory = rw (v .memory, w .memory) (splice-next at mid xs ys old (sym (w .place)) h);
+    }
+
+-- a line written where there is room for it is a line put
+pub whole : {at most next : ℕ} {xs old new : List ℕ} → at + most ≤ length old → Written at most next xs old new → new ≡ put at xs old
+whole {at} {most} {next} {xs} {old} h w = w .memory ∙ sym (put-room at xs old (omega (arith, w .within)))
+
+-- a line written at the start of other memory stands in its first places
+read-back : {most next : ℕ} {xs text new : List ℕ} → Written 0 most next xs text new → take next new ≡ xs
+read-back {most} {next} {xs} {text} {new} w =
+    let e : next ≡ length xs = omega (arith, w .place) in
+    rw (e, w .memory) (splice-part 0 xs text (omega arith))
+
+-- so many of them as the place after it says
+pub read-length : {most next : ℕ} {xs text new : List ℕ} → Written 0 most next xs text new → next ≡ length (take next new)
+read-length w = rw (read-back w) (omega (arith, w .place))
+
+-- and copied from there it is a line put
+pub copied : {most next : ℕ} {xs text new newer : List ℕ} (at : ℕ) (old : List ℕ) → Written 0 most next xs text new
+    → newer ≡ put at (take next new) old → (next ≡ length xs) × (newer ≡ put at xs old)
+copied at old w e = (omega (arith, w .place), e ∙ ap (λ (l : List ℕ). put at l old) (read-back w))
+
+-- a record's line: the record and its number, and then its answer
+pub record-parts : (r n : ℕ) (a : Answer)
+    → recordLine r n a ≡ ((number r ++ (space ∷ [])) ++ (number n ++ (space ∷ []))) ++ line (answerFields a)
+unfolding recordLine
+record-parts r n (Duplicate f) = simp append-assoc
+record-parts r n (InOrder f) = simp append-assoc
+record-parts r n (Reordered f) = simp append-assoc

@@ -1,0 +1,39 @@
+-- `listing::write_copy` meets its contract: its parts follow each other. Assumes nothing.
+use Prim.Native.Nat.{_≤_}
+use native.Mathlib.Omega.{arith}
+use mathlib.Core.List.{append-assoc}
+use lib.ListN.{length}
+use borrow.Author.Needs.{needs}
+use Rattle.listing.proofs.Parts.{then}
+use Rattle.listing.proofs.write_copy.Statement.{statement}
+use Rattle.listing.proofs.write_copy.Tie as tie
+
+slice-aggregate-write-word : tie.Need-slice-aggregate-write-word
+slice-aggregate-write-word c = search needs
+
+write-word-requires : tie.Need-write-word-requires
+write-word-requires c κs = search needs
+
+write-number-requires : tie.Need-write-number-requires
+write-number-requires c κs = search needs
+
+same-length : tie.Need-same-length
+same-length c = search needs
+
+returns : tie.Need-returns
+returns c =
+    let e2 = c .before .before in
+    let e1 = e2 .before .before .before .before in
+    let s = e1 .before .before .before .before in
+    let h : s .args .at ≤ length (s .args .out .now) = omega arith in
+    simp append-assoc (simp append-assoc at (then h (e1 .write-word .ensures) (e2 .write-number .ensures)))
+
+pub write-copy-spec : {M : Type 1} → statement M
+write-copy-spec =
+    tie.close
+    (tie.spec
+    slice-aggregate-write-word
+    write-word-requires
+    write-number-requires
+    same-length
+    returns)

@@ -1,0 +1,66 @@
+-- `listing::write_end` meets its contract: its parts follow each other. Assumes nothing.
+use Prim.Native.Nat.{_≤_}
+use native.Mathlib.Omega.{arith}
+use mathlib.Core.List.{append-assoc}
+use lib.ListN.{length}
+use borrow.Author.Needs.{needs}
+use Rattle.listing.specs.Lines.{endLine}
+use Rattle.listing.proofs.Parts.{then}
+use Rattle.listing.proofs.write_end.Statement.{statement}
+use Rattle.listing.proofs.write_end.Tie as tie
+
+slice-aggregate-write-word : tie.Need-slice-aggregate-write-word
+slice-aggregate-write-word c = search needs
+
+write-word-requires : tie.Need-write-word-requires
+write-word-requires c κs = search needs
+
+write-number-requires : tie.Need-write-number-requires
+write-number-requires c κs = search needs
+
+write-number-requires-2 : tie.Need-write-number-requires-2
+write-number-requires-2 c κs = search needs
+
+write-number-requires-3 : tie.Need-write-number-requires-3
+write-number-requires-3 c κs = search needs
+
+write-number-requires-4 : tie.Need-write-number-requires-4
+write-number-requires-4 c κs = search needs
+
+write-number-requires-5 : tie.Need-write-number-requires-5
+write-number-requires-5 c κs = search needs
+
+write-number-requires-6 : tie.Need-write-number-requires-6
+write-number-requires-6 c κs = search needs
+
+same-length : tie.Need-same-length
+same-length c = search needs
+
+returns : tie.Need-returns
+unfolding endLine
+returns c =
+    let e7 = c .before .before in
+    let e6 = e7 .before .before .before .before in
+    let e5 = e6 .before .before .before .before in
+    let e4 = e5 .before .before .before .before in
+    let e3 = e4 .before .before .before .before in
+    let e2 = e3 .before .before .before .before in
+    let e1 = e2 .before .before .before .before in
+    let s = e1 .before .before .before .before .before in
+    let h : s .args .at ≤ length (s .args .out .now) = omega arith in
+    simp append-assoc (simp append-assoc at (then h (then h (then h (then h (then h (then h (e1 .write-word .ensures) (e2 .write-number .ensures)) (e3 .write-number2 .ensures)) (e4 .write-number3 .ensures)) (e5 .write-number4 .ensures)) (e6 .write-number5 .ensures)) (e7 .write-number6 .ensures)))
+
+pub write-end-spec : {M : Type 1} → statement M
+write-end-spec =
+    tie.close
+    (tie.spec
+    slice-aggregate-write-word
+    write-word-requires
+    write-number-requires
+    write-number-requires-2
+    write-number-requires-3
+    write-number-requires-4
+    write-number-requires-5
+    write-number-requires-6
+    same-length
+    returns)

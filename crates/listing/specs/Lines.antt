@@ -1,0 +1,74 @@
+-- The lines of the report and the listing of a sample, as ASCII octets. Assumes nothing.
+use Prim.Native.Nat.{ℕ, _+_}
+use mathlib.Core.List.{List, [], _∷_, _++_}
+use lib.ListN.{length}
+use Rattle.decimal.specs.Decimal.{decimalOf}
+use Rattle.rfc4737.specs.declared.Arrival.{Arrival}
+use Rattle.rfc4737.specs.declared.Answer.{Answer}
+use Rattle.rfc4737.specs.declared.Answer.the-variants.{Duplicate, InOrder, Reordered}
+use Rattle.rfc4737.specs.declared.Counts.{Counts}
+use Rattle.listing.specs.Words.{space, lineFeed, sent, arrivals, inOrder, late, copy, end, refused}
+
+-- ---- fields and lines
+
+-- a field that is a number
+abbrev pub number : ℕ → List ℕ
+number n = decimalOf n
+
+-- a field that is a late time
+abbrev pub lateTime : ℕ → List ℕ
+lateTime t = decimalOf t
+
+-- fields parted by one space
+abbrev pub parted : List (List ℕ) → List ℕ
+parted [] = []
+parted (f ∷ []) = f
+parted (f ∷ (g ∷ fs)) = f ++ (space ∷ parted (g ∷ fs))
+
+-- a line: fields parted by one space, and a line feed at its end
+abbrev pub line : List (List ℕ) → List ℕ
+line fs = parted fs ++ (lineFeed ∷ [])
+
+-- ---- the lines
+
+-- the first line: K and the number of arrivals
+unfoldable pub headerLine : ℕ → ℕ → List ℕ
+headerLine k a = line (sent ∷ number k ∷ arrivals ∷ number a ∷ [])
+
+-- what a record's line says of its answer: `copy` and the record of the first copy; or `in`, position, jump size; or `late`,
+-- position, extent, late time, byte offset, largest n
+abbrev pub answerFields : Answer → List (List ℕ)
+answerFields (Duplicate f) = copy ∷ number (f .first) ∷ []
+answerFields (InOrder f) = inOrder ∷ number (f .position) ∷ number (f .jump) ∷ []
+answerFields (Reordered f) =
+    late ∷ number (f .position) ∷ number (f .extent) ∷ lateTime (f .late) ∷ number (f .offset) ∷ number (f .largest) ∷ []
+
+-- a record's line: the record, its number and its answer
+unfoldable pub recordLine : ℕ → ℕ → Answer → List ℕ
+recordLine r n a = line (number r ∷ number n ∷ answerFields a)
+
+-- the last line: L, reordered, duplicates, closed runs, sum of squares, open run
+unfoldable pub endLine : Counts → List ℕ
+endLine c =
+    line
+    (end ∷ number (c .arrived) ∷ number (c .reordered) ∷ number (c .duplicates) ∷ number (c .runs .closed) ∷ number (c .runs .squares) ∷ number (c .runs .current) ∷ [])
+
+-- the one line of a refused input
+unfoldable pub refusedLine : ℕ → List ℕ
+refusedLine n = line (refused ∷ number n ∷ [])
+
+-- ---- the listing
+
+-- the lines of records counted from r, each with its answer
+unfoldable pub recordLinesFrom : ℕ → List Arrival → List Answer → List ℕ
+recordLinesFrom r [] m = []
+recordLinesFrom r (a ∷ l) [] = []
+recordLinesFrom r (a ∷ l) (b ∷ m) = recordLine r (a .number) b ++ recordLinesFrom (r + 1) l m
+
+-- the lines of all records, counted from 1
+unfoldable pub recordLines : List Arrival → List Answer → List ℕ
+recordLines l m = recordLinesFrom 1 l m
+
+-- the first line, the lines of the records in order, and the last line
+unfoldable pub listingOf : ℕ → List Arrival → List Answer → Counts → List ℕ
+listingOf k l m c = headerLine k (length l) ++ (recordLines l m ++ endLine c)

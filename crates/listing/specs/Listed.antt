@@ -1,0 +1,20 @@
+-- What stands in lent memory while a listing is written, line by line, from its start. Assumes nothing.
+use Prim.Native.Nat.{ℕ, _+_, _*_, _≤_}
+use mathlib.Core.Path.{_≡_}
+use mathlib.Core.List.{List, _++_}
+use lib.ListN.{length}
+use Rattle.octets.specs.Memory.{over}
+use Rattle.rfc4737.specs.declared.Arrival.{Arrival}
+use Rattle.rfc4737.specs.declared.Answer.{Answer}
+use Rattle.listing.specs.Lines.{headerLine, recordLines}
+
+-- the listing of K and A up to the lines of the first records
+abbrev pub upTo : ℕ → ℕ → List Arrival → List Answer → List ℕ
+upTo k a l m = headerLine k a ++ recordLines l m
+
+-- that much was written in `old`, and `at` is the place after it: at most 24 octets for the first line and 61 for each record
+pub record Listed (k a : ℕ) (l : List Arrival) (m : List Answer) (at : ℕ) (old new : List ℕ) : Type 0 where
+  pub paired : length m ≡ length l
+  pub place : length (upTo k a l m) ≡ at
+  pub within : at ≤ 24 + 61 * length l
+  pub memory : new ≡ over (upTo k a l m) old

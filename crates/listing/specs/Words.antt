@@ -1,0 +1,41 @@
+-- The octets of the report that are no figures, in ASCII: its words, the space between fields and the line feed at the end
+-- of a line. Assumes nothing.
+use Prim.Native.Char.{code}
+use Prim.Native.Nat.{ℕ}
+use Prim.Native.String as text
+use mathlib.Core.List.{List, [], _∷_}
+
+-- a text of ASCII characters as octets
+abbrev pub ascii : text.String → List ℕ
+ascii text.[] = []
+ascii (text._∷_ c t) = code c ∷ ascii t
+
+-- between two fields
+abbrev pub space : ℕ
+space = code " "
+
+-- at the end of a line
+abbrev pub lineFeed : ℕ
+lineFeed = code "\n"
+
+-- the octets of the words
+abbrev pub sent : List ℕ
+sent = ascii "sent"
+
+abbrev pub arrivals : List ℕ
+arrivals = ascii "arrivals"
+
+abbrev pub inOrder : List ℕ
+inOrder = ascii "in"
+
+abbrev pub late : List ℕ
+late = ascii "late"
+
+abbrev pub copy : List ℕ
+copy = ascii "copy"
+
+abbrev pub end : List ℕ
+end = ascii "end"
+
+abbrev pub refused : List ℕ
+refused = ascii "refused"

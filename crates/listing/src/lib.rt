@@ -1,0 +1,200 @@
+// The lines of the report, written into lent memory. A public function writes its line whole, or nothing where
+// there is no room for all of it, and answers how long the line is. Inside, a part of a line is written where
+// room is known, and the answer is the place after it, which has the name of the field that goes there.
+ghost use mathlib.Core.Path.{_≡_};
+ghost use mathlib.Core.List.{[], _∷_, _++_};
+ghost use Prim.Native.Nat.{_+_, _≤_};
+ghost use lib.ListN.{length};
+ghost use Rattle.octets.specs.Memory.{put};
+ghost use Rattle.decimal.specs.Decimal.{decimalOf};
+ghost use Rattle.rfc4737.specs.declared.Answer.the-variants.{Duplicate, InOrder, Reordered};
+ghost use Rattle.listing.specs.Lines.{number, lateTime, line, answerFields, headerLine, recordLine, endLine, refusedLine};
+ghost use Rattle.listing.specs.Written.{Written};
+use rfc4737::Answer;
+use rfc4737::Counts;
+use rfc4737::DuplicateFigures;
+use rfc4737::InOrderFigures;
+use rfc4737::ReorderedFigures;
+
+// What parts two fields.
+const SPACE: u8 = b' ';
+
+// What ends a line.
+const LINE_FEED: u8 = b'\n';
+
+// The most octets of a line, whatever its figures: `late`, six numbers of 32 bits and a time of 64 bits, with an
+// octet after each of these eight.
+const LINE: usize = 92;
+
+// The octets that suffice for any listing: 64 for each of 4,096 records. The longest line of a record has 61; what
+// is left holds the first line, of at most 24, and the last, of at most 38.
+pub const LISTING_OCTETS: usize = 262_144;
+
+// Writes a word and the octet after it.
+fn write_word(out: &mut [u8], at: usize, word: &[u8], after: u8) -> usize
+    requires { ⌜ at + (length (now word) + 1) ≤ length (now out) ⌝ }
+    ensures { λ r. ⌜ Written at (length (now (word .entry)) + 1) r (now (word .entry) ++ (after ∷ [])) (now (out .entry)) (now (out .exit)) ⌝ }
+{
+    octets::put_octets(out, at, word);
+    let end = at + word.len();
+    out[end] = after;
+    end + 1
+}
+
+// Writes the digits of a number and the octet after them.
+fn write_digits(out: &mut [u8], at: usize, v: u64, after: u8) -> usize
+    requires { ⌜ at + (length (decimalOf v) + 1) ≤ length (now out) ⌝ }
+    ensures { λ r. ⌜ Written at (length (decimalOf v) + 1) r (decimalOf v ++ (after ∷ [])) (now (out .entry)) (now (out .exit)) ⌝ }
+{
+    let end = at + decimal::put_decimal(out, at, v);
+    out[end] = after;
+    end + 1
+}
+
+// Writes a number and the octet after it.
+fn write_number(out: &mut [u8], at: usize, n: u32, after: u8) -> usize
+    requires { ⌜ at + 11 ≤ length (now out) ⌝ }
+    ensures { λ r. ⌜ Written at 11 r (number n ++ (after ∷ [])) (now (out .entry)) (now (out .exit)) ⌝ }
+{
+    write_digits(out, at, n as u64, after)
+}
+
+// Writes a late time and the octet after it.
+fn write_time(out: &mut [u8], at: usize, t: u64, after: u8) -> usize
+    requires { ⌜ at + 21 ≤ length (now out) ⌝ }
+    ensures { λ r. ⌜ Written at 21 r (lateTime t ++ (after ∷ [])) (now (out .entry)) (now (out .exit)) ⌝ }
+{
+    write_digits(out, at, t, after)
+}
+
+// Writes the first line.
+fn write_header(out: &mut [u8], at: usize, k: u32, a: u32) -> usize
+    requires { ⌜ at + 36 ≤ length (now out) ⌝ }
+    ensures { λ r. ⌜ Written at 36 r (headerLine k a) (now (out .entry)) (now (out .exit)) ⌝ }
+{
+    let sent = write_word(out, at, b"sent", SPACE);
+    let word = write_number(out, sent, k, SPACE);
+    let arrivals = write_word(out, word, b"arrivals", SPACE);
+    write_number(out, arrivals, a, LINE_FEED)
+}
+
+// The first line: K and the number of arrivals.
+pub fn put_header(out: &mut [u8], at: usize, k: u32, a: u32) -> usize
+    ensures { λ r. ⌜ (r ≡ length (headerLine k a)) × (now (out .exit) ≡ put at (headerLine k a) (now (out .entry))) ⌝ }
+{
+    let mut text = [0u8; LINE];
+    let n = write_header(&mut text, 0, k, a);
+    octets::put_octets(out, at, &text[..n]);
+    n
+}
+
+// Writes the answer of a duplicate.
+fn write_copy(out: &mut [u8], at: usize, f: DuplicateFigures) -> usize
+    requires { ⌜ at + 16 ≤ length (now out) ⌝ }
+    ensures { λ r. ⌜ Written at 16 r (line (answerFields (Duplicate f))) (now (out .entry)) (now (out .exit)) ⌝ }
+{
+    let first = write_word(out, at, b"copy", SPACE);
+    write_number(out, first, f.first, LINE_FEED)
+}
+
+// Writes the answer of an in-order packet.
+fn write_in(out: &mut [u8], at: usize, f: InOrderFigures) -> usize
+    requires { ⌜ at + 25 ≤ length (now out) ⌝ }
+    ensures { λ r. ⌜ Written at 25 r (line (answerFields (InOrder f))) (now (out .entry)) (now (out .exit)) ⌝ }
+{
+    let position = write_word(out, at, b"in", SPACE);
+    let jump = write_number(out, position, f.position, SPACE);
+    write_number(out, jump, f.jump, LINE_FEED)
+}
+
+// Writes the answer of a reordered packet.
+fn write_late(out: &mut [u8], at: usize, f: ReorderedFigures) -> usize
+    requires { ⌜ at + 70 ≤ length (now out) ⌝ }
+    ensures { λ r. ⌜ Written at 70 r (line (answerFields (Reordered f))) (now (out .entry)) (now (out .exit)) ⌝ }
+{
+    let position = write_word(out, at, b"late", SPACE);
+    let extent = write_number(out, position, f.position, SPACE);
+    let late = write_number(out, extent, f.extent, SPACE);
+    let offset = write_time(out, late, f.late, SPACE);
+    let largest = write_number(out, offset, f.offset, SPACE);
+    write_number(out, largest, f.largest, LINE_FEED)
+}
+
+// Writes an answer, and with it the end of a record's line.
+fn write_answer(out: &mut [u8], at: usize, answer: Answer) -> usize
+    requires { ⌜ at + 70 ≤ length (now out) ⌝ }
+    ensures { λ r. ⌜ Written at 70 r (line (answerFields answer)) (now (out .entry)) (now (out .exit)) ⌝ }
+{
+    match answer {
+        Answer::Duplicate(f) => write_copy(out, at, f),
+        Answer::InOrder(f) => write_in(out, at, f),
+        Answer::Reordered(f) => write_late(out, at, f),
+    }
+}
+
+// Writes a record's line.
+fn write_record(out: &mut [u8], at: usize, record: u32, number: u32, answer: Answer) -> usize
+    requires { ⌜ at + 92 ≤ length (now out) ⌝ }
+    ensures { λ r. ⌜ Written at 92 r (recordLine «record» number answer) (now (out .entry)) (now (out .exit)) ⌝ }
+{
+    let second = write_number(out, at, record, SPACE);
+    let rest = write_number(out, second, number, SPACE);
+    write_answer(out, rest, answer)
+}
+
+// A record's line: the record, its number and its answer.
+pub fn put_record(out: &mut [u8], at: usize, record: u32, number: u32, answer: Answer) -> usize
+    ensures { λ r. ⌜ (r ≡ length (recordLine «record» number answer)) × (now (out .exit) ≡ put at (recordLine «record» number answer) (now (out .entry))) ⌝ }
+{
+    if octets::has_room(out.len(), at, LINE) {
+        return write_record(out, at, record, number, answer) - at;
+    }
+    let mut text = [0u8; LINE];
+    let n = write_record(&mut text, 0, record, number, answer);
+    octets::put_octets(out, at, &text[..n]);
+    n
+}
+
+// Writes the last line.
+fn write_end(out: &mut [u8], at: usize, c: Counts) -> usize
+    requires { ⌜ at + 70 ≤ length (now out) ⌝ }
+    ensures { λ r. ⌜ Written at 70 r (endLine c) (now (out .entry)) (now (out .exit)) ⌝ }
+{
+    let runs = c.runs;
+    let arrived = write_word(out, at, b"end", SPACE);
+    let reordered = write_number(out, arrived, c.arrived, SPACE);
+    let duplicates = write_number(out, reordered, c.reordered, SPACE);
+    let closed = write_number(out, duplicates, c.duplicates, SPACE);
+    let squares = write_number(out, closed, runs.closed, SPACE);
+    let current = write_number(out, squares, runs.squares, SPACE);
+    write_number(out, current, runs.current, LINE_FEED)
+}
+
+// The last line: L, reordered, duplicates, closed runs, sum of squares, open run.
+pub fn put_end(out: &mut [u8], at: usize, c: Counts) -> usize
+    ensures { λ r. ⌜ (r ≡ length (endLine c)) × (now (out .exit) ≡ put at (endLine c) (now (out .entry))) ⌝ }
+{
+    let mut text = [0u8; LINE];
+    let n = write_end(&mut text, 0, c);
+    octets::put_octets(out, at, &text[..n]);
+    n
+}
+
+// Writes the line of a refused input.
+fn write_refused(out: &mut [u8], at: usize, n: u32) -> usize
+    requires { ⌜ at + 19 ≤ length (now out) ⌝ }
+    ensures { λ r. ⌜ Written at 19 r (refusedLine n) (now (out .entry)) (now (out .exit)) ⌝ }
+{
+    let number = write_word(out, at, b"refused", SPACE);
+    write_number(out, number, n, LINE_FEED)
+}
+
+// The one line of a refused input.
+pub fn put_refused(out: &mut [u8], at: usize, refusal: u32) -> usize
+    ensures { λ r. ⌜ (r ≡ length (refusedLine refusal)) × (now (out .exit) ≡ put at (refusedLine refusal) (now (out .entry))) ⌝ }
+{
+    let mut text = [0u8; LINE];
+    let n = write_refused(&mut text, 0, refusal);
+    octets::put_octets(out, at, &text[..n]);
+    n
+}

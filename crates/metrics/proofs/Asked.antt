@@ -1,0 +1,326 @@
+-- What is asked for: refusals, records and their answers. Assumes nothing.
+use mathlib.Core.Path.{_≡_, refl, sym, ap, ap₂, _∙_}
+use mathlib.Core.Bool.{Bool, true, false, cond, not, _&&_, true≢false}
+use mathlib.Core.List.{List, [], _∷_, _++_, append-nil, append-assoc}
+use mathlib.Core.Option.{none, some}
+use Prim.Native.Nat.{ℕ, zero, suc, _+_, _-_, _≤_, _<_}
+use native.Mathlib.Omega.{arith}
+use lib.Dec.{leb}
+use lib.ListN.{length, take, drop, getD, take-append-drop, length-append, List·getD-eq-default, List·getD-map, length-map}
+use borrow.Author.Tests.{le-leb, leb-true, leb-false}
+use Rattle.rfc4737.specs.declared.Arrival.{Arrival}
+use Rattle.rfc4737.specs.declared.Answer.{Answer}
+use Rattle.rfc4737.specs.declared.Gap.{Gap}
+use Rattle.rfc4737.specs.Refusals.{firstOf, inCase, within, askedOutside}
+use Rattle.rfc4737.specs.Arrivals.{count, has, withArrival, firsts, each, eachAfter}
+use Rattle.rfc4737.specs.Order.{isInOrder}
+use Rattle.rfc4737.specs.Extent.{discontinuity}
+use Rattle.rfc4737.specs.Answer.{inOrderAnswer, reorderedAnswer, firstAnswer, answerTo, answers}
+use Rattle.rfc4737.specs.Runs.{arrived}
+use Rattle.rfc4737.specs.Gaps.{positionOf, gapOf, gaps}
+use Rattle.rfc4737.specs.Ratios.{nReordered}
+use Rattle.rfc4737.proofs.Arrivals.{has-firsts, firsts-more, with-duplicate, with-first, length-firsts}
+use Rattle.rfc4737.proofs.Folds.{answer-duplicate, answer-first, arrived-answers, length-answers}
+use Rattle.sample.specs.declared.Layout.{Layout}
+use Rattle.sample.specs.Decode.{Decoded, refused, accepted, refusalOf}
+use Rattle.metrics.specs.Sample.{noArrival, sizeOf, arrivalsOf, answersOf, arrivalAt, before, answerAt, Laid, Has}
+use Rattle.metrics.specs.Figures.{atRecord, askedRefusal, recordRefusal, degreeInside, degreeAnswers, recordAnswer, recordGap, degreeCounts}
+use Rattle.metrics.specs.Steps.{placeIn, Marked, gapBy}
+use Rattle.metrics.specs.declared.RecordAnswer.{RecordAnswer}
+use Rattle.metrics.specs.declared.RecordGap.{RecordGap}
+use Rattle.metrics.specs.declared.DegreeCounts.{DegreeCounts}
+use Rattle.metrics.proofs.Follow.{arrivals-laid, before-more}
+use Rattle.metrics.proofs.Discovered.{gap-marked}
+
+-- ---- refusals
+
+-- a refusal that is due comes before all others
+pub own-first : (r low high asked : ℕ) → (r ≡ 0 → ⊥) → r ≡ firstOf (r ∷ inCase (not (within low high asked)) askedOutside ∷ [])
+own-first zero low high asked h = absurd (h refl)
+own-first (suc r) low high asked h = refl
+
+-- no refusal: the file has none of its own, and what is asked for is in its range
+asked-inside : (r : ℕ) (b : Bool) → firstOf (r ∷ inCase (not b) askedOutside ∷ []) ≡ 0 → (r ≡ 0) × (b ≡ true)
+asked-inside zero true e = (refl, refl)
+asked-inside zero false e = absurd (omega (arith, e))
+asked-inside (suc r) b e = absurd (omega (arith, e))
+
+-- what lies in a range
+within-true : (low high n : ℕ) → within low high n ≡ true → (low ≤ n) × (n ≤ high)
+within-true low high n e = go (leb low n) refl (leb n high) refl e
+  where
+    go : (t : Bool) → leb low n ≡ t → (u : Bool) → leb n high ≡ u → (t && u) ≡ true → (low ≤ n) × (n ≤ high)
+    go true a true b e = (leb-true low n a, leb-true n high b)
+    go true a false b e = absurd (true≢false (sym e))
+    go false a u b e = absurd (true≢false (sym e))
+
+-- a call that is not refused asks for a number in its range
+pub asked-within : (d : Decoded) (low high asked : ℕ) → askedRefusal d low high asked ≡ 0 → (low ≤ asked) × (asked ≤ high)
+asked-within d low high asked e = within-true low high asked (asked-inside (refusalOf d) (within low high asked) e .1)
+
+-- a call that is refused asks for no record
+asked-outside : (d : Decoded) (asked : ℕ) → (recordRefusal d asked ≡ 0 → ⊥) → 1 ≤ asked → asked ≤ length (arrivalsOf d) → ⊥
+asked-outside (refused r) asked h low high = omega arith
+asked-outside (accepted s) asked h low high =
+    h (rw (le-leb 1 asked low, le-leb asked (length (arrivalsOf (accepted s))) high))
+
+-- where a degree is refused there are no answers
+pub degree-refused : (d : Decoded) (n : ℕ) → (askedRefusal d 1 100 n ≡ 0 → ⊥) → degreeAnswers d n ≡ []
+unfolding answers each eachAfter
+degree-refused (refused r) n h = go (degreeInside n)
+  where
+    go : (b : Bool) → cond b (answersOf (refused r)) [] ≡ []
+    go true = refl
+    go false = refl
+degree-refused (accepted s) n h = go (degreeInside n) refl
+  where
+    go : (b : Bool) → degreeInside n ≡ b → cond b (answersOf (accepted s)) [] ≡ []
+    go true e = absurd (h (rw e))
+    go false e = refl
+
+-- where it is not, all
+pub degree-accepted : (d : Decoded) (n : ℕ) → askedRefusal d 1 100 n ≡ 0 → degreeAnswers d n ≡ answersOf d
+degree-accepted d n e = rw (asked-inside (refusalOf d) (degreeInside n) e .1)
+
+-- ---- what stands at a record
+
+module _ {A : Type 0} (other : A) (l : List A) where
+  -- at no record stands `other`
+  at-outside : (asked : ℕ) → (1 ≤ asked → asked ≤ length l → ⊥) → atRecord other l asked ≡ other
+  unfolding atRecord
+  at-outside zero h = refl
+  at-outside (suc i) h = List·getD-eq-default l other (over (leb (length l) i) refl)
+    where
+      over : (t : Bool) → leb (length l) i ≡ t → length l ≤ i
+      over true e = leb-true (length l) i e
+      over false e = absurd (h (omega arith) (omega (arith, leb-false (length l) i e)))
+
+  -- at a record stands its element
+  at-inside : (asked : ℕ) → 1 ≤ asked → atRecord other l asked ≡ getD l (asked - 1) other
+  unfolding atRecord
+  at-inside zero h = absurd (omega arith)
+  at-inside (suc i) h = let e : suc i - 1 ≡ i = omega arith in rw e
+
+-- f of the element at a place, with those before it
+each-after-at : {A B : Type 0} (f : List A → A → B) (a₀ : A) (b₀ : B) (before l : List A) (i : ℕ) → i < length l
+    → getD (eachAfter f before l) i b₀ ≡ f (before ++ take i l) (getD l i a₀)
+unfolding eachAfter
+each-after-at f a₀ b₀ before [] i h = absurd (omega arith)
+each-after-at f a₀ b₀ before (a ∷ l) zero h = rw append-nil
+each-after-at f a₀ b₀ before (a ∷ l) (suc i) h = each-after-at f a₀ b₀ (before ++ (a ∷ [])) l i (omega arith) ∙ rw append-assoc
+
+-- the answer for record i + 1 among all
+pub answer-at : (d : Decoded) (other : Answer) (i : ℕ) → i < length (arrivalsOf d) → getD (answersOf d) i other ≡ answerAt d i
+unfolding answers each
+answer-at d other i h = each-after-at (answerTo (sizeOf d)) noArrival other [] (arrivalsOf d) i h
+
+module _ (d : Decoded) (asked : ℕ) where
+  -- a refused call has no answer and no gap
+  pub answer-refused : (other : Answer) → (recordRefusal d asked ≡ 0 → ⊥) → atRecord other (answersOf d) asked ≡ other
+  answer-refused other h =
+      at-outside other (answersOf d) asked (λ low high. asked-outside d asked h low (omega (arith, length-answers (sizeOf d) (arrivalsOf d))))
+
+  -- there is a gap or none for each record
+  gaps-length : length (gaps (answersOf d)) ≡ length (arrivalsOf d)
+  unfolding gaps
+  gaps-length = length-map (answersOf d) _ ∙ length-answers (sizeOf d) (arrivalsOf d)
+
+  -- and no gap
+  pub gap-refused : (recordRefusal d asked ≡ 0 → ⊥) → atRecord Gap.None (gaps (answersOf d)) asked ≡ Gap.None
+  gap-refused h = at-outside Gap.None (gaps (answersOf d)) asked (λ low high. asked-outside d asked h low (omega (arith, gaps-length)))
+
+  module _ (e : recordRefusal d asked ≡ 0) where
+    -- one that is not has those of a record
+    pub record-inside : (1 ≤ asked) × (asked ≤ length (arrivalsOf d))
+    record-inside = asked-within d 1 (length (arrivalsOf d)) asked e
+
+    -- its answer
+    pub answer-known : (other : Answer) → atRecord other (answersOf d) asked ≡ answerAt d (asked - 1)
+    answer-known other = at-inside other (answersOf d) asked (record-inside .0) ∙ answer-at d other (asked - 1) (omega (arith, record-inside))
+
+    -- and its gap
+    pub gap-known : atRecord Gap.None (gaps (answersOf d)) asked ≡ gapOf (answersOf d) (positionOf (answerAt d (asked - 1)))
+    unfolding gaps gapOf positionOf
+    gap-known =
+        let copy : Answer = Answer.Duplicate (record { first = 0 }) in
+        at-inside Gap.None (gaps (answersOf d)) asked (record-inside .0)
+        ∙ List·getD-map (λ (a : Answer). gapOf (answersOf d) (positionOf a)) (answersOf d) (asked - 1) copy
+        ∙ ap (λ (a : Answer). gapOf (answersOf d) (positionOf a)) (answer-at d copy (asked - 1) (omega (arith, record-inside)))
+
+-- ---- the position of an answer
+
+-- a position that is not 0 is the answer's
+pub position-some : (a : Answer) → 1 ≤ placeIn a → positionOf a ≡ some (placeIn a)
+unfolding positionOf
+position-some (Answer.Duplicate f) h = absurd (omega arith)
+position-some (Answer.InOrder f) h = refl
+position-some (Answer.Reordered f) h = refl
+
+-- the position of a first arrival
+first-place : (size : ℕ → ℕ) (fs : List Arrival) (a : Arrival) → placeIn (firstAnswer size fs a) ≡ length fs + 1
+unfolding firstAnswer inOrderAnswer reorderedAnswer
+first-place size fs a = go (isInOrder fs (a .number))
+  where
+    go : (t : Bool) → placeIn (cond t (inOrderAnswer fs a) (reorderedAnswer size fs a (discontinuity fs (a .number)))) ≡ length fs + 1
+    go true = refl
+    go false = refl
+
+-- there are no fewer first arrivals among more arrivals
+firsts-one : (l : List Arrival) (a : Arrival) → length (firsts l) ≤ length (firsts (l ++ (a ∷ [])))
+firsts-one l a = rw (firsts-more l a) (go (has (a .number) (firsts l)) refl)
+  where
+    go : (t : Bool) → has (a .number) (firsts l) ≡ t → length (firsts l) ≤ length (withArrival (firsts l) a)
+    go true e = rw (with-duplicate (firsts l) a e) (omega arith)
+    go false e = rw (with-first (firsts l) a e) (omega (arith, length-append (firsts l) (a ∷ [])))
+
+-- however many more
+firsts-grow : (l m : List Arrival) → length (firsts l) ≤ length (firsts (l ++ m))
+firsts-grow l [] = rw append-nil (omega arith)
+firsts-grow l (a ∷ m) = let k = rw append-assoc at (firsts-grow (l ++ (a ∷ [])) m) in omega (arith, firsts-one l a, k)
+
+module _ (d : Decoded) (y : Layout) (i : ℕ) (h : Has d y i) where
+  -- the position of record i + 1, if it is a first arrival
+  new-place : has (arrivalAt d i .number) (before d i) ≡ false → placeIn (answerAt d i) ≡ length (firsts (before d i)) + 1
+  new-place e = rw (answer-first (sizeOf d) (before d i) (arrivalAt d i) e) (first-place (sizeOf d) (firsts (before d i)) (arrivalAt d i))
+
+  -- and none if it is a copy
+  copy-answer : has (arrivalAt d i .number) (before d i) ≡ true → (placeIn (answerAt d i) ≡ 0) × (positionOf (answerAt d i) ≡ none)
+  unfolding positionOf
+  copy-answer e = rw (answer-duplicate (sizeOf d) (before d i) (arrivalAt d i) e) (refl, refl)
+
+  -- position 0 is no position
+  pub position-none : placeIn (answerAt d i) ≡ 0 → positionOf (answerAt d i) ≡ none
+  position-none z = go (has (arrivalAt d i .number) (before d i)) refl
+    where
+      go : (t : Bool) → has (arrivalAt d i .number) (before d i) ≡ t → positionOf (answerAt d i) ≡ none
+      go true e = copy-answer e .1
+      go false e = absurd (omega (arith, z, new-place e))
+
+  -- every position is at most L
+  pub position-le : placeIn (answerAt d i) ≤ arrived (answersOf d)
+  position-le = rw (arrived-answers (sizeOf d) (arrivalsOf d)) (go (has (arrivalAt d i .number) (before d i)) refl)
+    where
+      grown : length (firsts (before d (i + 1))) ≤ length (firsts (arrivalsOf d))
+      grown = rw (take-append-drop (i + 1) (arrivalsOf d)) at (firsts-grow (before d (i + 1)) (drop (i + 1) (arrivalsOf d)))
+
+      go : (t : Bool) → has (arrivalAt d i .number) (before d i) ≡ t → placeIn (answerAt d i) ≤ length (firsts (arrivalsOf d))
+      go true e = omega (arith, copy-answer e .0)
+      go false e =
+          let more : firsts (before d (i + 1)) ≡ firsts (before d i) ++ (arrivalAt d i ∷ []) =
+          ap firsts (before-more d y i h) ∙ firsts-more (before d i) (arrivalAt d i)
+          ∙ with-first (firsts (before d i)) (arrivalAt d i) (has-firsts (arrivalAt d i .number) (before d i) ∙ e) in
+          omega (arith, grown, ap length more, length-append (firsts (before d i)) (arrivalAt d i ∷ []), new-place e)
+
+  -- and L at most 4,096
+  pub arrived-le : arrived (answersOf d) ≤ 4096
+  arrived-le =
+      omega (arith, arrived-answers (sizeOf d) (arrivalsOf d), length-firsts (arrivalsOf d), arrivals-laid d y (h .file), h .file .few)
+
+-- ---- the calls' answers
+
+-- the refusal that is found by the layout
+pub laid-refusal : (d : Decoded) (y : Layout) → Laid d y → (r low high asked : ℕ)
+    → r ≡ firstOf (y .refusal ∷ inCase (not (within low high asked)) askedOutside ∷ []) → r ≡ askedRefusal d low high asked
+laid-refusal d y h r low high asked e =
+    e ∙ ap (λ (y : Layout). firstOf (y .refusal ∷ inCase (not (within low high asked)) askedOutside ∷ [])) (h .laid)
+
+-- the same of a record
+pub laid-record : (d : Decoded) (y : Layout) → Laid d y → (r asked : ℕ)
+    → r ≡ firstOf (y .refusal ∷ inCase (not (within 1 (y .arrivals) asked)) askedOutside ∷ []) → r ≡ recordRefusal d asked
+laid-record d y h r asked e =
+    laid-refusal d y h r 1 (y .arrivals) asked e ∙ ap (λ (n : ℕ). askedRefusal d 1 n asked) (arrivals-laid d y h)
+
+-- a refusal and an answer
+abbrev answer-with : ℕ → Answer → RecordAnswer
+answer-with r a = record { refusal = r; answer = a }
+
+-- a refusal and a gap
+abbrev gap-with : ℕ → Gap → RecordGap
+gap-with r g = record { refusal = r; gap = g }
+
+-- a refusal and the counts of a degree
+abbrev counts-with : ℕ → ℕ → List Answer → DegreeCounts
+counts-with n r l = record { refusal = r; reordered = nReordered n l; arrived = arrived l }
+
+module _ (d : Decoded) (asked r : ℕ) (e : r ≡ recordRefusal d asked) where
+  -- an answer with a refusal
+  pub answered-refused : (r ≡ 0 → ⊥) → answer-with r (Answer.InOrder (record { position = 0; jump = 0 })) ≡ recordAnswer d asked
+  unfolding recordAnswer
+  answered-refused h = ap₂ answer-with e (sym (answer-refused d asked _ (λ z. h (e ∙ z))))
+
+  -- without one
+  pub answered : r ≡ 0 → (a : Answer) → a ≡ answerAt d (asked - 1) → answer-with r a ≡ recordAnswer d asked
+  unfolding recordAnswer
+  answered z a k = ap₂ answer-with e (k ∙ sym (answer-known d asked (sym e ∙ z) _))
+
+  -- a gap with a refusal
+  pub gap-answered-refused : (r ≡ 0 → ⊥) → gap-with r Gap.None ≡ recordGap d asked
+  unfolding recordGap
+  gap-answered-refused h = ap₂ gap-with e (sym (gap-refused d asked (λ z. h (e ∙ z))))
+
+  -- without one
+  pub gap-answered : r ≡ 0 → (g : Gap) → g ≡ gapOf (answersOf d) (positionOf (answerAt d (asked - 1))) → gap-with r g ≡ recordGap d asked
+  unfolding recordGap
+  gap-answered z g k = ap₂ gap-with e (k ∙ sym (gap-known d asked (sym e ∙ z)))
+
+module _ (d : Decoded) (n r : ℕ) (e : r ≡ askedRefusal d 1 100 n) where
+  -- the counts of a degree with a refusal
+  pub degree-answered-refused : (r ≡ 0 → ⊥) → record { refusal = r; reordered = 0; arrived = 0 } ≡ degreeCounts d n
+  unfolding degreeCounts nReordered arrived count
+  degree-answered-refused h = ap₂ (counts-with n) e (sym (degree-refused d n (λ z. h (e ∙ z))))
+
+  -- without one
+  pub degree-answered : r ≡ 0 → (part whole : ℕ) → part ≡ nReordered n (answersOf d) → whole ≡ arrived (answersOf d)
+      → record { refusal = r; reordered = part; arrived = whole } ≡ degreeCounts d n
+  unfolding degreeCounts
+  degree-answered z part whole p w = rw (p, w) (ap₂ (counts-with n) e (sym (degree-accepted d n (sym e ∙ z))))
+
+-- ---- the gap of a record, by the position of its answer
+
+-- the refusal of an answer
+own-refusal : (d : Decoded) (asked : ℕ) (a : RecordAnswer) → a ≡ recordAnswer d asked → a .refusal ≡ recordRefusal d asked
+unfolding recordAnswer
+own-refusal d asked a e = ap (λ (a : RecordAnswer). a .refusal) e
+
+-- a refused answer has none
+pub gap-answer-refused : (d : Decoded) (asked : ℕ) (a : RecordAnswer) → a ≡ recordAnswer d asked → (a .refusal ≡ 0 → ⊥)
+    → gap-with (a .refusal) Gap.None ≡ recordGap d asked
+gap-answer-refused d asked a e h = gap-answered-refused d asked (a .refusal) (own-refusal d asked a e) h
+
+module _ (d : Decoded) (y : Layout) (h : Laid d y) (asked : ℕ) (a : RecordAnswer) (e : a ≡ recordAnswer d asked) (z : a .refusal ≡ 0) where
+  -- its own refusal
+  own : a .refusal ≡ recordRefusal d asked
+  own = own-refusal d asked a e
+
+  -- the record asked for is there
+  inside : Has d y (asked - 1)
+  inside = record { file = h; inside = omega (arith, record-inside d asked (sym own ∙ z), arrivals-laid d y h) }
+
+  -- its own answer
+  own-answer : a .answer ≡ answerAt d (asked - 1)
+  unfolding recordAnswer
+  own-answer = ap (λ (a : RecordAnswer). a .answer) e ∙ answer-known d asked (sym own ∙ z) _
+
+  -- a copy has none
+  pub gap-copy : (p : ℕ) → p ≡ placeIn (a .answer) → p ≡ 0 → gap-with (a .refusal) Gap.None ≡ recordGap d asked
+  unfolding gapOf
+  gap-copy p q s =
+      gap-answered d asked (a .refusal) own z Gap.None
+      (sym (ap (gapOf (answersOf d)) (position-none d y (asked - 1) inside (ap placeIn (sym own-answer) ∙ sym q ∙ s))))
+
+  -- a position is at most 4,096
+  pub place-few : (p : ℕ) → p ≡ placeIn (a .answer) → p ≤ 4096
+  place-few p q =
+      omega (arith, q, ap placeIn own-answer, position-le d y (asked - 1) inside, arrived-le d y (asked - 1) inside)
+
+  -- any other that of its position
+  pub gap-placed : (p : ℕ) → p ≡ placeIn (a .answer) → (p ≡ 0 → ⊥) → (found : List ℕ) → Marked (answersOf d) found → (g : Gap) → g ≡ gapBy found p
+      → gap-with (a .refusal) g ≡ recordGap d asked
+  gap-placed p q s found m g k =
+      let same : p ≡ placeIn (answerAt d (asked - 1)) = q ∙ ap placeIn own-answer in
+      let low : 1 ≤ p = omega (arith, s) in
+      let at : positionOf (answerAt d (asked - 1)) ≡ some p = rw (sym same) at (position-some (answerAt d (asked - 1)) (rw same at low)) in
+      gap-answered d asked (a .refusal) own z g
+      (k
+      ∙ sym (gap-marked (answersOf d) found m p low (omega (arith, same, position-le d y (asked - 1) inside)) (place-few p q))
+      ∙ ap (gapOf (answersOf d)) (sym at))

@@ -1,0 +1,263 @@
+-- How the tables follow the arrivals: at the start, and under one arrival more. Assumes nothing.
+use mathlib.Core.Path.{_≡_, refl, sym, ap, _∙_}
+use mathlib.Core.Bool.{Bool, true, false, cond, true≢false}
+use mathlib.Core.List.{List, [], _∷_, _++_}
+use mathlib.Core.Option.{none, some}
+use Prim.Native.Nat.{ℕ, _+_, _≤_, _<_}
+use native.Mathlib.Omega.{arith}
+use lib.ListN.{length, getD, set, length-set, length-append, List·getD-append}
+use lib.Seq.{length-take-le, getD-set-same, getD-set-other, getD-append-seam}
+use lib.Dec.{eqb, ltb}
+use borrow.Author.Tests.{eq-eqb, ne-eqb, eqb-true, eqb-false, ltb-true, ltb-false, lt-ltb, lt-leb, le-leb}
+use Rattle.rfc4737.specs.declared.Arrival.{Arrival}
+use Rattle.rfc4737.specs.Arrivals.{has, firsts, firstRecord}
+use Rattle.rfc4737.specs.Order.{Placed, placed, placeAfter, jumps, nextExp, nextAfter, isInOrder}
+use Rattle.rfc4737.specs.Extent.{discontinuity, firstAbove}
+use Rattle.rfc4737.proofs.Lists.{all-weaken}
+use Rattle.rfc4737.proofs.Arrivals.{has-firsts, firsts-more, with-duplicate, with-first, record-more, length-firsts, take-more}
+use Rattle.rfc4737.proofs.Folds.{next-more}
+use Rattle.rfc4737.proofs.Jumps.{has-more-false, placed-more, firstAbove-append, firstAbove-none, search-agrees, Within, jumps-within, reordered-discontinuity}
+use Rattle.sample.specs.declared.Layout.{Layout}
+use Rattle.sample.specs.Decode.{Decoded}
+use Rattle.metrics.specs.Sample.{noArrival, arrivalsOf, arrivalAt, before, Laid, Has}
+use Rattle.metrics.specs.Tables.{Filled, Numbered, Recorded, Follows, placeOf}
+use Rattle.metrics.specs.declared.tables.State.{State}
+use Rattle.metrics.proofs.Records.{record-none, record-some}
+
+-- ---- filling
+
+-- before the first place
+pub filled-none : (from value : ℕ) (old : List ℕ) → Filled from from value old old
+filled-none from value old = record { same = refl; inside = λ k h g. absurd (omega arith); below = λ k h. refl }
+
+-- one place more
+pub filled-more : (from s value : ℕ) (old new : List ℕ) → from ≤ s → s < length new → Filled from s value old new
+    → Filled from (s + 1) value old (set new s value)
+filled-more from s value old new h g f =
+    record {
+      same = length-set new s value ∙ f .same;
+      inside = λ k a b. at k a b (eqb k s) refl;
+      below = λ k a. getD-set-other new s k value 0 (λ e. omega arith) ∙ f .below k a;
+    }
+  where
+    at : (k : ℕ) → from ≤ k → k < s + 1 → (t : Bool) → eqb k s ≡ t → getD (set new s value) k 0 ≡ value
+    at k a b true e = rw (eqb-true k s e) (getD-set-same new s value 0 g)
+    at k a b false e =
+        let other : k ≡ s → ⊥ = eqb-false k s e in
+        getD-set-other new s k value 0 other ∙ f .inside k a (omega (arith, other))
+
+-- ---- one arrival more
+
+-- the numbers under one first arrival more, put after those before it
+numbered-more : (fs : List Arrival) (a : Arrival) (numbers : List ℕ) (count : ℕ) → length fs < length numbers → Numbered fs numbers count
+    → Numbered (fs ++ (a ∷ [])) (set numbers count (a .number)) (count + 1)
+numbered-more fs a numbers count room h =
+    record { all = rw (length-append fs (a ∷ [])) (ap (λ (n : ℕ). n + 1) (h .all)); at = λ p g. go p g (eqb p (length fs)) refl }
+  where
+    here : getD (set numbers count (a .number)) (length fs) 0 ≡ a .number
+    here = rw (h .all) (getD-set-same numbers (length fs) (a .number) 0 room)
+
+    go : (p : ℕ) → p < length (fs ++ (a ∷ [])) → (t : Bool) → eqb p (length fs) ≡ t
+        → getD (set numbers count (a .number)) p 0 ≡ getD (fs ++ (a ∷ [])) p noArrival .number
+    go p g true e = rw (eqb-true p (length fs) e) (here ∙ sym (ap (λ (b : Arrival). b .number) (getD-append-seam fs a [] noArrival)))
+    go p g false e =
+        let other : p ≡ length fs → ⊥ = eqb-false p (length fs) e in
+        let below : p < length fs = omega (arith, other, length-append fs (a ∷ [])) in
+        getD-set-other numbers count p (a .number) 0 (λ q. other (q ∙ h .all))
+        ∙ h .at p below
+        ∙ sym (ap (λ (b : Arrival). b .number) (List·getD-append fs (a ∷ []) noArrival p below))
+
+-- the record of any packet under a copy of one that has arrived
+recorded-copy : (l : List Arrival) (a : Arrival) → has (a .number) l ≡ true → (s : ℕ) → firstRecord s (l ++ (a ∷ [])) ≡ firstRecord s l
+recorded-copy l a arrived s = record-more s l a ∙ go (has s l) refl
+  where
+    go : (t : Bool) → has s l ≡ t → cond t (firstRecord s l) (cond (eqb (a .number) s) (length l + 1) 0) ≡ firstRecord s l
+    go true e = refl
+    go false e =
+        let other : a .number ≡ s → ⊥ = λ q. true≢false (sym arrived ∙ (rw q e)) in
+        rw (ne-eqb (a .number) s other) (sym (record-none s l e))
+
+-- the records under one first arrival more, whose own is put at its packet
+recorded-more : (l : List Arrival) (a : Arrival) (records : List ℕ) → a .number < length records → has (a .number) l ≡ false
+    → ((s : ℕ) → 1 ≤ s → s ≤ 4096 → getD records s 0 ≡ firstRecord s l)
+    → (s : ℕ) → 1 ≤ s → s ≤ 4096 → getD (set records (a .number) (length l + 1)) s 0 ≡ firstRecord s (l ++ (a ∷ []))
+recorded-more l a records room new h s low high = go (eqb (a .number) s) refl
+  where
+    go : (t : Bool) → eqb (a .number) s ≡ t → getD (set records (a .number) (length l + 1)) s 0 ≡ firstRecord s (l ++ (a ∷ []))
+    go true e =
+        let q : a .number ≡ s = eqb-true (a .number) s e in
+        rw (← q) (getD-set-same records (a .number) (length l + 1) 0 room ∙ sym (record-more (a .number) l a ∙ simp (new, eq-eqb (a .number) (a .number) refl)))
+    go false e =
+        let other : s ≡ a .number → ⊥ = λ q. eqb-false (a .number) s e (sym q) in
+        getD-set-other records (a .number) s (length l + 1) 0 other ∙ h s low high ∙ sym (record-more s l a ∙ rw e (same (has s l) refl))
+      where
+        same : (t : Bool) → has s l ≡ t → cond t (firstRecord s l) 0 ≡ firstRecord s l
+        same true q = refl
+        same false q = sym (record-none s l q)
+
+-- a discontinuity stays under first arrivals more
+discontinuity-stays : (fs : List Arrival) (a : Arrival) (s : ℕ) (p : Placed) → discontinuity fs s ≡ some p → discontinuity (fs ++ (a ∷ [])) s ≡ some p
+unfolding discontinuity
+discontinuity-stays fs a s p e = rw (placed-more, firstAbove-append, e)
+
+-- a packet that is not among some first arrivals, and not below NextExp, has no discontinuity there
+discontinuity-none : (fs : List Arrival) (s : ℕ) → 1 ≤ s → has s fs ≡ false → nextExp fs ≤ s → discontinuity fs s ≡ none
+discontinuity-none fs s low new h =
+    search-agrees s low fs new .same
+    ∙ firstAbove-none s (jumps fs) (all-weaken (λ (p : Placed) (w : Within fs p). omega arith) (jumps fs) (jumps-within fs))
+
+-- one that a first arrival more skips has that arrival as its own
+discontinuity-new : (fs : List Arrival) (a : Arrival) (s : ℕ) → 1 ≤ s → has s fs ≡ false → nextExp fs ≤ s → s < a .number
+    → discontinuity (fs ++ (a ∷ [])) s ≡ some (placeAfter fs a)
+unfolding discontinuity firstAbove
+discontinuity-new fs a s low new h g =
+    let n : firstAbove s (placed fs) ≡ none = discontinuity-none fs s low new h in
+    rw (placed-more, firstAbove-append, n) (simp (lt-ltb _ _ g))
+
+-- the tables under a copy of a packet that has arrived
+pub kept-copy : (l : List Arrival) (a : Arrival) (numbers records skipped : List ℕ) (state : State)
+    → Follows l numbers records skipped state → has (a .number) l ≡ true → Follows (l ++ (a ∷ [])) numbers records skipped state
+kept-copy l a numbers records skipped state f arrived =
+    let same : firsts (l ++ (a ∷ [])) ≡ firsts l = firsts-more l a ∙ with-duplicate (firsts l) a (has-firsts (a .number) l ∙ arrived) in
+    record {
+      places = f .places;
+      next = f .next ∙ sym (ap nextExp same);
+      numbered = rw same (f .numbered);
+      recorded = record { at = λ s low high. f .recorded .at s low high ∙ sym (recorded-copy l a arrived s) };
+      skips = λ s low h new. rw same (f .skips s low (rw same at h) (has-more-false s l a new .0));
+    }
+
+module _ (l : List Arrival) (a : Arrival) (numbers records skipped : List ℕ) (state : State)
+    (f : Follows l numbers records skipped state) (new : has (a .number) l ≡ false)
+    (low : 1 ≤ a .number) (high : a .number ≤ 4096) (room : length l < 4096) where
+  -- it is the last of the first arrivals
+  one-more : firsts (l ++ (a ∷ [])) ≡ firsts l ++ (a ∷ [])
+  one-more = firsts-more l a ∙ with-first (firsts l) a (has-firsts (a .number) l ∙ new)
+
+  -- its number is put after theirs
+  numbers-more : Numbered (firsts l ++ (a ∷ [])) (set numbers (state .count) (a .number)) (state .count + 1)
+  numbers-more = numbered-more (firsts l) a numbers (state .count) (omega (arith, f .places, length-firsts l)) (f .numbered)
+
+  -- and its record at its packet
+  records-more : Recorded (l ++ (a ∷ [])) (set records (a .number) (length l + 1))
+  records-more = record { at = recorded-more l a records (omega (arith, f .places)) new (f .recorded .at) }
+
+  -- the discontinuity of a packet below NextExp stays
+  skips-stay : (s : ℕ) → 1 ≤ s → s < nextExp (firsts l) → has s l ≡ false
+      → getD skipped s 0 ≡ placeOf (discontinuity (firsts l ++ (a ∷ [])) s)
+  unfolding isInOrder
+  skips-stay s one h other =
+      let d = reordered-discontinuity s one (firsts l) (has-firsts s l ∙ other) (lt-leb _ _ h) in
+      f .skips s one h other ∙ ap placeOf (d .is ∙ sym (discontinuity-stays (firsts l) a s (d .at) (d .is)))
+
+  -- the tables under a first arrival that is reordered
+  pub kept-reordered : a .number < state .next
+      → Follows (l ++ (a ∷ [])) (set numbers (state .count) (a .number)) (set records (a .number) (length l + 1)) skipped
+      (record { count = state .count + 1; next = state .next })
+  unfolding nextAfter
+  kept-reordered late =
+      let stays : nextExp (firsts l ++ (a ∷ [])) ≡ nextExp (firsts l) = next-more (firsts l) a ∙ rw (lt-leb (nextExp (firsts l)) (a .number) (omega (arith, f .next))) in
+      record {
+        places = (simp length-set (f .places .0), simp length-set (f .places .1), f .places .2);
+        next = rw (one-more, stays) (f .next);
+        numbered = rw one-more numbers-more;
+        recorded = records-more;
+        skips = rw (one-more, stays) (λ s one h other. skips-stay s one h (has-more-false s l a other .0));
+      }
+
+  -- the tables under a first arrival that is in order, and skips the packets from NextExp on
+  pub kept-in-order : state .next ≤ a .number → (skipped′ : List ℕ) → Filled (state .next) (a .number) (state .count + 1) skipped skipped′
+      → Follows (l ++ (a ∷ [])) (set numbers (state .count) (a .number)) (set records (a .number) (length l + 1)) skipped′
+      (record { count = state .count + 1; next = a .number + 1 })
+  unfolding nextAfter
+  kept-in-order ahead skipped′ filled =
+      let moves : nextExp (firsts l ++ (a ∷ [])) ≡ a .number + 1 = next-more (firsts l) a ∙ rw (le-leb (nextExp (firsts l)) (a .number) (omega (arith, f .next))) in
+      record {
+        places = (simp length-set (f .places .0), simp length-set (f .places .1), filled .same ∙ f .places .2);
+        next = rw (one-more, moves);
+        numbered = rw one-more numbers-more;
+        recorded = records-more;
+        skips = rw (one-more, moves) (λ s one h other. go s one h (has-more-false s l a other) (ltb s (state .next)) refl);
+      }
+    where
+      go : (s : ℕ) → 1 ≤ s → s < a .number + 1 → (has s l ≡ false) × (a .number ≡ s → ⊥) → (t : Bool) → ltb s (state .next) ≡ t
+          → getD skipped′ s 0 ≡ placeOf (discontinuity (firsts l ++ (a ∷ [])) s)
+      go s one h other true e =
+          let below : s < state .next = ltb-true _ _ e in
+          filled .below s below ∙ skips-stay s one (omega (arith, f .next)) (other .0)
+      go s one h other false e =
+          let from : state .next ≤ s = ltb-false _ _ e in
+          let to : s < a .number = omega (arith, other .1) in
+          filled .inside s from to
+          ∙ ap (λ (n : ℕ). n + 1) (f .numbered .all)
+          ∙ sym (ap placeOf (discontinuity-new (firsts l) a s one (has-firsts s l ∙ other .0) (omega (arith, f .next)) to))
+
+-- ---- along a file
+
+-- a file of this layout has as many arrivals
+pub arrivals-laid : (d : Decoded) (y : Layout) → Laid d y → y .arrivals ≡ length (arrivalsOf d)
+arrivals-laid d y h = ap (λ (y : Layout). y .arrivals) (h .laid)
+
+module _ (d : Decoded) (y : Layout) (i : ℕ) (h : Has d y i) where
+  -- record i + 1 is one of the arrivals
+  pub inside-laid : i < length (arrivalsOf d)
+  inside-laid = omega (arith, arrivals-laid d y (h .file))
+
+  -- the arrivals up to record i + 1 are those before it and its own
+  pub before-more : before d (i + 1) ≡ before d i ++ (arrivalAt d i ∷ [])
+  before-more = take-more noArrival (arrivalsOf d) i inside-laid
+
+  -- i arrivals are before it
+  pub before-length : length (before d i) ≡ i
+  before-length = length-take-le i (arrivalsOf d) (omega (arith, inside-laid))
+
+  -- at most i of them are first arrivals
+  pub count-le : (numbers records skipped : List ℕ) (state : State) → Follows (before d i) numbers records skipped state
+      → (state .count ≤ i) × (i < 4096)
+  count-le numbers records skipped state f = omega (arith, f .numbered .all, length-firsts (before d i), before-length)
+
+module _ (l : List Arrival) (numbers records skipped : List ℕ) (state : State) (f : Follows l numbers records skipped state)
+    (s : ℕ) (low : 1 ≤ s) (high : s ≤ 4096) where
+  -- a packet with a record has arrived
+  pub arrived-recorded : (getD records s 0 ≡ 0 → ⊥) → has s l ≡ true
+  arrived-recorded e = go (has s l) refl
+    where
+      go : (t : Bool) → has s l ≡ t → t ≡ true
+      go true q = refl
+      go false q = absurd (e (f .recorded .at s low high ∙ record-none s l q))
+
+  -- a packet without one has not
+  pub new-recorded : getD records s 0 ≡ 0 → has s l ≡ false
+  new-recorded e = go (has s l) refl
+    where
+      go : (t : Bool) → has s l ≡ t → t ≡ false
+      go false q = refl
+      go true q = absurd (omega (arith, record-some s l q, f .recorded .at s low high, e))
+
+module _ (d : Decoded) (y : Layout) (i : ℕ) (h : Has d y i) (numbers records skipped : List ℕ) (state : State)
+    (f : Follows (before d i) numbers records skipped state) (n : ℕ) (is : n ≡ arrivalAt d i .number) (low : 1 ≤ n) (high : n ≤ 4096) where
+  -- what record i + 1 leaves, where it is a copy
+  pub noted-copy : (getD records n 0 ≡ 0 → ⊥) → Follows (before d (i + 1)) numbers records skipped state
+  noted-copy e =
+      let arrived : has (arrivalAt d i .number) (before d i) ≡ true = rw is at (arrived-recorded (before d i) numbers records skipped state f n low high e) in
+      rw (before-more d y i h) (kept-copy (before d i) (arrivalAt d i) numbers records skipped state f arrived)
+
+  -- a packet without a record is new
+  new-at : getD records n 0 ≡ 0 → has (arrivalAt d i .number) (before d i) ≡ false
+  new-at e = rw is at (new-recorded (before d i) numbers records skipped state f n low high e)
+
+  -- where it is reordered
+  pub noted-reordered : getD records n 0 ≡ 0 → n < state .next
+      → Follows (before d (i + 1)) (set numbers (state .count) n) (set records n (i + 1)) skipped (record { count = state .count + 1; next = state .next })
+  noted-reordered e late =
+      let k = kept-reordered (before d i) (arrivalAt d i) numbers records skipped state f (new-at e) (rw is at low) (rw is at high)
+      (omega (arith, before-length d y i h, count-le d y i h numbers records skipped state f)) (rw is at late) in
+      rw (before-more d y i h, is) (rw (before-length d y i h) at k)
+
+  -- where it is in order
+  pub noted-in-order : getD records n 0 ≡ 0 → state .next ≤ n → (skipped′ : List ℕ) → Filled (state .next) n (state .count + 1) skipped skipped′
+      → Follows (before d (i + 1)) (set numbers (state .count) n) (set records n (i + 1)) skipped′ (record { count = state .count + 1; next = n + 1 })
+  noted-in-order e ahead skipped′ filled =
+      let k = kept-in-order (before d i) (arrivalAt d i) numbers records skipped state f (new-at e) (rw is at low) (rw is at high)
+      (omega (arith, before-length d y i h, count-le d y i h numbers records skipped state f)) (rw is at ahead) skipped′ (rw is at filled) in
+      rw (before-more d y i h, is) (rw (before-length d y i h) at k)

@@ -1,0 +1,11 @@
+-- Laws of the engine. Assumes nothing.
+pub mod Places
+pub mod Records
+pub mod Follow
+pub mod Reordered
+pub mod Told
+pub mod Passes
+pub mod Discovered
+pub mod Asked
+pub mod Within
+pub mod Listed

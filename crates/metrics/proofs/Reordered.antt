@@ -1,0 +1,165 @@
+-- Figures of a reordered packet over the numbers of the first arrivals before it, and where its discontinuity stands.
+-- Assumes nothing.
+use mathlib.Core.Path.{_≡_, refl, sym, ap, ap₂, _∙_}
+use mathlib.Core.Bool.{Bool, true, false, cond}
+use mathlib.Core.List.{List, [], _∷_, _++_}
+use mathlib.Core.Option.{Option, none, some, Option·some-ne-none}
+use Prim.Native.Nat.{ℕ, _+_, _-_, _≤_, _<_}
+use native.Mathlib.Omega.{arith}
+use lib.Dec.{ltb}
+use lib.ListN.{length, take, getD, length-append, List·getD-append}
+use lib.Seq.{take-all, take-append-le, take-append-seam, getD-append-seam}
+use borrow.Author.Tests.{lt-ltb, le-ltb}
+use Rattle.rfc4737.specs.declared.Arrival.{Arrival}
+use Rattle.rfc4737.specs.Order.{Placed, placed, placeAfter}
+use Rattle.rfc4737.specs.Extent.{firstAbove, discontinuity, byteOffset, largestN}
+use Rattle.rfc4737.specs.Arrivals.{each, eachAfter}
+use Rattle.rfc4737.proofs.Lists.{snoc-ind}
+use Rattle.rfc4737.proofs.Arrivals.{fold-take}
+use Rattle.rfc4737.proofs.Folds.{offset-more}
+use Rattle.rfc4737.proofs.Jumps.{placed-more, firstAbove-append, orElse}
+use Rattle.metrics.specs.Sample.{noArrival}
+use Rattle.metrics.specs.Tables.{Numbered}
+
+-- ---- over the numbers of a table
+
+module _ (numbers : List ℕ) (count s : ℕ) where
+  -- a sum is the byte offset over the first p positions, where none of the first `from` has a greater number
+  abbrev pub OffsetTo : (ℕ → ℕ) → ℕ → ℕ → ℕ → Type 0
+  OffsetTo size from p sum =
+      (fs : List Arrival) → Numbered fs numbers count → byteOffset size (take from fs) s ≡ 0 → sum ≡ byteOffset size (take p fs) s
+
+  -- the largest n is that over the first p positions, and one for each position after them
+  abbrev pub LargestFrom : ℕ → Type 0
+  LargestFrom p = (fs : List Arrival) → Numbered fs numbers count → largestN fs s ≡ largestN (take p fs) s + (count - p)
+
+  module _ (p n : ℕ) (inside : p < count) (is : n ≡ getD numbers p 0) where
+    -- the number at position p + 1
+    at : (fs : List Arrival) → Numbered fs numbers count → getD fs p noArrival .number ≡ n
+    at fs h = sym (is ∙ h .at p (omega (arith, h .all)))
+
+    -- under one position more, of a greater number
+    pub offset-greater : (size : ℕ → ℕ) (from sum k : ℕ) → s < n → k ≡ size n → OffsetTo size from p sum → OffsetTo size from (p + 1) (sum + k)
+    unfolding byteOffset
+    offset-greater size from sum k g e o fs h none-before =
+        ap₂ (λ (a b : ℕ). a + b) (o fs h none-before) e
+        ∙ sym (fold-take _ 0 noArrival fs p (omega (arith, h .all)) ∙ rw (at fs h, lt-ltb s n g))
+
+    -- of a number that is not greater
+    pub offset-same : (size : ℕ → ℕ) (from sum : ℕ) → n ≤ s → OffsetTo size from p sum → OffsetTo size from (p + 1) sum
+    unfolding byteOffset
+    offset-same size from sum g o fs h none-before =
+        o fs h none-before
+        ∙ sym (fold-take _ 0 noArrival fs p (omega (arith, h .all)) ∙ rw (at fs h, le-ltb s n g) (omega arith))
+
+    -- the same, where the number at position p + 1 is greater
+    largest-one-greater : s < n → LargestFrom (p + 1) → LargestFrom p
+    unfolding largestN
+    largest-one-greater g o fs h =
+        let e : largestN (take (p + 1) fs) s ≡ largestN (take p fs) s + 1 =
+        fold-take _ 0 noArrival fs p (omega (arith, h .all)) ∙ rw (at fs h, lt-ltb s n g) in
+        omega (arith, o fs h)
+
+    -- and where it is not
+    largest-one-none : n ≤ s → LargestFrom (p + 1) → (fs : List Arrival) → Numbered fs numbers count → count - (p + 1) ≡ largestN fs s
+    unfolding largestN
+    largest-one-none g o fs h =
+        let e : largestN (take (p + 1) fs) s ≡ 0 =
+        fold-take _ 0 noArrival fs p (omega (arith, h .all)) ∙ rw (at fs h, le-ltb s n g) in
+        omega (arith, o fs h)
+
+  module _ (p n : ℕ) (low : 0 < p) (inside : p ≤ count) (is : n ≡ getD numbers (p - 1) 0) where
+    -- the position before and back
+    back : p - 1 + 1 ≡ p
+    back = omega arith
+
+    -- under one position less, whose number is greater
+    pub largest-greater : s < n → LargestFrom p → LargestFrom (p - 1)
+    largest-greater g o = largest-one-greater (p - 1) n (omega arith) is g (rw back o)
+
+    -- whose number is not greater
+    pub largest-none : n ≤ s → LargestFrom p → (fs : List Arrival) → Numbered fs numbers count → count - p ≡ largestN fs s
+    largest-none g o = rw back at (largest-one-none (p - 1) n (omega arith) is g (rw back o))
+
+  -- the byte offset over all positions
+  pub offset-all : (size : ℕ → ℕ) (from p sum : ℕ) → count ≤ p → OffsetTo size from p sum
+      → (fs : List Arrival) → Numbered fs numbers count → byteOffset size (take from fs) s ≡ 0 → sum ≡ byteOffset size fs s
+  offset-all size from p sum g o fs h none-before = o fs h none-before ∙ ap (λ (l : List Arrival). byteOffset size l s) (take-all p fs (omega (arith, h .all)))
+
+  -- the largest n before any position is looked at
+  pub largest-start : LargestFrom count
+  largest-start fs h = rw (take-all count fs (omega (arith, h .all))) (omega arith)
+
+  -- the largest n where all positions hold greater numbers
+  pub largest-all : (p : ℕ) → p ≤ 0 → LargestFrom p → (fs : List Arrival) → Numbered fs numbers count → count ≡ largestN fs s
+  unfolding largestN
+  largest-all p g o fs h =
+      let e : p ≡ 0 = omega arith in
+      let k = rw e at (o fs h) in omega (arith, k)
+
+-- ---- where a discontinuity stands
+
+-- the discontinuity p of a packet s among first arrivals: it is one of them, and none before it has a greater number
+pub record Found (size : ℕ → ℕ) (fs : List Arrival) (s : ℕ) (p : Placed) : Type 0 where
+  pub low : 1 ≤ p .position
+  pub high : p .position ≤ length fs
+  pub time : getD fs (p .position - 1) noArrival .time ≡ p .time
+  pub alone : byteOffset size (take (p .position - 1) fs) s ≡ 0
+
+-- nothing is above s where no discontinuity is found, and what is found is such
+record Searched (size : ℕ → ℕ) (fs : List Arrival) (s : ℕ) : Type 0 where
+  none-above : discontinuity fs s ≡ none → byteOffset size fs s ≡ 0
+  some-found : (p : Placed) → discontinuity fs s ≡ some p → Found size fs s p
+
+-- the same under one first arrival more
+searched-more : (size : ℕ → ℕ) (s : ℕ) (fs : List Arrival) (a : Arrival) → Searched size fs s → Searched size (fs ++ (a ∷ [])) s
+unfolding discontinuity firstAbove
+searched-more size s fs a h = go (discontinuity fs s) refl (ltb s (a .number)) refl
+  where
+    both : discontinuity (fs ++ (a ∷ [])) s ≡ orElse (discontinuity fs s) (cond (ltb s (a .number)) (some (placeAfter fs a)) none)
+    both = rw (placed-more, firstAbove-append)
+
+    earlier : (p : Placed) → Found size fs s p → Found size (fs ++ (a ∷ [])) s p
+    earlier p k =
+        record {
+          low = k .low;
+          high = omega (arith, k .high, length-append fs (a ∷ []));
+          time = rw (List·getD-append fs (a ∷ []) noArrival (p .position - 1) (omega (arith, k .low, k .high))) (k .time);
+          alone = rw (take-append-le (p .position - 1) fs (a ∷ []) (omega (arith, k .high))) (k .alone);
+        }
+
+    last : length fs + 1 - 1 ≡ length fs
+    last = omega arith
+
+    own : byteOffset size fs s ≡ 0 → Found size (fs ++ (a ∷ [])) s (placeAfter fs a)
+    own e =
+        record {
+          low = omega arith;
+          high = omega (arith, length-append fs (a ∷ []));
+          time = rw last (ap (λ (b : Arrival). b .time) (getD-append-seam fs a [] noArrival));
+          alone = rw (last, take-append-seam fs (a ∷ [])) e;
+        }
+
+    only : (p : Placed) → discontinuity (fs ++ (a ∷ [])) s ≡ some p → Found size (fs ++ (a ∷ [])) s p → Searched size (fs ++ (a ∷ [])) s
+    only p e k =
+        record {
+          none-above = λ n. absurd (Option·some-ne-none p (sym e ∙ n));
+          some-found = λ r w. let same : p ≡ r = cc in rw same at k;
+        }
+
+    go : (o : Option Placed) → discontinuity fs s ≡ o → (t : Bool) → ltb s (a .number) ≡ t → Searched size (fs ++ (a ∷ [])) s
+    go (some p) e t q = only p (rw e at both) (earlier p (h .some-found p e))
+    go none e true q = only (placeAfter fs a) (rw (e, q) at both) (own (h .none-above e))
+    go none e false q =
+        let still : discontinuity (fs ++ (a ∷ [])) s ≡ none = rw (e, q) at both in
+        record {
+          none-above = λ n. offset-more size fs s a ∙ rw q (omega (arith, h .none-above e));
+          some-found = λ r w. absurd (Option·some-ne-none r (sym w ∙ still));
+        }
+
+-- every discontinuity is such
+pub found : (size : ℕ → ℕ) (s : ℕ) (fs : List Arrival) (p : Placed) → discontinuity fs s ≡ some p → Found size fs s p
+unfolding discontinuity placed firstAbove byteOffset each eachAfter
+found size s fs =
+    snoc-ind (λ (fs : List Arrival). Searched size fs s) (searched-more size s)
+    (record { none-above = λ e. refl; some-found = λ p e. absurd (Option·some-ne-none p (sym e)) }) fs .some-found

@@ -1,0 +1,98 @@
+-- The figures of a sample have no more digits than a listing has room for. Assumes nothing.
+use mathlib.Core.Path.{_≡_, refl, sym, ap, ap₂, subst, _∙_}
+use mathlib.Core.Bool.{Bool, true, false, cond}
+use mathlib.Core.List.{List}
+use mathlib.Core.Option.{Option, none, some}
+use Prim.Native.Nat.{ℕ, _+_, _-_, _*_, _^_, _≤_, _<_}
+use native.Mathlib.Omega.{arith}
+use lib.ListN.{length, getD}
+use Rattle.octets.specs.Below.{Octets}
+use Rattle.rfc4737.specs.declared.Arrival.{Arrival}
+use Rattle.rfc4737.specs.declared.Answer.{Answer}
+use Rattle.rfc4737.specs.Arrivals.{has, firsts, firstRecord}
+use Rattle.rfc4737.specs.Order.{Placed, isInOrder, nextExp, jumpSize}
+use Rattle.rfc4737.specs.Times.{elapsed}
+use Rattle.rfc4737.specs.Extent.{extentFrom, lateFrom, sizeIn, discontinuity}
+use Rattle.rfc4737.specs.Answer.{inOrderAnswer, reorderedAnswer, firstAnswer, answerTo}
+use Rattle.rfc4737.specs.Runs.{counts}
+use Rattle.rfc4737.proofs.Arrivals.{length-firsts}
+use Rattle.rfc4737.proofs.Folds.{offset-le, largest-le, in-order-or-reordered, duplicate-or-first, closed-reordered, current-le, squares-le}
+use Rattle.listing.specs.Room.{AnswerWithin, CountsWithin, LateWithin}
+use Rattle.sample.specs.Decode.{Decoded, refused, accepted, decode}
+use Rattle.sample.specs.declared.Layout.{Layout}
+use Rattle.sample.proofs.Accepted.{size-fits, time-fits}
+use Rattle.metrics.specs.Sample.{sizeOf, arrivalAt, before, answerAt, Laid, Has}
+use Rattle.metrics.proofs.Records.{record-some}
+use Rattle.metrics.proofs.Follow.{before-length}
+
+-- the extent is at most the position
+extent-le : (i : ℕ) (d : Option Placed) → extentFrom i d ≤ i
+unfolding extentFrom
+extent-le i none = omega arith
+extent-le i (some j) = omega arith
+
+-- the late time is at most the arrival time
+late-le : (t : ℕ) (d : Option Placed) → lateFrom t d ≤ t
+unfolding lateFrom elapsed
+late-le t none = omega arith
+late-le t (some j) = omega arith
+
+module _ (size : ℕ → ℕ) (small : (s : ℕ) → size s ≤ 65535) (earlier : List Arrival) (few : length earlier < 4096) (a : Arrival) (number : a .number ≤ 4096)
+    (time : a .time < 2 ^ 64) where
+  -- the answer for an arrival after fewer than 4,096
+  answer-within : AnswerWithin (answerTo size earlier a)
+  unfolding answerTo firstAnswer inOrderAnswer reorderedAnswer jumpSize
+  answer-within = go (has (a .number) earlier) refl (isInOrder (firsts earlier) (a .number))
+    where
+      go : (t : Bool) → has (a .number) earlier ≡ t → (u : Bool)
+          → AnswerWithin (cond t (Answer.Duplicate (record { first = firstRecord (a .number) earlier }))
+          (cond u (inOrderAnswer (firsts earlier) a) (reorderedAnswer size (firsts earlier) a (discontinuity (firsts earlier) (a .number)))))
+      go true arrived u = omega (arith, record-some (a .number) earlier arrived)
+      go false new true = (omega (arith, length-firsts earlier), omega arith)
+      go false new false =
+          let n = length-firsts earlier in
+          let o = offset-le size 65535 small (firsts earlier) (a .number) in
+          record {
+            position = omega arith;
+            extent = omega (arith, extent-le (length (firsts earlier) + 1) (discontinuity (firsts earlier) (a .number)));
+            late = omega (arith, late-le (a .time) (discontinuity (firsts earlier) (a .number)));
+            offset = omega arith;
+            largest = omega (arith, largest-le (firsts earlier) (a .number));
+          }
+
+-- every payload size of a file fits two octets
+size-most : (file : List ℕ) → Octets file → (s : ℕ) → sizeOf (decode file) s ≤ 65535
+unfolding sizeIn
+size-most file o s = go (decode file) refl
+  where
+    go : (d : Decoded) → decode file ≡ d → sizeOf d s ≤ 65535
+    go (refused r) e = omega arith
+    go (accepted w) e = omega (arith, size-fits file w e o (s - 1))
+
+-- every arrival time of a file fits eight octets
+time-most : (file : List ℕ) → Octets file → (i : ℕ) → arrivalAt (decode file) i .time < 2 ^ 64
+time-most file o i = go (decode file) refl
+  where
+    go : (d : Decoded) → decode file ≡ d → arrivalAt d i .time < 2 ^ 64
+    go (refused r) e = omega arith
+    go (accepted w) e = time-fits file w e o i
+
+-- the answer for any record of a file of octets
+pub answers-within : (file : List ℕ) (y : Layout) (i : ℕ) → Octets file → Has (decode file) y i → AnswerWithin (answerAt (decode file) i)
+answers-within file y i o h =
+    answer-within (sizeOf (decode file)) (size-most file o) (before (decode file) i)
+    (omega (arith, before-length (decode file) y i h, h .inside, h .file .few))
+    (arrivalAt (decode file) i)
+    (omega (arith, h .file .numbers i (h .inside), h .file .sentFew))
+    (time-most file o i)
+
+-- the counts of at most 4,096 answers
+pub counts-within : (l : List Answer) → length l ≤ 4096 → CountsWithin (counts l)
+unfolding counts
+counts-within l h =
+    let a = in-order-or-reordered l in
+    let b = duplicate-or-first l in
+    let c = closed-reordered l in
+    let e = current-le l in
+    let s = squares-le 4096 l (omega arith) in
+    record { arrived = omega arith; reordered = omega arith; duplicates = omega arith; closed = omega arith; squares = omega arith; current = omega arith }

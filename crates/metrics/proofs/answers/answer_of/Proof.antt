@@ -1,0 +1,46 @@
+-- `answer_of` looks at the record asked for after those before it are noted. Assumes nothing.
+use mathlib.Core.Path.{_≡_, sym, _∙_}
+use Prim.Native.Nat.{_≤_}
+use native.Mathlib.Omega.{arith}
+use denote.Ref.{now}
+use Rattle.sample.specs.Decode.{decode}
+use Rattle.metrics.specs.Figures.{recordRefusal}
+use Rattle.metrics.proofs.Follow.{arrivals-laid}
+use Rattle.metrics.proofs.Passes.{follows-start}
+use Rattle.metrics.proofs.Asked.{laid-record, record-inside, answered-refused, answered}
+use borrow.Author.Needs.{needs}
+use Rattle.metrics.proofs.answers.answer_of.Statement.{statement}
+use Rattle.metrics.proofs.answers.answer_of.Tie as tie
+
+-- the refusal is that of the call
+refusal : (c : tie.After-refusal-of) → c .refusal-of .result ≡ recordRefusal (decode (now (c .before .before .args .file))) (c .before .before .args .asked)
+refusal c = laid-record _ _ (c .before .before .pre) _ (c .before .before .args .asked) (c .refusal-of .ensures)
+
+-- without one a record is asked for
+inside : (c : tie.Else1) → (1 ≤ c .before .before .before .args .asked) × (c .before .before .before .args .asked ≤ c .before .before .before .args .y .arrivals)
+inside c =
+    let a = c .before .before .before .args in
+    let r = record-inside (decode (now (a .file))) (a .asked) (sym (refusal (c .before)) ∙ c .if1 .left) in
+    (r .0, omega (arith, r .1, arrivals-laid _ _ (c .before .before .before .pre)))
+
+refusal-of-requires : tie.Need-refusal-of-requires
+refusal-of-requires c κs = search needs
+
+returns : tie.Need-returns
+returns c = answered-refused _ _ _ (refusal (c .before)) (c .if1 .taken)
+
+sub-i : tie.Need-sub-i
+sub-i c = inside c .0
+
+follow-requires : tie.Need-follow-requires
+follow-requires c κs = (c .before .before .before .before .before .before .pre, omega (arith, inside (c .before .before .before)), follows-start (decode (now (c .before .before .before .before .before .before .args .file))))
+
+look-requires : tie.Need-look-requires
+look-requires c κs = (record { file = c .before .before .before .before .before .before .before .before .before .before .pre; inside = omega (arith, inside (c .before .before .before .before .before .before .before)) }, c .before .before .before .follow .ensures)
+
+returns-2 : tie.Need-returns-2
+returns-2 c = answered _ _ _ (refusal (c .before .before .before .before .before .before .before .before .before)) (c .before .before .before .before .before .before .before .before .if1 .left) _ (c .look .ensures)
+
+pub answer-of-spec : {M : Type 1} → statement M
+answer-of-spec =
+    tie.close (tie.spec refusal-of-requires returns sub-i follow-requires look-requires returns-2)

@@ -1,0 +1,57 @@
+-- `follow` notes one record after the other. The loop's invariant: the tables follow the arrivals before i. The measure is what is left
+-- of the n records. Assumes nothing.
+use mathlib.Core.Path.{_≡_}
+use Prim.Native.Nat.{_≤_, _-_}
+use native.Mathlib.Omega.{arith}
+use Rattle.sample.specs.Decode.{decode}
+use Rattle.metrics.specs.Sample.{before}
+use Rattle.metrics.specs.Tables.{Follows}
+use borrow.Author.Needs.{needs}
+use Rattle.metrics.proofs.answers.follow.Statement.{statement}
+use Rattle.metrics.proofs.answers.follow.Tie as tie
+
+abbrev Inv-loop : tie.InvT-loop
+Inv-loop file y n numbers₀ records₀ skipped₀ state₀ i₀ numbers records skipped state i = (i ≤ n) × Follows (before (decode file) i) numbers records skipped state
+
+abbrev μ-loop : tie.MeasureT-loop
+μ-loop file y n numbers₀ records₀ skipped₀ state₀ i₀ numbers records skipped state i = n - i
+
+start-requires : tie.Need-start-requires Inv-loop μ-loop
+start-requires c κs = search needs
+
+loop-holds : tie.Need-loop-holds Inv-loop μ-loop
+loop-holds c = (omega arith, rw (c .start .ensures) (c .before .before .pre .2))
+
+note-requires : tie.Need-note-requires Inv-loop μ-loop
+note-requires c κs =
+    let p = c .before .before .before .before .before .before .before .pre in
+    (record { file = p .0; inside = omega (arith, c .before .before .before .loop-test .taken, p .1) }, c .before .before .before .before .loop .inv .1)
+
+add-i : tie.Need-add-i Inv-loop μ-loop
+add-i c = omega (arith, c .before .before .before .before .loop-test .taken)
+
+loop-less : tie.Need-loop-less Inv-loop μ-loop
+loop-less c = omega (arith, c .before .before .before .before .loop-test .taken)
+
+loop-again : tie.Need-loop-again Inv-loop μ-loop
+loop-again c = (omega (arith, c .before .before .before .before .loop-test .taken), c .note .ensures)
+
+returns : tie.Need-returns Inv-loop μ-loop
+returns c =
+    let l = c .before .loop in
+    let e : l .i ≡ c .before .before .before .before .args .n = omega (arith, c .loop-test .left) in
+    rw e at (l .inv .1)
+
+pub follow-spec : {M : Type 1} → statement M
+follow-spec =
+    tie.close
+    (tie.spec
+    Inv-loop
+    μ-loop
+    start-requires
+    loop-holds
+    note-requires
+    add-i
+    loop-less
+    loop-again
+    returns)

@@ -1,0 +1,106 @@
+-- `share_of` goes over the arrivals. The loop's invariant: the tables follow the arrivals before i, and `part` counts the n-reordered
+-- packets among them. The measure is what is left of the arrivals. Assumes nothing.
+use mathlib.Core.Path.{_≡_, sym, ap, _∙_}
+use Prim.Native.Nat.{_≤_, _<_, _-_}
+use native.Mathlib.Omega.{arith}
+use denote.Ref.{now}
+use Rattle.rfc4737.specs.Runs.{arrived}
+use Rattle.rfc4737.specs.Ratios.{nReordered}
+use Rattle.rfc4737.proofs.Folds.{arrived-answers}
+use Rattle.sample.specs.Decode.{decode}
+use Rattle.metrics.specs.Sample.{sizeOf, before, Has}
+use Rattle.metrics.specs.Tables.{Follows}
+use borrow.Author.Needs.{needs}
+use Rattle.metrics.proofs.Follow.{count-le}
+use Rattle.metrics.proofs.Told.{Tells, told}
+use Rattle.metrics.proofs.Passes.{answersTo, follows-start, answers-start, answers-end, answers-length, degree-none, degree-le, degree-next}
+use Rattle.metrics.proofs.figures.share_of.Statement.{statement}
+use Rattle.metrics.proofs.figures.share_of.Tie as tie
+
+abbrev Inv-loop : tie.InvT-loop
+Inv-loop file y n numbers₀ records₀ skipped₀ state₀ part₀ i₀ numbers records skipped state part i =
+    (i ≤ y .arrivals) × Follows (before (decode file) i) numbers records skipped state × (part ≡ nReordered n (answersTo (decode file) i))
+
+abbrev μ-loop : tie.MeasureT-loop
+μ-loop file y n numbers₀ records₀ skipped₀ state₀ part₀ i₀ numbers records skipped state part i = y .arrivals - i
+
+-- record i + 1 is there
+here : (c : tie.After-class-of Inv-loop μ-loop) → Has (decode (now (c .before .before .before .before .before .before .before .before .before .args .file))) (c .before .before .before .before .before .before .before .before .before .args .y) (c .before .before .before .before .before .before .loop .i)
+here c = record { file = c .before .before .before .before .before .before .before .before .before .pre; inside = c .before .before .before .before .if1 .taken }
+
+-- its class tells its answer
+class-told : (c : tie.After-class-of Inv-loop μ-loop)
+    → Tells (decode (now (c .before .before .before .before .before .before .before .before .before .args .file))) (c .before .before .before .before .before .before .loop .i) (c .before .before .before .before .before .before .loop .state .count) (c .class-of .result)
+class-told c =
+    let n = c .before .before .before .number .ensures in
+    told _ _ _ _ _ _ (c .before .before .before .before .before .before .loop .inv .1) _ (n .0) (n .1) (n .2) _ (c .class-of .ensures)
+
+-- the first arrivals before it, and the arrivals, are few
+few : (c : tie.After-class-of Inv-loop μ-loop) → (c .before .before .before .before .before .before .loop .state .count ≤ c .before .before .before .before .before .before .loop .i) × (c .before .before .before .before .before .before .loop .i < 4096)
+few c = count-le _ _ _ (here c) _ _ _ _ (c .before .before .before .before .before .before .loop .inv .1)
+
+start-requires : tie.Need-start-requires Inv-loop μ-loop
+start-requires c κs = search needs
+
+loop-holds : tie.Need-loop-holds Inv-loop μ-loop
+loop-holds c =
+    let d = decode (now (c .before .before .args .file)) in
+    (omega arith, rw (c .start .ensures) (follows-start d), sym (ap (nReordered (c .before .before .args .n)) (answers-start d) ∙ degree-none (c .before .before .args .n)))
+
+number-requires : tie.Need-number-requires Inv-loop μ-loop
+number-requires c κs = record { file = c .before .before .before .before .before .pre; inside = c .if1 .taken }
+
+class-of-requires : tie.Need-class-of-requires Inv-loop μ-loop
+class-of-requires c κs = c .before .before .number .ensures .2
+
+reached-requires : tie.Need-reached-requires Inv-loop μ-loop
+reached-requires c κs =
+    let l = c .before .before .before .before .before .before .before .loop in
+    let at = c .before in
+    let a = c .before .before .before .before .before .before .before .before .before .before .args in
+    (omega (arith, few at), omega (arith, few at, l .inv .2, degree-le (a .n) (answersTo (decode (now (a .file))) (l .i)), answers-length _ _ _ (here at)))
+
+note-requires : tie.Need-note-requires Inv-loop μ-loop
+note-requires c κs = (here (c .before .before .before .before .before), c .before .before .before .before .before .before .before .before .before .before .before .loop .inv .1)
+
+add-i : tie.Need-add-i Inv-loop μ-loop
+add-i c = omega (arith, few (c .before .before .before .before .before .before))
+
+loop-less : tie.Need-loop-less Inv-loop μ-loop
+loop-less c = omega (arith, c .before .before .before .before .before .before .before .before .before .before .if1 .taken)
+
+loop-again : tie.Need-loop-again Inv-loop μ-loop
+loop-again c =
+    let l = c .before .before .before .before .before .before .before .before .before .before .before .before .loop in
+    let at = c .before .before .before .before .before .before in
+    let n = c .before .before .before .before .before .before .before .before .before .number .ensures .0 in (
+      omega (arith, here at .inside),
+      c .note .ensures,
+      c .before .before .before .before .reached .ensures _ (l .inv .1 .numbered) ∙ rw (l .inv .2) (sym (degree-next _ _ _ (here at) _ _ (class-told at) _ _ n)),
+    )
+
+returns : tie.Need-returns Inv-loop μ-loop
+returns c =
+    let l = c .before .before .loop in
+    let a = c .before .before .before .before .before .args in
+    let all = answers-end (decode (now (a .file))) _ (l .i) (c .before .before .before .before .before .pre) (c .if1 .left) in (
+      l .inv .2 ∙ ap (nReordered (a .n)) all,
+      l .inv .1 .numbered .all ∙ sym (arrived-answers (sizeOf (decode (now (a .file)))) (before (decode (now (a .file))) (l .i))) ∙ ap arrived all,
+    )
+
+pub share-of-spec : {M : Type 1} → statement M
+share-of-spec =
+    tie.close
+    (tie.spec
+    Inv-loop
+    μ-loop
+    start-requires
+    loop-holds
+    number-requires
+    class-of-requires
+    reached-requires
+    note-requires
+    add-i
+    loop-less
+    loop-again
+    returns)

@@ -1,0 +1,57 @@
+-- `last_to` goes down from p. The loop's invariant: the last discontinuity up to p is the last up to q. The measure is q. Assumes nothing.
+use mathlib.Core.Path.{_≡_, refl, sym, _∙_}
+use Prim.Native.Nat.{_≤_}
+use native.Mathlib.Omega.{arith}
+use Rattle.metrics.specs.Steps.{lastTo}
+use Rattle.metrics.proofs.Discovered.{last-here, last-before, last-none}
+use Rattle.metrics.proofs.gaps.last_to.Statement.{statement}
+use Rattle.metrics.proofs.gaps.last_to.Tie as tie
+
+abbrev Inv-loop : tie.InvT-loop
+Inv-loop found p q₀ q = (q ≤ p) × (lastTo found p ≡ lastTo found q)
+
+abbrev μ-loop : tie.MeasureT-loop
+μ-loop found p q₀ q = q
+
+loop-holds : tie.Need-loop-holds Inv-loop μ-loop
+loop-holds c = (omega arith, refl)
+
+cast-place : tie.Need-cast-place Inv-loop μ-loop
+cast-place c = omega arith
+
+mul-if1 : tie.Need-mul-if1 Inv-loop μ-loop
+mul-if1 c = omega arith
+
+element-copy-out-if1 : tie.Need-element-copy-out-if1 Inv-loop μ-loop
+element-copy-out-if1 c = omega arith
+
+returns : tie.Need-returns Inv-loop μ-loop
+returns c = sym (c .before .before .before .loop .inv .1 ∙ last-here _ _ (c .before .before .loop-test .taken) (c .if1 .taken))
+
+sub-q : tie.Need-sub-q Inv-loop μ-loop
+sub-q c = omega arith
+
+loop-less : tie.Need-loop-less Inv-loop μ-loop
+loop-less c = omega arith
+
+loop-again : tie.Need-loop-again Inv-loop μ-loop
+loop-again c = (omega arith, c .before .before .before .loop .inv .1 ∙ last-before _ _ (c .before .before .loop-test .taken) (c .if1 .left))
+
+returns-2 : tie.Need-returns-2 Inv-loop μ-loop
+returns-2 c = sym (c .before .loop .inv .1 ∙ last-none _ _ (c .loop-test .left))
+
+pub last-to-spec : {M : Type 1} → statement M
+last-to-spec =
+    tie.close
+    (tie.spec
+    Inv-loop
+    μ-loop
+    loop-holds
+    cast-place
+    mul-if1
+    element-copy-out-if1
+    returns
+    sub-q
+    loop-less
+    loop-again
+    returns-2)

@@ -1,0 +1,121 @@
+-- `reordered` puts the figures of a reordered packet together. Its discontinuity's time is that of the record that the tables give.
+-- Assumes nothing.
+use Prim.Native.Nat.{_≤_}
+use native.Mathlib.Omega.{arith}
+use Rattle.metrics.proofs.Told.{packets, late-place, late-packet, late-record, late-alone, late-answer}
+use borrow.Author.Needs.{needs}
+use Rattle.metrics.proofs.look.reordered.Statement.{statement}
+use Rattle.metrics.proofs.look.reordered.Tie as tie
+
+-- the discontinuity is at one of the positions
+place : (c : tie.Start) → (1 ≤ c .args .at) × (c .args .at ≤ c .args .count) × (c .args .count ≤ 4096)
+place c =
+    let p = c .pre in
+    omega (arith, late-place _ _ _ _ _ (p .0) (p .1) _ _ (p .2) (p .3), p .0 .inside, p .0 .file .few)
+
+sub-place : tie.Need-sub-place
+sub-place c = omega (arith, place (c .before))
+
+cast-place : tie.Need-cast-place
+cast-place c = search needs
+
+mul-wide : tie.Need-mul-wide
+mul-wide c = search needs
+
+element-copy-out-wide : tie.Need-element-copy-out-wide
+element-copy-out-wide c = omega (arith, place (c .before))
+
+wide-requires : tie.Need-wide-requires
+wide-requires c κs = search needs
+
+cast-packet : tie.Need-cast-packet
+cast-packet c = search needs
+
+mul-wide-2 : tie.Need-mul-wide-2
+mul-wide-2 c = search needs
+
+element-copy-out-wide-2 : tie.Need-element-copy-out-wide-2
+element-copy-out-wide-2 c =
+    let p = c .before .before .before .pre in
+    omega (arith, late-packet _ _ _ _ _ (p .0) (p .1) _ _ (p .2) (p .3), c .wide .ensures)
+
+wide-requires-2 : tie.Need-wide-requires-2
+wide-requires-2 c κs = search needs
+
+sub-time : tie.Need-sub-time
+sub-time c =
+    let p = c .before .before .before .before .before .pre in
+    let r = rw (c .before .before .wide .ensures) at (c .wide2 .ensures) in
+    omega (arith, r, late-record _ _ _ _ _ (p .0) (p .1) _ _ (p .2) (p .3))
+
+time-requires : tie.Need-time-requires
+time-requires c κs =
+    let p = c .before .before .before .before .before .pre in
+    let r = rw (c .before .before .wide .ensures) at (c .wide2 .ensures) in
+    record { file = p .0 .file; inside = omega (arith, r, p .0 .inside, late-record _ _ _ _ _ (p .0) (p .1) _ _ (p .2) (p .3)) }
+
+time-requires-2 : tie.Need-time-requires-2
+time-requires-2 c κs = search needs
+
+number-requires : tie.Need-number-requires
+number-requires c κs = search needs
+
+add-t14 : tie.Need-add-t14
+add-t14 c = omega (arith, place (c .before .before .before .before .before .before .before .before))
+
+add-t21 : tie.Need-add-t21
+add-t21 c = omega (arith, place (c .before .before .before .before .before .before .before .before))
+
+sub-t22 : tie.Need-sub-t22
+sub-t22 c = omega (arith, place (c .before .before .before .before .before .before .before .before))
+
+elapsed-requires : tie.Need-elapsed-requires
+elapsed-requires c κs = search needs
+
+sub-offset : tie.Need-sub-offset
+sub-offset c = omega (arith, place (c .before .before .before .before .before .before .before .before .before))
+
+offset-requires : tie.Need-offset-requires
+offset-requires c κs =
+    let p = c .before .before .before .before .before .before .before .before .before .pre in
+    (p .0 .file, omega (arith, place (c .before .before .before .before .before .before .before .before .before)), omega (arith, place (c .before .before .before .before .before .before .before .before .before)), packets _ _ _ (p .0) _ _ (p .2))
+
+largest-requires : tie.Need-largest-requires
+largest-requires c κs = omega (arith, place (c .before .before .before .before .before .before .before .before .before .before))
+
+returns : tie.Need-returns
+returns c =
+    let p = c .before .before .before .before .before .before .before .before .before .before .before .pre in
+    let number = c .before .before .before .number .ensures .0 in
+    late-answer _ _ _ _ _ (p .0) (p .1) _ _ (p .2) (p .3) _ _ _ _ _ _ number
+    (rw (c .before .before .before .before .before .before .wide2 .ensures, c .before .before .before .before .before .before .before .before .wide .ensures) at (c .before .before .before .before .before .time .ensures))
+    (c .before .before .before .before .time2 .ensures)
+    (c .before .before .elapsed .ensures)
+    (c .before .offset .ensures _ (p .2) (late-alone _ _ _ _ _ (p .0) (p .1) _ _ (p .2) (p .3) _ number))
+    (c .largest .ensures _ (p .2))
+
+pub reordered-spec : {M : Type 1} → statement M
+reordered-spec =
+    tie.close
+    (tie.spec
+    sub-place
+    cast-place
+    mul-wide
+    element-copy-out-wide
+    wide-requires
+    cast-packet
+    mul-wide-2
+    element-copy-out-wide-2
+    wide-requires-2
+    sub-time
+    time-requires
+    time-requires-2
+    number-requires
+    add-t14
+    add-t21
+    sub-t22
+    elapsed-requires
+    sub-offset
+    offset-requires
+    largest-requires
+    returns)

@@ -1,0 +1,20 @@
+-- `ratio_of` tests the lower count. Assumes nothing.
+use borrow.Author.Tests.{eq-eqb, ne-eqb}
+use Rattle.rfc4737.specs.Ratios.{ratioOf}
+use borrow.Author.Needs.{needs}
+use Rattle.metrics.proofs.quotients.ratio_of.Statement.{statement}
+use Rattle.metrics.proofs.quotients.ratio_of.Tie as tie
+
+returns : tie.Need-returns
+unfolding ratioOf
+returns c = simp (eq-eqb _ _ (c .if1 .taken))
+
+quotient-requires : tie.Need-quotient-requires
+quotient-requires c κs = search needs
+
+returns-2 : tie.Need-returns-2
+unfolding ratioOf
+returns-2 c = simp (ne-eqb _ _ (c .before .if1 .left), c .quotient .ensures)
+
+pub ratio-of-spec : {M : Type 1} → statement M
+ratio-of-spec = tie.close (tie.spec returns quotient-requires returns-2)

@@ -1,0 +1,29 @@
+-- `ratios_of` tests the lower count. Assumes nothing.
+use borrow.Author.Tests.{eq-eqb, ne-eqb}
+use Rattle.metrics.specs.Steps.{ratiosBy}
+use borrow.Author.Needs.{needs}
+use Rattle.metrics.proofs.quotients.ratios_of.Statement.{statement}
+use Rattle.metrics.proofs.quotients.ratios_of.Tie as tie
+
+returns : tie.Need-returns
+unfolding ratiosBy
+returns c = simp (eq-eqb _ _ (c .if1 .taken))
+
+quotient-requires : tie.Need-quotient-requires
+quotient-requires c κs = search needs
+
+quotient-requires-2 : tie.Need-quotient-requires-2
+quotient-requires-2 c κs = search needs
+
+quotient-requires-3 : tie.Need-quotient-requires-3
+quotient-requires-3 c κs = search needs
+
+returns-2 : tie.Need-returns-2
+unfolding ratiosBy
+returns-2 c =
+    simp (ne-eqb _ _ (c .before .before .before .if1 .left), c .before .before .quotient .ensures, c .before .quotient2 .ensures, c .quotient3 .ensures)
+
+pub ratios-of-spec : {M : Type 1} → statement M
+ratios-of-spec =
+    tie.close
+    (tie.spec returns quotient-requires quotient-requires-2 quotient-requires-3 returns-2)

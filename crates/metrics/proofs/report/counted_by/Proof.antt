@@ -1,0 +1,49 @@
+-- `counted_by` goes by the answer's kind. Assumes nothing.
+use borrow.Author.Needs.{needs}
+use Rattle.metrics.specs.Steps.{countsBy}
+use Rattle.metrics.proofs.report.counted_by.Statement.{statement}
+use Rattle.metrics.proofs.report.counted_by.Tie as tie
+
+enum-told : tie.Need-enum-told
+enum-told c = search needs
+
+counted-requires : tie.Need-counted-requires
+counted-requires c κs = search needs
+
+enum-told-2 : tie.Need-enum-told-2
+enum-told-2 c = search needs
+
+counted-requires-2 : tie.Need-counted-requires-2
+counted-requires-2 c κs = search needs
+
+enum-told-3 : tie.Need-enum-told-3
+enum-told-3 c = search needs
+
+counted-requires-3 : tie.Need-counted-requires-3
+counted-requires-3 c κs = search needs
+
+returns : tie.Need-returns
+unfolding countsBy
+returns c = rw (c .before .enum-told .given .1) (c .counted .ensures)
+
+returns-2 : tie.Need-returns-2
+unfolding countsBy
+returns-2 c = rw (c .before .enum-told2 .given .1) (c .counted2 .ensures)
+
+returns-3 : tie.Need-returns-3
+unfolding countsBy
+returns-3 c = rw (c .before .enum-told3 .given .1) (c .counted3 .ensures)
+
+pub counted-by-spec : {M : Type 1} → statement M
+counted-by-spec =
+    tie.close
+    (tie.spec
+    enum-told
+    counted-requires
+    enum-told-2
+    counted-requires-2
+    enum-told-3
+    counted-requires-3
+    returns
+    returns-2
+    returns-3)

@@ -1,0 +1,18 @@
+-- `tally` meets its contract by those of its callees. Assumes nothing.
+use Rattle.metrics.specs.Figures.{sampleTally}
+use borrow.Author.Needs.{needs}
+use Rattle.metrics.proofs.tally.Statement.{statement}
+use Rattle.metrics.proofs.tally.Tie as tie
+
+layout-requires : tie.Need-layout-requires
+layout-requires c κs = search needs
+
+tally-of-requires : tie.Need-tally-of-requires
+tally-of-requires c κs = search needs
+
+returns : tie.Need-returns
+unfolding sampleTally
+returns c = rw (c .before .layout .ensures .laid, c .tally-of .ensures)
+
+pub tally-spec : {M : Type 1} → statement M
+tally-spec = tie.close (tie.spec layout-requires tally-of-requires returns)

@@ -1,0 +1,86 @@
+-- What each call answers of a decoded file: a definition of rfc4737 over the answers of its sample. The file's own refusal comes
+-- first, then 9. A refused file has the empty sample, so what stands beside a refusal is the figure of no arrivals: zeros, no gap, an
+-- undefined ratio. Assumes nothing.
+use Prim.Native.Nat.{ℕ, zero, suc}
+use mathlib.Core.Bool.{Bool, cond, not}
+use mathlib.Core.List.{List, [], _∷_}
+use lib.ListN.{length, getD}
+use Rattle.rfc4737.specs.declared.Answer.{Answer}
+use Rattle.rfc4737.specs.declared.Gap.{Gap}
+use Rattle.rfc4737.specs.Refusals.{within, inCase, firstOf, askedOutside}
+use Rattle.rfc4737.specs.Runs.{arrived, counts}
+use Rattle.rfc4737.specs.Tally.{tally}
+use Rattle.rfc4737.specs.Gaps.{gaps}
+use Rattle.rfc4737.specs.Ratios.{nReordered, degree, ratios}
+use Rattle.sample.specs.Decode.{Decoded, refusalOf}
+use Rattle.metrics.specs.Sample.{arrivalsOf, answersOf}
+use Rattle.metrics.specs.declared.RecordAnswer.{RecordAnswer}
+use Rattle.metrics.specs.declared.RecordGap.{RecordGap}
+use Rattle.metrics.specs.declared.SampleCounts.{SampleCounts}
+use Rattle.metrics.specs.declared.SampleTally.{SampleTally}
+use Rattle.metrics.specs.declared.DegreeCounts.{DegreeCounts}
+use Rattle.metrics.specs.declared.SampleDegree.{SampleDegree}
+use Rattle.metrics.specs.declared.SampleRatios.{SampleRatios}
+
+-- ---- what is asked for
+
+module _ {ℓ} {A : Type ℓ} where
+  -- what stands at a record, counted from 1; `other` at no record
+  unfoldable pub atRecord : A → List A → ℕ → A
+  atRecord other l zero = other
+  atRecord other l (suc i) = getD l i other
+
+-- the refusal of a call that asks for a number from low to high: the file's own, then 9
+abbrev pub askedRefusal : Decoded → ℕ → ℕ → ℕ → ℕ
+askedRefusal d low high asked = firstOf (refusalOf d ∷ inCase (not (within low high asked)) askedOutside ∷ [])
+
+-- the refusal of a call that asks for a record: 1 to A
+abbrev pub recordRefusal : Decoded → ℕ → ℕ
+recordRefusal d asked = askedRefusal d 1 (length (arrivalsOf d)) asked
+
+-- whether n is 1 to 100
+abbrev pub degreeInside : ℕ → Bool
+degreeInside n = within 1 100 n
+
+-- the answers over which n is asked for: none where it is outside 1 to 100
+abbrev pub degreeAnswers : Decoded → ℕ → List Answer
+degreeAnswers d n = cond (degreeInside n) (answersOf d) []
+
+-- ---- the calls
+
+-- the answer for a record; with a refusal "in order" with zeros
+unfoldable pub recordAnswer : Decoded → ℕ → RecordAnswer
+recordAnswer d asked =
+    record {
+      refusal = recordRefusal d asked;
+      answer = atRecord (Answer.InOrder (record { position = 0; jump = 0 })) (answersOf d) asked;
+    }
+
+-- the gap of a record; with a refusal none
+unfoldable pub recordGap : Decoded → ℕ → RecordGap
+recordGap d asked = record { refusal = recordRefusal d asked; gap = atRecord Gap.None (gaps (answersOf d)) asked }
+
+-- the counts of a sample
+unfoldable pub sampleCounts : Decoded → SampleCounts
+sampleCounts d = record { refusal = refusalOf d; counts = counts (answersOf d) }
+
+-- the extent tally of a sample
+unfoldable pub sampleTally : Decoded → SampleTally
+sampleTally d = record { refusal = refusalOf d; tally = tally (answersOf d) }
+
+-- the two counts of a degree of n-reordering: the n-reordered packets, and L
+unfoldable pub degreeCounts : Decoded → ℕ → DegreeCounts
+degreeCounts d n =
+    record {
+      refusal = askedRefusal d 1 100 n;
+      reordered = nReordered n (degreeAnswers d n);
+      arrived = arrived (degreeAnswers d n);
+    }
+
+-- the degree of n-reordering
+unfoldable pub sampleDegree : Decoded → ℕ → SampleDegree
+sampleDegree d n = record { refusal = askedRefusal d 1 100 n; ratio = degree n (degreeAnswers d n) }
+
+-- the ratio figures of a sample
+unfoldable pub sampleRatios : Decoded → SampleRatios
+sampleRatios d = record { refusal = refusalOf d; ratios = ratios (answersOf d) }

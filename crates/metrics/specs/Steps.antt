@@ -1,0 +1,127 @@
+-- Steps of the engine's passes: the figures under one arrival more, by its class. Assumes nothing.
+use mathlib.Core.Path.{_≡_}
+use mathlib.Core.Bool.{cond}
+use mathlib.Core.List.{List}
+use mathlib.Core.Option.{Option, none, some}
+use Prim.Native.Nat.{ℕ, zero, suc, _+_, _-_, _≤_, _<_}
+use lib.Dec.{eqb, leb}
+use lib.ListN.{length, getD, set}
+use Rattle.rfc4737.specs.declared.Answer.{Answer}
+use Rattle.rfc4737.specs.declared.Counts.{Counts}
+use Rattle.rfc4737.specs.declared.Gap.{Gap}
+use Rattle.rfc4737.specs.declared.Ratios.{Ratios}
+use Rattle.rfc4737.specs.Runs.{lengthened, ended}
+use Rattle.rfc4737.specs.Tally.{tallyPlace, oneMoreAt}
+use Rattle.rfc4737.specs.Gaps.{discoverer}
+use Rattle.rfc4737.specs.Ratios.{quotient}
+use Rattle.metrics.specs.declared.look.Class.{Class}
+
+-- a discontinuity that a class names is at one of so many positions
+abbrev pub Inside : ℕ → Class → Type 0
+Inside count (Class.Duplicate first) = Unit
+Inside count (Class.InOrder jump) = Unit
+Inside count (Class.Reordered at) = (1 ≤ at) × (at ≤ count)
+
+-- ---- counts
+
+-- the counts of no arrivals
+abbrev pub noCounts : Counts
+noCounts =
+    record {
+      arrived = 0;
+      reordered = 0;
+      duplicates = 0;
+      inorder = 0;
+      runs = record { closed = 0; squares = 0; current = 0 };
+    }
+
+-- counts of fewer than 4,096 arrivals
+pub record Small (c : Counts) : Type 0 where
+  pub arrived : c .arrived < 4096
+  pub reordered : c .reordered < 4096
+  pub duplicates : c .duplicates < 4096
+  pub inorder : c .inorder < 4096
+  pub closed : c .runs .closed < 4096
+  pub squares : c .runs .squares ≤ 16777216
+  pub current : c .runs .current < 4096
+
+-- the counts under one arrival more
+unfoldable pub countsBy : Counts → Class → Counts
+countsBy c (Class.Duplicate first) =
+    record { arrived = c .arrived; reordered = c .reordered; duplicates = c .duplicates + 1; inorder = c .inorder; runs = c .runs }
+countsBy c (Class.InOrder jump) =
+    record {
+      arrived = c .arrived + 1;
+      reordered = c .reordered;
+      duplicates = c .duplicates;
+      inorder = c .inorder + 1;
+      runs = lengthened (c .runs);
+    }
+countsBy c (Class.Reordered at) =
+    record {
+      arrived = c .arrived + 1;
+      reordered = c .reordered + 1;
+      duplicates = c .duplicates;
+      inorder = c .inorder;
+      runs = ended (c .runs);
+    }
+
+-- ---- tally, degree and ratios
+
+-- the tally, after so many first arrivals
+unfoldable pub tallyBy : List ℕ → ℕ → Class → List ℕ
+tallyBy t count (Class.Duplicate first) = t
+tallyBy t count (Class.InOrder jump) = t
+tallyBy t count (Class.Reordered at) = oneMoreAt (tallyPlace (count + 1 - at)) t
+
+-- the n-reordered packets, where the arrival has this largest n if it is reordered
+unfoldable pub degreeBy : ℕ → ℕ → ℕ → Class → ℕ
+degreeBy n largest part (Class.Duplicate first) = part
+degreeBy n largest part (Class.InOrder jump) = part
+degreeBy n largest part (Class.Reordered at) = cond (leb n largest) (part + 1) part
+
+-- the ratio figures of three counts over L
+unfoldable pub ratiosBy : ℕ → ℕ → ℕ → ℕ → Ratios
+ratiosBy reordered degree1 degree3 whole =
+    cond (eqb whole 0) Ratios.Undefined
+    (Ratios.Known
+    (record { reordered = quotient reordered whole; degree1 = quotient degree1 whole; degree3 = quotient degree3 whole }))
+
+-- ---- gaps
+
+-- a position if there is one, else 0
+abbrev pub orZero : Option ℕ → ℕ
+orZero none = 0
+orZero (some p) = p
+
+-- the position of an answer, 0 for a duplicate
+abbrev pub placeIn : Answer → ℕ
+placeIn (Answer.Duplicate d) = 0
+placeIn (Answer.InOrder d) = d .position
+placeIn (Answer.Reordered d) = d .position
+
+-- a table has at each position the discoverer of the discontinuity there, 0 where there is none
+pub record Marked (l : List Answer) (found : List ℕ) : Type 0 where
+  pub places : length found ≡ 4097
+  pub at : (p : ℕ) → 1 ≤ p → p ≤ 4096 → getD found p 0 ≡ orZero (discoverer p l)
+  pub positive : (p q : ℕ) → discoverer p l ≡ some q → 1 ≤ q
+
+-- the table under one arrival more, after so many first arrivals
+unfoldable pub markBy : List ℕ → ℕ → Class → List ℕ
+markBy found count (Class.Duplicate first) = found
+markBy found count (Class.InOrder jump) = found
+markBy found count (Class.Reordered at) = cond (eqb (getD found at 0) 0) (set found at (count + 1)) found
+
+-- the last discontinuity of the table at a position from 1 to p, 0 if there is none
+unfoldable pub lastTo : List ℕ → ℕ → ℕ
+lastTo found zero = 0
+lastTo found (suc p) = cond (eqb (getD found (suc p) 0) 0) (lastTo found p) (suc p)
+
+-- the gap of position p after the discontinuity before it, 0 for none
+abbrev pub gapFrom : ℕ → ℕ → Gap
+gapFrom p zero = Gap.None
+gapFrom p (suc q) = Gap.Positions (p - suc q)
+
+-- the gap of position p by the table
+unfoldable pub gapBy : List ℕ → ℕ → Gap
+gapBy found p = cond (eqb (getD found p 0) 0) Gap.None (gapFrom p (lastTo found (p - 1)))

@@ -1,0 +1,72 @@
+-- What the tables of the engine hold after some arrivals. Assumes nothing.
+use mathlib.Core.Path.{_≡_}
+use mathlib.Core.Bool.{false, cond}
+use mathlib.Core.List.{List}
+use mathlib.Core.Option.{Option, none, some}
+use Prim.Native.Nat.{ℕ, _-_, _≤_, _<_}
+use lib.Dec.{eqb, leb}
+use lib.ListN.{length, getD}
+use Rattle.rfc4737.specs.declared.Arrival.{Arrival}
+use Rattle.rfc4737.specs.declared.Answer.{Answer}
+use Rattle.rfc4737.specs.Arrivals.{has, firsts, firstRecord}
+use Rattle.rfc4737.specs.Order.{Placed, nextExp}
+use Rattle.rfc4737.specs.Extent.{discontinuity}
+use Rattle.rfc4737.specs.Answer.{reorderedAnswer}
+use Rattle.sample.specs.Decode.{Decoded}
+use Rattle.metrics.specs.Sample.{noArrival, sizeOf, arrivalAt, before, answerAt}
+use Rattle.metrics.specs.declared.look.Class.{Class}
+use Rattle.metrics.specs.declared.tables.State.{State}
+
+-- a list after one value was put at the places from `from` to before `to`, all else as it was
+pub record Filled (from to value : ℕ) (old new : List ℕ) : Type 0 where
+  pub same : length new ≡ length old
+  pub inside : (k : ℕ) → from ≤ k → k < to → getD new k 0 ≡ value
+  pub below : (k : ℕ) → k < from → getD new k 0 ≡ getD old k 0
+
+-- the position of a discontinuity; 0 if there is none
+abbrev pub placeOf : Option Placed → ℕ
+placeOf none = 0
+placeOf (some p) = p .position
+
+-- a table has the numbers of some first arrivals, by position, and so many are there
+pub record Numbered (fs : List Arrival) (numbers : List ℕ) (count : ℕ) : Type 0 where
+  pub all : count ≡ length fs
+  pub at : (p : ℕ) → p < length fs → getD numbers p 0 ≡ getD fs p noArrival .number
+
+-- a table has the numbers of so many packets, from 1 to `most`
+pub record Packets (numbers : List ℕ) (count most : ℕ) : Type 0 where
+  pub inside : (p : ℕ) → p < count → (1 ≤ getD numbers p 0) × (getD numbers p 0 ≤ most)
+
+-- a table has the record of each packet's first arrival, 0 if it has not arrived
+pub record Recorded (earlier : List Arrival) (records : List ℕ) : Type 0 where
+  pub at : (s : ℕ) → 1 ≤ s → s ≤ 4096 → getD records s 0 ≡ firstRecord s earlier
+
+-- the tables and the state after some arrivals: the numbers of the first arrivals, the record of each packet's, and the position of
+-- the discontinuity of each packet that would be reordered
+pub record Follows (earlier : List Arrival) (numbers records skipped : List ℕ) (state : State) : Type 0 where
+  pub places : (length numbers ≡ 4096) × (length records ≡ 4097) × (length skipped ≡ 4097)
+  pub numbered : Numbered (firsts earlier) numbers (state .count)
+  pub next : state .next ≡ nextExp (firsts earlier)
+  pub recorded : Recorded earlier records
+  pub skips : (s : ℕ) → 1 ≤ s → s < nextExp (firsts earlier) → has s earlier ≡ false
+      → getD skipped s 0 ≡ placeOf (discontinuity (firsts earlier) s)
+
+-- record i + 1 is reordered, with its discontinuity at a position
+pub record Late (d : Decoded) (i at : ℕ) : Type 0 where
+  pub place : Placed
+  pub position : place .position ≡ at
+  pub is : discontinuity (firsts (before d i)) (arrivalAt d i .number) ≡ some place
+  pub answer : answerAt d i ≡ reorderedAnswer (sizeOf d) (firsts (before d i)) (arrivalAt d i) (some place)
+
+-- the class of an answer: its kind, with what is known of it in one step
+abbrev pub classOf : Answer → Class
+classOf (Answer.Duplicate d) = Class.Duplicate (d .first)
+classOf (Answer.InOrder d) = Class.InOrder (d .jump)
+classOf (Answer.Reordered d) = Class.Reordered (d .position - d .extent)
+
+-- the class of an arrival of this number, by the tables and NextExp
+unfoldable pub classBy : List ℕ → List ℕ → ℕ → ℕ → Class
+classBy records skipped next number =
+    cond (eqb (getD records number 0) 0)
+    (cond (leb next number) (Class.InOrder (number - next)) (Class.Reordered (getD skipped number 0)))
+    (Class.Duplicate (getD records number 0))

@@ -1,0 +1,86 @@
+// The answer for one record.
+ghost use mathlib.Core.Path.{_≡_};
+ghost use mathlib.Core.Bool.{not};
+ghost use mathlib.Core.List.{[], _∷_};
+ghost use Prim.Native.Nat.{_≤_};
+ghost use Rattle.rfc4737.specs.Refusals.{within, inCase, firstOf, askedOutside};
+ghost use Rattle.sample.specs.Decode.{decode};
+ghost use Rattle.metrics.specs.Sample.{Laid, before};
+ghost use Rattle.metrics.specs.Tables.{Follows};
+ghost use Rattle.metrics.specs.Figures.{recordAnswer};
+use crate::RecordAnswer;
+use crate::look::look;
+use crate::tables::FIRSTS;
+use crate::tables::PLACES;
+use crate::tables::State;
+use crate::tables::note;
+use crate::tables::start;
+use rfc4737::Answer;
+use rfc4737::InOrderFigures;
+use rfc4737::refusal::ASKED_OUTSIDE;
+use rfc4737::refusal::NONE;
+use sample::Layout;
+
+// The refusal of a call that asks for a number from low to high: the file's own, then 9.
+pub(crate) fn refusal_of(own: u32, low: u32, high: u32, asked: u32) -> u32
+    ensures { λ r. ⌜ r ≡ firstOf (own ∷ inCase (not (within low high asked)) askedOutside ∷ []) ⌝ }
+{
+    if own != NONE {
+        return own;
+    }
+    if asked < low {
+        return ASKED_OUTSIDE;
+    }
+    if high < asked {
+        return ASKED_OUTSIDE;
+    }
+    NONE
+}
+
+// Notes the first n records.
+fn follow(
+    file: &[u8],
+    y: Layout,
+    n: u32,
+    numbers: &mut [u16; FIRSTS],
+    records: &mut [u16; PLACES],
+    skipped: &mut [u16; PLACES],
+) -> State
+    requires { ⌜ Laid (decode (now file)) y × (n ≤ y .arrivals)
+        × Follows (before (decode (now file)) 0) (now numbers) (now records) (now skipped) (record { count = 0; next = 1 }) ⌝ }
+    ensures { λ r. ⌜ Follows (before (decode (now (file .entry))) n) (now (numbers .exit)) (now (records .exit)) (now (skipped .exit)) r ⌝ }
+{
+    let mut state = start();
+    let mut i: u32 = 0;
+    while i < n {
+        state = note(file, y, i, numbers, records, skipped, state);
+        i += 1;
+    }
+    state
+}
+
+// The answer for a record of a file: as many steps as there are arrivals before it, and its extent.
+pub(crate) fn answer_of(file: &[u8], y: Layout, asked: u32) -> RecordAnswer
+    requires { ⌜ Laid (decode (now file)) y ⌝ }
+    ensures { λ r. ⌜ r ≡ recordAnswer (decode (now (file .entry))) asked ⌝ }
+{
+    let refusal = refusal_of(y.refusal, 1, y.arrivals, asked);
+    if refusal != NONE {
+        return RecordAnswer {
+            refusal,
+            answer: Answer::InOrder(InOrderFigures {
+                position: 0,
+                jump: 0,
+            }),
+        };
+    }
+    let i = asked - 1;
+    let mut numbers = [0u16; FIRSTS];
+    let mut records = [0u16; PLACES];
+    let mut skipped = [0u16; PLACES];
+    let state = follow(file, y, i, &mut numbers, &mut records, &mut skipped);
+    RecordAnswer {
+        refusal,
+        answer: look(file, y, i, &numbers, &records, &skipped, state),
+    }
+}

@@ -1,0 +1,37 @@
+// The values of a file that has been checked, read where they stand.
+ghost use mathlib.Core.Path.{_≡_};
+ghost use Prim.Native.Nat.{_≤_};
+ghost use Rattle.sample.specs.Decode.{decode};
+ghost use Rattle.metrics.specs.Sample.{arrivalAt, sizeOf, Laid, Has};
+use sample::Layout;
+
+// The layout of a file, checked.
+pub(crate) fn layout(file: &[u8]) -> Layout
+    ensures { λ r. ⌜ Laid (decode (now (file .entry))) r ⌝ }
+{
+    sample::check(file)
+}
+
+// The sequence number of record i + 1.
+pub(crate) fn number(file: &[u8], y: Layout, i: u32) -> u32
+    requires { ⌜ Has (decode (now file)) y i ⌝ }
+    ensures { λ r. ⌜ (r ≡ arrivalAt (decode (now (file .entry))) i .number) × (1 ≤ r) × (r ≤ 4096) ⌝ }
+{
+    sample::arrival_number(file, y, i)
+}
+
+// The arrival time of record i + 1.
+pub(crate) fn time(file: &[u8], y: Layout, i: u32) -> u64
+    requires { ⌜ Has (decode (now file)) y i ⌝ }
+    ensures { λ r. ⌜ r ≡ arrivalAt (decode (now (file .entry))) i .time ⌝ }
+{
+    sample::arrival_time(file, y, i)
+}
+
+// The payload size of a packet.
+pub(crate) fn size(file: &[u8], y: Layout, s: u32) -> u16
+    requires { ⌜ Laid (decode (now file)) y × (1 ≤ s) × (s ≤ y .sent) ⌝ }
+    ensures { λ r. ⌜ r ≡ sizeOf (decode (now (file .entry))) s ⌝ }
+{
+    sample::payload_size(file, y, s - 1)
+}

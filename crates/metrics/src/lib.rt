@@ -1,0 +1,194 @@
+// Every figure of a sample, by the definitions of rfc4737 over what the file decodes to. Every call takes all
+// input there is, and first checks the file, in one pass over it; on refusal it answers as for no arrivals.
+// After that each call makes one or more passes over the arrivals, of a few steps each; a reordered packet may
+// cost further steps, at most as many as its extent, where the call says so.
+ghost use mathlib.Core.Path.{_≡_};
+ghost use Rattle.sample.specs.Decode.{decode};
+ghost use Rattle.metrics.specs.Figures.{recordAnswer, recordGap, sampleCounts, sampleTally, degreeCounts, sampleDegree, sampleRatios};
+ghost use Rattle.listing.specs.Example.{ExampleHolds};
+ghost use Rattle.metrics.specs.Report.{ListedTo};
+
+mod answers;
+mod figures;
+mod gaps;
+mod input;
+mod look;
+mod quotients;
+mod report;
+mod scan;
+mod tables;
+
+use answers::answer_of;
+use answers::refusal_of;
+use figures::counts_of;
+use figures::share_of;
+use figures::tally_of;
+use gaps::gap_of;
+use input::layout;
+use quotients::ratio_of;
+use quotients::ratios_of;
+use report::list;
+use report::short_of;
+use rfc4737::refusal::NONE;
+
+// The answer for a record, and the refusal (0 for none).
+pub struct RecordAnswer {
+    pub refusal: u32,
+    pub answer: rfc4737::Answer,
+}
+
+// The gap of a record, and the refusal (0 for none).
+pub struct RecordGap {
+    pub refusal: u32,
+    pub gap: rfc4737::Gap,
+}
+
+// The counts of a sample, and the refusal (0 for none).
+#[repr(C)]
+pub struct SampleCounts {
+    pub refusal: u32,
+    pub counts: rfc4737::Counts,
+}
+
+// The extent tally of a sample, and the refusal (0 for none).
+#[repr(C)]
+pub struct SampleTally {
+    pub refusal: u32,
+    pub tally: [u32; 101],
+}
+
+// The two counts of a degree of n-reordering, and the refusal (0 for none).
+pub struct DegreeCounts {
+    pub refusal: u32,
+    pub reordered: u32,
+    pub arrived: u32,
+}
+
+// A degree of n-reordering, and the refusal (0 for none).
+pub struct SampleDegree {
+    pub refusal: u32,
+    pub ratio: rfc4737::Ratio,
+}
+
+// The ratio figures of a sample, and the refusal (0 for none).
+pub struct SampleRatios {
+    pub refusal: u32,
+    pub ratios: rfc4737::Ratios,
+}
+
+// The octets of a listing, 0 where nothing was written, and the refusal (0 for none).
+#[repr(C)]
+pub struct SampleListing {
+    pub refusal: u32,
+    pub length: u32,
+}
+
+// The answer for a record: as many steps as there are arrivals before it, and its extent.
+pub fn answer(file: &[u8], asked: u32) -> RecordAnswer
+    ensures { λ r. ⌜ r ≡ recordAnswer (decode (now (file .entry))) asked ⌝ }
+{
+    let y = layout(file);
+    answer_of(file, y, asked)
+}
+
+// The counts of a sample: one pass.
+pub fn counts(file: &[u8]) -> SampleCounts
+    ensures { λ r. ⌜ r ≡ sampleCounts (decode (now (file .entry))) ⌝ }
+{
+    let y = layout(file);
+    SampleCounts {
+        refusal: y.refusal,
+        counts: counts_of(file, y),
+    }
+}
+
+// The extent tally of a sample: one pass.
+pub fn tally(file: &[u8]) -> SampleTally
+    ensures { λ r. ⌜ r ≡ sampleTally (decode (now (file .entry))) ⌝ }
+{
+    let y = layout(file);
+    let tally = tally_of(file, y);
+    SampleTally {
+        refusal: y.refusal,
+        tally,
+    }
+}
+
+// The gap of a record: its answer, one pass, and as many steps as there are positions before it.
+pub fn gap(file: &[u8], asked: u32) -> RecordGap
+    ensures { λ r. ⌜ r ≡ recordGap (decode (now (file .entry))) asked ⌝ }
+{
+    let y = layout(file);
+    gap_of(file, y, asked)
+}
+
+// The two counts of which the degree of n-reordering is made: one pass, and for each reordered packet as many
+// steps as its largest n.
+pub fn n_reordered(file: &[u8], n: u32) -> DegreeCounts
+    ensures { λ r. ⌜ r ≡ degreeCounts (decode (now (file .entry))) n ⌝ }
+{
+    let y = layout(file);
+    let refusal = refusal_of(y.refusal, 1, 100, n);
+    if refusal != NONE {
+        return DegreeCounts {
+            refusal,
+            reordered: 0,
+            arrived: 0,
+        };
+    }
+    let share = share_of(file, y, n);
+    DegreeCounts {
+        refusal,
+        reordered: share.part,
+        arrived: share.whole,
+    }
+}
+
+// The degree of n-reordering, at the cost of its counts.
+pub fn degree(file: &[u8], n: u32) -> SampleDegree
+    ensures { λ r. ⌜ r ≡ sampleDegree (decode (now (file .entry))) n ⌝ }
+{
+    let c = n_reordered(file, n);
+    SampleDegree {
+        refusal: c.refusal,
+        ratio: ratio_of(c.reordered, c.arrived),
+    }
+}
+
+// The ratio figures of a sample, at the cost of its counts and of those of two degrees.
+pub fn ratios(file: &[u8]) -> SampleRatios
+    ensures { λ r. ⌜ r ≡ sampleRatios (decode (now (file .entry))) ⌝ }
+{
+    let y = layout(file);
+    let c = counts_of(file, y);
+    let one = share_of(file, y, 1);
+    let three = share_of(file, y, 3);
+    SampleRatios {
+        refusal: y.refusal,
+        ratios: ratios_of(c.reordered, one.part, three.part, c.arrived),
+    }
+}
+
+// The listing of a sample, or the one line of a refused file, at the start of lent memory of at least
+// LISTING_OCTETS octets: one pass, and for each reordered packet as many steps as its extent.
+pub fn listing(file: &[u8], out: &mut [u8]) -> SampleListing
+    ensures { λ r. ⌜ ListedTo (decode (now (file .entry))) (now (out .entry)) r (now (out .exit)) ⌝ }
+    ensures example { λ _. ⌜ ExampleHolds ⌝ }
+{
+    let y = layout(file);
+    let refusal = y.refusal;
+    if out.len() < listing::LISTING_OCTETS {
+        return SampleListing {
+            refusal: short_of(refusal),
+            length: 0,
+        };
+    }
+    if refusal != NONE {
+        let length = listing::put_refused(out, 0, refusal) as u32;
+        return SampleListing { refusal, length };
+    }
+    SampleListing {
+        refusal,
+        length: list(file, y, out),
+    }
+}

@@ -1,0 +1,75 @@
+// The listing of a sample, in lent memory, line by line.
+ghost use mathlib.Core.Path.{_≡_};
+ghost use mathlib.Core.List.{[], _∷_};
+ghost use Prim.Native.Nat.{_≤_};
+ghost use lib.ListN.{length};
+ghost use Rattle.octets.specs.Memory.{over};
+ghost use Rattle.rfc4737.specs.Refusals.{firstOf, outputShort};
+ghost use Rattle.listing.specs.Room.{listingOctets};
+ghost use Rattle.sample.specs.Decode.{decode};
+ghost use Rattle.metrics.specs.Sample.{Laid};
+ghost use Rattle.metrics.specs.Tables.{classOf};
+ghost use Rattle.metrics.specs.Steps.{Small, countsBy};
+ghost use Rattle.metrics.specs.Report.{sampleText};
+use crate::figures::counted;
+use crate::figures::no_counts;
+use crate::input;
+use crate::look::Class;
+use crate::look::look;
+use crate::tables::FIRSTS;
+use crate::tables::PLACES;
+use crate::tables::note;
+use crate::tables::start;
+use rfc4737::Answer;
+use rfc4737::Counts;
+use rfc4737::refusal::NONE;
+use rfc4737::refusal::OUTPUT_SHORT;
+use sample::Layout;
+
+// The refusal where lent memory is too short: the file's own, then 8.
+pub(crate) fn short_of(own: u32) -> u32
+    ensures { λ r. ⌜ r ≡ firstOf (own ∷ outputShort ∷ []) ⌝ }
+{
+    if own != NONE {
+        return own;
+    }
+    OUTPUT_SHORT
+}
+
+// The counts under one answer more.
+fn counted_by(c: Counts, answer: Answer) -> Counts
+    requires { ⌜ Small c ⌝ }
+    ensures { λ r. ⌜ r ≡ countsBy c (classOf answer) ⌝ }
+{
+    match answer {
+        Answer::Duplicate(_) => counted(c, Class::Duplicate(0)),
+        Answer::InOrder(_) => counted(c, Class::InOrder(0)),
+        Answer::Reordered(_) => counted(c, Class::Reordered(0)),
+    }
+}
+
+// Writes the lines of a sample at the start of lent memory that has room for them, and answers how many octets
+// they have.
+pub(crate) fn list(file: &[u8], y: Layout, out: &mut [u8]) -> u32
+    requires { ⌜ Laid (decode (now file)) y × (listingOctets ≤ length (now out)) ⌝ }
+    ensures { λ r. ⌜ (r ≡ length (sampleText (decode (now (file .entry)))))
+        × (now (out .exit) ≡ over (sampleText (decode (now (file .entry)))) (now (out .entry)))
+        × (r ≤ listingOctets) ⌝ }
+{
+    let mut numbers = [0u16; FIRSTS];
+    let mut records = [0u16; PLACES];
+    let mut skipped = [0u16; PLACES];
+    let mut state = start();
+    let mut c = no_counts();
+    let mut at = listing::put_header(out, 0, y.sent, y.arrivals);
+    let mut i: u32 = 0;
+    while i < y.arrivals {
+        let number = input::number(file, y, i);
+        let answer = look(file, y, i, &numbers, &records, &skipped, state);
+        at += listing::put_record(out, at, i + 1, number, answer);
+        c = counted_by(c, answer);
+        state = note(file, y, i, &mut numbers, &mut records, &mut skipped, state);
+        i += 1;
+    }
+    (at + listing::put_end(out, at, c)) as u32
+}
