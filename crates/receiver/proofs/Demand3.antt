@@ -1,0 +1,213 @@
+-- Demand 3 holds: by one induction over the list fed the state is that of the account, so that each step agrees with it.
+-- Assumes nothing.
+use Prim.Native.Nat.{ℕ, _+_, _-_, _≤_, _<_}
+use mathlib.Core.Path.{_≡_, refl, sym, ap, _∙_}
+use mathlib.Core.Bool.{Bool, true, false, not, cond, true≢false}
+use mathlib.Core.List.{List, [], _∷_, _++_, head?}
+use mathlib.Core.Option.{some}
+use native.Mathlib.Omega.{arith}
+use lib.Dec.{eqb, ltb, leb}
+use lib.ListN.{length}
+use borrow.Author.Tests.{ltb-true, ltb-false, leb-true, leb-false, le-leb}
+use Rattle.rfc4737.specs.declared.Arrival.{Arrival}
+use Rattle.rfc4737.specs.declared.ReorderedFigures.{ReorderedFigures}
+use Rattle.rfc4737.specs.declared.Answer.{Answer}
+use Rattle.rfc4737.specs.declared.Answer.the-variants as answer
+use Rattle.rfc4737.specs.Arrivals.{has, firsts, count}
+use Rattle.rfc4737.specs.Order.{Placed, nextExp}
+use Rattle.rfc4737.specs.Extent.{discontinuity, extentFrom, lateFrom}
+use Rattle.rfc4737.specs.Times.{elapsed}
+use Rattle.rfc4737.specs.Answer.{reorderedAnswer, inOrderAnswer}
+use Rattle.rfc4737.specs.Runs.{counts, arrived, isDuplicate, isInOrderAnswer}
+use Rattle.rfc4737.specs.Refusals.{within, sentOutside, numberOutside, timeBack, stateUnfit, stateFull}
+use Rattle.rfc4737.proofs.Lists.{snoc-ind, Ordered, each-same}
+use Rattle.rfc4737.proofs.Arrivals.{fold-more, count-each}
+use Rattle.rfc4737.proofs.Folds.{answer-duplicate, answer-first, first-in-order, in-order-or-reordered}
+use Rattle.rfc4737.proofs.Jumps.{NotLater}
+use Rattle.receiver.specs.declared.Receiver.{Receiver}
+use Rattle.receiver.specs.declared.Noted.the-variants.{InOrder}
+use Rattle.receiver.specs.declared.Stepped.{Stepped}
+use Rattle.receiver.specs.declared.Started.{Started}
+use Rattle.receiver.specs.Limits.{packets}
+use Rattle.receiver.specs.Step.{madeFor, freshOf}
+use Rattle.receiver.specs.Account.{lastIn, goesBack, refusalIn, accountWith, accountOf, answerIn, answersIn, inWindow, beyondFigures, inForm, Outcome, outcomeIn, accountOutcomes}
+use Rattle.receiver.specs.Demand3.{fedTo, stateAfter, outcomeAfter, receiverOutcomes, Answered, Demand3}
+use Rattle.receiver.proofs.Window.{lastNumber}
+use Rattle.receiver.proofs.Fits.{within-true}
+use Rattle.receiver.proofs.Accepted.{accepted-arrival, account-sound}
+use Rattle.receiver.proofs.Late.{droppedIn, WindowSearch, search-late}
+use Rattle.receiver.proofs.State.{stateOf, state-fresh}
+use Rattle.receiver.proofs.Fitness.{arrived-in, accepted-count}
+use Rattle.receiver.proofs.Agrees.{answer-late, search-window, step-agrees}
+
+-- no refusal over the account is 10
+refusal-fit : (k : ℕ) (account : List Arrival) (a : Arrival) → eqb (refusalIn k account a) stateUnfit ≡ false
+unfolding refusalIn
+refusal-fit k account a = go (eqb (length account) packets) (within 1 k (a .number)) (goesBack (lastIn account) (a .time))
+  where
+    go : (t u v : Bool) → eqb (cond t stateFull (cond (not u) numberOutside (cond v timeBack 0))) stateUnfit ≡ false
+    go true u v = refl
+    go false false v = refl
+    go false true true = refl
+    go false true false = refl
+
+-- the account never says 10
+outcome-fit : (k : ℕ) (account : List Arrival) (a : Arrival) → eqb (outcomeIn k account a .refusal) stateUnfit ≡ false
+unfolding outcomeIn
+outcome-fit k account a = go (eqb (refusalIn k account a) 0)
+  where
+    go : (t : Bool)
+        → eqb
+        (cond {A = Outcome} t (record { refusal = 0; noted = inForm account a (answerIn account a) })
+        (record { refusal = refusalIn k account a; noted = InOrder 0 })
+        .refusal)
+        stateUnfit
+        ≡ false
+    go true = refl
+    go false = refusal-fit k account a
+
+-- what the account says of an arrival that is added
+outcome-added : (k : ℕ) (account : List Arrival) (a : Arrival) → refusalIn k account a ≡ 0 → outcomeIn k account a .noted ≡ inForm account a (answerIn account a)
+unfolding outcomeIn
+outcome-added k account a e = rw e
+
+-- ---- a reordered packet over the account
+
+-- the figures of a reordered packet's answer, else those given
+abbrev figuresOf : ReorderedFigures → Answer → ReorderedFigures
+figuresOf d (answer.Duplicate f) = d
+figuresOf d (answer.InOrder f) = d
+figuresOf d (answer.Reordered f) = f
+
+module _ (account : List Arrival) (a : Arrival) (d : ReorderedFigures) (q : answerIn account a ≡ answer.Reordered d) where
+  -- it has not arrived before
+  late-new : has (a .number) account ≡ false
+  unfolding answerIn
+  late-new = go (has (a .number) account) refl
+    where
+      go : (t : Bool) → has (a .number) account ≡ t → has (a .number) account ≡ false
+      go true e = let w = answer-duplicate (λ _. 0) account a e in let z : _≡_ {A = ℕ} 0 1 = cc in absurd (omega arith)
+      go false e = e
+
+  -- and is below NextExp
+  late-low : a .number < nextExp (firsts account)
+  unfolding answerIn inOrderAnswer
+  late-low = go (leb (nextExp (firsts account)) (a .number)) refl
+    where
+      go : (t : Bool) → leb (nextExp (firsts account)) (a .number) ≡ t → a .number < nextExp (firsts account)
+      go true e =
+          let w = answer-first (λ _. 0) account a late-new ∙ first-in-order (λ _. 0) (firsts account) a (leb-true _ _ e) in
+          let z : _≡_ {A = ℕ} 0 1 = cc in
+          absurd (omega arith)
+      go false e = leb-false _ _ e
+
+  -- its figures are those of its discontinuity p
+  late-figures : (p : Placed) → discontinuity (firsts account) (a .number) ≡ some p
+      → (d .extent ≡ length (firsts account) + 1 - p .position) × (d .late ≡ a .time - p .time)
+  unfolding reorderedAnswer extentFrom lateFrom elapsed
+  late-figures p e =
+      let w = rw e at (sym q ∙ answer-late account a late-new late-low) in
+      let s = ap (figuresOf d) w in
+      (ap (λ (f : ReorderedFigures). f .extent) s, ap (λ (f : ReorderedFigures). f .late) s)
+
+  -- beyond the window its true extent is above the figure, and its true late time not below it
+  late-above : Ordered NotLater account → 1 ≤ a .number → inWindow account (a .number) ≡ false
+      → (beyondFigures account a .extent < d .extent) × (beyondFigures account a .late ≤ d .late)
+  unfolding beyondFigures extentFrom lateFrom elapsed
+  late-above steady low w = go (ltb (a .number) (lastNumber (droppedIn account))) refl
+    where
+      search : WindowSearch account (a .number)
+      search = search-late account steady (a .number) low late-new late-low
+
+      go : (t : Bool) → ltb (a .number) (lastNumber (droppedIn account)) ≡ t
+          → (beyondFigures account a .extent < d .extent) × (beyondFigures account a .late ≤ d .late)
+      go true t =
+          let k = search .dropped (ltb-true _ _ t) in
+          let f = late-figures (search .at) (search .is) in
+          let x : beyondFigures account a .extent ≡ length (firsts account) + 1 - search .oldest .position =
+          ap (λ (ws : List Placed). extentFrom (length (firsts account) + 1) (head? ws)) (search .window) in
+          let l : beyondFigures account a .late ≡ a .time - search .oldest .time =
+          ap (λ (ws : List Placed). lateFrom (a .time) (head? ws)) (search .window) in
+          let i : search .at .position < search .oldest .position = k .position in
+          let j : search .at .time ≤ search .oldest .time = k .time in
+          let m : search .oldest .position ≤ length (firsts account) = search .high in
+          (omega arith, omega arith)
+      go false t =
+          let k = search .kept (ltb-false _ _ t) in
+          absurd (true≢false (sym (k .among) ∙ sym (search-window account a search) ∙ w))
+
+module _ (k : ℕ) (low : 1 ≤ k) (high : k ≤ packets) where
+  -- fresh, it is made for K
+  fresh-state : freshOf k .state ≡ madeFor k
+  unfolding freshOf
+  fresh-state = rw (le-leb _ _ low, le-leb _ _ high)
+
+  -- after any list the state is that of the account
+  state-after : (fed : List Arrival) → stateAfter k fed ≡ stateOf k (accountOf k fed)
+  unfolding stateAfter accountOf
+  state-after = snoc-ind (λ (fed : List Arrival). stateAfter k fed ≡ stateOf k (accountOf k fed)) more (fresh-state ∙ sym (state-fresh k))
+    where
+      more : (fed : List Arrival) (a : Arrival) → stateAfter k fed ≡ stateOf k (accountOf k fed)
+          → stateAfter k (fed ++ (a ∷ [])) ≡ stateOf k (accountOf k (fed ++ (a ∷ [])))
+      more fed a e =
+          fold-more _ _ fed a
+          ∙ ap (λ (r : Receiver). fedTo r a .state) e
+          ∙ ap (λ (s : Stepped). s .state) (step-agrees k low high (accountOf k fed) a (account-sound k fed))
+          ∙ ap (stateOf k) (sym (fold-more (accountWith k) [] fed a))
+
+  -- so each arrival is answered as the account says
+  outcome-after : (earlier : List Arrival) (a : Arrival) → outcomeAfter k earlier a ≡ outcomeIn k (accountOf k earlier) a
+  unfolding outcomeAfter
+  outcome-after earlier a =
+      ap (λ (r : Receiver). record { refusal = fedTo r a .refusal; noted = fedTo r a .noted }) (state-after earlier)
+      ∙ ap (λ (s : Stepped). record { refusal = s .refusal; noted = s .noted }) (step-agrees k low high (accountOf k earlier) a (account-sound k earlier))
+
+  -- how a reordered packet is answered
+  late-answered : (earlier : List Arrival) (a : Arrival) → refusalIn k (accountOf k earlier) a ≡ 0
+      → (d : ReorderedFigures) → answerIn (accountOf k earlier) a ≡ answer.Reordered d → Answered k earlier a d
+  unfolding inForm
+  late-answered earlier a e d q =
+      let noted : outcomeAfter k earlier a .noted ≡ inForm (accountOf k earlier) a (answer.Reordered d) =
+      ap (λ (s : Outcome). s .noted) (outcome-after earlier a) ∙ outcome-added k (accountOf k earlier) a e ∙ ap (inForm (accountOf k earlier) a) q in
+      let n = accepted-arrival k (accountOf k earlier) a e in
+      record {
+        exact = λ w. rw w at noted;
+        beyond = λ w. rw w at noted;
+        above = λ w. late-above (accountOf k earlier) a d q (account-sound k earlier .steady) (n .numbered .low) w;
+      }
+
+  -- demand 3
+  pub demand3 : (fed : List Arrival) → Demand3 k fed
+  unfolding receiverOutcomes accountOutcomes stateOf counts
+  demand3 fed =
+      let account = accountOf k fed in
+      let s = state-after fed in
+      let arrived-eq : stateAfter k fed .arrived ≡ arrived (answersIn account) = ap (λ (r : Receiver). r .arrived) s ∙ sym (arrived-in account) in
+      let duplicates-eq : stateAfter k fed .duplicates ≡ count isDuplicate (answersIn account) = ap (λ (r : Receiver). r .duplicates) s in
+      let inorder-eq : stateAfter k fed .inorder ≡ count isInOrderAnswer (answersIn account) = ap (λ (r : Receiver). r .inorder) s in
+      let reordered-eq = in-order-or-reordered (answersIn account) in
+      let accepted-eq = accepted-count account in
+      let first-eq = arrived-in account in
+      record {
+        outcomes = each-same (outcomeAfter k) (λ earlier a. outcomeIn k (accountOf k earlier) a) outcome-after fed;
+        fit =
+            count-each (λ (s : Outcome). eqb (s .refusal) stateUnfit) (outcomeAfter k)
+            (λ earlier a. rw outcome-after (outcome-fit k (accountOf k earlier) a)) fed;
+        reordered = λ earlier a later split e d q. late-answered earlier a e d q;
+        arrived = arrived-eq;
+        duplicates = duplicates-eq;
+        inorder = inorder-eq;
+        runs = ap (λ (r : Receiver). r .runs) s;
+        sum = omega arith;
+      }
+
+-- as `fresh` carries it: of a fresh receiver that is not refused
+pub demand3-fresh : (k : ℕ) → freshOf k .refusal ≡ 0 → (fed : List Arrival) → Demand3 k fed
+unfolding freshOf
+demand3-fresh k e = go (within 1 packets k) refl e
+  where
+    go : (t : Bool) → within 1 packets k ≡ t
+        → cond {A = Started} t (record { refusal = 0; state = madeFor k }) (record { refusal = sentOutside; state = madeFor 1 }) .refusal ≡ 0
+        → (fed : List Arrival) → Demand3 k fed
+    go true w e = let h = within-true 1 packets k w in demand3 k (h .0) (h .1)
+    go false w e = absurd (omega arith)

@@ -1,0 +1,84 @@
+-- A reordered packet over an account: its discontinuity, and what the search in the window finds. Assumes nothing.
+use Prim.Native.Nat.{ℕ, _-_, _≤_, _<_}
+use mathlib.Core.Path.{_≡_, refl, sym, ap, subst, _∙_}
+use mathlib.Core.Bool.{false}
+use mathlib.Core.List.{List, [], _∷_, _++_, List·Memᴰ}
+use mathlib.Core.Option.{some}
+use native.Mathlib.Omega.{arith}
+use lib.ListN.{length, take, length-drop, take-append-drop}
+use borrow.Author.Tests.{lt-leb}
+use Rattle.rfc4737.specs.declared.Arrival.{Arrival}
+use Rattle.rfc4737.specs.Arrivals.{has, firsts}
+use Rattle.rfc4737.specs.Order.{Placed, nextExp, isInOrder, jumps}
+use Rattle.rfc4737.specs.Extent.{discontinuity}
+use Rattle.rfc4737.proofs.Lists.{All, Ordered, all-right}
+use Rattle.rfc4737.proofs.Arrivals.{has-firsts}
+use Rattle.rfc4737.proofs.Jumps.{NotLater, NotLaterJump, Rises, Within, DiscontinuityJump, reordered-discontinuity, jumps-within, jumps-rise, jumps-times}
+use Rattle.rfc4737.proofs.Packets.{ordered-firsts}
+use Rattle.receiver.specs.Limits.{window}
+use Rattle.receiver.specs.Account.{windowIn}
+use Rattle.receiver.proofs.Window.{lastNumber, IsDropped, IsKept, window-dropped, window-kept}
+
+-- the account's jumps before the window
+unfoldable pub droppedIn : List Arrival → List Placed
+droppedIn account = take (length (jumps (firsts account)) - window) (jumps (firsts account))
+
+-- they and the window are all the jumps
+pub split : (account : List Arrival) → droppedIn account ++ windowIn account ≡ jumps (firsts account)
+unfolding droppedIn windowIn
+split account = take-append-drop (length (jumps (firsts account)) - window) (jumps (firsts account))
+
+-- a list with an element is not empty
+member-length : {p : Placed} {l : List Placed} → List·Memᴰ p l → 1 ≤ length l
+member-length (List·Memᴰ.List·Memᴰ·head e) = omega arith
+member-length (List·Memᴰ.List·Memᴰ·tail m) = omega arith
+
+-- where there is a jump the window is not empty
+window-some : (account : List Arrival) → 1 ≤ length (jumps (firsts account)) → 1 ≤ length (windowIn account)
+unfolding windowIn
+window-some account h = simp length-drop (omega arith)
+
+-- the discontinuity of a packet s, the window's oldest jump, and what the search in the window finds
+pub record WindowSearch (account : List Arrival) (s : ℕ) : Type 0 where
+  pub at : Placed
+  pub is : discontinuity (firsts account) s ≡ some at
+  pub oldest : Placed
+  pub later : List Placed
+  pub window : windowIn account ≡ oldest ∷ later
+  pub high : oldest .position ≤ length (firsts account)
+  pub dropped : s < lastNumber (droppedIn account) → IsDropped s (windowIn account) oldest at
+  pub kept : lastNumber (droppedIn account) ≤ s → IsKept s (windowIn account) at
+
+-- of a reordered packet, where times do not fall
+pub search-late : (account : List Arrival)
+    → Ordered NotLater account
+    → (s : ℕ)
+    → 1 ≤ s
+    → has s account ≡ false
+    → s < nextExp (firsts account)
+    → WindowSearch account s
+unfolding isInOrder
+search-late account steady s low new late = go (windowIn account) refl
+  where
+    found : DiscontinuityJump s (firsts account)
+    found = reordered-discontinuity s low (firsts account) (has-firsts s account ∙ new) (lt-leb (nextExp (firsts account)) s late)
+
+    go : (ws : List Placed) → windowIn account ≡ ws → WindowSearch account s
+    go [] e = absurd (omega (arith, window-some account (member-length (found .jump)), ap length e))
+    go (o ∷ later) e =
+        let parts : jumps (firsts account) ≡ droppedIn account ++ (o ∷ later) =
+        sym (split account) ∙ ap (λ (l : List Placed). droppedIn account ++ l) e in
+        let rise = subst (Ordered Rises) parts (jumps-rise (firsts account)) in
+        let times = subst (Ordered NotLaterJump) parts (jumps-times (firsts account) (ordered-firsts NotLater account steady)) in
+        let first = rw parts at (found .first) in
+        let inside = all-right (Within (firsts account)) (droppedIn account) (o ∷ later) (subst (All (Within (firsts account))) parts (jumps-within (firsts account))) in
+        record {
+          at = found .at;
+          is = found .is;
+          oldest = o;
+          later = later;
+          window = e;
+          high = inside .0 .position-high;
+          dropped = λ h. rw e (window-dropped s (droppedIn account) o later rise times (found .at) first h);
+          kept = λ h. rw e (window-kept s (droppedIn account) o later rise times (found .at) first h);
+        }

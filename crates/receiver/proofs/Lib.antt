@@ -1,0 +1,19 @@
+-- Laws behind the receiver's step and demand 3. Assumes nothing.
+pub mod Fits
+pub mod Places
+pub mod Jumped
+pub mod Refused
+pub mod Shift
+pub mod Squares
+pub mod Steps
+pub mod Written
+pub mod Window
+pub mod HeldJumps
+pub mod Marks
+pub mod Accepted
+pub mod Late
+pub mod State
+pub mod Fitness
+pub mod Agrees
+pub mod Demand3
+pub mod WindowCases

@@ -1,0 +1,17 @@
+-- `receiver::kept::dropped_after` meets its contract. Assumes nothing.
+use borrow.Author.Tests.{lt-ltb, le-ltb}
+use borrow.Author.Needs.{needs}
+use Rattle.receiver.proofs.kept.dropped_after.Statement.{statement}
+use Rattle.receiver.proofs.kept.dropped_after.Tie as tie
+
+returns : tie.Need-returns
+returns c = simp (lt-ltb _ _ (c .if1 .taken))
+
+element-copy-out-result : tie.Need-element-copy-out-result
+element-copy-out-result c = search needs
+
+returns-2 : tie.Need-returns-2
+returns-2 c = simp (le-ltb _ _ (c .before .if1 .left))
+
+pub dropped-after-spec : {M : Type 1} → statement M
+dropped-after-spec = tie.close (tie.spec returns element-copy-out-result returns-2)

@@ -1,0 +1,64 @@
+-- `receiver::kept::place_above` meets its contract. The loop's invariant: no place passed holds a greater number. The
+-- measure is the number of places left. Assumes nothing.
+use Prim.Native.Nat.{ℕ, _-_, _≤_, _<_}
+use mathlib.Core.Bool.{false}
+use mathlib.Core.Path.{_≡_}
+use native.Mathlib.Omega.{arith}
+use borrow.Author.Tests.{le-ltb}
+use borrow.Author.Count.{below-none, below-more}
+use borrow.Author.Needs.{needs}
+use lib.Dec.{ltb}
+use lib.ListN.{getD}
+use Rattle.receiver.proofs.kept.place_above.Statement.{statement}
+use Rattle.receiver.proofs.kept.place_above.Tie as tie
+
+abbrev Inv-loop : tie.InvT-loop
+Inv-loop numbers kept number count i₀ i = (i ≤ count) × ((k : ℕ) → k < i → ltb number (getD numbers k 0) ≡ false)
+
+abbrev μ-loop : tie.MeasureT-loop
+μ-loop numbers kept number count i₀ i = count - i
+
+loop-holds : tie.Need-loop-holds Inv-loop μ-loop
+loop-holds c = (search needs, below-none _)
+
+mul-wide : tie.Need-mul-wide Inv-loop μ-loop
+mul-wide c = search needs
+
+element-copy-out-wide : tie.Need-element-copy-out-wide Inv-loop μ-loop
+element-copy-out-wide c = search needs
+
+wide-requires : tie.Need-wide-requires Inv-loop μ-loop
+wide-requires c κs = search needs
+
+returns : tie.Need-returns Inv-loop μ-loop
+returns c = record { place-high = search needs; before = c .before .before .before .before .loop .inv .1; above = λ h. omega (arith, c .before .wide .ensures) }
+
+add-i : tie.Need-add-i Inv-loop μ-loop
+add-i c = search needs
+
+loop-less : tie.Need-loop-less Inv-loop μ-loop
+loop-less c = search needs
+
+loop-again : tie.Need-loop-again Inv-loop μ-loop
+loop-again c =
+    let low : getD (c .before .before .before .before .before .args .numbers .now) (c .before .before .before .before .loop .i) 0 ≤ c .before .before .before .before .before .args .number = omega (arith, c .before .wide .ensures) in
+    (search needs, below-more _ _ (c .before .before .before .before .loop .inv .1) (le-ltb _ _ low))
+
+returns-2 : tie.Need-returns-2 Inv-loop μ-loop
+returns-2 c = record { place-high = search needs; before = λ k h. c .before .loop .inv .1 k (omega arith); above = λ h. absurd (omega arith) }
+
+pub place-above-spec : {M : Type 1} → statement M
+place-above-spec =
+    tie.close
+    (tie.spec
+    Inv-loop
+    μ-loop
+    loop-holds
+    mul-wide
+    element-copy-out-wide
+    wide-requires
+    returns
+    add-i
+    loop-less
+    loop-again
+    returns-2)

@@ -1,0 +1,109 @@
+-- The account, a term of the scope: the list of accepted arrivals, made from K and the arrivals fed and from nothing that a
+-- receiver holds. It says how each arrival is to be answered. Assumes nothing.
+use Prim.Native.Nat.{ℕ, _+_, _-_}
+use mathlib.Core.Bool.{Bool, false, not, cond, _||_}
+use mathlib.Core.List.{List, [], _∷_, _++_, foldl, head?}
+use mathlib.Core.Option.{Option, none, some}
+use lib.Dec.{eqb}
+use lib.ListN.{length, drop}
+use Rattle.rfc4737.specs.declared.Arrival.{Arrival}
+use Rattle.rfc4737.specs.declared.ReorderedFigures.{ReorderedFigures}
+use Rattle.rfc4737.specs.declared.Answer.{Answer}
+use Rattle.rfc4737.specs.declared.Answer.the-variants as answer
+use Rattle.rfc4737.specs.Arrivals.{firsts, each}
+use Rattle.rfc4737.specs.Order.{Placed, jumps}
+use Rattle.rfc4737.specs.Extent.{discontinuity, extentFrom, lateFrom}
+use Rattle.rfc4737.specs.Answer.{answerTo, answers}
+use Rattle.rfc4737.specs.Times.{tooEarly}
+use Rattle.rfc4737.specs.Refusals.{within, numberOutside, timeBack, stateFull}
+use Rattle.receiver.specs.declared.Lateness.{Lateness}
+use Rattle.receiver.specs.declared.Noted.{Noted}
+use Rattle.receiver.specs.declared.Noted.the-variants.{Duplicate, InOrder, Exact, Beyond}
+use Rattle.receiver.specs.Limits.{window, packets}
+
+-- the last arrival of the account, if there is one
+unfoldable pub lastIn : List Arrival → Option Arrival
+lastIn account = foldl (λ _ (a : Arrival). some a) none account
+
+-- whether a time goes back behind the last arrival, if there is one
+unfoldable pub goesBack : Option Arrival → ℕ → Bool
+goesBack none time = false
+goesBack (some a) time = tooEarly (a .time) time
+
+-- the refusal of an arrival, 0 for none: 11 if the account has 4,096; else 6 in its case; else 7 in its case, judged against
+-- the account's last arrival if there is one
+unfoldable pub refusalIn : ℕ → List Arrival → Arrival → ℕ
+refusalIn k account a =
+    cond (eqb (length account) packets) stateFull
+    (cond (not (within 1 k (a .number))) numberOutside
+    (cond (goesBack (lastIn account) (a .time)) timeBack 0))
+
+-- the account after an arrival: refused it stays, any other arrival is added
+unfoldable pub accountWith : ℕ → List Arrival → Arrival → List Arrival
+accountWith k account a = cond (eqb (refusalIn k account a) 0) (account ++ (a ∷ [])) account
+
+-- the account of the arrivals fed, empty at first
+unfoldable pub accountOf : ℕ → List Arrival → List Arrival
+accountOf k fed = foldl (accountWith k) [] fed
+
+-- the answer of "What is measured" over the account; sizes play no part in the receiver's fields
+unfoldable pub answerIn : List Arrival → Arrival → Answer
+answerIn account a = answerTo (λ _. 0) account a
+
+-- the answers of the account's arrivals
+unfoldable pub answersIn : List Arrival → List Answer
+answersIn account = answers (λ _. 0) account
+
+-- the window, a term of the scope: the account's last 64 jumps, or all if fewer
+unfoldable pub windowIn : List Arrival → List Placed
+windowIn account = let js = jumps (firsts account) in drop (length js - window) js
+
+-- whether one of some jumps stands at a position
+unfoldable pub standsIn : ℕ → List Placed → Bool
+standsIn p [] = false
+standsIn p (q ∷ qs) = eqb (q .position) p || standsIn p qs
+
+-- whether a discontinuity is one of some jumps
+unfoldable pub isIn : Option Placed → List Placed → Bool
+isIn none qs = false
+isIn (some d) qs = standsIn (d .position) qs
+
+-- whether the discontinuity of a packet is in the window
+unfoldable pub inWindow : List Arrival → ℕ → Bool
+inWindow account s = isIn (discontinuity (firsts account) s) (windowIn account)
+
+-- the true extent and late time of a reordered packet
+abbrev pub trueFigures : ReorderedFigures → Lateness
+trueFigures d = record { extent = d .extent; late = d .late }
+
+-- the figures beyond the window: L, this arrival counted, less the position of the window's oldest jump, and this arrival's
+-- time less that jump's
+unfoldable pub beyondFigures : List Arrival → Arrival → Lateness
+beyondFigures account a =
+    record {
+      extent = extentFrom (length (firsts account) + 1) (head? (windowIn account));
+      late = lateFrom (a .time) (head? (windowIn account));
+    }
+
+-- an answer in the receiver's forms and with their fields only. A reordered packet is exact exactly if its discontinuity is
+-- in the window; otherwise it is beyond it
+unfoldable pub inForm : List Arrival → Arrival → Answer → Noted
+inForm account a (answer.Duplicate d) = Duplicate
+inForm account a (answer.InOrder d) = InOrder (d .jump)
+inForm account a (answer.Reordered d) =
+    cond (inWindow account (a .number)) (Exact (trueFigures d)) (Beyond (beyondFigures account a))
+
+-- what is said of an arrival: the refusal, 0 for none, and what is noted
+pub record Outcome : Type 0 where
+  pub refusal : ℕ
+  pub noted : Noted
+
+-- what the account says of an arrival; with a refusal, "in order" with 0
+unfoldable pub outcomeIn : ℕ → List Arrival → Arrival → Outcome
+outcomeIn k account a =
+    cond (eqb (refusalIn k account a) 0) (record { refusal = 0; noted = inForm account a (answerIn account a) })
+    (record { refusal = refusalIn k account a; noted = InOrder 0 })
+
+-- what the account says of each arrival fed, after those fed before it
+unfoldable pub accountOutcomes : ℕ → List Arrival → List Outcome
+accountOutcomes k fed = each (λ (earlier : List Arrival) (a : Arrival). outcomeIn k (accountOf k earlier) a) fed

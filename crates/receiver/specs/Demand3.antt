@@ -1,0 +1,72 @@
+-- Demand 3: a fresh receiver for K, 1 to 4,096, that is fed any list of arrivals answers each as the account does.
+-- Assumes nothing.
+use Prim.Native.Nat.{ℕ, _+_, _≤_, _<_}
+use mathlib.Core.Path.{_≡_}
+use mathlib.Core.Bool.{true, false}
+use mathlib.Core.List.{List, _∷_, _++_, foldl}
+use lib.Dec.{eqb}
+use lib.ListN.{length}
+use Rattle.rfc4737.specs.declared.Arrival.{Arrival}
+use Rattle.rfc4737.specs.declared.ReorderedFigures.{ReorderedFigures}
+use Rattle.rfc4737.specs.declared.Answer.the-variants as answer
+use Rattle.rfc4737.specs.declared.Counts.{Counts}
+use Rattle.rfc4737.specs.Arrivals.{each, count}
+use Rattle.rfc4737.specs.Runs.{counts}
+use Rattle.rfc4737.specs.Refusals.{stateUnfit}
+use Rattle.receiver.specs.declared.Receiver.{Receiver}
+use Rattle.receiver.specs.declared.Stepped.{Stepped}
+use Rattle.receiver.specs.declared.Noted.the-variants.{Exact, Beyond}
+use Rattle.receiver.specs.Step.{freshOf, stepOf}
+use Rattle.receiver.specs.Account.{refusalIn, accountOf, answerIn, answersIn, inWindow, trueFigures, beyondFigures, Outcome, accountOutcomes}
+
+-- the step with an arrival
+abbrev pub fedTo : Receiver → Arrival → Stepped
+fedTo r a = stepOf r (a .number) (a .time)
+
+-- the state of a fresh receiver for K after the arrivals fed
+unfoldable pub stateAfter : ℕ → List Arrival → Receiver
+stateAfter k fed = foldl (λ (r : Receiver) (a : Arrival). fedTo r a .state) (freshOf k .state) fed
+
+-- what the receiver says of an arrival, after those fed before it
+unfoldable pub outcomeAfter : ℕ → List Arrival → Arrival → Outcome
+outcomeAfter k earlier a = let s = fedTo (stateAfter k earlier) a in record { refusal = s .refusal; noted = s .noted }
+
+-- what the receiver says of each arrival fed
+unfoldable pub receiverOutcomes : ℕ → List Arrival → List Outcome
+receiverOutcomes k fed = each (outcomeAfter k) fed
+
+-- how a reordered packet a is answered, fed after the arrivals before it; d has its figures over the account
+pub record Answered (k : ℕ) (earlier : List Arrival) (a : Arrival) (d : ReorderedFigures) : Type 0 where
+  -- its discontinuity is in the window: exact, with the true figures
+  pub exact : inWindow (accountOf k earlier) (a .number) ≡ true → outcomeAfter k earlier a .noted ≡ Exact (trueFigures d)
+  -- it is not: beyond the window,
+  pub beyond : inWindow (accountOf k earlier) (a .number) ≡ false
+      → outcomeAfter k earlier a .noted ≡ Beyond (beyondFigures (accountOf k earlier) a)
+  -- with the true extent above the figure and the true late time not below it
+  pub above : inWindow (accountOf k earlier) (a .number) ≡ false
+      → (beyondFigures (accountOf k earlier) a .extent < d .extent) × (beyondFigures (accountOf k earlier) a .late ≤ d .late)
+
+-- the counts of the account
+abbrev pub countsIn : ℕ → List Arrival → Counts
+countsIn k fed = counts (answersIn (accountOf k fed))
+
+-- the claim, of K and the list fed
+pub record Demand3 (k : ℕ) (fed : List Arrival) : Type 0 where
+  -- the refusals and answers are the account's
+  pub outcomes : receiverOutcomes k fed ≡ accountOutcomes k fed
+  -- 10 never comes
+  pub fit : count (λ (s : Outcome). eqb (s .refusal) stateUnfit) (receiverOutcomes k fed) ≡ 0
+  -- every accepted arrival that is a reordered packet over the account is answered so
+  pub reordered : (earlier : List Arrival) (a : Arrival) (later : List Arrival)
+      → fed ≡ earlier ++ (a ∷ later)
+      → refusalIn k (accountOf k earlier) a ≡ 0
+      → (d : ReorderedFigures)
+      → answerIn (accountOf k earlier) a ≡ answer.Reordered d
+      → Answered k earlier a d
+  -- after the list L, duplicates, in-order count, and open run, closed runs and squares are the account's
+  pub arrived : stateAfter k fed .arrived ≡ countsIn k fed .arrived
+  pub duplicates : stateAfter k fed .duplicates ≡ countsIn k fed .duplicates
+  pub inorder : stateAfter k fed .inorder ≡ countsIn k fed .inorder
+  pub runs : stateAfter k fed .runs ≡ countsIn k fed .runs
+  -- duplicates, in-order and reordered packets are together the accepted arrivals
+  pub sum : stateAfter k fed .duplicates + stateAfter k fed .inorder + countsIn k fed .reordered ≡ length (accountOf k fed)

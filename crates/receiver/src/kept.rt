@@ -1,0 +1,93 @@
+// The kept jumps: the search for one of a greater number, and the places under a new jump.
+
+use crate::Receiver;
+ghost use mathlib.Core.Path.{_≡_};
+ghost use mathlib.Core.Bool.{cond};
+ghost use Prim.Native.Nat.{_+_, _≤_};
+ghost use lib.Dec.{ltb};
+ghost use lib.ListN.{length, getD};
+ghost use Rattle.receiver.specs.Limits.{window};
+ghost use Rattle.receiver.specs.Decision.{pushed, Found};
+
+// The last place.
+const LAST: usize = Receiver::WINDOW - 1;
+
+// A number of 16 bits in 32.
+fn wide(x: u16) -> u32
+    ensures { λ r. ⌜ r ≡ x ⌝ }
+{
+    x as u32
+}
+
+// The place of the oldest kept jump with a number above the given one; the count of kept jumps if there is none.
+pub(crate) fn place_above(numbers: &[u16; Receiver::WINDOW], kept: u32, number: u32) -> usize
+    requires { ⌜ kept ≤ window ⌝ }
+    ensures { λ r. ⌜ Found (now (numbers .entry)) kept number r ⌝ }
+{
+    let count = kept as usize;
+    let mut i = 0;
+    while i < count {
+        if number < wide(numbers[i]) {
+            return i;
+        }
+        i += 1;
+    }
+    count
+}
+
+// How many jumps are kept after a new one.
+pub(crate) fn kept_after(kept: u32) -> u32
+    requires { ⌜ kept ≤ window ⌝ }
+    ensures { λ r. ⌜ r ≡ cond (ltb kept window) (kept + 1) kept ⌝ }
+{
+    if (kept as usize) < Receiver::WINDOW {
+        return kept + 1;
+    }
+    kept
+}
+
+// The number of the last jump dropped, after a new one.
+pub(crate) fn dropped_after(dropped: u16, kept: u32, numbers: &[u16; Receiver::WINDOW]) -> u16
+    ensures { λ r. ⌜ r ≡ cond (ltb kept window) dropped (getD (now (numbers .entry)) 0 0) ⌝ }
+{
+    if (kept as usize) < Receiver::WINDOW {
+        return dropped;
+    }
+    numbers[0]
+}
+
+// A new value of 16 bits after the kept ones; if all places are taken, they move by one.
+pub(crate) fn push16(places: &mut [u16; Receiver::WINDOW], kept: u32, value: u16)
+    requires { ⌜ length (now places) ≡ window ⌝ }
+    ensures { λ _. ⌜ now (places .exit) ≡ pushed kept (now (places .entry)) value ⌝ }
+{
+    let count = kept as usize;
+    if count < Receiver::WINDOW {
+        places[count] = value;
+        return;
+    }
+    let mut i = 0;
+    while i < LAST {
+        places[i] = places[i + 1];
+        i += 1;
+    }
+    places[LAST] = value;
+}
+
+// A new value of 64 bits after the kept ones; if all places are taken, they move by one.
+pub(crate) fn push64(places: &mut [u64; Receiver::WINDOW], kept: u32, value: u64)
+    requires { ⌜ length (now places) ≡ window ⌝ }
+    ensures { λ _. ⌜ now (places .exit) ≡ pushed kept (now (places .entry)) value ⌝ }
+{
+    let count = kept as usize;
+    if count < Receiver::WINDOW {
+        places[count] = value;
+        return;
+    }
+    let mut i = 0;
+    while i < LAST {
+        places[i] = places[i + 1];
+        i += 1;
+    }
+    places[LAST] = value;
+}
