@@ -1,0 +1,2 @@
+-- What the walks of this crate, and of those above it, share. Assumes nothing.
+pub mod Returned

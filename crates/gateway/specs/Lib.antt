@@ -1,0 +1,2 @@
+-- What the gateway says of an arrival. Assumes nothing.
+pub mod Said
