@@ -1,0 +1,69 @@
+// Whether two receivers are equal, field by field.
+use receiver::Jumps;
+use receiver::Receiver;
+use rfc4737::Runs;
+
+// Whether two lists of 64 numbers of 16 bits are equal.
+fn same16(a: &[u16; 64], b: &[u16; 64]) -> bool {
+    let mut i: usize = 0;
+    while i < 64 {
+        if a[i] != b[i] {
+            return false;
+        }
+        i += 1;
+    }
+    true
+}
+
+// Whether two lists of 64 numbers of 64 bits are equal.
+fn same64(a: &[u64; 64], b: &[u64; 64]) -> bool {
+    let mut i: usize = 0;
+    while i < 64 {
+        if a[i] != b[i] {
+            return false;
+        }
+        i += 1;
+    }
+    true
+}
+
+// Whether the runs are equal.
+fn same_runs(a: Runs, b: Runs) -> bool {
+    a.closed == b.closed && a.squares == b.squares && a.current == b.current
+}
+
+// Whether the kept jumps are equal, with the places that are not used.
+fn same_jumps(a: Jumps, b: Jumps) -> bool {
+    if a.kept != b.kept || a.dropped != b.dropped {
+        return false;
+    }
+    if !same16(&a.positions, &b.positions) {
+        return false;
+    }
+    if !same16(&a.numbers, &b.numbers) {
+        return false;
+    }
+    same64(&a.times, &b.times)
+}
+
+// Whether all counts and the last time are equal.
+fn same_counts(a: Receiver, b: Receiver) -> bool {
+    if a.sent != b.sent || a.arrived != b.arrived || a.duplicates != b.duplicates {
+        return false;
+    }
+    a.inorder == b.inorder && a.next == b.next && a.last == b.last
+}
+
+// Whether two receivers are equal.
+pub(crate) fn same(a: Receiver, b: Receiver) -> bool {
+    if !same_counts(a, b) {
+        return false;
+    }
+    if !same64(&a.marks, &b.marks) {
+        return false;
+    }
+    if !same_runs(a.runs, b.runs) {
+        return false;
+    }
+    same_jumps(a.jumps, b.jumps)
+}

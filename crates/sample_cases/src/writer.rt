@@ -1,0 +1,124 @@
+// The cases that write a file from a label and lists.
+use crate::build::ROOM;
+use crate::build::numbers_in_turn;
+use crate::build::put_file;
+use crate::build::times_in_turn;
+use crate::lists::first_numbers;
+use crate::lists::first_octets;
+use crate::lists::first_sizes;
+use crate::lists::first_times;
+use crate::memory::OCTET;
+use crate::memory::octets_kept;
+use crate::memory::same_octets;
+use printing::write_either;
+use printing::write_number;
+use printing::write_word;
+
+// Writes a file into lent octets, and writes the refusal or how many octets it has, and whether those after it are
+// untouched. The answer is how many octets it has.
+fn write_into(
+    label: &[u8],
+    sizes: &[u16],
+    numbers: &[u32],
+    times: &[u64],
+    out: &mut [u8],
+) -> usize {
+    let w = sample::write(label, sizes, numbers, times, out);
+    let n = w.length as usize;
+    if w.refusal != 0 {
+        write_number(b": write refused ", w.refusal as u64);
+        write_either(
+            octets_kept(out, n),
+            b", output untouched",
+            b", output TOUCHED",
+        );
+    } else {
+        write_number(b": written, octets ", w.length as u64);
+        write_either(
+            octets_kept(out, n),
+            b", the rest untouched",
+            b", the rest TOUCHED",
+        );
+    }
+    n
+}
+
+// Runs a case on so many octets of label, sizes, numbers and times. Where a file is written it is compared with the
+// one that the format's rules build.
+fn run(name: &[u8], label: u16, sent: u16, numbers: u16, times: u16) {
+    let text = [b'x'; 65];
+    let sizes = [100u16; 4097];
+    let all_numbers = numbers_in_turn();
+    let all_times = times_in_turn();
+    let mut out = [OCTET; ROOM];
+    let mut file = [b'x'; ROOM];
+    write_word(name);
+    let n = write_into(
+        first_octets(&text, label as usize),
+        first_sizes(&sizes, sent as usize),
+        first_numbers(&all_numbers, numbers as usize),
+        first_times(&all_times, times as usize),
+        &mut out,
+    );
+    if n != 0 {
+        let end = put_file(&mut file, label, sent, numbers);
+        write_either(
+            same_octets(first_octets(&out, n), first_octets(&file, end)),
+            b", as the format has it",
+            b", NOT as the format has it",
+        );
+    }
+    write_word(b"\n");
+}
+
+// The edges of the lists' lengths.
+pub(crate) fn edges_of_lists() {
+    run(b"write a label of 64 octets", 64, 1, 1, 1);
+    run(b"write a label of 65 octets", 65, 1, 1, 1);
+    run(b"write K of 0", 0, 0, 0, 0);
+    run(b"write K of 1", 0, 1, 1, 1);
+    run(b"write K of 4096", 0, 4096, 1, 1);
+    run(b"write K of 4097", 0, 4097, 1, 1);
+    run(b"write A of 0", 0, 1, 0, 0);
+    run(b"write A of 4096", 0, 4096, 4096, 4096);
+    run(b"write A of 4097", 0, 4096, 4097, 4097);
+    run(b"write the longest sample", 64, 4096, 4096, 4096);
+    run(b"write 5 numbers and 4 times", 0, 5, 5, 4);
+    run(b"write 5 numbers and 6 times", 0, 5, 5, 6);
+    run(b"write 4096 numbers and 4097 times", 0, 4096, 4096, 4097);
+}
+
+// Runs a case on five sizes and five arrivals, of which the last is named.
+fn run_last(name: &[u8], number: u32, time: u64) {
+    let sizes = [100u16; 5];
+    let numbers = [1u32, 2, 3, 4, number];
+    let times = [10u64, 20, 30, 40, time];
+    let mut out = [OCTET; 80];
+    write_word(name);
+    write_into(b"", &sizes, &numbers, &times, &mut out);
+    write_word(b"\n");
+}
+
+// The edges of number and time, K being 5.
+pub(crate) fn arrival_lists() {
+    run_last(b"write number K", 5, 50);
+    run_last(b"write number K + 1", 6, 50);
+    run_last(b"write number 0", 0, 50);
+    run_last(b"write equal times", 5, 40);
+    run_last(b"write time less by 1", 5, 39);
+    run_last(b"write number K + 1 and time less by 1", 6, 39);
+}
+
+// Runs a case on one size and one arrival, 20 octets, written into lent ones.
+fn run_room(name: &[u8], out: &mut [u8]) {
+    write_word(name);
+    write_into(b"", &[100u16], &[1u32], &[10u64], out);
+    write_word(b"\n");
+}
+
+// Lent octets that suffice, and that are one too few.
+pub(crate) fn short_output() {
+    run_room(b"write 20 octets into 20", &mut [OCTET; 20]);
+    run_room(b"write 20 octets into 19", &mut [OCTET; 19]);
+    run_room(b"write 20 octets into 0", &mut [OCTET; 0]);
+}
