@@ -1,0 +1,167 @@
+//! The boundary: every public call, once. What is compared and measured is called through it, so that a linked
+//! library takes its place here and nowhere else.
+
+use std::hint::black_box;
+
+use crate::archive::Archive;
+use crate::reference::{
+    self, Answered, Counts, Degree, Fresh, Gap, Ratios, Read, Receiver, RecordAnswer, Stepped, Tally, Written,
+};
+
+/// Where the label stands in the file.
+#[derive(Clone, Copy, PartialEq, Eq, Debug)]
+pub struct Place {
+    pub start: usize,
+    pub length: usize,
+}
+
+pub trait Meter {
+    fn read(&self, file: &[u8], sizes: &mut [u16], numbers: &mut [u32], times: &mut [u64]) -> Read;
+    fn label(&self, file: &[u8]) -> Place;
+    fn write(&self, label: &[u8], sizes: &[u16], numbers: &[u32], times: &[u64], out: &mut [u8]) -> Written;
+    fn answer(&self, file: &[u8], record: u32) -> RecordAnswer;
+    fn counts(&self, file: &[u8]) -> Counts;
+    fn tally(&self, file: &[u8]) -> Tally;
+    fn gap(&self, file: &[u8], record: u32) -> Gap;
+    fn degree(&self, file: &[u8], n: u32) -> Degree;
+    fn ratios(&self, file: &[u8]) -> Ratios;
+    fn listing(&self, file: &[u8], out: &mut [u8]) -> Written;
+    fn fresh(&self, sent: u32) -> Fresh;
+    fn step(&self, receiver: Receiver, number: u32, time: u64) -> Stepped;
+    /// The step that leaves the new state in the lent receiver.
+    fn step_lent(&self, receiver: &mut Receiver, number: u32, time: u64) -> Answered;
+
+    /// Feeds a list by value to a fresh receiver for K = 4,096 and gives back its L. For measuring: a library whose
+    /// receiver has another layout than `Receiver` feeds its own here, so that no conversion is measured.
+    fn feed_by_value(&self, list: &[(u32, u64)]) -> u32 {
+        let mut receiver = self.fresh(Receiver::PACKETS as u32).receiver;
+        for &(number, time) in list {
+            let stepped = self.step(receiver, number, time);
+            black_box((stepped.refusal, stepped.answer));
+            receiver = stepped.receiver;
+        }
+        receiver.first_arrivals
+    }
+
+    /// The same with a lent receiver.
+    fn feed_lent(&self, list: &[(u32, u64)]) -> u32 {
+        let mut receiver = self.fresh(Receiver::PACKETS as u32).receiver;
+        for &(number, time) in list {
+            black_box(self.step_lent(&mut receiver, number, time));
+        }
+        receiver.first_arrivals
+    }
+}
+
+/// The library under test.
+pub type Library = Archive;
+pub const LIBRARY: Library = Archive;
+pub const LIBRARY_NAME: &str = "libkrakobran.a";
+
+/// The place of a part of a file, told by its address.
+pub fn place_of(part: &[u8], file: &[u8]) -> Place {
+    Place { start: part.as_ptr() as usize - file.as_ptr() as usize, length: part.len() }
+}
+
+/// The implementation in `reference`.
+pub struct Reference;
+
+impl Meter for Reference {
+    #[inline(always)]
+    fn read(&self, file: &[u8], sizes: &mut [u16], numbers: &mut [u32], times: &mut [u64]) -> Read {
+        reference::read(file, sizes, numbers, times)
+    }
+    #[inline(always)]
+    fn label(&self, file: &[u8]) -> Place {
+        place_of(reference::label(file), file)
+    }
+    #[inline(always)]
+    fn write(&self, label: &[u8], sizes: &[u16], numbers: &[u32], times: &[u64], out: &mut [u8]) -> Written {
+        reference::write(label, sizes, numbers, times, out)
+    }
+    #[inline(always)]
+    fn answer(&self, file: &[u8], record: u32) -> RecordAnswer {
+        reference::answer(file, record)
+    }
+    #[inline(always)]
+    fn counts(&self, file: &[u8]) -> Counts {
+        reference::counts(file)
+    }
+    #[inline(always)]
+    fn tally(&self, file: &[u8]) -> Tally {
+        reference::tally(file)
+    }
+    #[inline(always)]
+    fn gap(&self, file: &[u8], record: u32) -> Gap {
+        reference::gap(file, record)
+    }
+    #[inline(always)]
+    fn degree(&self, file: &[u8], n: u32) -> Degree {
+        reference::degree(file, n)
+    }
+    #[inline(always)]
+    fn ratios(&self, file: &[u8]) -> Ratios {
+        reference::ratios(file)
+    }
+    #[inline(always)]
+    fn listing(&self, file: &[u8], out: &mut [u8]) -> Written {
+        reference::listing(file, out)
+    }
+    #[inline(always)]
+    fn fresh(&self, sent: u32) -> Fresh {
+        Receiver::fresh(sent)
+    }
+    #[inline(always)]
+    fn step(&self, receiver: Receiver, number: u32, time: u64) -> Stepped {
+        receiver.step(number, time)
+    }
+    #[inline(always)]
+    fn step_lent(&self, receiver: &mut Receiver, number: u32, time: u64) -> Answered {
+        receiver.step_mut(number, time)
+    }
+}
+
+/// The reference's other engine `E`, with figures as folds over whole answers.
+pub struct ByAnswers<E>(pub std::marker::PhantomData<E>);
+
+impl<E: reference::Engine> Meter for ByAnswers<E> {
+    fn read(&self, file: &[u8], sizes: &mut [u16], numbers: &mut [u32], times: &mut [u64]) -> Read {
+        reference::read(file, sizes, numbers, times)
+    }
+    fn label(&self, file: &[u8]) -> Place {
+        Reference.label(file)
+    }
+    fn write(&self, label: &[u8], sizes: &[u16], numbers: &[u32], times: &[u64], out: &mut [u8]) -> Written {
+        reference::write(label, sizes, numbers, times, out)
+    }
+    fn answer(&self, file: &[u8], record: u32) -> RecordAnswer {
+        reference::answer(file, record)
+    }
+    fn counts(&self, file: &[u8]) -> Counts {
+        reference::counts(file)
+    }
+    fn tally(&self, file: &[u8]) -> Tally {
+        reference::tally_of_answers::<E>(file)
+    }
+    fn gap(&self, file: &[u8], record: u32) -> Gap {
+        reference::gap(file, record)
+    }
+    fn degree(&self, file: &[u8], n: u32) -> Degree {
+        reference::degree_of_answers::<E>(file, n)
+    }
+    fn ratios(&self, file: &[u8]) -> Ratios {
+        reference::ratios_of_answers::<E>(file)
+    }
+    fn listing(&self, file: &[u8], out: &mut [u8]) -> Written {
+        reference::listing_by::<E>(file, out)
+    }
+    fn fresh(&self, sent: u32) -> Fresh {
+        Receiver::fresh(sent)
+    }
+    fn step(&self, receiver: Receiver, number: u32, time: u64) -> Stepped {
+        receiver.step(number, time)
+    }
+    fn step_lent(&self, receiver: &mut Receiver, number: u32, time: u64) -> Answered {
+        receiver.step_mut(number, time)
+    }
+}

@@ -1,0 +1,13 @@
+//! An independent plain Rust implementation of the meter, generators of its inputs, and what compares two
+//! implementations call by call.
+
+pub mod archive;
+pub mod boundary;
+pub mod cases;
+pub mod compare;
+pub mod definition;
+pub mod diff;
+pub mod generate;
+pub mod receiver;
+pub mod reference;
+pub mod time;

@@ -1,0 +1,234 @@
+//! The measurements: what a call costs, library beside reference, in one run.
+
+use std::hint::black_box;
+
+use crate::boundary::{Meter, Reference, LIBRARY, LIBRARY_NAME};
+use crate::generate::{measured, Order};
+use crate::reference::*;
+
+const AMOUNTS: [usize; 3] = [256, 1024, 4096];
+const ORDERS: [Order; 3] = [Order::InOrder, Order::Shuffled, Order::Reversed];
+const ROUNDS: usize = 15;
+/// What a round should last, in nanoseconds.
+const ROUND: f64 = 2e6;
+
+/// The processor time of this thread in nanoseconds: what other programs take meanwhile is not in it.
+fn now() -> f64 {
+    #[repr(C)]
+    struct Timespec {
+        seconds: i64,
+        nanoseconds: i64,
+    }
+    unsafe extern "C" {
+        fn clock_gettime(clock: i32, time: *mut Timespec) -> i32;
+    }
+    const THREAD_CPU_TIME: i32 = 3;
+    let mut time = Timespec { seconds: 0, nanoseconds: 0 };
+    // The C library writes both fields.
+    let failed = unsafe { clock_gettime(THREAD_CPU_TIME, &mut time) };
+    assert_eq!(failed, 0);
+    time.seconds as f64 * 1e9 + time.nanoseconds as f64
+}
+
+/// Calls something so many times.
+type Calls<'a> = Box<dyn FnMut(usize) + 'a>;
+
+fn calls<'a, T>(mut call: impl FnMut() -> T + 'a) -> Calls<'a> {
+    Box::new(move |times| {
+        for _ in 0..times {
+            black_box(call());
+        }
+    })
+}
+
+fn timed(calls: &mut Calls, times: usize) -> f64 {
+    let start = now();
+    calls(times);
+    (now() - start) / times as f64
+}
+
+/// Nanoseconds of one call of each, the least of all rounds. The rounds take turns, so that a busy machine meets all.
+fn measure<const N: usize>(mut columns: [Calls; N]) -> [f64; N] {
+    let times = columns.each_mut().map(|calls| {
+        timed(calls, 1);
+        (ROUND / timed(calls, 3)).clamp(1.0, 1e6) as usize
+    });
+    let mut least = [f64::INFINITY; N];
+    for _ in 0..ROUNDS {
+        for column in 0..N {
+            least[column] = least[column].min(timed(&mut columns[column], times[column]));
+        }
+    }
+    least
+}
+
+/// Prints the table of all measurements.
+pub fn run() {
+    println!("library: {LIBRARY_NAME}; nanoseconds of a call, and library / reference");
+    println!();
+    println!(
+        "{:22} {:>5} {:>11} {:>11} {:>6} {:>11} {:>11}",
+        "listing", "A", "library", "reference", "ratio", "lanes", "swift"
+    );
+    for order in ORDERS {
+        for many in AMOUNTS {
+            let file = measured(order, many).file();
+            let f = &file[..];
+            let outs = &mut [(); 4].map(|()| vec![0; LISTING_ROOM]);
+            let [a, b, c, d] = outs.each_mut();
+            let [library, reference, lanes, swift] = measure([
+                calls(|| LIBRARY.listing(black_box(f), a)),
+                calls(|| listing(black_box(f), b)),
+                calls(|| listing_by::<Lanes>(black_box(f), c)),
+                calls(|| listing_by::<Swift>(black_box(f), d)),
+            ]);
+            let ratio = library / reference;
+            let name = format!("{order:?}");
+            println!("{name:22} {many:5} {library:11.0} {reference:11.0} {ratio:6.2} {lanes:11.0} {swift:11.0}");
+        }
+    }
+    println!();
+    println!(
+        "{:22} {:>5} {:>11} {:>11} {:>6} {:>11} {:>11}",
+        "figure", "A", "library", "reference", "ratio", "by answers", "swift"
+    );
+    for order in ORDERS {
+        for many in AMOUNTS {
+            figures(order, many);
+        }
+    }
+    println!();
+    println!("{:22} {:>5} {:>11} {:>11} {:>6}", "other call", "A", "library", "reference", "ratio");
+    for order in ORDERS {
+        for many in AMOUNTS {
+            others(order, many);
+        }
+    }
+    println!();
+    println!(
+        "{:22} {:>5} {:>11} {:>11} {:>6} {:>11} {:>11} {:>6}",
+        "step, each", "A", "library", "reference", "ratio", "lib. lent", "ref. lent", "ratio"
+    );
+    for kind in KINDS {
+        for many in AMOUNTS {
+            let list = steps(kind, many);
+            let all = measure([
+                calls(|| LIBRARY.feed_by_value(&list)),
+                calls(|| Reference.feed_by_value(&list)),
+                calls(|| LIBRARY.feed_lent(&list)),
+                calls(|| Reference.feed_lent(&list)),
+            ]);
+            let [a, b, c, d] = all.map(|whole| whole / many as f64);
+            println!("{:22} {many:5} {a:11.1} {b:11.1} {:6.2} {c:11.1} {d:11.1} {:6.2}", name(kind), a / b, c / d);
+        }
+    }
+    println!();
+    println!("a receiver has {} octets; {} when a step gives it back", size_of::<Receiver>(), size_of::<Stepped>());
+}
+
+/// Figures that the reference makes by narrow scans, and as folds over whole answers.
+fn figures(order: Order, many: usize) {
+    let file = measured(order, many).file();
+    let f = &file[..];
+    let rows: [(&str, [f64; 4]); 3] = [
+        (
+            "tally",
+            measure([
+                calls(|| LIBRARY.tally(black_box(f))),
+                calls(|| tally(black_box(f))),
+                calls(|| tally_of_answers::<Scan>(black_box(f))),
+                calls(|| tally_of_answers::<Swift>(black_box(f))),
+            ]),
+        ),
+        (
+            "degree",
+            measure([
+                calls(|| LIBRARY.degree(black_box(f), 3)),
+                calls(|| degree(black_box(f), 3)),
+                calls(|| degree_of_answers::<Scan>(black_box(f), 3)),
+                calls(|| degree_of_answers::<Swift>(black_box(f), 3)),
+            ]),
+        ),
+        (
+            "ratios",
+            measure([
+                calls(|| LIBRARY.ratios(black_box(f))),
+                calls(|| ratios(black_box(f))),
+                calls(|| ratios_of_answers::<Scan>(black_box(f))),
+                calls(|| ratios_of_answers::<Swift>(black_box(f))),
+            ]),
+        ),
+    ];
+    for (call, [library, reference, answers, swift]) in rows {
+        let (name, ratio) = (format!("{call} {order:?}"), library / reference);
+        println!("{name:22} {many:5} {library:11.0} {reference:11.0} {ratio:6.2} {answers:11.0} {swift:11.0}");
+    }
+}
+
+fn others(order: Order, many: usize) {
+    let draft = measured(order, many);
+    let file = draft.file();
+    let f = &file[..];
+    let last = many as u32;
+    let mut lists = [(); 2].map(|()| (vec![0; many], vec![0; many], vec![0; many]));
+    let [l, r] = lists.each_mut();
+    let mut outs = [(); 2].map(|()| vec![0; file.len()]);
+    let [lo, ro] = outs.each_mut();
+    let d = &draft;
+    let rows: [(&str, [f64; 2]); 6] = [
+        (
+            "read",
+            measure([
+                calls(|| LIBRARY.read(black_box(f), &mut l.0, &mut l.1, &mut l.2)),
+                calls(|| read(black_box(f), &mut r.0, &mut r.1, &mut r.2)),
+            ]),
+        ),
+        (
+            "write",
+            measure([
+                calls(|| LIBRARY.write(black_box(&d.label), &d.sizes, &d.numbers, &d.times, lo)),
+                calls(|| write(black_box(&d.label), &d.sizes, &d.numbers, &d.times, ro)),
+            ]),
+        ),
+        ("label", measure([calls(|| LIBRARY.label(black_box(f))), calls(|| label(black_box(f)).len())])),
+        (
+            "answer, last record",
+            measure([calls(|| LIBRARY.answer(black_box(f), last)), calls(|| answer(black_box(f), last))]),
+        ),
+        ("counts", measure([calls(|| LIBRARY.counts(black_box(f))), calls(|| counts(black_box(f)))])),
+        ("gap, last record", measure([calls(|| LIBRARY.gap(black_box(f), last)), calls(|| gap(black_box(f), last))])),
+    ];
+    for (call, [library, reference]) in rows {
+        let (name, ratio) = (format!("{call} {order:?}"), library / reference);
+        println!("{name:22} {many:5} {library:11.0} {reference:11.0} {ratio:6.2}");
+    }
+}
+
+// The receiver.
+
+/// Arrivals to feed: all in order; or each second packet, so that each is a jump and the window is full after 64, and
+/// then those left out, each late.
+#[derive(Clone, Copy, PartialEq, Eq, Debug)]
+pub enum Kind {
+    InOrder,
+    Window,
+}
+
+pub const KINDS: [Kind; 2] = [Kind::InOrder, Kind::Window];
+
+fn name(kind: Kind) -> &'static str {
+    match kind {
+        Kind::InOrder => "in order",
+        Kind::Window => "window full",
+    }
+}
+
+/// A list of so many arrivals, for K = 4,096.
+pub fn steps(kind: Kind, many: usize) -> Vec<(u32, u64)> {
+    let many = many as u32;
+    let numbers: Vec<u32> = match kind {
+        Kind::InOrder => (1..=many).collect(),
+        Kind::Window => (2..=many).step_by(2).chain((1..=many).step_by(2)).collect(),
+    };
+    numbers.into_iter().zip(1..).map(|(number, record)| (number, 10 * record)).collect()
+}

@@ -1,0 +1,40 @@
+-- `capi::figures::ratios_figures` meets its contract: the figures are undefined or known. Assumes nothing.
+use mathlib.Core.Path.{refl}
+use borrow.Author.Needs.{needs}
+use Rattle.capi.proofs.figures.ratios_figures.Statement.{statement}
+use Rattle.capi.proofs.figures.ratios_figures.Tie as tie
+
+enum-told : tie.Need-enum-told
+enum-told c = search needs
+
+enum-known-ratios : tie.Need-enum-known-ratios
+enum-known-ratios c = search needs
+
+bits-of-requires : tie.Need-bits-of-requires
+bits-of-requires c κs = search needs
+
+bits-of-requires-2 : tie.Need-bits-of-requires-2
+bits-of-requires-2 c κs = search needs
+
+bits-of-requires-3 : tie.Need-bits-of-requires-3
+bits-of-requires-3 c κs = search needs
+
+returns : tie.Need-returns
+returns c = rw (c .enum-told .given .1) refl
+
+returns-2 : tie.Need-returns-2
+returns-2 c =
+    rw (c .before .before .before .before .ratios .given .1)
+    (simp (c .bits-of3 .ensures, c .before .bits-of2 .ensures, c .before .before .bits-of .ensures))
+
+pub ratios-figures-spec : {M : Type 1} → statement M
+ratios-figures-spec =
+    tie.close
+    (tie.spec
+    enum-told
+    enum-known-ratios
+    bits-of-requires
+    bits-of-requires-2
+    bits-of-requires-3
+    returns
+    returns-2)

@@ -1,0 +1,74 @@
+-- What C is given of the figures of a sample: a number for each case, the values of that case, 0 where it has none, and the bits of an
+-- f64. Assumes nothing.
+use Prim.Native.Nat.{ℕ}
+use lib.Ieee.{binary64, toBits}
+use Rattle.rfc4737.specs.declared.Answer.{Answer}
+use Rattle.rfc4737.specs.declared.Gap.{Gap}
+use Rattle.rfc4737.specs.declared.Ratio.{Ratio}
+use Rattle.rfc4737.specs.declared.Ratios.{Ratios}
+use Rattle.capi.specs.declared.figures.AnswerFigures.{AnswerFigures}
+use Rattle.capi.specs.declared.figures.GapFigures.{GapFigures}
+use Rattle.capi.specs.declared.figures.DegreeFigures.{DegreeFigures}
+use Rattle.capi.specs.declared.figures.RatiosFigures.{RatiosFigures}
+
+-- the answer for a record: a duplicate is 1, with the record of the first copy; in order 2, with position and jump size; reordered 3,
+-- with position, extent, late time, byte offset and largest n
+abbrev pub answerFigures : ℕ → Answer → AnswerFigures
+answerFigures n (Answer.Duplicate d) =
+    record {
+      refusal = n;
+      kind = 1;
+      first = d .first;
+      position = 0;
+      jump = 0;
+      extent = 0;
+      offset = 0;
+      largest = 0;
+      late = 0;
+    }
+answerFigures n (Answer.InOrder d) =
+    record {
+      refusal = n;
+      kind = 2;
+      first = 0;
+      position = d .position;
+      jump = d .jump;
+      extent = 0;
+      offset = 0;
+      largest = 0;
+      late = 0;
+    }
+answerFigures n (Answer.Reordered d) =
+    record {
+      refusal = n;
+      kind = 3;
+      first = 0;
+      position = d .position;
+      jump = 0;
+      extent = d .extent;
+      offset = d .offset;
+      largest = d .largest;
+      late = d .late;
+    }
+
+-- the gap of a record: none is 0; else 1, with the positions
+abbrev pub gapFigures : ℕ → Gap → GapFigures
+gapFigures n Gap.None = record { refusal = n; known = 0; positions = 0 }
+gapFigures n (Gap.Positions p) = record { refusal = n; known = 1; positions = p }
+
+-- a degree of n-reordering: undefined is 0; else 1, with the bits
+abbrev pub degreeFigures : ℕ → Ratio → DegreeFigures
+degreeFigures n Ratio.Undefined = record { refusal = n; known = 0; bits = 0 }
+degreeFigures n (Ratio.Known x) = record { refusal = n; known = 1; bits = toBits binary64 x }
+
+-- the ratio figures of a sample: undefined is 0; else 1, with the bits of each
+abbrev pub ratiosFigures : ℕ → Ratios → RatiosFigures
+ratiosFigures n Ratios.Undefined = record { refusal = n; known = 0; reordered = 0; degree1 = 0; degree3 = 0 }
+ratiosFigures n (Ratios.Known f) =
+    record {
+      refusal = n;
+      known = 1;
+      reordered = toBits binary64 (f .reordered);
+      degree1 = toBits binary64 (f .degree1);
+      degree3 = toBits binary64 (f .degree3);
+    }

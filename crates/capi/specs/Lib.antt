@@ -1,0 +1,4 @@
+-- What C is given for each answer. Assumes nothing.
+pub mod Figures
+pub mod Label
+pub mod Noted

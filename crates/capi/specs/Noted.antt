@@ -1,0 +1,30 @@
+-- What C is given of a receiver's step: a number for each case of what is noted, and the values of that case, 0 where it has none.
+-- Assumes nothing.
+use Prim.Native.Nat.{ℕ}
+use Rattle.receiver.specs.declared.Lateness.{Lateness}
+use Rattle.receiver.specs.declared.Noted.{Noted}
+use Rattle.receiver.specs.declared.Noted.the-variants.{Duplicate, InOrder, Exact, Beyond}
+use Rattle.receiver.specs.declared.Stepped.{Stepped}
+use Rattle.gateway.specs.declared.Said.{Said}
+use Rattle.capi.specs.declared.noted.NotedFigures.{NotedFigures}
+use Rattle.capi.specs.declared.noted.SaidAnswer.{SaidAnswer}
+use Rattle.capi.specs.declared.noted.StepAnswer.{StepAnswer}
+
+-- a reordered packet in one of its two cases: extent and late time
+abbrev pub lateFigures : ℕ → Lateness → NotedFigures
+lateFigures n l = record { kind = n; jump = 0; extent = l .extent; late = l .late }
+
+-- a duplicate is 1; in order 2, with the jump size; reordered with exact figures 3; reordered beyond the window 4
+abbrev pub notedFigures : Noted → NotedFigures
+notedFigures Duplicate = record { kind = 1; jump = 0; extent = 0; late = 0 }
+notedFigures (InOrder jump) = record { kind = 2; jump = jump; extent = 0; late = 0 }
+notedFigures (Exact l) = lateFigures 3 l
+notedFigures (Beyond l) = lateFigures 4 l
+
+-- a step's answer: its refusal, what it notes, and its state
+abbrev pub stepAnswer : Stepped → StepAnswer
+stepAnswer s = record { refusal = s .refusal; noted = notedFigures (s .noted); state = s .state }
+
+-- the answer of a step by reference: its refusal and what it notes
+abbrev pub saidAnswer : Said → SaidAnswer
+saidAnswer s = record { refusal = s .refusal; noted = notedFigures (s .noted) }

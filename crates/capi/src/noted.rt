@@ -1,0 +1,103 @@
+// What a receiver says, as C has it: an enum is the number of its case beside the figures of all cases.
+
+use gateway::Said;
+use receiver::Lateness;
+use receiver::Noted;
+use receiver::Receiver;
+use receiver::Stepped;
+ghost use mathlib.Core.Path.{_≡_};
+ghost use Rattle.capi.specs.Noted.{notedFigures, lateFigures, stepAnswer, saidAnswer};
+
+// A duplicate.
+pub const DUPLICATE: u32 = 1;
+
+// In order.
+pub const IN_ORDER: u32 = 2;
+
+// Reordered, with exact figures.
+pub const REORDERED: u32 = 3;
+
+// Reordered beyond the window.
+pub const BEYOND: u32 = 4;
+
+// What a receiver notes of an arrival: the case, and jump size, extent and late time.
+#[repr(C)]
+pub struct NotedFigures {
+    pub kind: u32,
+    pub jump: u32,
+    pub extent: u32,
+    pub late: u64,
+}
+
+// The answer of a step: the refusal (0 for none), what is noted, and the state after it.
+#[repr(C)]
+pub struct StepAnswer {
+    pub refusal: u32,
+    pub noted: NotedFigures,
+    pub state: Receiver,
+}
+
+// The answer of a step by reference: the refusal (0 for none), and what is noted.
+#[repr(C)]
+pub struct SaidAnswer {
+    pub refusal: u32,
+    pub noted: NotedFigures,
+}
+
+// What is noted of a reordered packet, in one of its two cases.
+fn late_figures(kind: u32, l: Lateness) -> NotedFigures
+    ensures { λ r. ⌜ r ≡ lateFigures kind l ⌝ }
+{
+    NotedFigures {
+        kind,
+        jump: 0,
+        extent: l.extent,
+        late: l.late,
+    }
+}
+
+// What is noted, as figures.
+pub fn noted_figures(noted: Noted) -> NotedFigures
+    ensures { λ r. ⌜ r ≡ notedFigures noted ⌝ }
+{
+    match noted {
+        Noted::Duplicate => NotedFigures {
+            kind: DUPLICATE,
+            jump: 0,
+            extent: 0,
+            late: 0,
+        },
+        Noted::InOrder(jump) => NotedFigures {
+            kind: IN_ORDER,
+            jump,
+            extent: 0,
+            late: 0,
+        },
+        Noted::Exact(l) => late_figures(REORDERED, l),
+        Noted::Beyond(l) => late_figures(BEYOND, l),
+    }
+}
+
+// A step's answer.
+pub fn step_answer(s: Stepped) -> StepAnswer
+    ensures { λ r. ⌜ r ≡ stepAnswer s ⌝ }
+{
+    let noted = s.noted;
+    let state = s.state;
+    StepAnswer {
+        refusal: s.refusal,
+        noted: noted_figures(noted),
+        state,
+    }
+}
+
+// The answer of a step by reference.
+pub fn said_answer(s: Said) -> SaidAnswer
+    ensures { λ r. ⌜ r ≡ saidAnswer s ⌝ }
+{
+    let noted = s.noted;
+    SaidAnswer {
+        refusal: s.refusal,
+        noted: noted_figures(noted),
+    }
+}

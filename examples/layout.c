@@ -1,0 +1,94 @@
+/* Prints the size of each struct of krakobran.h, and offset and size of each field. The differential test prints the
+ * same table of the structs that it passes to the library, and `make layout` compares the two. */
+
+#include <stddef.h>
+#include <stdio.h>
+#include "krakobran.h"
+
+#define SIZE(type) printf("%s %zu\n", #type, sizeof(krakobran_##type))
+#define FIELD(type, field)                                                                                            \
+    printf("%s.%s %zu %zu\n", #type, #field, offsetof(krakobran_##type, field), sizeof(((krakobran_##type *)0)->field))
+
+int main(void) {
+    SIZE(layout);
+    FIELD(layout, refusal);
+    FIELD(layout, label);
+    FIELD(layout, sent);
+    FIELD(layout, arrivals);
+    SIZE(part);
+    FIELD(part, start);
+    FIELD(part, length);
+    SIZE(written);
+    FIELD(written, refusal);
+    FIELD(written, length);
+    SIZE(runs);
+    FIELD(runs, closed);
+    FIELD(runs, squares);
+    FIELD(runs, current);
+    SIZE(jumps);
+    FIELD(jumps, kept);
+    FIELD(jumps, dropped);
+    FIELD(jumps, positions);
+    FIELD(jumps, numbers);
+    FIELD(jumps, times);
+    SIZE(receiver);
+    FIELD(receiver, sent);
+    FIELD(receiver, arrived);
+    FIELD(receiver, duplicates);
+    FIELD(receiver, inorder);
+    FIELD(receiver, next);
+    FIELD(receiver, last);
+    FIELD(receiver, marks);
+    FIELD(receiver, runs);
+    FIELD(receiver, jumps);
+    SIZE(started);
+    FIELD(started, refusal);
+    FIELD(started, state);
+    SIZE(noted);
+    FIELD(noted, kind);
+    FIELD(noted, jump);
+    FIELD(noted, extent);
+    FIELD(noted, late);
+    SIZE(stepped);
+    FIELD(stepped, refusal);
+    FIELD(stepped, noted);
+    FIELD(stepped, state);
+    SIZE(said);
+    FIELD(said, refusal);
+    FIELD(said, noted);
+    SIZE(record);
+    FIELD(record, refusal);
+    FIELD(record, kind);
+    FIELD(record, first);
+    FIELD(record, position);
+    FIELD(record, jump);
+    FIELD(record, extent);
+    FIELD(record, offset);
+    FIELD(record, largest);
+    FIELD(record, late);
+    SIZE(counted);
+    FIELD(counted, refusal);
+    FIELD(counted, arrived);
+    FIELD(counted, reordered);
+    FIELD(counted, duplicates);
+    FIELD(counted, inorder);
+    FIELD(counted, runs);
+    SIZE(tallied);
+    FIELD(tallied, refusal);
+    FIELD(tallied, places);
+    SIZE(gapped);
+    FIELD(gapped, refusal);
+    FIELD(gapped, known);
+    FIELD(gapped, positions);
+    SIZE(ratio);
+    FIELD(ratio, refusal);
+    FIELD(ratio, known);
+    FIELD(ratio, bits);
+    SIZE(ratio_figures);
+    FIELD(ratio_figures, refusal);
+    FIELD(ratio_figures, known);
+    FIELD(ratio_figures, reordered);
+    FIELD(ratio_figures, degree1);
+    FIELD(ratio_figures, degree3);
+    return 0;
+}

@@ -1,0 +1,251 @@
+/* Krakobran: packet reordering after RFC 4737, measured on a sample file or arrival by arrival.
+ *
+ * Every function takes all input there is. An answer carries a refusal, which is KRAKOBRAN_NONE or one of the
+ * numbers below; with a refusal every other part of the answer is as the comment at its struct says, lent memory is
+ * untouched, and a receiver comes back equal. A list is passed as a pointer and its number of places, not of octets;
+ * the pointer is not NULL, also where there are no places. Lists that are passed to one call do not overlap.
+ * No function allocates, keeps a pointer, or has a state of its own, so all may be called from many threads. */
+
+#ifndef KRAKOBRAN_H
+#define KRAKOBRAN_H
+
+#include <stddef.h>
+#include <stdint.h>
+#include <string.h>
+
+#ifdef __cplusplus
+extern "C" {
+#endif
+
+/* Refusals: the numbers given back instead of an answer. */
+enum {
+    KRAKOBRAN_NONE = 0,            /* no refusal */
+    KRAKOBRAN_FILE_ENDS = 1,       /* the file ends before a count or a section does */
+    KRAKOBRAN_OCTETS_FOLLOW = 2,   /* octets follow the last section */
+    KRAKOBRAN_LABEL_LENGTH = 3,    /* label over 64 octets */
+    KRAKOBRAN_SENT_COUNT = 4,      /* K is 0 or over 4,096 */
+    KRAKOBRAN_ARRIVAL_COUNT = 5,   /* over 4,096 arrivals */
+    KRAKOBRAN_NUMBER_OUTSIDE = 6,  /* sequence number outside 1 to K */
+    KRAKOBRAN_TIME_BACK = 7,       /* arrival time before that of the arrival before */
+    KRAKOBRAN_OUTPUT_SHORT = 8,    /* lent output too short */
+    KRAKOBRAN_ASKED_OUTSIDE = 9,   /* record outside 1 to A, or n outside 1 to 100 */
+    KRAKOBRAN_STATE_UNFIT = 10,    /* receiver state unfit, or a reordered packet with no greater kept jump */
+    KRAKOBRAN_STATE_FULL = 11,     /* receiver has accepted 4,096 arrivals */
+    KRAKOBRAN_LISTS_DIFFER = 12    /* the writer's lists of numbers and of times differ in length */
+};
+
+/* Cases of an answer; the fourth is a receiver's only. A refused answer is in order, with zeros. */
+enum {
+    KRAKOBRAN_DUPLICATE = 1, /* the packet has arrived before */
+    KRAKOBRAN_IN_ORDER = 2,  /* its number is at least the next expected */
+    KRAKOBRAN_REORDERED = 3, /* it is not */
+    KRAKOBRAN_BEYOND = 4     /* it is not, and its discontinuity is beyond the receiver's window */
+};
+
+/* Sizes. */
+enum {
+    KRAKOBRAN_LABEL_MOST = 64,         /* octets of a label, at most */
+    KRAKOBRAN_SENT_MOST = 4096,        /* sent packets of a sample (K), at most */
+    KRAKOBRAN_ARRIVALS_MOST = 4096,    /* arrivals of a sample (A), at most */
+    KRAKOBRAN_FILE_OCTETS = 57414,     /* octets of the longest sample file */
+    KRAKOBRAN_TALLY_PLACES = 101,      /* places of an extent tally */
+    KRAKOBRAN_DEGREE_MOST = 100,       /* the greatest n of a degree of n-reordering */
+    KRAKOBRAN_LISTING_OCTETS = 262144, /* octets that suffice for any listing */
+    KRAKOBRAN_PACKETS = 4096,          /* packets a receiver is made for at most, and arrivals it accepts */
+    KRAKOBRAN_WINDOW = 64              /* jumps that a receiver keeps */
+};
+
+/* ---- the sample file */
+
+/* What was read: octets of the label, K and A; 0 with a refusal. */
+typedef struct {
+    uint32_t refusal;
+    uint32_t label;
+    uint32_t sent;
+    uint32_t arrivals;
+} krakobran_layout;
+
+/* Where the label begins in the file, and its octets; 0 and 0 with a refusal. */
+typedef struct {
+    uint32_t start;
+    uint32_t length;
+} krakobran_part;
+
+/* What was written: its octets; 0 with a refusal. */
+typedef struct {
+    uint32_t refusal;
+    uint32_t length;
+} krakobran_written;
+
+/* Reads a sample file into lists of payload sizes, sequence numbers and arrival times, from their start. */
+krakobran_layout krakobran_read(const uint8_t *file, size_t octets, uint16_t *sizes, size_t size_places,
+                                uint32_t *numbers, size_t number_places, uint64_t *times, size_t time_places);
+
+/* The label of a sample file, as a part of the file. */
+krakobran_part krakobran_label(const uint8_t *file, size_t octets);
+
+/* Writes the sample file of a label and lists from the start of out. */
+krakobran_written krakobran_write(const uint8_t *label, size_t label_octets, const uint16_t *sizes, size_t sent,
+                                  const uint32_t *numbers, size_t number_count, const uint64_t *times,
+                                  size_t time_count, uint8_t *out, size_t room);
+
+/* ---- figures of a sample file */
+
+/* The answer for a record: its case; the record of the first copy if a duplicate; the position if not, and the jump
+ * size if in order; extent, byte offset, largest n and late time if reordered. What a case does not have is 0. */
+typedef struct {
+    uint32_t refusal;
+    uint32_t kind;
+    uint32_t first;
+    uint32_t position;
+    uint32_t jump;
+    uint32_t extent;
+    uint32_t offset;
+    uint32_t largest;
+    uint64_t late;
+} krakobran_record;
+
+/* The runs of in-order packets: closed ones, the sum of the squares of their lengths, and the open one's length. */
+typedef struct {
+    uint32_t closed;
+    uint32_t squares;
+    uint32_t current;
+} krakobran_runs;
+
+/* First arrivals (L), reordered packets, duplicates, in-order packets, and runs; 0 with a refusal. */
+typedef struct {
+    uint32_t refusal;
+    uint32_t arrived;
+    uint32_t reordered;
+    uint32_t duplicates;
+    uint32_t inorder;
+    krakobran_runs runs;
+} krakobran_counted;
+
+/* How many extents are e, at place e from 1 to 100, and at place 0 how many are greater; 0 with a refusal. */
+typedef struct {
+    uint32_t refusal;
+    uint32_t places[KRAKOBRAN_TALLY_PLACES];
+} krakobran_tallied;
+
+/* Whether a record has a gap (1) or none (0), and the gap in positions; 0 and 0 with a refusal. */
+typedef struct {
+    uint32_t refusal;
+    uint32_t known;
+    uint32_t positions;
+} krakobran_gapped;
+
+/* Whether a ratio is known (1) or undefined (0), and the bits of the double; 0 and 0 with a refusal. */
+typedef struct {
+    uint32_t refusal;
+    uint32_t known;
+    uint64_t bits;
+} krakobran_ratio;
+
+/* The reordered ratio and the degrees of n-reordering for n = 1 and n = 3, as `krakobran_ratio` has one. */
+typedef struct {
+    uint32_t refusal;
+    uint32_t known;
+    uint64_t reordered;
+    uint64_t degree1;
+    uint64_t degree3;
+} krakobran_ratio_figures;
+
+/* The double of these bits. */
+static inline double krakobran_double(uint64_t bits) {
+    double value;
+    memcpy(&value, &bits, sizeof value);
+    return value;
+}
+
+/* The answer for a record, counted from 1 over all arrivals. */
+krakobran_record krakobran_answer(const uint8_t *file, size_t octets, uint32_t record);
+
+/* The counts of a sample. */
+krakobran_counted krakobran_counts(const uint8_t *file, size_t octets);
+
+/* The extent tally of a sample. */
+krakobran_tallied krakobran_tally(const uint8_t *file, size_t octets);
+
+/* The gap of a record. */
+krakobran_gapped krakobran_gap(const uint8_t *file, size_t octets, uint32_t record);
+
+/* The degree of n-reordering, n from 1 to 100. */
+krakobran_ratio krakobran_degree(const uint8_t *file, size_t octets, uint32_t n);
+
+/* The ratio figures of a sample. */
+krakobran_ratio_figures krakobran_ratios(const uint8_t *file, size_t octets);
+
+/* Writes the report of a sample, or the one line of a refused file, from the start of out, which has at least
+ * KRAKOBRAN_LISTING_OCTETS places. A refused file has its refusal beside the line's octets. */
+krakobran_written krakobran_listing(const uint8_t *file, size_t octets, uint8_t *out, size_t room);
+
+/* ---- the receiver */
+
+/* The last jumps: how many are kept, the number of the last one dropped (0 for none), and position, number and time
+ * of each kept one, the oldest first. */
+typedef struct {
+    uint32_t kept;
+    uint16_t dropped;
+    uint16_t positions[KRAKOBRAN_WINDOW];
+    uint16_t numbers[KRAKOBRAN_WINDOW];
+    uint64_t times[KRAKOBRAN_WINDOW];
+} krakobran_jumps;
+
+/* What a receiver holds: K, first arrivals (L), duplicates, in-order packets, the next expected number, the time of
+ * the last accepted arrival, a bit for each packet that has arrived (packet s: bit (s - 1) % 64 of word
+ * (s - 1) / 64), the runs and the last jumps. */
+typedef struct {
+    uint32_t sent;
+    uint32_t arrived;
+    uint32_t duplicates;
+    uint32_t inorder;
+    uint32_t next;
+    uint64_t last;
+    uint64_t marks[KRAKOBRAN_PACKETS / 64];
+    krakobran_runs runs;
+    krakobran_jumps jumps;
+} krakobran_receiver;
+
+/* A receiver at its start; with a refusal one for a single packet. */
+typedef struct {
+    uint32_t refusal;
+    krakobran_receiver state;
+} krakobran_started;
+
+/* What a receiver notes of an arrival: the case; the jump size if in order; extent and late time if reordered, exact
+ * ones or, beyond the window, those of the oldest kept jump. What a case does not have is 0. */
+typedef struct {
+    uint32_t kind;
+    uint32_t jump;
+    uint32_t extent;
+    uint64_t late;
+} krakobran_noted;
+
+/* The answer of a step by value: what is noted, and the state after it. */
+typedef struct {
+    uint32_t refusal;
+    krakobran_noted noted;
+    krakobran_receiver state;
+} krakobran_stepped;
+
+/* The answer of a step by reference. */
+typedef struct {
+    uint32_t refusal;
+    krakobran_noted noted;
+} krakobran_said;
+
+/* A fresh receiver for sent packets. */
+krakobran_started krakobran_fresh(uint32_t sent);
+
+/* The answer to an arrival, and the state after it. */
+krakobran_stepped krakobran_step(krakobran_receiver state, uint32_t number, uint64_t time);
+
+/* The same, with the new state left in the lent receiver. */
+krakobran_said krakobran_step_lent(krakobran_receiver *state, uint32_t number, uint64_t time);
+
+#ifdef __cplusplus
+}
+#endif
+
+#endif
