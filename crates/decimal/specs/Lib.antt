@@ -1,2 +1,3 @@
+-- Decimal digits of a number, the definitions that contracts cite.
 pub mod Decimal
 pub mod Digits

@@ -5,7 +5,7 @@ use native.Mathlib.Numerals.{add-one}
 use native.Mathlib.Omega.{arith}
 use mathlib.Core.Bool.{Bool, true, false}
 use mathlib.Core.Path.{_≡_, refl, sym, ap, _∙_, subst}
-use mathlib.Core.List.{List, [], _∷_, _++_, append-assoc}
+use mathlib.Core.List.{List, [], _∷_, _++_, append-assoc, append-nil}
 use borrow.Author.Tests.{le-leb, lt-leb, leb-true, leb-false}
 use lib.Dec.{leb}
 use lib.ListN.{length, getD, take, drop, set, length-append, length-take, length-drop, take-append-drop, drop-of-length-le}
@@ -69,6 +69,14 @@ module _ {ℓ} {A : Type ℓ} where
   part-part at n from m l h =
       let p : m ≤ n - from = omega arith in
       rw (drop-take from n (drop at l), take-take m (n - from) (drop from (drop at l)) p, drop-drop from at l)
+
+  -- a part as it is taken by its start and its end
+  abbrev pub taken : ℕ → ℕ → List A → List A
+  taken at n l = part at (at + n - at) l
+
+  -- a part of it
+  pub taken-part : (at n from m : ℕ) (l : List A) → from + m ≤ n → part from m (taken at n l) ≡ part (at + from) m l
+  taken-part at n from m l h = part-part at (at + n - at) from m l (omega arith)
 
   -- ---- splice
 
@@ -225,6 +233,20 @@ module _ {ℓ} {A : Type ℓ} where
       let r : at + length (xs ++ ys) ≤ length old = simp length-append (omega arith) in
       let s : at ≤ length old = omega arith in
       rw (put-room at xs old p, put-room next ys (splice at xs old) q, put-room at (xs ++ ys) old r) (splice-next at next xs ys old e s)
+
+  -- put over all there is
+  pub put-all : (xs old : List A) → length xs ≡ length old → put 0 xs old ≡ xs
+  put-all xs old e =
+      let p : 0 + length xs ≤ length old = omega arith in
+      let q : length old ≤ 0 + length xs = omega arith in
+      rw (put-room 0 xs old p, drop-of-length-le old q) (append-nil xs)
+
+  -- put over all of a part that is lent: written in the whole, once the part is back
+  pub put-lent : (at n : ℕ) (xs old : List A) {lent : List A} → length xs ≡ n → at + n ≤ length old → lent ≡ put 0 xs (taken at n old)
+      → take at old ++ (lent ++ drop (at + n - at) (drop at old)) ≡ splice at xs old
+  put-lent at n xs old e h f =
+      let k : at + n - at ≡ n = omega arith in
+      rw (f, k, put-all xs (part at n old) (e ∙ sym (part-length at n old h)), drop-drop n at old, e)
 
   -- put after what was written at the start, where there is room for both
   pub put-over : (at : ℕ) (xs ys old : List A) → length xs ≡ at → at + length ys ≤ length old

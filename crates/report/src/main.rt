@@ -5,7 +5,7 @@ use libc::STDOUT_FILENO;
 use listing::LISTING_OCTETS;
 
 // One octet more than the longest sample has.
-const INPUT_OCTETS: usize = 57_415;
+const INPUT_OCTETS: usize = sample::LONGEST + 1;
 
 // Lists what was read of the input, in a buffer that any listing fits, and writes the listing.
 fn report(input: &[u8]) {

@@ -1,6 +1,6 @@
 -- Items of so many octets each, one after the other: where each stands, and that reading and writing them undo each other.
 -- Assumes nothing.
-use Prim.Native.Nat.{ℕ, zero, suc, _+_, _*_, _^_, _≤_, _<_}
+use Prim.Native.Nat.{ℕ, zero, suc, _+_, _*_, _^_, _-_, _≤_, _<_}
 use native.Mathlib.Nat.{mul-zero, mul-suc}
 use native.Mathlib.Omega.{arith}
 use mathlib.Core.Path.{_≡_, refl, sym, ap, ap₂, _∙_, subst}
@@ -12,7 +12,7 @@ use Rattle.octets.specs.BigEndian.{beValue, beOctets}
 use Rattle.octets.specs.Memory.{part}
 use Rattle.octets.proofs.Below.{below-take, below-drop, below-part}
 use Rattle.octets.proofs.BigEndian.{octets-length, value-octets, octets-value, value-fits}
-use Rattle.octets.proofs.Memory.{take-snoc, drop-take, part-most}
+use Rattle.octets.proofs.Memory.{take-snoc, drop-take, part-most, taken, taken-part}
 use Rattle.rfc4737.specs.declared.Arrival.{Arrival}
 use Rattle.sample.specs.Format.{itemOctets, itemsIn, arrivalOctets, arrivalsOf, numbersOf, timesOf}
 use Rattle.sample.specs.Decode.{arrivalIn}
@@ -20,6 +20,15 @@ use Rattle.sample.specs.Decode.{arrivalIn}
 -- the value of so many octets of a file
 pub part-fits : (width at : ℕ) (file : List ℕ) → Octets file → beValue (part at width file) < 256 ^ width
 part-fits width at file o = value-fits width (part at width file) (below-part 256 at width file o) (part-most at width file)
+
+-- the value of so many octets of an item that is taken from a file
+pub taken-fits : (start width from n : ℕ) (file : List ℕ) {v : ℕ} → Octets file → v ≡ beValue (part from n (taken start width file)) → v < 256 ^ n
+taken-fits start width from n file o e = rw e (part-fits n from (taken start width file) (below-part 256 start (start + width - start) file o))
+
+-- the same value, where it stands in the file
+taken-stands : (start width from n at : ℕ) (file : List ℕ) {v : ℕ} → from + n ≤ width → start + from ≡ at → v ≡ beValue (part from n (taken start width file))
+    → v ≡ beValue (part at n file)
+taken-stands start width from n at file h p e = e ∙ ap beValue (taken-part start width from n file h ∙ ap (λ (k : ℕ). part k n file) p)
 
 module _ {ℓ} {A : Type ℓ} (width : ℕ) (item : List ℕ → A) where
   -- as many as asked
@@ -131,23 +140,38 @@ arrival-stands count at file i n t z h e f =
     let q : t ≡ arrivalIn (part (at + 12 * i) 12 file) .time = f ∙ sym (time-stands (at + 12 * i) file) in
     (λ j. record { number = p j; time = q j }) ∙ sym (items-stand 12 arrivalIn count at file i z h)
 
+-- the same by its number and its time in the arrival as it is taken
+pub arrival-taken : (count at : ℕ) (file : List ℕ) (i n t : ℕ) (z : Arrival) → i < count
+    → n ≡ beValue (part 0 4 (taken (at + 12 * i) 12 file)) → t ≡ beValue (part 4 8 (taken (at + 12 * i) 12 file))
+    → record { number = n; time = t } ≡ getD (itemsIn 12 arrivalIn count (drop at file)) i z
+arrival-taken count at file i n t z h e f =
+    let start : ℕ = at + 12 * i in
+    arrival-stands count at file i n t z h (taken-stands start 12 0 4 start file (omega arith) (omega arith) e)
+    (taken-stands start 12 4 8 (start + 4) file (omega arith) refl f)
+
 -- its number, as one of the numbers
-pub number-found : (count at : ℕ) (file : List ℕ) (i n : ℕ) → i < count → n ≡ beValue (part (at + 12 * i) 4 file)
+pub number-found : (count at : ℕ) (file : List ℕ) (i n : ℕ) → i < count → n ≡ beValue (part 0 4 (taken (at + 12 * i) 12 file))
     → n ≡ getD (numbersOf (itemsIn 12 arrivalIn count (drop at file))) i 0
 number-found count at file i n h e =
     let z : Arrival = record { number = 0; time = 0 } in
-    ap (λ (a : Arrival). a .number) (arrival-stands count at file i n (beValue (part (at + 12 * i + 4) 8 file)) z h e refl)
+    ap (λ (a : Arrival). a .number) (arrival-taken count at file i n (beValue (part 4 8 (taken (at + 12 * i) 12 file))) z h e refl)
     ∙ sym (List·getD-map (λ (a : Arrival). a .number) (itemsIn 12 arrivalIn count (drop at file)) i z)
 
 -- its time, as one of the times
-pub time-found : (count at : ℕ) (file : List ℕ) (i t : ℕ) → i < count → t ≡ beValue (part (at + 12 * i + 4) 8 file)
+pub time-found : (count at : ℕ) (file : List ℕ) (i t : ℕ) → i < count → t ≡ beValue (part 4 8 (taken (at + 12 * i) 12 file))
     → t ≡ getD (timesOf (itemsIn 12 arrivalIn count (drop at file))) i 0
 time-found count at file i t h e =
     let z : Arrival = record { number = 0; time = 0 } in
-    ap (λ (a : Arrival). a .time) (arrival-stands count at file i (beValue (part (at + 12 * i) 4 file)) t z h refl e)
+    ap (λ (a : Arrival). a .time) (arrival-taken count at file i (beValue (part 0 4 (taken (at + 12 * i) 12 file))) t z h refl e)
     ∙ sym (List·getD-map (λ (a : Arrival). a .time) (itemsIn 12 arrivalIn count (drop at file)) i z)
 
 -- ---- a size
+
+-- a size in its octets as they are taken, as one of the sizes
+pub size-found : (count at : ℕ) (file : List ℕ) (i n : ℕ) → i < count → n ≡ beValue (part 0 2 (taken (at + 2 * i) 2 file))
+    → n ≡ getD (itemsIn 2 beValue count (drop at file)) i 0
+size-found count at file i n h e =
+    taken-stands (at + 2 * i) 2 0 2 (at + 2 * i) file (omega arith) (omega arith) e ∙ sym (items-stand 2 beValue count at file i 0 h)
 
 -- two octets
 pub size-long : (size : ℕ) → length (beOctets 2 size) ≡ 2

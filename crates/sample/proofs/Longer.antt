@@ -14,6 +14,7 @@ use Rattle.rfc4737.specs.Refusals.{outside, inCase, octetsFollow, longLabel, se
 use Rattle.sample.specs.Format.{labelMost, sentMost, arrivalsMost, longest}
 use Rattle.sample.specs.Judge.{judgeLabel, judgeSent, judgeArrivals}
 use Rattle.sample.specs.Decode.{countAt, endOf, lengthStage, labelCount, sentAt, sentCount, arrivedAt, arrivalCount, fileEnd, sectionStage, labelStage, sentStage, refusalIn}
+use Rattle.sample.specs.RoundTrip.{Longer}
 use Rattle.sample.proofs.Due.{between, first-due}
 use Rattle.sample.proofs.Decoded.{none-stage, refused-label, refused-sent, refused-arrived, refused-end}
 
@@ -88,7 +89,7 @@ abbrev pub begin : List ℕ → List ℕ
 begin file = take (longest + 1) file
 
 -- the whole is refused as they are
-pub longer-refused : (file : List ℕ) → longest < length file → refusalIn file ≡ refusalIn (begin file)
+pub longer-refused : (file : List ℕ) → Longer file
 longer-refused f h = first (outside 0 labelMost (labelCount f)) refl where
   -- the beginning is longer than the longest sample too
   k : longest < length (begin f)

@@ -1,18 +1,19 @@
 -- Items written into lent octets one after the other: after i turns of a loop from a place on, memory is `splice` of the first i
 -- items' octets there. Assumes nothing.
-use Prim.Native.Nat.{ℕ, suc, _+_, _*_, _≤_, _<_}
+use Prim.Native.Nat.{ℕ, suc, _+_, _*_, _-_, _≤_, _<_}
 use native.Mathlib.Nat.{mul-suc, mul-le-mul, le-refl}
 use native.Mathlib.Omega.{arith}
 use mathlib.Core.Path.{_≡_, sym, ap, _∙_}
-use mathlib.Core.List.{List}
-use lib.ListN.{length, getD, take, length-take}
+use mathlib.Core.List.{List, _++_}
+use lib.ListN.{length, getD, take, drop, length-take}
 use lib.Seq.{take-all}
 use Rattle.octets.specs.BigEndian.{beOctets}
 use Rattle.octets.specs.Memory.{splice, put}
 use Rattle.octets.proofs.BigEndian.{octets-length}
-use Rattle.octets.proofs.Memory.{splice-nil, splice-length, splice-next, put-room}
-use Rattle.sample.specs.Format.{itemOctets, section}
-use Rattle.sample.proofs.Items.{octets-snoc, octets-many}
+use Rattle.octets.proofs.Memory.{splice-nil, splice-length, splice-next, taken, put-room, put-next, put-lent}
+use Rattle.rfc4737.specs.declared.Arrival.{Arrival}
+use Rattle.sample.specs.Format.{itemOctets, section, arrivalOctets, arrivalsOf}
+use Rattle.sample.proofs.Items.{octets-snoc, octets-many, arrivals-getD}
 
 module _ {ℓ} {A : Type ℓ} (octets : A → List ℕ) (width : ℕ) (long : (x : A) → length (octets x) ≡ width) (xs : List A) (at : ℕ) (old : List ℕ)
     (room : at + width * length xs ≤ length old) where
@@ -37,19 +38,20 @@ module _ {ℓ} {A : Type ℓ} (octets : A → List ℕ) (width : ℕ) (long : (x
     pub write-length : i ≤ length xs → length d ≡ length old
     write-length h = ap length inv ∙ splice-length at (itemOctets octets (take i xs)) old (within h)
 
-    -- a turn: the octets of the item at i are put at their place
-    pub write-next : (z : A) {d′ : List ℕ} → i < length xs → d′ ≡ put (at + width * i) (octets (getD xs i z)) d
-        → d′ ≡ splice at (itemOctets octets (take (i + 1) xs)) old
-    write-next z {d′} h e =
+    -- a turn: the octets of the item at i are put over the part that is lent for them
+    pub write-next : (z : A) {lent : List ℕ} → i < length xs
+        → lent ≡ put 0 (octets (getD xs i z)) (taken (at + width * i) width d)
+        → take (at + width * i) d ++ (lent ++ drop (at + width * i + width - (at + width * i)) (drop (at + width * i) d))
+        ≡ splice at (itemOctets octets (take (i + 1) xs)) old
+    write-next z {lent} h e =
         let k : i ≤ length xs = omega arith in
         let l : length d ≡ length old = write-length k in
-        let n : length (octets (getD xs i z)) ≡ width = long (getD xs i z) in
         let m : width * suc i ≡ width * i + width = mul-suc width i in
         let q : width * suc i ≤ width * length xs = mul-le-mul (le-refl width) h in
-        let r : at + width * i + length (octets (getD xs i z)) ≤ length d = omega arith in
+        let r : at + width * i + width ≤ length d = omega arith in
         let s : at + length (itemOctets octets (take i xs)) ≡ at + width * i = ap (λ (v : ℕ). at + v) (first k) in
         let t : at ≤ length old = omega arith in
-        e ∙ put-room (at + width * i) (octets (getD xs i z)) d r
+        put-lent (at + width * i) width (octets (getD xs i z)) d (long (getD xs i z)) r e
         ∙ ap (splice (at + width * i) (octets (getD xs i z))) inv
         ∙ splice-next at (at + width * i) (itemOctets octets (take i xs)) (octets (getD xs i z)) old s t
         ∙ ap (λ (os : List ℕ). splice at os old) (sym (octets-snoc octets xs i z h))
@@ -68,3 +70,16 @@ section-done at n os old room e f =
     let q : at + length (beOctets 2 n) ≡ at + 2 = ap (λ (k : ℕ). at + k) l in
     let r : at ≤ length old = omega arith in
     f ∙ ap (splice (at + 2) os) (e ∙ put-room at (beOctets 2 n) old p) ∙ splice-next at (at + 2) (beOctets 2 n) os old q r
+
+-- an arrival, of a list of numbers and a list of times, put into twelve octets: its number, then its time
+pub arrival-put : (ns ts : List ℕ) (i : ℕ) (z : Arrival) (old : List ℕ) {d d′ : List ℕ} → length ts ≡ length ns → i < length ns → 12 ≤ length old
+    → d ≡ put 0 (beOctets 4 (getD ns i 0)) old → d′ ≡ put 4 (beOctets 8 (getD ts i 0)) d → d′ ≡ put 0 (arrivalOctets (getD (arrivalsOf ns ts) i z)) old
+unfolding arrivalOctets
+arrival-put ns ts i z old l h room e f =
+    let number : List ℕ = beOctets 4 (getD ns i 0) in
+    let time : List ℕ = beOctets 8 (getD ts i 0) in
+    let m : length number ≡ 4 = octets-length 4 (getD ns i 0) in
+    let n : length time ≡ 8 = octets-length 8 (getD ts i 0) in
+    let p : 0 + length number ≡ 4 = omega arith in
+    let q : 4 + length time ≤ length old = omega arith in
+    f ∙ ap (put 4 time) e ∙ put-next 0 4 number time old p q ∙ ap (λ (x : Arrival). put 0 (arrivalOctets x) old) (arrivals-getD ns ts i z l h)

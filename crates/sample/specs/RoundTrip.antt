@@ -1,14 +1,14 @@
 -- The statements that tie decoding to the format and the reader to the writer, over all input. The calls' contracts carry them.
 -- Assumes nothing.
-use Prim.Native.Nat.{ℕ, _≤_}
+use Prim.Native.Nat.{ℕ, _+_, _≤_, _<_}
 use mathlib.Core.List.{List}
 use mathlib.Core.Logic.{_↔_}
 use mathlib.Core.Path.{_≡_}
 use lib.ListN.{length, take}
 use Rattle.octets.specs.Memory.{over}
-use Rattle.sample.specs.Format.{Sample, fileOf}
+use Rattle.sample.specs.Format.{Sample, fileOf, longest}
 use Rattle.sample.specs.Judge.{Fit}
-use Rattle.sample.specs.Decode.{decode, accepted, sampleOf}
+use Rattle.sample.specs.Decode.{decode, refusalIn, accepted, sampleOf}
 use Rattle.sample.specs.Calls.{ReadFrom, WrittenTo}
 use Rattle.sample.specs.declared.Layout.{Layout}
 use Rattle.sample.specs.declared.Written.{Written}
@@ -16,6 +16,10 @@ use Rattle.sample.specs.declared.Written.{Written}
 -- decoding accepts exactly the octets of fit samples
 abbrev pub Exact : List ℕ → Type 0
 Exact file = (s : Sample) → (decode file ≡ accepted s) ↔ (Fit s × (file ≡ fileOf s))
+
+-- a file longer than the longest sample is refused as its first octets are, one more than that sample has
+abbrev pub Longer : List ℕ → Type 0
+Longer file = longest < length file → refusalIn file ≡ refusalIn (take (longest + 1) file)
 
 -- an accepted file that is read and written again, its label with it, gives the same octets
 abbrev pub WrittenAgain : List ℕ → Type 0

@@ -14,7 +14,10 @@ pub(crate) fn fill_sizes(file: &[u8], at: usize, count: usize, sizes: &mut [u16]
 {
     let mut i = 0;
     while i < count {
-        sizes[i] = octets::number_at(file, at + 2 * i, 2) as u16;
+        let start = at + 2 * i;
+        let end = start + 2;
+        let size = &file[start..end];
+        sizes[i] = octets::number_at(size, 0, 2) as u16;
         i += 1;
     }
 }
@@ -33,8 +36,11 @@ pub(crate) fn fill_arrivals(
 {
     let mut i = 0;
     while i < count {
-        numbers[i] = octets::number_at(file, at + 12 * i, 4) as u32;
-        times[i] = octets::number_at(file, at + 12 * i + 4, 8);
+        let start = at + 12 * i;
+        let end = start + 12;
+        let arrival = &file[start..end];
+        numbers[i] = octets::number_at(arrival, 0, 4) as u32;
+        times[i] = octets::number_at(arrival, 4, 8);
         i += 1;
     }
 }

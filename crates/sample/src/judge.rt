@@ -45,8 +45,11 @@ pub(crate) fn judge_file(file: &[u8], at: usize, sent: u64, count: usize) -> u32
     let mut reference: u64 = 0;
     let mut i = 0;
     while i < count {
-        let number = octets::number_at(file, at + 12 * i, 4);
-        let time = octets::number_at(file, at + 12 * i + 4, 8);
+        let start = at + 12 * i;
+        let end = start + 12;
+        let arrival = &file[start..end];
+        let number = octets::number_at(arrival, 0, 4);
+        let time = octets::number_at(arrival, 4, 8);
         let refusal = judge_one(sent, reference, number, time);
         if refusal != 0 {
             return refusal;

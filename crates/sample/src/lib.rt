@@ -1,10 +1,11 @@
 // The sample file: checked, read and written. Every public call takes all input there is.
 ghost use mathlib.Core.Path.{_≡_};
 ghost use Prim.Native.Nat.{_+_};
+ghost use Rattle.sample.specs.Format.{longest};
 ghost use Rattle.sample.specs.Decode.{decode, refused, sampleOf, layoutOf};
 ghost use Rattle.sample.specs.Places.{sizesAt, arrivalsAt, sizeFound, numberFound, timeFound};
 ghost use Rattle.sample.specs.Calls.{labelPlace, ReadFrom, WrittenTo, refusalFrom, listsShort};
-ghost use Rattle.sample.specs.RoundTrip.{Exact, WrittenAgain, ReadAgain};
+ghost use Rattle.sample.specs.RoundTrip.{Exact, Longer, WrittenAgain, ReadAgain};
 
 mod fill;
 pub mod judge;
@@ -73,6 +74,7 @@ fn refused_with(refusal: u32) -> Layout
 pub fn check(file: &[u8]) -> Layout
     ensures { λ r. ⌜ r ≡ layoutOf (decode (now (file .entry))) ⌝ }
     ensures exact { λ _. ⌜ Exact (now (file .entry)) ⌝ }
+    ensures longer { λ _. do ⌜ ((← ⟦LONGEST⟧ .entry) ≡ longest) × Longer (now (file .entry)) ⌝ }
 {
     let label = section_at(file, 0, 1, 0, LABEL_MOST, LONG_LABEL);
     let Section::Whole(label_count, sent_at) = label else {

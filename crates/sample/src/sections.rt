@@ -92,7 +92,10 @@ pub(crate) fn write_sizes(sizes: &[u16], out: &mut [u8], at: usize)
     octets::put_number(out, at, 2, sizes.len() as u64);
     let mut i = 0;
     while i < sizes.len() {
-        octets::put_number(out, at + 2 + 2 * i, 2, sizes[i] as u64);
+        let start = at + 2 + 2 * i;
+        let end = start + 2;
+        let size = &mut out[start..end];
+        octets::put_number(size, 0, 2, sizes[i] as u64);
         i += 1;
     }
 }
@@ -105,8 +108,11 @@ pub(crate) fn write_arrivals(numbers: &[u32], times: &[u64], out: &mut [u8], at:
     octets::put_number(out, at, 2, numbers.len() as u64);
     let mut i = 0;
     while i < numbers.len() {
-        octets::put_number(out, at + 2 + 12 * i, 4, numbers[i] as u64);
-        octets::put_number(out, at + 6 + 12 * i, 8, times[i]);
+        let start = at + 2 + 12 * i;
+        let end = start + 12;
+        let arrival = &mut out[start..end];
+        octets::put_number(arrival, 0, 4, numbers[i] as u64);
+        octets::put_number(arrival, 4, 8, times[i]);
         i += 1;
     }
 }

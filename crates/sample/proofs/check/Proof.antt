@@ -18,6 +18,7 @@ use Rattle.sample.specs.declared.Layout.{Layout}
 use Rattle.sample.proofs.Readings.{whole-section, refusal-section, refused-section}
 use Rattle.sample.proofs.Decoded.{WholeFile, refused-none, stage-none, decode-refused, layout-accepted, refused-label, refused-sent, refused-arrived, refused-end, refused-arrivals}
 use Rattle.sample.proofs.Exact.{exact}
+use Rattle.sample.proofs.Longer.{longer-refused}
 use Rattle.sample.proofs.check.Statement.{statement}
 use Rattle.sample.proofs.check.Tie as tie
 
@@ -105,7 +106,7 @@ returns c =
     let r = c .before .refusal-of .ensures ∙ ap refusalOfSection s ∙ refusal-section 0 1 0 labelMost longLabel f in
     let p = refused-section 0 1 0 labelMost longLabel f (sym s ∙ c .before .before .enum-told .given .1) in (
       answer f (labelStage f) p (refused-label f (labelStage f) p refl) (c .refused-with .ensures) r,
-      exact f (below-fits w8 f (c .before .before .before .before .before .shared-slice-known .given)),
+      (exact f (below-fits w8 f (c .before .before .before .before .before .shared-slice-known .given)), (refl, longer-refused f)),
     )
 
 section-at-requires-2 : tie.Need-section-at-requires-2
@@ -135,7 +136,7 @@ returns-2 c =
     let r = c .before .refusal-of2 .ensures ∙ ap refusalOfSection s ∙ refusal-section (sentAt f) 2 1 sentMost sentOutside f in
     let p = refused-section (sentAt f) 2 1 sentMost sentOutside f (sym s ∙ c .before .before .enum-told2 .given .1) in (
       answer f (sentStage f) p (refused-sent f (w .0) (sentStage f) p refl) (c .refused-with2 .ensures) r,
-      exact f (below-fits w8 f (b .before .before .before .before .shared-slice-known .given)),
+      (exact f (below-fits w8 f (b .before .before .before .before .shared-slice-known .given)), (refl, longer-refused f)),
     )
 
 section-at-requires-3 : tie.Need-section-at-requires-3
@@ -168,7 +169,7 @@ returns-3 c =
     let r = c .before .refusal-of3 .ensures ∙ ap refusalOfSection s ∙ refusal-section (arrivedAt f) 12 0 arrivalsMost manyArrivals f in
     let p = refused-section (arrivedAt f) 12 0 arrivalsMost manyArrivals f (sym s ∙ c .before .before .enum-told3 .given .1) in (
       answer f (arrivedStage f) p (refused-arrived f (w .0) (v .0) (arrivedStage f) p refl) (c .refused-with3 .ensures) r,
-      exact f (below-fits w8 f (l .before .before .before .before .shared-slice-known .given)),
+      (exact f (below-fits w8 f (l .before .before .before .before .shared-slice-known .given)), (refl, longer-refused f)),
     )
 
 refused-with-requires-4 : tie.Need-refused-with-requires-4
@@ -183,7 +184,7 @@ returns-4 c =
     let u = arrived b in
     let e : endStage f ≡ octetsFollow = ap (λ t. inCase t octetsFollow) (lt-ltb (fileEnd f) (length f) (omega arith)) in (
       answer f octetsFollow (omega arith) (refused-end f (labelled l .0) (counted k .0) (u .0) octetsFollow (omega arith) e) (c .refused-with4 .ensures) refl,
-      exact f (below-fits w8 f (l .before .before .before .before .shared-slice-known .given)),
+      (exact f (below-fits w8 f (l .before .before .before .before .shared-slice-known .given)), (refl, longer-refused f)),
     )
 
 add-judge-file : tie.Need-add-judge-file
@@ -208,7 +209,7 @@ returns-5 c =
     let j = judged (c .before .before) in
     let n : 0 < c .before .before .judge-file .result = omega (arith, c .before .if2 .taken) in (
       answer f (c .before .before .judge-file .result) n j (c .refused-with5 .ensures) refl,
-      exact f (below-fits w8 f (l .before .before .before .before .shared-slice-known .given)),
+      (exact f (below-fits w8 f (l .before .before .before .before .shared-slice-known .given)), (refl, longer-refused f)),
     )
 
 cast-t18 : tie.Need-cast-t18
@@ -240,7 +241,7 @@ returns-6 c =
     let q = counted k .1 in
     let r = arrived b .1 in (
       (λ i. record { refusal = 0; label = p i; sent = q i; arrivals = r i }) ∙ sym (layout-accepted f j),
-      exact f (below-fits w8 f (l .before .before .before .before .shared-slice-known .given)),
+      (exact f (below-fits w8 f (l .before .before .before .before .shared-slice-known .given)), (refl, longer-refused f)),
     )
 
 pub check-spec : {M : Type 1} → statement M

@@ -13,7 +13,7 @@ use Rattle.octets.proofs.Below.{below-fits}
 use Rattle.octets.proofs.Memory.{fill-length, fill-next, fill-done}
 use Rattle.sample.specs.Format.{itemsIn, numbersOf, timesOf}
 use Rattle.sample.specs.Decode.{arrivalIn}
-use Rattle.sample.proofs.Items.{items-length, number-found, time-found, part-fits}
+use Rattle.sample.proofs.Items.{items-length, taken-fits, number-found, time-found}
 use Rattle.sample.proofs.fill.fill_arrivals.Statement.{statement}
 use Rattle.sample.proofs.fill.fill_arrivals.Tie as tie
 
@@ -56,20 +56,32 @@ loop-holds : tie.Need-loop-holds Inv-loop μ-loop
 loop-holds c =
     (search needs, refl, refl)
 
-mul-number-at : tie.Need-mul-number-at Inv-loop μ-loop
-mul-number-at c = search needs
+mul-start : tie.Need-mul-start Inv-loop μ-loop
+mul-start c = search needs
 
-add-number-at : tie.Need-add-number-at Inv-loop μ-loop
-add-number-at c = search needs
+add-start : tie.Need-add-start Inv-loop μ-loop
+add-start c = search needs
+
+add-end : tie.Need-add-end Inv-loop μ-loop
+add-end c = search needs
+
+sub-arrival : tie.Need-sub-arrival Inv-loop μ-loop
+sub-arrival c = search needs
+
+part-arrival-start : tie.Need-part-arrival-start Inv-loop μ-loop
+part-arrival-start c = search needs
+
+part-arrival-end : tie.Need-part-arrival-end Inv-loop μ-loop
+part-arrival-end c = search needs
 
 number-at-requires : tie.Need-number-at-requires Inv-loop μ-loop
 number-at-requires c κs = search needs
 
 cast-numbers : tie.Need-cast-numbers Inv-loop μ-loop
 cast-numbers c =
-    let a = c .before .before .before .before .before .before .args in
-    let o = below-fits w8 (now (a .file)) (c .before .before .before .before .before .shared-slice-known .given) in
-    let b : c .number-at .result < 2 ^ 32 = rw (c .number-at .ensures) (part-fits 4 (a .at + 12 * c .before .before .loop .i) (now (a .file)) o) in
+    let a = c .before .before .before .before .before .before .before .args in
+    let o = below-fits w8 (now (a .file)) (c .before .before .before .before .before .before .shared-slice-known .given) in
+    let b : c .number-at .result < 2 ^ 32 = taken-fits (a .at + 12 * c .before .before .before .loop .i) 12 0 4 (now (a .file)) o (c .number-at .ensures) in
     omega arith
 
 mul-numbers : tie.Need-mul-numbers Inv-loop μ-loop
@@ -77,17 +89,8 @@ mul-numbers c = search needs
 
 slice-write-numbers : tie.Need-slice-write-numbers Inv-loop μ-loop
 slice-write-numbers c =
-    let s = kept-numbers (c .before .before) in
+    let s = kept-numbers (c .before .before .before) in
     omega arith
-
-mul-number-at-2 : tie.Need-mul-number-at-2 Inv-loop μ-loop
-mul-number-at-2 c = search needs
-
-add-number-at-2 : tie.Need-add-number-at-2 Inv-loop μ-loop
-add-number-at-2 c = search needs
-
-add-number-at-3 : tie.Need-add-number-at-3 Inv-loop μ-loop
-add-number-at-3 c = search needs
 
 number-at-requires-2 : tie.Need-number-at-requires-2 Inv-loop μ-loop
 number-at-requires-2 c κs = search needs
@@ -97,7 +100,7 @@ mul-times c = search needs
 
 slice-write-times : tie.Need-slice-write-times Inv-loop μ-loop
 slice-write-times c =
-    let s = kept-times (c .before .before .before) in
+    let s = kept-times (c .before .before .before .before) in
     omega arith
 
 add-i : tie.Need-add-i Inv-loop μ-loop
@@ -108,15 +111,15 @@ loop-less c = search needs
 
 loop-again : tie.Need-loop-again Inv-loop μ-loop
 loop-again c =
-    let l = c .before .before .before in
+    let l = c .before .before .before .before in
     let a = l .before .before .before .before .args in
     let e = many-numbers (now (a .file)) (a .at) (a .count) in
     let f = many-times (now (a .file)) (a .at) (a .count) in (
       search needs,
       fill-next (numbersOf (arrivalsFrom (now (a .file)) (a .at) (a .count))) (now (a .numbers)) (l .loop .i) 0 (omega arith) (omega arith) (l .loop .inv .1)
-          (number-found (a .count) (a .at) (now (a .file)) (l .loop .i) (c .before .number-at .result) (c .before .before .loop-test .taken) (c .before .number-at .ensures)),
+          (number-found (a .count) (a .at) (now (a .file)) (l .loop .i) (c .before .number-at .result) (c .before .before .before .loop-test .taken) (c .before .number-at .ensures)),
       fill-next (timesOf (arrivalsFrom (now (a .file)) (a .at) (a .count))) (now (a .times)) (l .loop .i) 0 (omega arith) (omega arith) (l .loop .inv .2)
-          (time-found (a .count) (a .at) (now (a .file)) (l .loop .i) (c .number-at2 .result) (c .before .before .loop-test .taken) (c .number-at2 .ensures)),
+          (time-found (a .count) (a .at) (now (a .file)) (l .loop .i) (c .number-at2 .result) (c .before .before .before .loop-test .taken) (c .number-at2 .ensures)),
     )
 
 same-length : tie.Need-same-length Inv-loop μ-loop
@@ -143,15 +146,16 @@ fill-arrivals-spec =
     Inv-loop
     μ-loop
     loop-holds
-    mul-number-at
-    add-number-at
+    mul-start
+    add-start
+    add-end
+    sub-arrival
+    part-arrival-start
+    part-arrival-end
     number-at-requires
     cast-numbers
     mul-numbers
     slice-write-numbers
-    mul-number-at-2
-    add-number-at-2
-    add-number-at-3
     number-at-requires-2
     mul-times
     slice-write-times

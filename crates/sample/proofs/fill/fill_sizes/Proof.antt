@@ -3,7 +3,7 @@
 use borrow.Author.Needs.{needs}
 use Prim.Native.Nat.{ℕ, _+_, _*_, _^_, _-_, _≤_, _<_}
 use native.Mathlib.Omega.{arith}
-use mathlib.Core.Path.{_≡_, refl, ap, sym, _∙_}
+use mathlib.Core.Path.{_≡_, refl, ap, _∙_}
 use mathlib.Core.List.{List, _++_}
 use lib.ListN.{length, take, drop}
 use mir.Syntax.{w8}
@@ -12,7 +12,7 @@ use Rattle.octets.specs.BigEndian.{beValue}
 use Rattle.octets.proofs.Below.{below-fits}
 use Rattle.octets.proofs.Memory.{fill-length, fill-next, fill-done}
 use Rattle.sample.specs.Format.{itemsIn}
-use Rattle.sample.proofs.Items.{items-length, items-stand, part-fits}
+use Rattle.sample.proofs.Items.{items-length, taken-fits, size-found}
 use Rattle.sample.proofs.fill.fill_sizes.Statement.{statement}
 use Rattle.sample.proofs.fill.fill_sizes.Tie as tie
 
@@ -41,20 +41,32 @@ loop-holds : tie.Need-loop-holds Inv-loop μ-loop
 loop-holds c =
     (search needs, refl)
 
-mul-number-at : tie.Need-mul-number-at Inv-loop μ-loop
-mul-number-at c = search needs
+mul-start : tie.Need-mul-start Inv-loop μ-loop
+mul-start c = search needs
 
-add-number-at : tie.Need-add-number-at Inv-loop μ-loop
-add-number-at c = search needs
+add-start : tie.Need-add-start Inv-loop μ-loop
+add-start c = search needs
+
+add-end : tie.Need-add-end Inv-loop μ-loop
+add-end c = search needs
+
+sub-size : tie.Need-sub-size Inv-loop μ-loop
+sub-size c = search needs
+
+part-size-start : tie.Need-part-size-start Inv-loop μ-loop
+part-size-start c = search needs
+
+part-size-end : tie.Need-part-size-end Inv-loop μ-loop
+part-size-end c = search needs
 
 number-at-requires : tie.Need-number-at-requires Inv-loop μ-loop
 number-at-requires c κs = search needs
 
 cast-sizes : tie.Need-cast-sizes Inv-loop μ-loop
 cast-sizes c =
-    let a = c .before .before .before .before .before .args in
-    let o = below-fits w8 (now (a .file)) (c .before .before .before .before .shared-slice-known .given) in
-    let b : c .number-at .result < 2 ^ 16 = rw (c .number-at .ensures) (part-fits 2 (a .at + 2 * c .before .before .loop .i) (now (a .file)) o) in
+    let a = c .before .before .before .before .before .before .args in
+    let o = below-fits w8 (now (a .file)) (c .before .before .before .before .before .shared-slice-known .given) in
+    let b : c .number-at .result < 2 ^ 16 = taken-fits (a .at + 2 * c .before .before .before .loop .i) 2 0 2 (now (a .file)) o (c .number-at .ensures) in
     omega arith
 
 mul-sizes : tie.Need-mul-sizes Inv-loop μ-loop
@@ -62,7 +74,7 @@ mul-sizes c = search needs
 
 slice-write-sizes : tie.Need-slice-write-sizes Inv-loop μ-loop
 slice-write-sizes c =
-    let s = kept (c .before .before) in
+    let s = kept (c .before .before .before) in
     omega arith
 
 add-i : tie.Need-add-i Inv-loop μ-loop
@@ -73,14 +85,14 @@ loop-less c = search needs
 
 loop-again : tie.Need-loop-again Inv-loop μ-loop
 loop-again c =
-    let l = c .before .before in
+    let l = c .before .before .before in
     let a = l .before .before .before .args in
     let e = items-length 2 beValue (a .count) (drop (a .at) (now (a .file))) in
     let p : l .loop .i < length (sizesFrom (now (a .file)) (a .at) (a .count)) = omega arith in
     let q : l .loop .i < length (now (a .sizes)) = omega arith in (
       search needs,
       fill-next (sizesFrom (now (a .file)) (a .at) (a .count)) (now (a .sizes)) (l .loop .i) 0 p q (l .loop .inv .1)
-          (c .number-at .ensures ∙ sym (items-stand 2 beValue (a .count) (a .at) (now (a .file)) (l .loop .i) 0 (c .before .loop-test .taken))),
+          (size-found (a .count) (a .at) (now (a .file)) (l .loop .i) (c .number-at .result) (c .before .before .loop-test .taken) (c .number-at .ensures)),
     )
 
 same-length : tie.Need-same-length Inv-loop μ-loop
@@ -100,8 +112,12 @@ fill-sizes-spec =
     Inv-loop
     μ-loop
     loop-holds
-    mul-number-at
-    add-number-at
+    mul-start
+    add-start
+    add-end
+    sub-size
+    part-size-start
+    part-size-end
     number-at-requires
     cast-sizes
     mul-sizes

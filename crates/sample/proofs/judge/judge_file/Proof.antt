@@ -11,7 +11,7 @@ use Rattle.rfc4737.specs.declared.Arrival.{Arrival}
 use Rattle.sample.specs.Format.{itemsIn}
 use Rattle.sample.specs.Decode.{arrivalIn}
 use Rattle.sample.specs.Judge.{judge}
-use Rattle.sample.proofs.Items.{items-length, arrival-stands}
+use Rattle.sample.proofs.Items.{items-length, arrival-taken}
 use Rattle.sample.proofs.Judged.{judge-stop, judge-next, judge-done}
 use Rattle.sample.proofs.judge.judge_file.Statement.{statement}
 use Rattle.sample.proofs.judge.judge_file.Tie as tie
@@ -42,33 +42,36 @@ turn c =
 -- it is the one whose number and time were read
 found : (c : tie.After-number-at2 Inv-loop μ-loop)
     → record { number = c .before .number-at .result; time = c .number-at2 .result }
-    ≡ getD (arrivalsFrom (now (c .before .before .before .before .before .args .file)) (c .before .before .before .before .before .args .at) (c .before .before .before .before .before .args .count)) (c .before .before .before .loop .i) none
+    ≡ getD (arrivalsFrom (now (c .before .before .before .before .before .before .args .file)) (c .before .before .before .before .before .before .args .at) (c .before .before .before .before .before .before .args .count)) (c .before .before .before .before .loop .i) none
 found c =
-    let a = c .before .before .before .before .before .args in
-    arrival-stands (a .count) (a .at) (now (a .file)) (c .before .before .before .loop .i) (c .before .number-at .result) (c .number-at2 .result) none
-    (c .before .before .loop-test .taken) (c .before .number-at .ensures) (c .number-at2 .ensures)
+    let a = c .before .before .before .before .before .before .args in
+    arrival-taken (a .count) (a .at) (now (a .file)) (c .before .before .before .before .loop .i) (c .before .number-at .result) (c .number-at2 .result) none
+    (c .before .before .before .loop-test .taken) (c .before .number-at .ensures) (c .number-at2 .ensures)
 
 loop-holds : tie.Need-loop-holds Inv-loop μ-loop
 loop-holds c =
     (search needs, refl)
 
-mul-number-at : tie.Need-mul-number-at Inv-loop μ-loop
-mul-number-at c = search needs
+mul-start : tie.Need-mul-start Inv-loop μ-loop
+mul-start c = search needs
 
-add-number-at : tie.Need-add-number-at Inv-loop μ-loop
-add-number-at c = search needs
+add-start : tie.Need-add-start Inv-loop μ-loop
+add-start c = search needs
+
+add-end : tie.Need-add-end Inv-loop μ-loop
+add-end c = search needs
+
+sub-arrival : tie.Need-sub-arrival Inv-loop μ-loop
+sub-arrival c = search needs
+
+part-arrival-start : tie.Need-part-arrival-start Inv-loop μ-loop
+part-arrival-start c = search needs
+
+part-arrival-end : tie.Need-part-arrival-end Inv-loop μ-loop
+part-arrival-end c = search needs
 
 number-at-requires : tie.Need-number-at-requires Inv-loop μ-loop
 number-at-requires c κs = search needs
-
-mul-number-at-2 : tie.Need-mul-number-at-2 Inv-loop μ-loop
-mul-number-at-2 c = search needs
-
-add-number-at-2 : tie.Need-add-number-at-2 Inv-loop μ-loop
-add-number-at-2 c = search needs
-
-add-number-at-3 : tie.Need-add-number-at-3 Inv-loop μ-loop
-add-number-at-3 c = search needs
 
 number-at-requires-2 : tie.Need-number-at-requires-2 Inv-loop μ-loop
 number-at-requires-2 c κs = search needs
@@ -78,11 +81,11 @@ judge-one-requires c κs = search needs
 
 returns : tie.Need-returns Inv-loop μ-loop
 returns c =
-    let l = c .before .before .before .before .before in
+    let l = c .before .before .before .before .before .before in
     let a = l .before .before .args in
     judge-stop (a .sent) (arrivalsFrom (now (a .file)) (a .at) (a .count)) (l .loop .reference) (l .loop .i) none
     (record { number = c .before .before .before .number-at .result; time = c .before .before .number-at2 .result })
-    (turn (c .before .before .before .before)) (found (c .before .before)) (l .loop .inv .1)
+    (turn (c .before .before .before .before .before)) (found (c .before .before)) (l .loop .inv .1)
     (c .before .judge-one .result) (c .before .judge-one .ensures) (c .if1 .taken)
 
 next-reference-requires : tie.Need-next-reference-requires Inv-loop μ-loop
@@ -96,12 +99,12 @@ loop-less c = search needs
 
 loop-again : tie.Need-loop-again Inv-loop μ-loop
 loop-again c =
-    let l = c .before .before .before .before .before .before in
+    let l = c .before .before .before .before .before .before .before in
     let a = l .before .before .args in (
       search needs,
       judge-next (a .sent) (arrivalsFrom (now (a .file)) (a .at) (a .count)) (l .loop .reference) (l .loop .i) none
           (record { number = c .before .before .before .before .number-at .result; time = c .before .before .before .number-at2 .result })
-          (turn (c .before .before .before .before .before)) (found (c .before .before .before)) (l .loop .inv .1)
+          (turn (c .before .before .before .before .before .before)) (found (c .before .before .before)) (l .loop .inv .1)
           (c .before .before .judge-one .result) (c .before .before .judge-one .ensures) (c .before .if1 .left)
           ∙ ap (λ (r : ℕ). judge (a .sent) r (drop (l .loop .i + 1) (arrivalsFrom (now (a .file)) (a .at) (a .count)))) (sym (c .next-reference .ensures)),
     )
@@ -119,12 +122,13 @@ judge-file-spec =
     Inv-loop
     μ-loop
     loop-holds
-    mul-number-at
-    add-number-at
+    mul-start
+    add-start
+    add-end
+    sub-arrival
+    part-arrival-start
+    part-arrival-end
     number-at-requires
-    mul-number-at-2
-    add-number-at-2
-    add-number-at-3
     number-at-requires-2
     judge-one-requires
     returns

@@ -1,19 +1,18 @@
 -- `sample::sections::write_arrivals` meets its contract. The loop's invariant: after the count stand the octets of the first i arrivals, all
 -- else is as where the loop begins. The measure is the number of arrivals left. Assumes nothing.
 use borrow.Author.Needs.{needs}
-use Prim.Native.Nat.{_+_, _*_, _-_, _≤_}
+use Prim.Native.Nat.{ℕ, _+_, _*_, _-_, _≤_}
 use native.Mathlib.Omega.{arith}
-use mathlib.Core.Path.{_≡_, ap, _∙_}
-use lib.ListN.{length, take, getD}
+use mathlib.Core.Path.{_≡_, _∙_}
+use mathlib.Core.List.{List}
+use lib.ListN.{length, take}
 use denote.Ref.{now}
 use Rattle.rfc4737.specs.declared.Arrival.{Arrival}
-use Rattle.octets.specs.BigEndian.{beOctets}
-use Rattle.octets.specs.Memory.{splice, put}
-use Rattle.octets.proofs.BigEndian.{octets-length}
-use Rattle.octets.proofs.Memory.{put-next}
+use Rattle.octets.specs.Memory.{splice}
+use Rattle.octets.proofs.Memory.{taken}
 use Rattle.sample.specs.Format.{itemOctets, arrivalOctets, arrivalsOf}
-use Rattle.sample.proofs.Items.{arrival-long, octets-many, arrivals-length, arrivals-getD}
-use Rattle.sample.proofs.Writing.{write-start, write-length, write-next, write-done, section-done}
+use Rattle.sample.proofs.Items.{arrival-long, octets-many, arrivals-length}
+use Rattle.sample.proofs.Writing.{write-start, write-length, write-next, write-done, section-done, arrival-put}
 use Rattle.sample.proofs.sections.write_arrivals.Statement.{statement}
 use Rattle.sample.proofs.sections.write_arrivals.Tie as tie
 
@@ -40,6 +39,13 @@ room c =
     let n = arrivals-length (now (a .numbers)) (now (a .times)) (c .before .before .before .before .before .before .before .before .pre .0) in
     omega (arith, c .before .before .before .before .before .before .before .before .pre .1)
 
+-- the length stays
+kept : (c : tie.At-loop Inv-loop μ-loop) → length (c .loop .out) ≡ length (c .before .before .before .put-number .last .0)
+kept c =
+    let a = c .before .before .before .before .before .before .before .before .args in
+    let n = arrivals-length (now (a .numbers)) (now (a .times)) (search needs) in
+    write-length arrivalOctets 12 arrival-long (arrivalsOf (now (a .numbers)) (now (a .times))) (a .at + 2) (c .before .before .before .put-number .last .0) (room c) (c .loop .i) (c .loop .inv .1) (omega arith)
+
 put-number-requires : tie.Need-put-number-requires Inv-loop μ-loop
 put-number-requires c κs = search needs
 
@@ -50,39 +56,47 @@ loop-holds c =
     let n = arrivals-length (now (a .numbers)) (now (a .times)) (search needs) in
     (search needs, write-start arrivalOctets 12 arrival-long (arrivalsOf (now (a .numbers)) (now (a .times))) (a .at + 2) (c .before .before .put-number .last .0) (omega arith))
 
-add-put-number : tie.Need-add-put-number Inv-loop μ-loop
-add-put-number c = search needs
+add-start : tie.Need-add-start Inv-loop μ-loop
+add-start c = search needs
+
+mul-start : tie.Need-mul-start Inv-loop μ-loop
+mul-start c = search needs
+
+add-start-2 : tie.Need-add-start-2 Inv-loop μ-loop
+add-start-2 c = search needs
+
+add-end : tie.Need-add-end Inv-loop μ-loop
+add-end c = search needs
+
+sub-arrival : tie.Need-sub-arrival Inv-loop μ-loop
+sub-arrival c = search needs
+
+part-arrival-start : tie.Need-part-arrival-start Inv-loop μ-loop
+part-arrival-start c = search needs
+
+part-arrival-end : tie.Need-part-arrival-end Inv-loop μ-loop
+part-arrival-end c =
+    let a = c .before .before .before .before .before .before .before .before .before .args in
+    let n = arrivals-length (now (a .numbers)) (now (a .times)) (search needs) in
+    let k = kept (c .before) in
+    let r = room (c .before) in
+    omega arith
 
 mul-put-number : tie.Need-mul-put-number Inv-loop μ-loop
 mul-put-number c = search needs
-
-add-put-number-2 : tie.Need-add-put-number-2 Inv-loop μ-loop
-add-put-number-2 c = search needs
-
-mul-put-number-2 : tie.Need-mul-put-number-2 Inv-loop μ-loop
-mul-put-number-2 c = search needs
 
 shared-slice-read-put-number : tie.Need-shared-slice-read-put-number Inv-loop μ-loop
 shared-slice-read-put-number c = search needs
 
 cast-put-number : tie.Need-cast-put-number Inv-loop μ-loop
 cast-put-number c =
-    omega (arith, c .shared-slice-known3 .given (c .before .before .before .loop .i))
+    omega (arith, c .shared-slice-known3 .given (c .before .before .before .before .loop .i))
 
 put-number-requires-2 : tie.Need-put-number-requires-2 Inv-loop μ-loop
 put-number-requires-2 c κs = search needs
 
-add-put-number-3 : tie.Need-add-put-number-3 Inv-loop μ-loop
-add-put-number-3 c = search needs
-
-mul-put-number-3 : tie.Need-mul-put-number-3 Inv-loop μ-loop
-mul-put-number-3 c = search needs
-
-add-put-number-4 : tie.Need-add-put-number-4 Inv-loop μ-loop
-add-put-number-4 c = search needs
-
-mul-put-number-4 : tie.Need-mul-put-number-4 Inv-loop μ-loop
-mul-put-number-4 c = search needs
+mul-put-number-2 : tie.Need-mul-put-number-2 Inv-loop μ-loop
+mul-put-number-2 c = search needs
 
 shared-slice-read-put-number-2 : tie.Need-shared-slice-read-put-number-2 Inv-loop μ-loop
 shared-slice-read-put-number-2 c = search needs
@@ -97,35 +111,21 @@ loop-less : tie.Need-loop-less Inv-loop μ-loop
 loop-less c = search needs
 
 loop-again : tie.Need-loop-again Inv-loop μ-loop
-unfolding arrivalOctets
 loop-again c =
     let l = c .before .before .before .before .before .before .before .before .before .before .before in
     let a = l .before .before .before .before .before .before .before .before .args in
     let n = arrivals-length (now (a .numbers)) (now (a .times)) (search needs) in
-    let t = c .before .before .before .before .before .before .before .before .before .before .loop-test .taken in
-    let j : l .loop .i ≤ length (arrivalsOf (now (a .numbers)) (now (a .times))) = omega arith in
-    let w = write-length arrivalOctets 12 arrival-long (arrivalsOf (now (a .numbers)) (now (a .times))) (a .at + 2) (l .before .before .before .put-number .last .0) (room l) (l .loop .i) (l .loop .inv .1) j in
-    let r = room l in
-    let f = octets-length 4 (getD (now (a .numbers)) (l .loop .i) 0) in
-    let g = octets-length 8 (getD (now (a .times)) (l .loop .i) 0) in
-    let p : a .at + 2 + 12 * l .loop .i + length (beOctets 4 (getD (now (a .numbers)) (l .loop .i) 0)) ≡ a .at + 6 + 12 * l .loop .i = omega arith in
-    let q : a .at + 6 + 12 * l .loop .i + length (beOctets 8 (getD (now (a .times)) (l .loop .i) 0)) ≤ length (l .loop .out) = omega arith in (
+    let lent : List ℕ = taken (a .at + 2 + 12 * l .loop .i) 12 (l .loop .out) in
+    let m : length lent ≡ a .at + 2 + 12 * l .loop .i + 12 - (a .at + 2 + 12 * l .loop .i) = c .before .before .before .before .before .before .before .before .before .arrival .given .2 in (
       search needs,
-      write-next arrivalOctets 12 arrival-long (arrivalsOf (now (a .numbers)) (now (a .times))) (a .at + 2) (l .before .before .before .put-number .last .0) (room l) (l .loop .i) (l .loop .inv .1) none
-          (omega arith)
-          (c .before .before .put-number3 .ensures
-          ∙ ap (put (a .at + 6 + 12 * l .loop .i) (beOctets 8 (getD (now (a .times)) (l .loop .i) 0))) (c .before .before .before .before .before .before .before .put-number2 .ensures)
-          ∙ put-next (a .at + 2 + 12 * l .loop .i) (a .at + 6 + 12 * l .loop .i) (beOctets 4 (getD (now (a .numbers)) (l .loop .i) 0)) (beOctets 8 (getD (now (a .times)) (l .loop .i) 0)) (l .loop .out) p q
-          ∙ ap (λ (x : Arrival). put (a .at + 2 + 12 * l .loop .i) (arrivalOctets x) (l .loop .out)) (arrivals-getD (now (a .numbers)) (now (a .times)) (l .loop .i) none (search needs) t)),
+      write-next arrivalOctets 12 arrival-long (arrivalsOf (now (a .numbers)) (now (a .times))) (a .at + 2) (l .before .before .before .put-number .last .0) (room l) (l .loop .i) (l .loop .inv .1) none (omega arith)
+          (arrival-put (now (a .numbers)) (now (a .times)) (l .loop .i) none lent (search needs) (omega arith) (omega arith)
+          (c .before .before .before .before .before .before .put-number2 .ensures) (c .before .before .put-number3 .ensures)),
     )
 
 same-length : tie.Need-same-length Inv-loop μ-loop
 same-length c =
-    let l = c .before in
-    let a = l .before .before .before .before .before .before .before .before .args in
-    let n = arrivals-length (now (a .numbers)) (now (a .times)) (search needs) in
-    write-length arrivalOctets 12 arrival-long (arrivalsOf (now (a .numbers)) (now (a .times))) (a .at + 2) (l .before .before .before .put-number .last .0) (room l) (l .loop .i) (l .loop .inv .1) (omega arith)
-    ∙ l .before .before .before .put-number .kept .0
+    kept (c .before) ∙ c .before .before .before .before .put-number .kept .0
 
 returns : tie.Need-returns Inv-loop μ-loop
 returns c =
@@ -144,17 +144,18 @@ write-arrivals-spec =
     μ-loop
     put-number-requires
     loop-holds
-    add-put-number
+    add-start
+    mul-start
+    add-start-2
+    add-end
+    sub-arrival
+    part-arrival-start
+    part-arrival-end
     mul-put-number
-    add-put-number-2
-    mul-put-number-2
     shared-slice-read-put-number
     cast-put-number
     put-number-requires-2
-    add-put-number-3
-    mul-put-number-3
-    add-put-number-4
-    mul-put-number-4
+    mul-put-number-2
     shared-slice-read-put-number-2
     put-number-requires-3
     add-i

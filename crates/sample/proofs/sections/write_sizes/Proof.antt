@@ -28,6 +28,12 @@ room c =
     let k = c .before .before .before .put-number .kept .0 in
     omega (arith, c .before .before .before .before .before .before .before .pre)
 
+-- the length stays
+kept : (c : tie.At-loop Inv-loop μ-loop) → length (c .loop .out) ≡ length (c .before .before .before .put-number .last .0)
+kept c =
+    let a = c .before .before .before .before .before .before .before .args in
+    write-length sizeOctets 2 size-long (now (a .sizes)) (a .at + 2) (c .before .before .before .put-number .last .0) (room c) (c .loop .i) (c .loop .inv .1) (c .loop .inv .0)
+
 put-number-requires : tie.Need-put-number-requires Inv-loop μ-loop
 put-number-requires c κs = search needs
 
@@ -37,17 +43,32 @@ loop-holds c =
     let k = c .before .before .put-number .kept .0 in
     (search needs, write-start sizeOctets 2 size-long (now (a .sizes)) (a .at + 2) (c .before .before .put-number .last .0) (omega arith))
 
-add-put-number : tie.Need-add-put-number Inv-loop μ-loop
-add-put-number c = search needs
+add-start : tie.Need-add-start Inv-loop μ-loop
+add-start c = search needs
+
+mul-start : tie.Need-mul-start Inv-loop μ-loop
+mul-start c = search needs
+
+add-start-2 : tie.Need-add-start-2 Inv-loop μ-loop
+add-start-2 c = search needs
+
+add-end : tie.Need-add-end Inv-loop μ-loop
+add-end c = search needs
+
+sub-size : tie.Need-sub-size Inv-loop μ-loop
+sub-size c = search needs
+
+part-size-start : tie.Need-part-size-start Inv-loop μ-loop
+part-size-start c = search needs
+
+part-size-end : tie.Need-part-size-end Inv-loop μ-loop
+part-size-end c =
+    let k = kept (c .before) in
+    let r = room (c .before) in
+    omega arith
 
 mul-put-number : tie.Need-mul-put-number Inv-loop μ-loop
 mul-put-number c = search needs
-
-add-put-number-2 : tie.Need-add-put-number-2 Inv-loop μ-loop
-add-put-number-2 c = search needs
-
-mul-put-number-2 : tie.Need-mul-put-number-2 Inv-loop μ-loop
-mul-put-number-2 c = search needs
 
 shared-slice-read-put-number : tie.Need-shared-slice-read-put-number Inv-loop μ-loop
 shared-slice-read-put-number c = search needs
@@ -76,10 +97,7 @@ loop-again c =
 
 same-length : tie.Need-same-length Inv-loop μ-loop
 same-length c =
-    let l = c .before in
-    let a = l .before .before .before .before .before .before .before .args in
-    write-length sizeOctets 2 size-long (now (a .sizes)) (a .at + 2) (l .before .before .before .put-number .last .0) (room l) (l .loop .i) (l .loop .inv .1) (l .loop .inv .0)
-    ∙ l .before .before .before .put-number .kept .0
+    kept (c .before) ∙ c .before .before .before .before .put-number .kept .0
 
 returns : tie.Need-returns Inv-loop μ-loop
 returns c =
@@ -97,10 +115,14 @@ write-sizes-spec =
     μ-loop
     put-number-requires
     loop-holds
-    add-put-number
+    add-start
+    mul-start
+    add-start-2
+    add-end
+    sub-size
+    part-size-start
+    part-size-end
     mul-put-number
-    add-put-number-2
-    mul-put-number-2
     shared-slice-read-put-number
     cast-put-number
     put-number-requires-2
