@@ -275,52 +275,33 @@ module _ (d : Decoded) (n r : ℕ) (e : r ≡ askedRefusal d 1 100 n) where
   unfolding degreeCounts
   degree-answered z part whole p w = rw (p, w) (ap₂ (counts-with n) e (sym (degree-accepted d n (sym e ∙ z))))
 
--- ---- the gap of a record, by the position of its answer
+-- ---- the gap of a record, by its position
 
--- the refusal of an answer
-own-refusal : (d : Decoded) (asked : ℕ) (a : RecordAnswer) → a ≡ recordAnswer d asked → a .refusal ≡ recordRefusal d asked
-unfolding recordAnswer
-own-refusal d asked a e = ap (λ (a : RecordAnswer). a .refusal) e
+module _ (d : Decoded) (y : Layout) (h : Laid d y) (asked r : ℕ) (e : r ≡ recordRefusal d asked) (z : r ≡ 0) where
+  -- the record asked for is one of the file's
+  pub record-laid : (1 ≤ asked) × (asked ≤ y .arrivals)
+  record-laid = omega (arith, record-inside d asked (sym e ∙ z), arrivals-laid d y h)
 
--- a refused answer has none
-pub gap-answer-refused : (d : Decoded) (asked : ℕ) (a : RecordAnswer) → a ≡ recordAnswer d asked → (a .refusal ≡ 0 → ⊥)
-    → gap-with (a .refusal) Gap.None ≡ recordGap d asked
-gap-answer-refused d asked a e h = gap-answered-refused d asked (a .refusal) (own-refusal d asked a e) h
-
-module _ (d : Decoded) (y : Layout) (h : Laid d y) (asked : ℕ) (a : RecordAnswer) (e : a ≡ recordAnswer d asked) (z : a .refusal ≡ 0) where
-  -- its own refusal
-  own : a .refusal ≡ recordRefusal d asked
-  own = own-refusal d asked a e
-
-  -- the record asked for is there
+  -- so it is there
   inside : Has d y (asked - 1)
-  inside = record { file = h; inside = omega (arith, record-inside d asked (sym own ∙ z), arrivals-laid d y h) }
+  inside = record { file = h; inside = omega (arith, record-laid) }
 
-  -- its own answer
-  own-answer : a .answer ≡ answerAt d (asked - 1)
-  unfolding recordAnswer
-  own-answer = ap (λ (a : RecordAnswer). a .answer) e ∙ answer-known d asked (sym own ∙ z) _
+  module _ (p : ℕ) (is : p ≡ placeIn (answerAt d (asked - 1))) where
+    -- a copy has none
+    pub gap-copy : p ≡ 0 → gap-with r Gap.None ≡ recordGap d asked
+    unfolding gapOf
+    gap-copy s = gap-answered d asked r e z Gap.None (sym (ap (gapOf (answersOf d)) (position-none d y (asked - 1) inside (sym is ∙ s))))
 
-  -- a copy has none
-  pub gap-copy : (p : ℕ) → p ≡ placeIn (a .answer) → p ≡ 0 → gap-with (a .refusal) Gap.None ≡ recordGap d asked
-  unfolding gapOf
-  gap-copy p q s =
-      gap-answered d asked (a .refusal) own z Gap.None
-      (sym (ap (gapOf (answersOf d)) (position-none d y (asked - 1) inside (ap placeIn (sym own-answer) ∙ sym q ∙ s))))
+    -- a position is at most 4,096
+    pub place-few : p ≤ 4096
+    place-few = omega (arith, is, position-le d y (asked - 1) inside, arrived-le d y (asked - 1) inside)
 
-  -- a position is at most 4,096
-  pub place-few : (p : ℕ) → p ≡ placeIn (a .answer) → p ≤ 4096
-  place-few p q =
-      omega (arith, q, ap placeIn own-answer, position-le d y (asked - 1) inside, arrived-le d y (asked - 1) inside)
-
-  -- any other that of its position
-  pub gap-placed : (p : ℕ) → p ≡ placeIn (a .answer) → (p ≡ 0 → ⊥) → (found : List ℕ) → Marked (answersOf d) found → (g : Gap) → g ≡ gapBy found p
-      → gap-with (a .refusal) g ≡ recordGap d asked
-  gap-placed p q s found m g k =
-      let same : p ≡ placeIn (answerAt d (asked - 1)) = q ∙ ap placeIn own-answer in
-      let low : 1 ≤ p = omega (arith, s) in
-      let at : positionOf (answerAt d (asked - 1)) ≡ some p = rw (sym same) at (position-some (answerAt d (asked - 1)) (rw same at low)) in
-      gap-answered d asked (a .refusal) own z g
-      (k
-      ∙ sym (gap-marked (answersOf d) found m p low (omega (arith, same, position-le d y (asked - 1) inside)) (place-few p q))
-      ∙ ap (gapOf (answersOf d)) (sym at))
+    -- any other that of its position
+    pub gap-placed : (p ≡ 0 → ⊥) → (found : List ℕ) → Marked (answersOf d) found → (g : Gap) → g ≡ gapBy found p → gap-with r g ≡ recordGap d asked
+    gap-placed s found m g k =
+        let low : 1 ≤ p = omega (arith, s) in
+        let at : positionOf (answerAt d (asked - 1)) ≡ some p = rw (sym is) at (position-some (answerAt d (asked - 1)) (rw is at low)) in
+        gap-answered d asked r e z g
+        (k
+        ∙ sym (gap-marked (answersOf d) found m p low (omega (arith, is, position-le d y (asked - 1) inside)) place-few)
+        ∙ ap (gapOf (answersOf d)) (sym at))

@@ -198,6 +198,10 @@ module _ (l : List Arrival) (a : Arrival) (numbers records skipped : List ℕ) (
 pub arrivals-laid : (d : Decoded) (y : Layout) → Laid d y → y .arrivals ≡ length (arrivalsOf d)
 arrivals-laid d y h = ap (λ (y : Layout). y .arrivals) (h .laid)
 
+-- there are i among its first i
+pub before-count : (d : Decoded) (y : Layout) (i : ℕ) → Laid d y → i ≤ y .arrivals → length (before d i) ≡ i
+before-count d y i h most = length-take-le i (arrivalsOf d) (omega (arith, arrivals-laid d y h))
+
 module _ (d : Decoded) (y : Layout) (i : ℕ) (h : Has d y i) where
   -- record i + 1 is one of the arrivals
   pub inside-laid : i < length (arrivalsOf d)
@@ -209,7 +213,7 @@ module _ (d : Decoded) (y : Layout) (i : ℕ) (h : Has d y i) where
 
   -- i arrivals are before it
   pub before-length : length (before d i) ≡ i
-  before-length = length-take-le i (arrivalsOf d) (omega (arith, inside-laid))
+  before-length = before-count d y i (h .file) (omega (arith, h .inside))
 
   -- at most i of them are first arrivals
   pub count-le : (numbers records skipped : List ℕ) (state : State) → Follows (before d i) numbers records skipped state

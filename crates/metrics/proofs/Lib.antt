@@ -2,9 +2,11 @@
 pub mod Places
 pub mod Records
 pub mod Follow
+pub mod Sizes
 pub mod Reordered
 pub mod Told
 pub mod Passes
+pub mod Seen
 pub mod Discovered
 pub mod Asked
 pub mod Within

@@ -5,7 +5,7 @@ use mathlib.Core.List.{List, [], _∷_, _++_}
 use Prim.Native.Nat.{ℕ, zero, suc, _+_, _*_, _^_, _≤_, _<_}
 use native.Mathlib.Omega.{arith}
 use lib.ListN.{length, length-append}
-use lib.Seq.{take-all, length-take-le}
+use lib.Seq.{take-all}
 use borrow.Author.Tests.{lt-ltb, le-ltb}
 use Rattle.octets.specs.Below.{Octets}
 use Rattle.octets.specs.Memory.{over, put}
@@ -27,7 +27,7 @@ use Rattle.sample.specs.declared.Layout.{Layout}
 use Rattle.metrics.specs.Sample.{arrivalsOf, answersOf, arrivalAt, before, answerAt, sizeOf, Laid, Has}
 use Rattle.metrics.specs.Report.{sampleText, listingText, listingShort, writtenText, ListedTo}
 use Rattle.metrics.specs.declared.SampleListing.{SampleListing}
-use Rattle.metrics.proofs.Follow.{arrivals-laid, before-more, before-length}
+use Rattle.metrics.proofs.Follow.{arrivals-laid, before-more, before-count, before-length}
 use Rattle.metrics.proofs.Passes.{answersTo, answers-start, answers-next, answers-end}
 use Rattle.metrics.proofs.Within.{answers-within, counts-within}
 
@@ -84,8 +84,7 @@ module _ (file : List ℕ) (y : Layout) (laid : Laid (decode file) y) (old : Lis
   -- the lines up to record i are few
   pub listing-within : {i at : ℕ} {out : List ℕ} → i ≤ y .arrivals → ListedAt (decode file) y i at start out → at ≤ 24 + 61 * 4096
   listing-within {i} {at} h s =
-      let e : length (before (decode file) i) ≡ i = length-take-le i (arrivalsOf (decode file)) (omega (arith, arrivals-laid (decode file) y laid)) in
-      omega (arith, s .within, laid .few)
+      omega (arith, s .within, laid .few, before-count (decode file) y i laid h)
 
   -- after the last line
   pub listing-end : {i at n : ℕ} {c : Counts} {out newer : List ℕ} → y .arrivals ≤ i → ListedAt (decode file) y i at start out

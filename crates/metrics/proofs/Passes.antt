@@ -26,11 +26,12 @@ use Rattle.sample.specs.declared.Layout.{Layout}
 use Rattle.sample.specs.Decode.{Decoded}
 use Rattle.metrics.specs.Sample.{sizeOf, arrivalsOf, answersOf, arrivalAt, before, answerAt, Laid, Has}
 use Rattle.metrics.specs.Tables.{Follows, Late, classOf}
-use Rattle.metrics.specs.Steps.{Inside, Small, noCounts, countsBy, tallyBy, degreeBy, orZero, Marked, markBy}
+use Rattle.metrics.specs.Steps.{Inside, Small, noCounts, countsBy, tallyBy, Fewer, noParts, partsBy, partsOf, orZero, Marked, markBy}
 use Rattle.metrics.specs.declared.look.Class.{Class}
+use Rattle.metrics.specs.declared.figures.Parts.{Parts}
 use Rattle.metrics.specs.declared.tables.State.{State}
 use Rattle.metrics.proofs.Follow.{arrivals-laid, before-more, before-length}
-use Rattle.metrics.proofs.Told.{Tells, told-class, late-place, late-found}
+use Rattle.metrics.proofs.Told.{Tells, late-place, late-found}
 
 -- the answers for the records before record i + 1
 abbrev pub answersTo : Decoded → ℕ → List Answer
@@ -124,11 +125,6 @@ counts-small l h =
       current = omega arith;
     }
 
-module _ (d : Decoded) (y : Layout) (i : ℕ) (h : Has d y i) (n : ℕ) (k : Class) (t : Tells d i n k) where
-  -- the counts under record i + 1
-  pub counts-next : counts (answersTo d (i + 1)) ≡ countsBy (counts (answersTo d i)) k
-  counts-next = rw (answers-next d y i h, told-class d i n k t) (counts-more (answersTo d i) (answerAt d i))
-
 -- ---- tally
 
 -- the tally's step, by the class
@@ -150,29 +146,42 @@ pub tally-none : tally [] ≡ replicate 101 0
 unfolding tally
 tally-none = refl
 
--- ---- n-reordered packets
+-- ---- reordered and n-reordered packets
 
--- among no answers
-pub degree-none : (n : ℕ) → nReordered n [] ≡ 0
-unfolding nReordered count
-degree-none n = refl
+-- those of no answers
+pub parts-none : (low high : ℕ) → partsOf low high [] ≡ noParts
+unfolding partsOf nReordered count
+parts-none low high = refl
 
--- the step of the n-reordered packets, by the class
-degree-told : (d : Decoded) (i m : ℕ) (k : Class) → Tells d i m k → (n number part : ℕ) → number ≡ arrivalAt d i .number
-    → cond (isNReordered n (answerAt d i)) (part + 1) part ≡ degreeBy n (largestN (firsts (before d i)) number) part k
-unfolding isNReordered degreeBy reorderedAnswer
-degree-told d i m (Class.Duplicate first) e n number part is = rw e
-degree-told d i m (Class.InOrder jump) e n number part is = rw e
-degree-told d i m (Class.Reordered at) e n number part is = rw (e .answer, is)
+-- those after one answer more
+abbrev partsAfter : ℕ → ℕ → Parts → Answer → Parts
+partsAfter low high p a =
+    record {
+      reordered = cond (isReordered a) (p .reordered + 1) (p .reordered);
+      low = cond (isNReordered low a) (p .low + 1) (p .low);
+      high = cond (isNReordered high a) (p .high + 1) (p .high);
+    }
 
--- the n-reordered packets under record i + 1
-pub degree-next : (d : Decoded) (y : Layout) (i : ℕ) → Has d y i → (m : ℕ) (k : Class) → Tells d i m k → (n number : ℕ) → number ≡ arrivalAt d i .number
-    → nReordered n (answersTo d (i + 1)) ≡ degreeBy n (largestN (firsts (before d i)) number) (nReordered n (answersTo d i)) k
-unfolding nReordered
-degree-next d y i h m k t n number is =
-    ap (count (isNReordered n)) (answers-next d y i h)
-    ∙ count-more (isNReordered n) (answersTo d i) (answerAt d i)
-    ∙ degree-told d i m k t n number (count (isNReordered n) (answersTo d i)) is
+-- those of one answer more
+parts-more : (low high : ℕ) (l : List Answer) (a : Answer) → partsOf low high (l ++ (a ∷ [])) ≡ partsAfter low high (partsOf low high l) a
+unfolding partsOf nReordered
+parts-more low high l a = rw (count-more isReordered l a, count-more (isNReordered low) l a, count-more (isNReordered high) l a)
+
+-- their step, by the class
+parts-told : (d : Decoded) (i m : ℕ) (k : Class) → Tells d i m k → (low high number : ℕ) (p : Parts) → number ≡ arrivalAt d i .number
+    → partsAfter low high p (answerAt d i) ≡ partsBy low high (largestN (firsts (before d i)) number) p k
+unfolding isNReordered partsBy reorderedAnswer
+parts-told d i m (Class.Duplicate first) e low high number p is = rw e
+parts-told d i m (Class.InOrder jump) e low high number p is = rw e
+parts-told d i m (Class.Reordered at) e low high number p is = rw (e .answer, is)
+
+-- those under record i + 1
+pub parts-next : (d : Decoded) (y : Layout) (i : ℕ) → Has d y i → (m : ℕ) (k : Class) → Tells d i m k → (low high number : ℕ) → number ≡ arrivalAt d i .number
+    → partsOf low high (answersTo d (i + 1)) ≡ partsBy low high (largestN (firsts (before d i)) number) (partsOf low high (answersTo d i)) k
+parts-next d y i h m k t low high number is =
+    ap (partsOf low high) (answers-next d y i h)
+    ∙ parts-more low high (answersTo d i) (answerAt d i)
+    ∙ parts-told d i m k t low high number (partsOf low high (answersTo d i)) is
 
 -- no more answers pass a test than there are
 count-most : (p : Answer → Bool) (l : List Answer) → count p l ≤ length l
@@ -186,10 +195,15 @@ count-most p l = snoc-ind (λ (l : List Answer). count p l ≤ length l) more (o
     more : (l : List Answer) (a : Answer) → count p l ≤ length l → count p (l ++ (a ∷ [])) ≤ length (l ++ (a ∷ []))
     more l a h = rw (count-more p l a, length-append l (a ∷ [])) (go (p a) (count p l) (length l) h)
 
--- no more than there are answers
-pub degree-le : (n : ℕ) (l : List Answer) → nReordered n l ≤ length l
-unfolding nReordered
-degree-le n l = count-most (isNReordered n) l
+-- those of fewer than 4,096 answers
+pub parts-fewer : (low high : ℕ) (l : List Answer) → length l < 4096 → Fewer (partsOf low high l)
+unfolding partsOf nReordered
+parts-fewer low high l h =
+    record {
+      reordered = omega (arith, count-most isReordered l);
+      low = omega (arith, count-most (isNReordered low) l);
+      high = omega (arith, count-most (isNReordered high) l);
+    }
 
 -- ---- discoverers of discontinuities
 

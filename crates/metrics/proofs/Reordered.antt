@@ -4,12 +4,13 @@ use mathlib.Core.Path.{_≡_, refl, sym, ap, ap₂, _∙_}
 use mathlib.Core.Bool.{Bool, true, false, cond}
 use mathlib.Core.List.{List, [], _∷_, _++_}
 use mathlib.Core.Option.{Option, none, some, Option·some-ne-none}
-use Prim.Native.Nat.{ℕ, _+_, _-_, _≤_, _<_}
+use Prim.Native.Nat.{ℕ, zero, suc, _+_, _-_, _≤_, _<_}
+use native.Mathlib.Numerals.{add-one}
 use native.Mathlib.Omega.{arith}
 use lib.Dec.{ltb}
 use lib.ListN.{length, take, getD, length-append, List·getD-append}
 use lib.Seq.{take-all, take-append-le, take-append-seam, getD-append-seam}
-use borrow.Author.Tests.{lt-ltb, le-ltb}
+use borrow.Author.Tests.{lt-ltb, le-ltb, ltb-true, ltb-false}
 use Rattle.rfc4737.specs.declared.Arrival.{Arrival}
 use Rattle.rfc4737.specs.Order.{Placed, placed, placeAfter}
 use Rattle.rfc4737.specs.Extent.{firstAbove, discontinuity, byteOffset, largestN}
@@ -19,18 +20,51 @@ use Rattle.rfc4737.proofs.Arrivals.{fold-take}
 use Rattle.rfc4737.proofs.Folds.{offset-more}
 use Rattle.rfc4737.proofs.Jumps.{placed-more, firstAbove-append, orElse}
 use Rattle.metrics.specs.Sample.{noArrival}
-use Rattle.metrics.specs.Tables.{Numbered}
+use Rattle.metrics.specs.Tables.{Numbered, Sized, Above}
+
+-- ---- numbers above a packet's, from a place to another
+
+module _ (numbers : List ℕ) (s : ℕ) where
+  -- at no place
+  pub above-none : {low high : ℕ} → low ≡ high → Above numbers s low high
+  above-none e = record { order = omega arith; at = λ p a b. absurd (omega arith) }
+
+  -- at one place
+  pub above-one : (p : ℕ) → s < getD numbers p 0 → Above numbers s p (p + 1)
+  above-one p g = record { order = omega arith; at = λ q a b. let e : p ≡ q = omega arith in rw e at g }
+
+  -- to a place, and from there on
+  pub above-join : {low mid high : ℕ} → Above numbers s low mid → Above numbers s mid high → Above numbers s low high
+  above-join {low} {mid} {high} f g = record { order = omega arith; at = λ p a b. side p a b (ltb p mid) refl }
+    where
+      side : (p : ℕ) → low ≤ p → p < high → (t : Bool) → ltb p mid ≡ t → s < getD numbers p 0
+      side p a b true q = f .at p a (ltb-true p mid q)
+      side p a b false q = g .at p (ltb-false p mid q) b
+
+  -- at one place more after k places
+  pub above-more : (low k : ℕ) → Above numbers s low (low + k) → s < getD numbers (low + k) 0 → Above numbers s low (low + (k + 1))
+  above-more low k f g =
+      let e : low + k + 1 ≡ low + (k + 1) = omega arith in
+      rw e at (above-join f (above-one (low + k) g))
+
+  -- at n places more before a place
+  pub above-back : {p high : ℕ} (n : ℕ) → Above numbers s p high → n ≤ p → Above numbers s (p - n) (p - n + n)
+      → Above numbers s (p - n) high
+  above-back {p} n f a g =
+      let e : p - n + n ≡ p = omega arith in
+      above-join (rw e at g) f
 
 -- ---- over the numbers of a table
 
 module _ (numbers : List ℕ) (count s : ℕ) where
-  -- a sum is the byte offset over the first p positions, where none of the first `from` has a greater number
-  abbrev pub OffsetTo : (ℕ → ℕ) → ℕ → ℕ → ℕ → Type 0
-  OffsetTo size from p sum =
-      (fs : List Arrival) → Numbered fs numbers count → byteOffset size (take from fs) s ≡ 0 → sum ≡ byteOffset size (take p fs) s
+  -- a sum is the byte offset over the first p positions, by the table of sizes, where none of the first `from` has a greater number
+  abbrev pub OffsetTo : List ℕ → ℕ → ℕ → ℕ → Type 0
+  OffsetTo sizes from p sum =
+      (size : ℕ → ℕ) (fs : List Arrival) → Numbered fs numbers count → Sized size numbers sizes count
+      → byteOffset size (take from fs) s ≡ 0 → sum ≡ byteOffset size (take p fs) s
 
   -- the largest n is that over the first p positions, and one for each position after them
-  abbrev pub LargestFrom : ℕ → Type 0
+  abbrev LargestFrom : ℕ → Type 0
   LargestFrom p = (fs : List Arrival) → Numbered fs numbers count → largestN fs s ≡ largestN (take p fs) s + (count - p)
 
   module _ (p n : ℕ) (inside : p < count) (is : n ≡ getD numbers p 0) where
@@ -39,17 +73,18 @@ module _ (numbers : List ℕ) (count s : ℕ) where
     at fs h = sym (is ∙ h .at p (omega (arith, h .all)))
 
     -- under one position more, of a greater number
-    pub offset-greater : (size : ℕ → ℕ) (from sum k : ℕ) → s < n → k ≡ size n → OffsetTo size from p sum → OffsetTo size from (p + 1) (sum + k)
+    pub offset-greater : (sizes : List ℕ) (from sum k : ℕ) → s < n → k ≡ getD sizes p 0 → OffsetTo sizes from p sum
+        → OffsetTo sizes from (p + 1) (sum + k)
     unfolding byteOffset
-    offset-greater size from sum k g e o fs h none-before =
-        ap₂ (λ (a b : ℕ). a + b) (o fs h none-before) e
+    offset-greater sizes from sum k g e o size fs h z none-before =
+        ap₂ (λ (a b : ℕ). a + b) (o size fs h z none-before) (e ∙ z .at p inside ∙ ap size (sym is))
         ∙ sym (fold-take _ 0 noArrival fs p (omega (arith, h .all)) ∙ rw (at fs h, lt-ltb s n g))
 
     -- of a number that is not greater
-    pub offset-same : (size : ℕ → ℕ) (from sum : ℕ) → n ≤ s → OffsetTo size from p sum → OffsetTo size from (p + 1) sum
+    pub offset-same : (sizes : List ℕ) (from sum : ℕ) → n ≤ s → OffsetTo sizes from p sum → OffsetTo sizes from (p + 1) sum
     unfolding byteOffset
-    offset-same size from sum g o fs h none-before =
-        o fs h none-before
+    offset-same sizes from sum g o size fs h z none-before =
+        o size fs h z none-before
         ∙ sym (fold-take _ 0 noArrival fs p (omega (arith, h .all)) ∙ rw (at fs h, le-ltb s n g) (omega arith))
 
     -- the same, where the number at position p + 1 is greater
@@ -68,34 +103,29 @@ module _ (numbers : List ℕ) (count s : ℕ) where
         fold-take _ 0 noArrival fs p (omega (arith, h .all)) ∙ rw (at fs h, le-ltb s n g) in
         omega (arith, o fs h)
 
-  module _ (p n : ℕ) (low : 0 < p) (inside : p ≤ count) (is : n ≡ getD numbers (p - 1) 0) where
-    -- the position before and back
-    back : p - 1 + 1 ≡ p
-    back = omega arith
-
-    -- under one position less, whose number is greater
-    pub largest-greater : s < n → LargestFrom p → LargestFrom (p - 1)
-    largest-greater g o = largest-one-greater (p - 1) n (omega arith) is g (rw back o)
-
-    -- whose number is not greater
-    pub largest-none : n ≤ s → LargestFrom p → (fs : List Arrival) → Numbered fs numbers count → count - p ≡ largestN fs s
-    largest-none g o = rw back at (largest-one-none (p - 1) n (omega arith) is g (rw back o))
-
   -- the byte offset over all positions
-  pub offset-all : (size : ℕ → ℕ) (from p sum : ℕ) → count ≤ p → OffsetTo size from p sum
-      → (fs : List Arrival) → Numbered fs numbers count → byteOffset size (take from fs) s ≡ 0 → sum ≡ byteOffset size fs s
-  offset-all size from p sum g o fs h none-before = o fs h none-before ∙ ap (λ (l : List Arrival). byteOffset size l s) (take-all p fs (omega (arith, h .all)))
+  pub offset-all : (sizes : List ℕ) (from p sum : ℕ) → count ≤ p → OffsetTo sizes from p sum
+      → (size : ℕ → ℕ) (fs : List Arrival) → Numbered fs numbers count → Sized size numbers sizes count
+      → byteOffset size (take from fs) s ≡ 0 → sum ≡ byteOffset size fs s
+  offset-all sizes from p sum g o size fs h z none-before =
+      o size fs h z none-before ∙ ap (λ (l : List Arrival). byteOffset size l s) (take-all p fs (omega (arith, h .all)))
 
-  -- the largest n before any position is looked at
-  pub largest-start : LargestFrom count
-  largest-start fs h = rw (take-all count fs (omega (arith, h .all))) (omega arith)
+  -- the largest n, where the numbers at n positions after the first p, up to the last, are all greater
+  largest-above : (n p : ℕ) → n + p ≡ count → Above numbers s p count → LargestFrom p
+  largest-above zero p e g = λ fs h. rw (take-all p fs (omega (arith, h .all))) (omega arith)
+  largest-above (suc n) p e g =
+      largest-one-greater p _ (omega arith) refl (g .at p (omega arith) (omega arith))
+      (largest-above n (p + 1) (omega arith) (record { order = omega arith; at = λ k a b. g .at k (omega arith) b }))
 
-  -- the largest n where all positions hold greater numbers
-  pub largest-all : (p : ℕ) → p ≤ 0 → LargestFrom p → (fs : List Arrival) → Numbered fs numbers count → count ≡ largestN fs s
+  -- the largest n counts the positions whose numbers are all greater, back to one whose number is not, or to the first
+  pub largest-back : (p : ℕ) → Above numbers s p count → (0 < p → getD numbers (p - 1) 0 ≤ s)
+      → (fs : List Arrival) → Numbered fs numbers count → count - p ≡ largestN fs s
   unfolding largestN
-  largest-all p g o fs h =
-      let e : p ≡ 0 = omega arith in
-      let k = rw e at (o fs h) in omega (arith, k)
+  largest-back zero g stop = λ fs h. omega (arith, largest-above count 0 (omega arith) g fs h)
+  largest-back (suc p) g stop =
+      let e : suc p - 1 ≡ p = omega arith in
+      let o = largest-above (count - suc p) (suc p) (omega arith) g in
+      rw add-one at (largest-one-none p _ (omega arith) refl (rw e at (stop (omega arith))) (rw add-one o))
 
 -- ---- where a discontinuity stands
 

@@ -21,11 +21,12 @@ use Rattle.rfc4737.proofs.Folds.{answer-duplicate, answer-first, first-in-order
 use Rattle.rfc4737.proofs.Jumps.{reordered-discontinuity}
 use Rattle.sample.specs.declared.Layout.{Layout}
 use Rattle.sample.specs.Decode.{Decoded}
-use Rattle.metrics.specs.Sample.{noArrival, sizeOf, arrivalsOf, arrivalAt, before, answerAt, Has}
-use Rattle.metrics.specs.Tables.{Numbered, Packets, Recorded, Follows, Late, placeOf, classOf, classBy}
+use Rattle.metrics.specs.Sample.{noArrival, sizeOf, arrivalsOf, arrivalAt, before, answerAt, Laid, Has}
+use Rattle.metrics.specs.Tables.{Numbered, Packets, Recorded, Follows, Late, placeOf, classBy}
+use Rattle.metrics.specs.Steps.{placeIn, placeBy}
 use Rattle.metrics.specs.declared.look.Class.{Class}
 use Rattle.metrics.specs.declared.tables.State.{State}
-use Rattle.metrics.proofs.Follow.{before-length, arrived-recorded, new-recorded}
+use Rattle.metrics.proofs.Follow.{before-count, before-length, arrived-recorded, new-recorded}
 use Rattle.metrics.proofs.Records.{record-some, has-at, first-at}
 use Rattle.metrics.proofs.Reordered.{Found, found}
 
@@ -93,26 +94,23 @@ module _ (d : Decoded) (i : ℕ) (numbers records skipped : List ℕ) (state : S
 pub late-found : (d : Decoded) (i at : ℕ) (h : Late d i at) → Found (sizeOf d) (firsts (before d i)) (arrivalAt d i .number) (h .place)
 late-found d i at h = found (sizeOf d) (arrivalAt d i .number) (firsts (before d i)) (h .place) (h .is)
 
--- a class that tells the answer is the answer's
-pub told-class : (d : Decoded) (i count : ℕ) (k : Class) → Tells d i count k → k ≡ classOf (answerAt d i)
-unfolding reorderedAnswer extentFrom
-told-class d i count (Class.Duplicate first) h = rw h
-told-class d i count (Class.InOrder jump) h = rw h
-told-class d i count (Class.Reordered at) h =
-    let f = late-found d i at h in
-    let e : at ≡ length (firsts (before d i)) + 1 - (length (firsts (before d i)) + 1 - h .place .position) = omega (arith, h .position, f .low, f .high) in
-    rw (h .answer) (ap Class.Reordered e)
+-- the position that a class gives which tells the answer is the answer's
+pub place-told : (d : Decoded) (i count : ℕ) (k : Class) → Tells d i count k → count ≡ length (firsts (before d i)) → placeBy count k ≡ placeIn (answerAt d i)
+unfolding placeBy reorderedAnswer
+place-told d i count (Class.Duplicate first) h c = rw h
+place-told d i count (Class.InOrder jump) h c = rw h
+place-told d i count (Class.Reordered at) h c = rw (h .answer, c)
 
--- a first arrival before record i + 1 stands at a record before it
-module _ (d : Decoded) (y : Layout) (i : ℕ) (h : Has d y i) (p : ℕ) (inside : p < length (firsts (before d i))) where
+-- a first arrival among the first i arrivals stands at one of their records
+module _ (d : Decoded) (y : Layout) (i : ℕ) (h : Laid d y) (most : i ≤ y .arrivals) (p : ℕ) (inside : p < length (firsts (before d i))) where
   -- its packet has arrived
   arrived : has (getD (firsts (before d i)) p noArrival .number) (before d i) ≡ true
   arrived = sym (has-firsts _ (before d i)) ∙ has-at noArrival (firsts (before d i)) p inside
 
-  -- its record is one before record i + 1
+  -- its record is one of the first i
   first-record : (1 ≤ firstRecord (getD (firsts (before d i)) p noArrival .number) (before d i))
       × (firstRecord (getD (firsts (before d i)) p noArrival .number) (before d i) ≤ i)
-  first-record = omega (arith, record-some _ (before d i) arrived, before-length d y i h)
+  first-record = omega (arith, record-some _ (before d i) arrived, before-count d y i h most)
 
   -- and it stands there
   first-stands : arrivalAt d (firstRecord (getD (firsts (before d i)) p noArrival .number) (before d i) - 1) ≡ getD (firsts (before d i)) p noArrival
@@ -124,20 +122,26 @@ module _ (d : Decoded) (y : Layout) (i : ℕ) (h : Has d y i) (p : ℕ) (inside 
   first-number : (1 ≤ getD (firsts (before d i)) p noArrival .number) × (getD (firsts (before d i)) p noArrival .number ≤ y .sent)
   first-number =
       let r = firstRecord (getD (firsts (before d i)) p noArrival .number) (before d i) - 1 in
-      let n = h .file .numbers r (omega (arith, first-record, h .inside)) in
+      let n = h .numbers r (omega (arith, first-record)) in
       omega (arith, n, ap (λ (a : Arrival). a .number) first-stands)
 
--- the numbers of the first arrivals are those of packets
-pub packets : (d : Decoded) (y : Layout) (i : ℕ) → Has d y i → (numbers : List ℕ) (count : ℕ) → Numbered (firsts (before d i)) numbers count
-    → Packets numbers count (y .sent)
-packets d y i h numbers count n =
-    record {
-      inside = λ p g. let low : p < length (firsts (before d i)) = omega (arith, n .all) in
-          omega (arith, n .at p low, first-number d y i h p low);
-    }
+-- there are few first arrivals, and their numbers are those of packets
+pub packets : (d : Decoded) (y : Layout) (i : ℕ) → Laid d y → (numbers : List ℕ) (count : ℕ)
+    → Numbered (firsts (before d i)) numbers count → i ≤ y .arrivals → (count ≤ 4096) × Packets numbers count (y .sent)
+packets d y i h numbers count n most = (
+  omega (arith, n .all, length-firsts (before d i), before-count d y i h most, h .few),
+  record {
+    inside = λ p g. let low : p < length (firsts (before d i)) = omega (arith, n .all) in
+        omega (arith, n .at p low, first-number d y i h most p low);
+  },
+)
 
 module _ (d : Decoded) (y : Layout) (i at count : ℕ) (h : Has d y i) (late : Late d i at) (numbers records : List ℕ)
     (nums : Numbered (firsts (before d i)) numbers count) (recs : Recorded (before d i) records) where
+  -- record i + 1 is one of the records
+  most : i ≤ y .arrivals
+  most = omega (arith, h .inside)
+
   -- a discontinuity is at one of the positions
   pub late-place : (1 ≤ at) × (at ≤ count) × (count ≤ i)
   late-place =
@@ -150,7 +154,7 @@ module _ (d : Decoded) (y : Layout) (i at count : ℕ) (h : Has d y i) (late : L
 
   -- its packet is one of the packets
   pub late-packet : (1 ≤ getD numbers (at - 1) 0) × (getD numbers (at - 1) 0 ≤ 4096)
-  late-packet = omega (arith, packets d y i h numbers count nums .inside (at - 1) (omega (arith, late-place)), h .file .sentFew)
+  late-packet = omega (arith, packets d y i (h .file) numbers count nums most .1 .inside (at - 1) (omega (arith, late-place)), h .file .sentFew)
 
   -- the table of records has its record
   same-packet : getD records (getD numbers (at - 1) 0) 0 ≡ firstRecord (getD (firsts (before d i)) (at - 1) noArrival .number) (before d i)
@@ -158,13 +162,13 @@ module _ (d : Decoded) (y : Layout) (i at count : ℕ) (h : Has d y i) (late : L
 
   -- and its record is one before record i + 1
   pub late-record : (1 ≤ getD records (getD numbers (at - 1) 0) 0) × (getD records (getD numbers (at - 1) 0) 0 ≤ i)
-  late-record = omega (arith, same-packet, first-record d y i h (at - 1) inside)
+  late-record = omega (arith, same-packet, first-record d y i (h .file) most (at - 1) inside)
 
   -- which has the discontinuity's time
   pub late-time : arrivalAt d (getD records (getD numbers (at - 1) 0) 0 - 1) .time ≡ late .place .time
   late-time =
       ap (λ (r : ℕ). arrivalAt d (r - 1) .time) same-packet
-      ∙ ap (λ (a : Arrival). a .time) (first-stands d y i h (at - 1) inside)
+      ∙ ap (λ (a : Arrival). a .time) (first-stands d y i (h .file) most (at - 1) inside)
       ∙ rw (sym (late .position)) (late-found d i at late .time)
 
   -- the answer, from its parts

@@ -1,6 +1,6 @@
 -- Steps of the engine's passes: the figures under one arrival more, by its class. Assumes nothing.
 use mathlib.Core.Path.{_≡_}
-use mathlib.Core.Bool.{cond}
+use mathlib.Core.Bool.{Bool, false, cond}
 use mathlib.Core.List.{List}
 use mathlib.Core.Option.{Option, none, some}
 use Prim.Native.Nat.{ℕ, zero, suc, _+_, _-_, _≤_, _<_}
@@ -10,11 +10,13 @@ use Rattle.rfc4737.specs.declared.Answer.{Answer}
 use Rattle.rfc4737.specs.declared.Counts.{Counts}
 use Rattle.rfc4737.specs.declared.Gap.{Gap}
 use Rattle.rfc4737.specs.declared.Ratios.{Ratios}
-use Rattle.rfc4737.specs.Runs.{lengthened, ended}
+use Rattle.rfc4737.specs.Arrivals.{count}
+use Rattle.rfc4737.specs.Runs.{isReordered, lengthened, ended}
 use Rattle.rfc4737.specs.Tally.{tallyPlace, oneMoreAt}
 use Rattle.rfc4737.specs.Gaps.{discoverer}
-use Rattle.rfc4737.specs.Ratios.{quotient}
+use Rattle.rfc4737.specs.Ratios.{quotient, nReordered}
 use Rattle.metrics.specs.declared.look.Class.{Class}
+use Rattle.metrics.specs.declared.figures.Parts.{Parts}
 
 -- a discontinuity that a class names is at one of so many positions
 abbrev pub Inside : ℕ → Class → Type 0
@@ -66,7 +68,12 @@ countsBy c (Class.Reordered at) =
       runs = ended (c .runs);
     }
 
--- ---- tally, degree and ratios
+-- the class of an arrival of this number without its figures, by the packets that have arrived and NextExp
+unfoldable pub kindBy : List Bool → ℕ → ℕ → Class
+kindBy seen next number =
+    cond (getD seen number false) (Class.Duplicate 0) (cond (leb next number) (Class.InOrder 0) (Class.Reordered 0))
+
+-- ---- tally, degrees and ratios
 
 -- the tally, after so many first arrivals
 unfoldable pub tallyBy : List ℕ → ℕ → Class → List ℕ
@@ -74,11 +81,30 @@ tallyBy t count (Class.Duplicate first) = t
 tallyBy t count (Class.InOrder jump) = t
 tallyBy t count (Class.Reordered at) = oneMoreAt (tallyPlace (count + 1 - at)) t
 
--- the n-reordered packets, where the arrival has this largest n if it is reordered
-unfoldable pub degreeBy : ℕ → ℕ → ℕ → Class → ℕ
-degreeBy n largest part (Class.Duplicate first) = part
-degreeBy n largest part (Class.InOrder jump) = part
-degreeBy n largest part (Class.Reordered at) = cond (leb n largest) (part + 1) part
+-- the parts of no arrivals
+abbrev pub noParts : Parts
+noParts = record { reordered = 0; low = 0; high = 0 }
+
+-- parts of fewer than 4,096 arrivals
+pub record Fewer (p : Parts) : Type 0 where
+  pub reordered : p .reordered < 4096
+  pub low : p .low < 4096
+  pub high : p .high < 4096
+
+-- the n-reordered packets under a reordered one more, of this largest n
+abbrev pub reachedBy : ℕ → ℕ → ℕ → ℕ
+reachedBy n largest part = cond (leb n largest) (part + 1) part
+
+-- the parts for a low and a high n, where the arrival has this largest n if it is reordered
+unfoldable pub partsBy : ℕ → ℕ → ℕ → Parts → Class → Parts
+partsBy low high largest p (Class.Duplicate first) = p
+partsBy low high largest p (Class.InOrder jump) = p
+partsBy low high largest p (Class.Reordered at) =
+    record { reordered = p .reordered + 1; low = reachedBy low largest (p .low); high = reachedBy high largest (p .high) }
+
+-- the parts of some answers: the reordered packets, and the n-reordered ones for a low and for a high n
+unfoldable pub partsOf : ℕ → ℕ → List Answer → Parts
+partsOf low high l = record { reordered = count isReordered l; low = nReordered low l; high = nReordered high l }
 
 -- the ratio figures of three counts over L
 unfoldable pub ratiosBy : ℕ → ℕ → ℕ → ℕ → Ratios
@@ -99,6 +125,12 @@ abbrev pub placeIn : Answer → ℕ
 placeIn (Answer.Duplicate d) = 0
 placeIn (Answer.InOrder d) = d .position
 placeIn (Answer.Reordered d) = d .position
+
+-- the position of an arrival after so many first arrivals, 0 for a duplicate
+unfoldable pub placeBy : ℕ → Class → ℕ
+placeBy count (Class.Duplicate first) = 0
+placeBy count (Class.InOrder jump) = count + 1
+placeBy count (Class.Reordered at) = count + 1
 
 -- a table has at each position the discoverer of the discontinuity there, 0 where there is none
 pub record Marked (l : List Answer) (found : List ℕ) : Type 0 where

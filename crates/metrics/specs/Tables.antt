@@ -37,6 +37,16 @@ pub record Numbered (fs : List Arrival) (numbers : List ℕ) (count : ℕ) : Typ
 pub record Packets (numbers : List ℕ) (count most : ℕ) : Type 0 where
   pub inside : (p : ℕ) → p < count → (1 ≤ getD numbers p 0) × (getD numbers p 0 ≤ most)
 
+-- a table has, at so many places, the sizes of the packets whose numbers stand there
+pub record Sized (size : ℕ → ℕ) (numbers sizes : List ℕ) (count : ℕ) : Type 0 where
+  pub places : length sizes ≡ 4096
+  pub at : (p : ℕ) → p < count → getD sizes p 0 ≡ size (getD numbers p 0)
+
+-- the numbers of a table at the places from `low` to before `high` are above s
+pub record Above (numbers : List ℕ) (s low high : ℕ) : Type 0 where
+  pub order : low ≤ high
+  pub at : (p : ℕ) → low ≤ p → p < high → s < getD numbers p 0
+
 -- a table has the record of each packet's first arrival, 0 if it has not arrived
 pub record Recorded (earlier : List Arrival) (records : List ℕ) : Type 0 where
   pub at : (s : ℕ) → 1 ≤ s → s ≤ 4096 → getD records s 0 ≡ firstRecord s earlier

@@ -14,6 +14,7 @@ use crate::tables::FIRSTS;
 use crate::tables::PLACES;
 use crate::tables::State;
 use crate::tables::note;
+use crate::tables::note_sizes;
 use crate::tables::start;
 use rfc4737::Answer;
 use rfc4737::InOrderFigures;
@@ -76,11 +77,13 @@ pub(crate) fn answer_of(file: &[u8], y: Layout, asked: u32) -> RecordAnswer
     }
     let i = asked - 1;
     let mut numbers = [0u16; FIRSTS];
+    let mut sizes = [0u16; FIRSTS];
     let mut records = [0u16; PLACES];
     let mut skipped = [0u16; PLACES];
     let state = follow(file, y, i, &mut numbers, &mut records, &mut skipped);
+    note_sizes(file, y, &numbers, &mut sizes, 0, state.count);
     RecordAnswer {
         refusal,
-        answer: look(file, y, i, &numbers, &records, &skipped, state),
+        answer: look(file, y, i, &numbers, &sizes, &records, &skipped, state),
     }
 }

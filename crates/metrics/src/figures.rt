@@ -4,14 +4,14 @@ ghost use mathlib.Core.List.{List};
 ghost use Prim.Native.Nat.{ℕ, _+_, _≤_, _<_};
 ghost use lib.ListN.{length, getD};
 ghost use Rattle.rfc4737.specs.declared.Arrival.{Arrival};
+ghost use Rattle.rfc4737.specs.Order.{nextAfter};
 ghost use Rattle.rfc4737.specs.Extent.{largestN};
 ghost use Rattle.rfc4737.specs.Runs.{lengthened, ended, arrived, counts};
 ghost use Rattle.rfc4737.specs.Tally.{tallyPlace, tally};
-ghost use Rattle.rfc4737.specs.Ratios.{nReordered};
 ghost use Rattle.sample.specs.Decode.{decode};
 ghost use Rattle.metrics.specs.Sample.{Laid, answersOf};
 ghost use Rattle.metrics.specs.Tables.{Numbered};
-ghost use Rattle.metrics.specs.Steps.{Inside, Small, noCounts, countsBy, tallyBy, degreeBy};
+ghost use Rattle.metrics.specs.Steps.{Inside, Small, noCounts, countsBy, kindBy, tallyBy, Fewer, noParts, reachedBy, partsBy, partsOf};
 use crate::input;
 use crate::look::Class;
 use crate::look::class_of;
@@ -96,22 +96,48 @@ pub(crate) fn counted(c: Counts, class: Class) -> Counts
     }
 }
 
+// The class of an arrival of this number, without its figures, by the packets that have arrived and NextExp.
+fn kind_of(seen: &[bool; PLACES], next: u32, number: u32) -> Class
+    requires { ⌜ number ≤ 4096 ⌝ }
+    ensures { λ r. ⌜ r ≡ kindBy (now (seen .entry)) next number ⌝ }
+{
+    let at = number as usize;
+    if seen[at] {
+        return Class::Duplicate(0);
+    }
+    if next <= number {
+        return Class::InOrder(0);
+    }
+    Class::Reordered(0)
+}
+
+// NextExp after an arrival of this number; a duplicate is below it and leaves it.
+fn next_after(next: u32, number: u32) -> u32
+    requires { ⌜ number ≤ 4096 ⌝ }
+    ensures { λ r. ⌜ r ≡ nextAfter next number ⌝ }
+{
+    if next <= number {
+        return number + 1;
+    }
+    next
+}
+
 // The counts of a sample.
 pub(crate) fn counts_of(file: &[u8], y: Layout) -> Counts
     requires { ⌜ Laid (decode (now file)) y ⌝ }
     ensures { λ r. ⌜ r ≡ counts (answersOf (decode (now (file .entry)))) ⌝ }
 {
-    let mut numbers = [0u16; FIRSTS];
-    let mut records = [0u16; PLACES];
-    let mut skipped = [0u16; PLACES];
-    let mut state = start();
+    let mut seen = [false; PLACES];
+    let mut next: u32 = 1;
     let mut c = no_counts();
     let mut i: u32 = 0;
     while i < y.arrivals {
         let number = input::number(file, y, i);
-        let class = class_of(&records, &skipped, state.next, number);
+        let class = kind_of(&seen, next, number);
         c = counted(c, class);
-        state = note(file, y, i, &mut numbers, &mut records, &mut skipped, state);
+        let at = number as usize;
+        seen[at] = true;
+        next = next_after(next, number);
         i += 1;
     }
     c
@@ -163,49 +189,89 @@ pub(crate) fn tally_of(file: &[u8], y: Layout) -> [u32; 101]
     t
 }
 
-// The n-reordered packets, and L.
-pub(crate) struct Share {
-    pub part: u32,
+// The reordered packets, and the n-reordered ones for a low and for a high n.
+pub(crate) struct Parts {
+    pub reordered: u32,
+    pub low: u32,
+    pub high: u32,
+}
+
+// These of a sample, and L.
+pub(crate) struct Shares {
+    pub parts: Parts,
     pub whole: u32,
 }
 
-// The n-reordered packets under one arrival more, of this number and after so many first arrivals.
-fn reached(numbers: &[u16; FIRSTS], count: u32, number: u32, n: u32, part: u32, class: Class) -> u32
-    requires { ⌜ (count ≤ 4096) × (part < 4096) ⌝ }
-    ensures { λ r. ⌜ ((fs : List Arrival) → Numbered fs (now (numbers .entry)) count → r ≡ degreeBy n (largestN fs number) part class) ⌝ }
+// The parts of no arrivals.
+fn no_parts() -> Parts
+    ensures { λ r. ⌜ r ≡ noParts ⌝ }
+{
+    Parts {
+        reordered: 0,
+        low: 0,
+        high: 0,
+    }
+}
+
+// The n-reordered packets under a reordered one more, of this largest n.
+fn reached(n: u32, most: u32, part: u32) -> u32
+    requires { ⌜ part < 4096 ⌝ }
+    ensures { λ r. ⌜ r ≡ reachedBy n most part ⌝ }
+{
+    if n <= most {
+        return part + 1;
+    }
+    part
+}
+
+// The parts under one arrival more, of this number and after so many first arrivals.
+fn parted(
+    numbers: &[u16; FIRSTS],
+    count: u32,
+    number: u32,
+    low: u32,
+    high: u32,
+    p: Parts,
+    class: Class,
+) -> Parts
+    requires { ⌜ (count ≤ 4096) × Fewer p ⌝ }
+    ensures { λ r. ⌜ ((fs : List Arrival) → Numbered fs (now (numbers .entry)) count → r ≡ partsBy low high (largestN fs number) p class) ⌝ }
 {
     match class {
-        Class::Duplicate(_) => return part,
-        Class::InOrder(_) => return part,
+        Class::Duplicate(_) => return p,
+        Class::InOrder(_) => return p,
         Class::Reordered(_) => {
-            if n <= largest(numbers, count, number) {
-                return part + 1;
+            let most = largest(numbers, count, number);
+            Parts {
+                reordered: p.reordered + 1,
+                low: reached(low, most, p.low),
+                high: reached(high, most, p.high),
             }
-            part
         }
     }
 }
 
-// The n-reordered packets of a sample, and L: a reordered packet costs as many steps as its largest n.
-pub(crate) fn share_of(file: &[u8], y: Layout, n: u32) -> Share
+// The shares of a sample: a reordered packet costs as many steps as its largest n.
+pub(crate) fn shares_of(file: &[u8], y: Layout, low: u32, high: u32) -> Shares
     requires { ⌜ Laid (decode (now file)) y ⌝ }
-    ensures { λ r. ⌜ (r .part ≡ nReordered n (answersOf (decode (now (file .entry))))) × (r .whole ≡ arrived (answersOf (decode (now (file .entry))))) ⌝ }
+    ensures { λ r. ⌜ (r .parts ≡ partsOf low high (answersOf (decode (now (file .entry)))))
+        × (r .whole ≡ arrived (answersOf (decode (now (file .entry))))) ⌝ }
 {
     let mut numbers = [0u16; FIRSTS];
     let mut records = [0u16; PLACES];
     let mut skipped = [0u16; PLACES];
     let mut state = start();
-    let mut part: u32 = 0;
+    let mut parts = no_parts();
     let mut i: u32 = 0;
     while i < y.arrivals {
         let number = input::number(file, y, i);
         let class = class_of(&records, &skipped, state.next, number);
-        part = reached(&numbers, state.count, number, n, part, class);
+        parts = parted(&numbers, state.count, number, low, high, parts, class);
         state = note(file, y, i, &mut numbers, &mut records, &mut skipped, state);
         i += 1;
     }
-    Share {
-        part,
+    Shares {
+        parts,
         whole: state.count,
     }
 }

@@ -1,13 +1,13 @@
 // The gap of a discontinuity: a table of the discontinuities by position, looked through downward.
 ghost use mathlib.Core.Path.{_≡_};
-ghost use Prim.Native.Nat.{_≤_};
+ghost use Prim.Native.Nat.{_-_, _≤_};
 ghost use lib.ListN.{length, replicate};
 ghost use Rattle.sample.specs.Decode.{decode};
-ghost use Rattle.metrics.specs.Sample.{Laid, answersOf};
+ghost use Rattle.metrics.specs.Sample.{Laid, answersOf, answerAt};
 ghost use Rattle.metrics.specs.Figures.{recordGap};
-ghost use Rattle.metrics.specs.Steps.{Inside, Marked, markBy, lastTo, gapBy, placeIn};
+ghost use Rattle.metrics.specs.Steps.{Inside, placeIn, placeBy, Marked, markBy, lastTo, gapBy};
 use crate::RecordGap;
-use crate::answers::answer_of;
+use crate::answers::refusal_of;
 use crate::input;
 use crate::look::Class;
 use crate::look::class_of;
@@ -15,7 +15,6 @@ use crate::tables::FIRSTS;
 use crate::tables::PLACES;
 use crate::tables::note;
 use crate::tables::start;
-use rfc4737::Answer;
 use rfc4737::Gap;
 use rfc4737::refusal::NONE;
 use sample::Layout;
@@ -38,23 +37,42 @@ fn mark(found: &mut [u16; PLACES], count: u32, class: Class)
     }
 }
 
-// Notes at every discontinuity of a sample the position of its discoverer.
-fn mark_all(file: &[u8], y: Layout, found: &mut [u16; PLACES])
-    requires { ⌜ Laid (decode (now file)) y × (now found ≡ replicate 4097 0) ⌝ }
-    ensures { λ _. ⌜ Marked (answersOf (decode (now (file .entry)))) (now (found .exit)) ⌝ }
+// The position of an arrival, after so many first arrivals; 0 for a duplicate.
+fn position_of(count: u32, class: Class) -> u32
+    requires { ⌜ count ≤ 4096 ⌝ }
+    ensures { λ r. ⌜ r ≡ placeBy count class ⌝ }
+{
+    match class {
+        Class::Duplicate(_) => 0,
+        Class::InOrder(_) => count + 1,
+        Class::Reordered(_) => count + 1,
+    }
+}
+
+// Notes at every discontinuity of a sample the position of its discoverer, and answers the position of the record
+// asked for, 0 for a duplicate.
+fn mark_all(file: &[u8], y: Layout, asked: u32, found: &mut [u16; PLACES]) -> u32
+    requires { ⌜ Laid (decode (now file)) y × (1 ≤ asked) × (asked ≤ y .arrivals) × (now found ≡ replicate 4097 0) ⌝ }
+    ensures { λ r. ⌜ (r ≡ placeIn (answerAt (decode (now (file .entry))) (asked - 1)))
+        × Marked (answersOf (decode (now (file .entry)))) (now (found .exit)) ⌝ }
 {
     let mut numbers = [0u16; FIRSTS];
     let mut records = [0u16; PLACES];
     let mut skipped = [0u16; PLACES];
     let mut state = start();
+    let mut position: u32 = 0;
     let mut i: u32 = 0;
     while i < y.arrivals {
         let number = input::number(file, y, i);
         let class = class_of(&records, &skipped, state.next, number);
+        if i + 1 == asked {
+            position = position_of(state.count, class);
+        }
         mark(found, state.count, class);
         state = note(file, y, i, &mut numbers, &mut records, &mut skipped, state);
         i += 1;
     }
+    position
 }
 
 // The last discontinuity at a position from 1 to p, 0 if there is none.
@@ -89,40 +107,26 @@ fn gap_at(found: &[u16; PLACES], p: u32) -> Gap
     Gap::Positions(p - before)
 }
 
-// The position of an answer, 0 for a duplicate.
-fn place_in(a: Answer) -> u32
-    ensures { λ r. ⌜ r ≡ placeIn a ⌝ }
-{
-    match a {
-        Answer::Duplicate(_) => 0,
-        Answer::InOrder(f) => f.position,
-        Answer::Reordered(f) => f.position,
-    }
-}
-
 // The gap of a record of a file.
 pub(crate) fn gap_of(file: &[u8], y: Layout, asked: u32) -> RecordGap
     requires { ⌜ Laid (decode (now file)) y ⌝ }
     ensures { λ r. ⌜ r ≡ recordGap (decode (now (file .entry))) asked ⌝ }
 {
-    let answer = answer_of(file, y, asked);
-    let refusal = answer.refusal;
+    let refusal = refusal_of(y.refusal, 1, y.arrivals, asked);
     if refusal != NONE {
         return RecordGap {
             refusal,
             gap: Gap::None,
         };
     }
-    let known = answer.answer;
-    let position = place_in(known);
+    let mut found = [0u16; PLACES];
+    let position = mark_all(file, y, asked, &mut found);
     if position == 0 {
         return RecordGap {
             refusal,
             gap: Gap::None,
         };
     }
-    let mut found = [0u16; PLACES];
-    mark_all(file, y, &mut found);
     RecordGap {
         refusal,
         gap: gap_at(&found, position),

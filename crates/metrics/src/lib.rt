@@ -1,7 +1,7 @@
 // Every figure of a sample, by the definitions of rfc4737 over what the file decodes to. Every call takes all
 // input there is, and first checks the file, in one pass over it; on refusal it answers as for no arrivals.
-// After that each call makes one or more passes over the arrivals, of a few steps each; a reordered packet may
-// cost further steps, at most as many as its extent, where the call says so.
+// After that each call makes one pass over the arrivals, of a few steps each; a reordered packet may cost further
+// steps, at most as many as its extent, where the call says so.
 ghost use mathlib.Core.Path.{_≡_};
 ghost use Rattle.sample.specs.Decode.{decode};
 ghost use Rattle.metrics.specs.Figures.{recordAnswer, recordGap, sampleCounts, sampleTally, degreeCounts, sampleDegree, sampleRatios};
@@ -21,7 +21,7 @@ mod tables;
 use answers::answer_of;
 use answers::refusal_of;
 use figures::counts_of;
-use figures::share_of;
+use figures::shares_of;
 use figures::tally_of;
 use gaps::gap_of;
 use input::layout;
@@ -114,7 +114,7 @@ pub fn tally(file: &[u8]) -> SampleTally
     }
 }
 
-// The gap of a record: its answer, one pass, and as many steps as there are positions before it.
+// The gap of a record: one pass, and as many steps as there are positions before it.
 pub fn gap(file: &[u8], asked: u32) -> RecordGap
     ensures { λ r. ⌜ r ≡ recordGap (decode (now (file .entry))) asked ⌝ }
 {
@@ -136,11 +136,12 @@ pub fn n_reordered(file: &[u8], n: u32) -> DegreeCounts
             arrived: 0,
         };
     }
-    let share = share_of(file, y, n);
+    let shares = shares_of(file, y, n, n);
+    let parts = shares.parts;
     DegreeCounts {
         refusal,
-        reordered: share.part,
-        arrived: share.whole,
+        reordered: parts.low,
+        arrived: shares.whole,
     }
 }
 
@@ -155,17 +156,16 @@ pub fn degree(file: &[u8], n: u32) -> SampleDegree
     }
 }
 
-// The ratio figures of a sample, at the cost of its counts and of those of two degrees.
+// The ratio figures of a sample, at the cost of the counts of one degree.
 pub fn ratios(file: &[u8]) -> SampleRatios
     ensures { λ r. ⌜ r ≡ sampleRatios (decode (now (file .entry))) ⌝ }
 {
     let y = layout(file);
-    let c = counts_of(file, y);
-    let one = share_of(file, y, 1);
-    let three = share_of(file, y, 3);
+    let shares = shares_of(file, y, 1, 3);
+    let parts = shares.parts;
     SampleRatios {
         refusal: y.refusal,
-        ratios: ratios_of(c.reordered, one.part, three.part, c.arrived),
+        ratios: ratios_of(parts.reordered, parts.low, parts.high, shares.whole),
     }
 }
 

@@ -4,8 +4,8 @@ ghost use Prim.Native.Nat.{_≤_};
 ghost use Rattle.rfc4737.specs.declared.Answer.{Answer};
 ghost use Rattle.rfc4737.specs.Arrivals.{firsts};
 ghost use Rattle.sample.specs.Decode.{decode};
-ghost use Rattle.metrics.specs.Sample.{Has, before, answerAt};
-ghost use Rattle.metrics.specs.Tables.{Numbered, Recorded, Follows, Late, classBy};
+ghost use Rattle.metrics.specs.Sample.{sizeOf, Has, before, answerAt};
+ghost use Rattle.metrics.specs.Tables.{Numbered, Sized, Recorded, Follows, Late, classBy};
 use crate::input;
 use crate::scan::largest;
 use crate::scan::offset;
@@ -55,12 +55,14 @@ fn reordered(
     y: Layout,
     i: u32,
     numbers: &[u16; FIRSTS],
+    sizes: &[u16; FIRSTS],
     records: &[u16; PLACES],
     count: u32,
     at: u32,
 ) -> ReorderedFigures
     requires { ⌜ Has (decode (now file)) y i × Late (decode (now file)) i at
-        × Numbered (firsts (before (decode (now file)) i)) (now numbers) count × Recorded (before (decode (now file)) i) (now records) ⌝ }
+        × Numbered (firsts (before (decode (now file)) i)) (now numbers) count × Recorded (before (decode (now file)) i) (now records)
+        × Sized (sizeOf (decode (now file))) (now numbers) (now sizes) count ⌝ }
     ensures { λ r. ⌜ Answer.Reordered r ≡ answerAt (decode (now (file .entry))) i ⌝ }
 {
     let place = (at - 1) as usize;
@@ -73,7 +75,7 @@ fn reordered(
         position: count + 1,
         extent: count + 1 - at,
         late: rfc4737::time::elapsed(past, own),
-        offset: offset(file, y, numbers, at - 1, count, number),
+        offset: offset(numbers, sizes, at - 1, count, number),
         largest: largest(numbers, count, number),
     }
 }
@@ -84,11 +86,13 @@ pub(crate) fn look(
     y: Layout,
     i: u32,
     numbers: &[u16; FIRSTS],
+    sizes: &[u16; FIRSTS],
     records: &[u16; PLACES],
     skipped: &[u16; PLACES],
     state: State,
 ) -> Answer
-    requires { ⌜ Has (decode (now file)) y i × Follows (before (decode (now file)) i) (now numbers) (now records) (now skipped) state ⌝ }
+    requires { ⌜ Has (decode (now file)) y i × Follows (before (decode (now file)) i) (now numbers) (now records) (now skipped) state
+        × Sized (sizeOf (decode (now file))) (now numbers) (now sizes) (state .count) ⌝ }
     ensures { λ r. ⌜ r ≡ answerAt (decode (now (file .entry))) i ⌝ }
 {
     let number = input::number(file, y, i);
@@ -105,6 +109,7 @@ pub(crate) fn look(
             y,
             i,
             numbers,
+            sizes,
             records,
             count,
             at,

@@ -19,6 +19,7 @@ use crate::look::look;
 use crate::tables::FIRSTS;
 use crate::tables::PLACES;
 use crate::tables::note;
+use crate::tables::note_sizes;
 use crate::tables::start;
 use rfc4737::Answer;
 use rfc4737::Counts;
@@ -57,6 +58,7 @@ pub(crate) fn list(file: &[u8], y: Layout, out: &mut [u8]) -> u32
         × (r ≤ listingOctets) ⌝ }
 {
     let mut numbers = [0u16; FIRSTS];
+    let mut sizes = [0u16; FIRSTS];
     let mut records = [0u16; PLACES];
     let mut skipped = [0u16; PLACES];
     let mut state = start();
@@ -65,10 +67,12 @@ pub(crate) fn list(file: &[u8], y: Layout, out: &mut [u8]) -> u32
     let mut i: u32 = 0;
     while i < y.arrivals {
         let number = input::number(file, y, i);
-        let answer = look(file, y, i, &numbers, &records, &skipped, state);
+        let answer = look(file, y, i, &numbers, &sizes, &records, &skipped, state);
         at += listing::put_record(out, at, i + 1, number, answer);
         c = counted_by(c, answer);
-        state = note(file, y, i, &mut numbers, &mut records, &mut skipped, state);
+        let next = note(file, y, i, &mut numbers, &mut records, &mut skipped, state);
+        note_sizes(file, y, &numbers, &mut sizes, state.count, next.count);
+        state = next;
         i += 1;
     }
     (at + listing::put_end(out, at, c)) as u32

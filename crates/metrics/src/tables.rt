@@ -1,12 +1,12 @@
-// Tables of what has arrived, in local arrays: the numbers of the first arrivals in order of position; and, by
-// packet number, the record of its first arrival and the position of the jump that skipped it (0 for none; place
-// 0 is not used).
+// Tables of what has arrived, in local arrays: the numbers of the first arrivals, and their payload sizes, in order
+// of position; and, by packet number, the record of its first arrival and the position of the jump that skipped it
+// (0 for none; place 0 is not used).
 ghost use mathlib.Core.Path.{_≡_};
 ghost use Prim.Native.Nat.{_+_, _≤_, _<_};
 ghost use lib.ListN.{length};
 ghost use Rattle.sample.specs.Decode.{decode};
-ghost use Rattle.metrics.specs.Sample.{Has, before};
-ghost use Rattle.metrics.specs.Tables.{Filled, Follows};
+ghost use Rattle.metrics.specs.Sample.{sizeOf, Laid, Has, before};
+ghost use Rattle.metrics.specs.Tables.{Filled, Packets, Sized, Follows};
 use crate::input;
 use sample::Layout;
 
@@ -82,5 +82,26 @@ pub(crate) fn note(
     State {
         count: count + 1,
         next: number + 1,
+    }
+}
+
+// Notes the payload sizes of the first arrivals at the places from `from` to before `count`, by their numbers.
+pub(crate) fn note_sizes(
+    file: &[u8],
+    y: Layout,
+    numbers: &[u16; FIRSTS],
+    sizes: &mut [u16; FIRSTS],
+    from: u32,
+    count: u32,
+)
+    requires { ⌜ Laid (decode (now file)) y × (count ≤ 4096) × Packets (now numbers) count (y .sent)
+        × Sized (sizeOf (decode (now file))) (now numbers) (now sizes) from ⌝ }
+    ensures { λ _. ⌜ Sized (sizeOf (decode (now (file .entry)))) (now (numbers .entry)) (now (sizes .exit)) count ⌝ }
+{
+    let mut p = from;
+    while p < count {
+        let place = p as usize;
+        sizes[place] = input::size(file, y, wide(numbers[place]));
+        p += 1;
     }
 }

@@ -1,4 +1,7 @@
 -- `n_reordered` meets its contract by those of its callees. Assumes nothing.
+use mathlib.Core.Path.{ap}
+use Rattle.metrics.specs.Steps.{partsOf}
+use Rattle.metrics.specs.declared.figures.Parts.{Parts}
 use Rattle.metrics.proofs.Asked.{laid-refusal, degree-answered-refused, degree-answered}
 use borrow.Author.Needs.{needs}
 use Rattle.metrics.proofs.n_reordered.Statement.{statement}
@@ -13,14 +16,15 @@ refusal-of-requires c κs = search needs
 returns : tie.Need-returns
 returns c = degree-answered-refused _ _ _ (laid-refusal _ _ (c .before .before .layout .ensures) _ 1 100 (c .before .before .before .before .args .n) (c .before .refusal-of .ensures)) (c .if1 .taken)
 
-share-of-requires : tie.Need-share-of-requires
-share-of-requires c κs = search needs
+shares-of-requires : tie.Need-shares-of-requires
+shares-of-requires c κs = search needs
 
 returns-2 : tie.Need-returns-2
+unfolding partsOf
 returns-2 c =
-    let s = c .share-of .ensures in
-    degree-answered _ _ _ (laid-refusal _ _ (c .before .before .before .layout .ensures) _ 1 100 (c .before .before .before .before .before .args .n) (c .before .before .refusal-of .ensures)) (c .before .if1 .left) _ _ (s .0) (s .1)
+    let s = c .before .shares-of .ensures in
+    degree-answered _ _ _ (laid-refusal _ _ (c .before .before .before .before .layout .ensures) _ 1 100 (c .before .before .before .before .before .before .args .n) (c .before .before .before .refusal-of .ensures)) (c .before .before .if1 .left) _ _ (ap (λ (p : Parts). p .low) (s .0)) (s .1)
 
 pub n-reordered-spec : {M : Type 1} → statement M
 n-reordered-spec =
-    tie.close (tie.spec layout-requires refusal-of-requires returns share-of-requires returns-2)
+    tie.close (tie.spec layout-requires refusal-of-requires returns shares-of-requires returns-2)

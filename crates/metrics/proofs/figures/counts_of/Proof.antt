@@ -1,5 +1,5 @@
--- `counts_of` goes over the arrivals. The loop's invariant: the tables follow the arrivals before i, and the counts are those of their
--- answers. The measure is what is left of the arrivals. Assumes nothing.
+-- `counts_of` goes over the arrivals. The loop's invariant: the table has the packets that have arrived before i, `next` is their NextExp,
+-- and the counts are those of their answers. The measure is what is left of the arrivals. Assumes nothing.
 use mathlib.Core.Path.{_≡_, sym, ap, _∙_}
 use Prim.Native.Nat.{_≤_, _<_, _-_}
 use native.Mathlib.Omega.{arith}
@@ -7,77 +7,71 @@ use denote.Ref.{now}
 use Rattle.rfc4737.specs.Runs.{counts}
 use Rattle.sample.specs.Decode.{decode}
 use Rattle.metrics.specs.Sample.{before, Has}
-use Rattle.metrics.specs.Tables.{Follows}
 use borrow.Author.Needs.{needs}
-use Rattle.metrics.proofs.Follow.{count-le}
-use Rattle.metrics.proofs.Told.{Tells, told}
-use Rattle.metrics.proofs.Passes.{answersTo, follows-start, answers-start, answers-end, answers-length, counts-none, counts-small, counts-next}
+use Rattle.metrics.proofs.Passes.{answersTo, answers-start, answers-end, answers-length, counts-none, counts-small}
+use Rattle.metrics.proofs.Seen.{Seen, seen-start, seen-next, counts-seen}
 use Rattle.metrics.proofs.figures.counts_of.Statement.{statement}
 use Rattle.metrics.proofs.figures.counts_of.Tie as tie
 
 abbrev Inv-loop : tie.InvT-loop
-Inv-loop file y numbers₀ records₀ skipped₀ state₀ c₀ i₀ numbers records skipped state c i =
-    (i ≤ y .arrivals) × Follows (before (decode file) i) numbers records skipped state × (c ≡ counts (answersTo (decode file) i))
+Inv-loop file y seen₀ next₀ c₀ i₀ seen next c i =
+    (i ≤ y .arrivals) × Seen (before (decode file) i) seen next × (c ≡ counts (answersTo (decode file) i))
 
 abbrev μ-loop : tie.MeasureT-loop
-μ-loop file y numbers₀ records₀ skipped₀ state₀ c₀ i₀ numbers records skipped state c i = y .arrivals - i
+μ-loop file y seen₀ next₀ c₀ i₀ seen next c i = y .arrivals - i
 
 -- record i + 1 is there
-here : (c : tie.After-class-of Inv-loop μ-loop) → Has (decode (now (c .before .before .before .before .before .before .before .before .before .before .args .file))) (c .before .before .before .before .before .before .before .before .before .before .args .y) (c .before .before .before .before .before .before .loop .i)
-here c = record { file = c .before .before .before .before .before .before .before .before .before .before .pre; inside = c .before .before .before .before .if1 .taken }
+here : (c : tie.After-kind-of Inv-loop μ-loop) → Has (decode (now (c .before .before .before .before .before .before .before .before .args .file))) (c .before .before .before .before .before .before .before .before .args .y) (c .before .before .before .before .before .loop .i)
+here c = record { file = c .before .before .before .before .before .before .before .before .pre; inside = c .before .before .before .if1 .taken }
 
--- its class tells its answer
-class-told : (c : tie.After-class-of Inv-loop μ-loop)
-    → Tells (decode (now (c .before .before .before .before .before .before .before .before .before .before .args .file))) (c .before .before .before .before .before .before .loop .i) (c .before .before .before .before .before .before .loop .state .count) (c .class-of .result)
-class-told c =
-    let n = c .before .before .before .number .ensures in
-    told _ _ _ _ _ _ (c .before .before .before .before .before .before .loop .inv .1) _ (n .0) (n .1) (n .2) _ (c .class-of .ensures)
-
--- the first arrivals before it, and the arrivals, are few
-few : (c : tie.After-class-of Inv-loop μ-loop) → (c .before .before .before .before .before .before .loop .state .count ≤ c .before .before .before .before .before .before .loop .i) × (c .before .before .before .before .before .before .loop .i < 4096)
-few c = count-le _ _ _ (here c) _ _ _ _ (c .before .before .before .before .before .before .loop .inv .1)
-
-start-requires : tie.Need-start-requires Inv-loop μ-loop
-start-requires c κs = search needs
+-- the arrivals before it are few
+few : (c : tie.After-kind-of Inv-loop μ-loop) → c .before .before .before .before .before .loop .i < 4096
+few c = let h = here c in omega (arith, h .inside, h .file .few)
 
 no-counts-requires : tie.Need-no-counts-requires Inv-loop μ-loop
 no-counts-requires c κs = search needs
 
 loop-holds : tie.Need-loop-holds Inv-loop μ-loop
 loop-holds c =
-    let d = decode (now (c .before .before .before .args .file)) in
-    (omega arith, rw (c .before .start .ensures) (follows-start d), c .no-counts .ensures ∙ sym (ap counts (answers-start d) ∙ counts-none))
+    let d = decode (now (c .before .before .args .file)) in
+    (omega arith, seen-start d, c .no-counts .ensures ∙ sym (ap counts (answers-start d) ∙ counts-none))
 
 number-requires : tie.Need-number-requires Inv-loop μ-loop
-number-requires c κs = record { file = c .before .before .before .before .before .before .pre; inside = c .if1 .taken }
+number-requires c κs = record { file = c .before .before .before .before .before .pre; inside = c .if1 .taken }
 
-class-of-requires : tie.Need-class-of-requires Inv-loop μ-loop
-class-of-requires c κs = c .before .before .number .ensures .2
+kind-of-requires : tie.Need-kind-of-requires Inv-loop μ-loop
+kind-of-requires c κs = c .before .number .ensures .2
 
 counted-requires : tie.Need-counted-requires Inv-loop μ-loop
-counted-requires c κs =
-    rw (c .before .before .before .before .before .before .loop .inv .2) (counts-small _ (omega (arith, answers-length _ _ _ (here c), few c)))
+counted-requires c κs = rw (c .before .before .before .before .before .loop .inv .2) (counts-small _ (omega (arith, answers-length _ _ _ (here c), few c)))
 
-note-requires : tie.Need-note-requires Inv-loop μ-loop
-note-requires c κs = (here (c .before .before .before .before), c .before .before .before .before .before .before .before .before .before .before .loop .inv .1)
+cast-at : tie.Need-cast-at Inv-loop μ-loop
+cast-at c = omega (arith, c .before .before .before .number .ensures .2)
+
+array-write-seen : tie.Need-array-write-seen Inv-loop μ-loop
+array-write-seen c = omega (arith, c .before .before .before .number .ensures .2, c .before .before .before .before .before .before .loop .inv .1 .places)
+
+next-after-requires : tie.Need-next-after-requires Inv-loop μ-loop
+next-after-requires c κs = c .before .before .before .number .ensures .2
 
 add-i : tie.Need-add-i Inv-loop μ-loop
-add-i c = omega (arith, few (c .before .before .before .before .before))
+add-i c = omega (arith, few (c .before .before))
 
 loop-less : tie.Need-loop-less Inv-loop μ-loop
-loop-less c = omega (arith, c .before .before .before .before .before .before .before .before .before .if1 .taken)
+loop-less c = omega (arith, c .before .before .before .before .before .if1 .taken)
 
 loop-again : tie.Need-loop-again Inv-loop μ-loop
 loop-again c =
-    let l = c .before .before .before .before .before .before .before .before .before .before .before .loop in
-    let at = c .before .before .before .before .before in (
+    let l = c .before .before .before .before .before .before .before .loop in
+    let at = c .before .before in
+    let n = c .before .before .before .before .number .ensures in (
       omega (arith, here at .inside),
-      c .note .ensures,
-      c .before .before .before .before .counted .ensures ∙ rw (l .inv .2) (sym (counts-next _ _ _ (here at) _ _ (class-told at))),
+      rw (c .next-after .ensures) (seen-next _ _ _ (here at) _ _ (l .inv .1) _ (n .0) (n .2)),
+      c .before .counted .ensures ∙ rw (l .inv .2, at .kind-of .ensures) (sym (counts-seen _ _ _ (here at) _ _ (l .inv .1) _ (n .0) (n .2))),
     )
 
 returns : tie.Need-returns Inv-loop μ-loop
-returns c = c .before .before .loop .inv .2 ∙ ap counts (answers-end _ _ _ (c .before .before .before .before .before .before .pre) (c .if1 .left))
+returns c = c .before .before .loop .inv .2 ∙ ap counts (answers-end _ _ _ (c .before .before .before .before .before .pre) (c .if1 .left))
 
 pub counts-of-spec : {M : Type 1} → statement M
 counts-of-spec =
@@ -85,13 +79,14 @@ counts-of-spec =
     (tie.spec
     Inv-loop
     μ-loop
-    start-requires
     no-counts-requires
     loop-holds
     number-requires
-    class-of-requires
+    kind-of-requires
     counted-requires
-    note-requires
+    cast-at
+    array-write-seen
+    next-after-requires
     add-i
     loop-less
     loop-again

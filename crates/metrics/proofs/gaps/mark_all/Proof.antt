@@ -1,25 +1,28 @@
--- `mark_all` goes over the arrivals. The loop's invariant: the tables follow the arrivals before i, and the discoverers among them are
--- marked. The measure is what is left of the arrivals. Assumes nothing.
+-- `mark_all` goes over the arrivals. The loop's invariant: the tables follow the arrivals before i, the discoverers among them are
+-- marked, and `position` is that of the record asked for, if it is one of them. The measure is what is left of the arrivals. Assumes nothing.
+use mathlib.Core.Path.{_≡_, _∙_}
+use mathlib.Core.Logic.{⊎-elim}
 use Prim.Native.Nat.{_≤_, _<_, _-_}
 use native.Mathlib.Omega.{arith}
 use denote.Ref.{now}
 use Rattle.sample.specs.Decode.{decode}
-use Rattle.metrics.specs.Sample.{before, Has}
+use Rattle.metrics.specs.Sample.{before, answerAt, Has}
 use Rattle.metrics.specs.Tables.{Follows}
-use Rattle.metrics.specs.Steps.{Marked}
+use Rattle.metrics.specs.Steps.{placeIn, Marked}
 use borrow.Author.Needs.{needs}
 use Rattle.metrics.proofs.Follow.{count-le}
-use Rattle.metrics.proofs.Told.{Tells, told}
+use Rattle.metrics.proofs.Told.{Tells, told, place-told}
 use Rattle.metrics.proofs.Passes.{answersTo, follows-start, answers-end, inside-told, marked-start, marked-next}
 use Rattle.metrics.proofs.gaps.mark_all.Statement.{statement}
 use Rattle.metrics.proofs.gaps.mark_all.Tie as tie
 
 abbrev Inv-loop : tie.InvT-loop
-Inv-loop file y found₀ numbers₀ records₀ skipped₀ state₀ i₀ found numbers records skipped state i =
+Inv-loop file y asked found₀ numbers₀ records₀ skipped₀ state₀ position₀ i₀ found numbers records skipped state position i =
     (i ≤ y .arrivals) × Follows (before (decode file) i) numbers records skipped state × Marked (answersTo (decode file) i) found
+    × (asked ≤ i → position ≡ placeIn (answerAt (decode file) (asked - 1)))
 
 abbrev μ-loop : tie.MeasureT-loop
-μ-loop file y found₀ numbers₀ records₀ skipped₀ state₀ i₀ found numbers records skipped state i = y .arrivals - i
+μ-loop file y asked found₀ numbers₀ records₀ skipped₀ state₀ position₀ i₀ found numbers records skipped state position i = y .arrivals - i
 
 -- record i + 1 is there
 here : (c : tie.After-class-of Inv-loop μ-loop) → Has (decode (now (c .before .before .before .before .before .before .before .before .before .args .file))) (c .before .before .before .before .before .before .before .before .before .args .y) (c .before .before .before .before .before .before .loop .i)
@@ -42,7 +45,8 @@ start-requires c κs = search needs
 loop-holds : tie.Need-loop-holds Inv-loop μ-loop
 loop-holds c =
     let d = decode (now (c .before .before .args .file)) in
-    (omega arith, rw (c .start .ensures) (follows-start d), rw (c .before .before .pre .1) (marked-start d))
+    let p = c .before .before .pre in
+    (omega arith, rw (c .start .ensures) (follows-start d), rw (p .3) (marked-start d), λ h. absurd (omega (arith, p .1)))
 
 number-requires : tie.Need-number-requires Inv-loop μ-loop
 number-requires c κs = record { file = c .before .before .before .before .before .pre .0; inside = c .if1 .taken }
@@ -50,34 +54,49 @@ number-requires c κs = record { file = c .before .before .before .before .befor
 class-of-requires : tie.Need-class-of-requires Inv-loop μ-loop
 class-of-requires c κs = c .before .before .number .ensures .2
 
+add-if2 : tie.Need-add-if2 Inv-loop μ-loop
+add-if2 c = omega (arith, few c)
+
+position-of-requires : tie.Need-position-of-requires Inv-loop μ-loop
+position-of-requires c κs = omega (arith, few (c .before))
+
 mark-requires : tie.Need-mark-requires Inv-loop μ-loop
 mark-requires c κs =
-    let l = c .before .before .before .before .before .before .before .loop in
-    let at = c .before in
+    let l = c .before .before .before .before .before .before .before .before .loop in
+    let at = c .before .before in
     (l .inv .2 .places, omega (arith, few at), inside-told _ _ _ (here at) _ _ _ _ (l .inv .1) (at .class-of .result) (class-told at))
 
 note-requires : tie.Need-note-requires Inv-loop μ-loop
-note-requires c κs = (here (c .before .before .before .before .before), c .before .before .before .before .before .before .before .before .before .before .before .loop .inv .1)
+note-requires c κs = (here (c .before .before .before .before .before .before), c .before .before .before .before .before .before .before .before .before .before .before .before .loop .inv .1)
 
 add-i : tie.Need-add-i Inv-loop μ-loop
-add-i c = omega (arith, few (c .before .before .before .before .before .before))
+add-i c = omega (arith, few (c .before .before .before .before .before .before .before))
 
 loop-less : tie.Need-loop-less Inv-loop μ-loop
-loop-less c = omega (arith, c .before .before .before .before .before .before .before .before .before .before .if1 .taken)
+loop-less c = omega (arith, c .before .before .before .before .before .before .before .before .before .before .before .if1 .taken)
 
 loop-again : tie.Need-loop-again Inv-loop μ-loop
 loop-again c =
-    let l = c .before .before .before .before .before .before .before .before .before .before .before .before .loop in
-    let at = c .before .before .before .before .before .before in (
+    let l = c .before .before .before .before .before .before .before .before .before .before .before .before .before .loop in
+    let at = c .before .before .before .before .before .before .before in
+    let asked = c .before .before .before .before .before .before .before .before .before .before .before .before .before .before .before .before .args .asked in (
       omega (arith, here at .inside),
       c .note .ensures,
       rw (c .before .before .before .before .mark .ensures)
           (marked-next _ _ _ (here at) _ _ (class-told at) (l .inv .1 .numbered .all) (omega (arith, few at))
           (inside-told _ _ _ (here at) _ _ _ _ (l .inv .1) (at .class-of .result) (class-told at)) _ (l .inv .2)),
+      ⊎-elim
+          (λ w. λ h. let e : asked - 1 ≡ l .i = omega (arith, w .0 .taken) in
+          rw (w .2, e) (w .1 .ensures ∙ place-told _ _ _ _ (class-told at) (l .inv .1 .numbered .all)))
+          (λ w. λ h. rw (w .1) (l .inv .3 (omega (arith, h, w .0 .left))))
+          (c .before .before .before .before .before .before .if2 .came),
     )
 
 returns : tie.Need-returns Inv-loop μ-loop
-returns c = rw (answers-end _ _ _ (c .before .before .before .before .before .pre .0) (c .if1 .left)) at (c .before .before .loop .inv .2)
+returns c =
+    let l = c .before .before .loop in
+    let p = c .before .before .before .before .before .pre in
+    (l .inv .3 (omega (arith, p .2, c .if1 .left)), rw (answers-end _ _ _ (p .0) (c .if1 .left)) at (l .inv .2))
 
 pub mark-all-spec : {M : Type 1} → statement M
 mark-all-spec =
@@ -89,6 +108,8 @@ mark-all-spec =
     loop-holds
     number-requires
     class-of-requires
+    add-if2
+    position-of-requires
     mark-requires
     note-requires
     add-i

@@ -27,8 +27,8 @@ enum-known-class c = search needs
 enum-known-class-2 : tie.Need-enum-known-class-2
 enum-known-class-2 c = search needs
 
-add-t16 : tie.Need-add-t16
-add-t16 c =
+add-t17 : tie.Need-add-t17
+add-t17 c =
     let p = c .before .before .before .before .before .before .pre in omega (arith, count-le _ _ _ (p .0) _ _ _ _ (p .1))
 
 enum-known-class-3 : tie.Need-enum-known-class-3
@@ -37,7 +37,7 @@ enum-known-class-3 c = search needs
 reordered-requires : tie.Need-reordered-requires
 reordered-requires c κs =
     let p = c .before .before .before .before .before .before .pre in
-    (p .0, rw (c .before .class3 .given .1) at (class-told (c .before .before .before)), p .1 .numbered, p .1 .recorded)
+    (p .0, rw (c .before .class3 .given .1) at (class-told (c .before .before .before)), p .1 .numbered, p .1 .recorded, p .2)
 
 returns : tie.Need-returns
 returns c = sym (rw (c .before .class .given .1) at (class-told (c .before .before .before)))
@@ -56,7 +56,7 @@ look-spec =
     class-of-requires
     enum-known-class
     enum-known-class-2
-    add-t16
+    add-t17
     enum-known-class-3
     reordered-requires
     returns

@@ -2,7 +2,7 @@
 -- Assumes nothing.
 use Prim.Native.Nat.{_≤_}
 use native.Mathlib.Omega.{arith}
-use Rattle.metrics.proofs.Told.{packets, late-place, late-packet, late-record, late-alone, late-answer}
+use Rattle.metrics.proofs.Told.{late-place, late-packet, late-record, late-alone, late-answer}
 use borrow.Author.Needs.{needs}
 use Rattle.metrics.proofs.look.reordered.Statement.{statement}
 use Rattle.metrics.proofs.look.reordered.Tie as tie
@@ -60,14 +60,14 @@ time-requires-2 c κs = search needs
 number-requires : tie.Need-number-requires
 number-requires c κs = search needs
 
-add-t14 : tie.Need-add-t14
-add-t14 c = omega (arith, place (c .before .before .before .before .before .before .before .before))
+add-t15 : tie.Need-add-t15
+add-t15 c = omega (arith, place (c .before .before .before .before .before .before .before .before))
 
-add-t21 : tie.Need-add-t21
-add-t21 c = omega (arith, place (c .before .before .before .before .before .before .before .before))
+add-t22 : tie.Need-add-t22
+add-t22 c = omega (arith, place (c .before .before .before .before .before .before .before .before))
 
-sub-t22 : tie.Need-sub-t22
-sub-t22 c = omega (arith, place (c .before .before .before .before .before .before .before .before))
+sub-t23 : tie.Need-sub-t23
+sub-t23 c = omega (arith, place (c .before .before .before .before .before .before .before .before))
 
 elapsed-requires : tie.Need-elapsed-requires
 elapsed-requires c κs = search needs
@@ -76,9 +76,7 @@ sub-offset : tie.Need-sub-offset
 sub-offset c = omega (arith, place (c .before .before .before .before .before .before .before .before .before))
 
 offset-requires : tie.Need-offset-requires
-offset-requires c κs =
-    let p = c .before .before .before .before .before .before .before .before .before .pre in
-    (p .0 .file, omega (arith, place (c .before .before .before .before .before .before .before .before .before)), omega (arith, place (c .before .before .before .before .before .before .before .before .before)), packets _ _ _ (p .0) _ _ (p .2))
+offset-requires c κs = omega (arith, place (c .before .before .before .before .before .before .before .before .before))
 
 largest-requires : tie.Need-largest-requires
 largest-requires c κs = omega (arith, place (c .before .before .before .before .before .before .before .before .before .before))
@@ -91,7 +89,7 @@ returns c =
     (rw (c .before .before .before .before .before .before .wide2 .ensures, c .before .before .before .before .before .before .before .before .wide .ensures) at (c .before .before .before .before .before .time .ensures))
     (c .before .before .before .before .time2 .ensures)
     (c .before .before .elapsed .ensures)
-    (c .before .offset .ensures _ (p .2) (late-alone _ _ _ _ _ (p .0) (p .1) _ _ (p .2) (p .3) _ number))
+    (c .before .offset .ensures _ _ (p .2) (p .4) (late-alone _ _ _ _ _ (p .0) (p .1) _ _ (p .2) (p .3) _ number))
     (c .largest .ensures _ (p .2))
 
 pub reordered-spec : {M : Type 1} → statement M
@@ -111,9 +109,9 @@ reordered-spec =
     time-requires
     time-requires-2
     number-requires
-    add-t14
-    add-t21
-    sub-t22
+    add-t15
+    add-t22
+    sub-t23
     elapsed-requires
     sub-offset
     offset-requires

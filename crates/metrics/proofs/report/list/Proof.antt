@@ -1,4 +1,4 @@
--- `list` writes one line after the other. The loop's invariant: the tables follow the arrivals before i, the counts are those of their
+-- `list` writes one line after the other. The loop's invariant: the tables follow the arrivals before i and have their sizes, the counts are those of their
 -- answers, and the first line and their lines are written. The measure is what is left of the arrivals. Assumes nothing.
 use mathlib.Core.Path.{_≡_, refl, sym, ap, ap₂, _∙_}
 use Prim.Native.Nat.{_+_, _-_, _≤_, _<_}
@@ -13,22 +13,25 @@ use Rattle.octets.proofs.Memory.{put-length}
 use Rattle.rfc4737.specs.Runs.{counts}
 use Rattle.listing.specs.Room.{listingOctets}
 use Rattle.sample.specs.Decode.{decode}
-use Rattle.metrics.specs.Sample.{before, Has}
-use Rattle.metrics.specs.Tables.{Follows, classOf}
+use Rattle.metrics.specs.Sample.{sizeOf, before, Has}
+use Rattle.metrics.specs.Tables.{Sized, Follows, classOf}
 use Rattle.metrics.specs.Steps.{countsBy}
 use Rattle.metrics.specs.Report.{sampleText}
+use Rattle.metrics.proofs.Sizes.{sized-none, sized-next}
+use Rattle.metrics.proofs.Told.{packets}
 use Rattle.metrics.proofs.Passes.{answersTo, follows-start, answers-start, answers-length, answers-next, counts-none, counts-small, counts-more}
 use Rattle.metrics.proofs.Listed.{ListedAt, listing-start, listing-next, listing-within, listing-end}
 use Rattle.metrics.proofs.report.list.Statement.{statement}
 use Rattle.metrics.proofs.report.list.Tie as tie
 
 abbrev Inv-loop : tie.InvT-loop
-Inv-loop file y out₀ numbers₀ records₀ skipped₀ state₀ c₀ at₀ i₀ out numbers records skipped state c at i =
+Inv-loop file y out₀ numbers₀ sizes₀ records₀ skipped₀ state₀ c₀ at₀ i₀ out numbers sizes records skipped state c at i =
     (i ≤ y .arrivals) × Follows (before (decode file) i) numbers records skipped state × (c ≡ counts (answersTo (decode file) i))
     × ListedAt (decode file) y i at out₀ out × (length out ≡ length out₀)
+    × Sized (sizeOf (decode file)) numbers sizes (state .count)
 
 abbrev μ-loop : tie.MeasureT-loop
-μ-loop file y out₀ numbers₀ records₀ skipped₀ state₀ c₀ at₀ i₀ out numbers records skipped state c at i = y .arrivals - i
+μ-loop file y out₀ numbers₀ sizes₀ records₀ skipped₀ state₀ c₀ at₀ i₀ out numbers sizes records skipped state c at i = y .arrivals - i
 
 -- record i + 1 is there
 here : (c : tie.Then1 Inv-loop μ-loop) → Has (decode (now (c .before .before .before .before .before .before .before .before .before .before .before .args .file))) (c .before .before .before .before .before .before .before .before .before .before .before .args .y) (c .before .before .loop .i)
@@ -40,13 +43,13 @@ few c = omega (arith, c .if1 .taken, c .before .before .before .before .before .
 
 -- after its line
 next : (c : tie.After-put-record Inv-loop μ-loop)
-    → ListedAt (decode (now (c .before .before .before .before .before .before .before .before .before .before .before .before .before .before .before .before .before .before .args .file))) (c .before .before .before .before .before .before .before .before .before .before .before .before .before .before .before .before .before .before .args .y) (c .before .before .before .before .before .before .before .before .before .loop .i + 1) (c .before .before .before .before .before .before .before .before .before .loop .at + c .put-record .result) (c .before .before .before .before .before .before .before .before .before .before .before .before .put-header .last .0) (c .put-record .last .0)
+    → ListedAt (decode (now (c .before .before .before .before .before .before .before .before .before .before .before .before .before .before .before .before .before .before .before .args .file))) (c .before .before .before .before .before .before .before .before .before .before .before .before .before .before .before .before .before .before .before .args .y) (c .before .before .before .before .before .before .before .before .before .before .loop .i + 1) (c .before .before .before .before .before .before .before .before .before .before .loop .at + c .put-record .result) (c .before .before .before .before .before .before .before .before .before .before .before .before .before .put-header .last .0) (c .put-record .last .0)
 next c =
-    let a = c .before .before .before .before .before .before .before .before .before .before .before .before .before .before .before .before .before .before .args in
-    let p = c .before .before .before .before .before .before .before .before .before .before .before .before .before .before .before .before .before .before .pre in
-    listing-next (now (a .file)) (a .y) (p .0) (now (a .out)) (p .1) (c .before .before .before .before .before .before .before .before .before .before .before .before .put-header .ensures .1)
-    (below-fits w8 (now (a .file)) (c .before .before .before .before .before .before .before .before .before .before .before .before .before .before .before .before .before .shared-slice-known .given)) (here (c .before .before .before .before .before .before .before)) (c .before .before .before .before .before .before .before .before .before .loop .inv .3)
-    (c .before .before .before .before .before .before .number .ensures .0) (c .before .before .look .ensures) (c .put-record .ensures .0) (c .put-record .ensures .1)
+    let a = c .before .before .before .before .before .before .before .before .before .before .before .before .before .before .before .before .before .before .before .args in
+    let p = c .before .before .before .before .before .before .before .before .before .before .before .before .before .before .before .before .before .before .before .pre in
+    listing-next (now (a .file)) (a .y) (p .0) (now (a .out)) (p .1) (c .before .before .before .before .before .before .before .before .before .before .before .before .before .put-header .ensures .1)
+    (below-fits w8 (now (a .file)) (c .before .before .before .before .before .before .before .before .before .before .before .before .before .before .before .before .before .before .shared-slice-known .given)) (here (c .before .before .before .before .before .before .before .before)) (c .before .before .before .before .before .before .before .before .before .before .loop .inv .3)
+    (c .before .before .before .before .before .before .before .number .ensures .0) (c .before .before .look .ensures) (c .put-record .ensures .0) (c .put-record .ensures .1)
 
 -- after the last line
 whole : (c : tie.After-put-end Inv-loop μ-loop)
@@ -80,50 +83,60 @@ loop-holds c =
       c .before .before .before .before .no-counts .ensures ∙ sym (ap counts (answers-start d) ∙ counts-none),
       listing-start (now (a .file)) (a .y) (p .0) (now (a .out)) (p .1) (e .1) (e .0),
       refl,
+      rw (c .before .before .before .before .before .start .ensures) (sized-none _ _),
     )
 
 number-requires : tie.Need-number-requires Inv-loop μ-loop
 number-requires c κs = here c
 
 look-requires : tie.Need-look-requires Inv-loop μ-loop
-look-requires c κs = (here (c .before .before .before .before), c .before .before .before .before .before .before .loop .inv .1)
+look-requires c κs = (here (c .before .before .before .before .before), c .before .before .before .before .before .before .before .loop .inv .1, c .before .before .before .before .before .before .before .loop .inv .5)
 
 add-put-record : tie.Need-add-put-record Inv-loop μ-loop
-add-put-record c = omega (arith, few (c .before .before .before .before .before .before))
+add-put-record c = omega (arith, few (c .before .before .before .before .before .before .before))
 
 put-record-requires : tie.Need-put-record-requires Inv-loop μ-loop
 put-record-requires c κs = search needs
 
 add-at : tie.Need-add-at Inv-loop μ-loop
 add-at c =
-    let a = c .before .before .before .before .before .before .before .before .before .before .before .before .before .before .before .before .before .before .before .before .args in
-    let p = c .before .before .before .before .before .before .before .before .before .before .before .before .before .before .before .before .before .before .before .before .pre in
-    let i = c .before .before .before .before .before .before .before .before .before .before .before .loop .i in
-    let inside : i + 1 ≤ a .y .arrivals = omega (arith, here (c .before .before .before .before .before .before .before .before .before) .inside) in
-    omega (arith, listing-within (now (a .file)) (a .y) (p .0) (now (a .out)) (p .1) (c .before .before .before .before .before .before .before .before .before .before .before .before .before .before .put-header .ensures .1) inside (next (c .before .before)))
+    let a = c .before .before .before .before .before .before .before .before .before .before .before .before .before .before .before .before .before .before .before .before .before .args in
+    let p = c .before .before .before .before .before .before .before .before .before .before .before .before .before .before .before .before .before .before .before .before .before .pre in
+    let i = c .before .before .before .before .before .before .before .before .before .before .before .before .loop .i in
+    let inside : i + 1 ≤ a .y .arrivals = omega (arith, here (c .before .before .before .before .before .before .before .before .before .before) .inside) in
+    omega (arith, listing-within (now (a .file)) (a .y) (p .0) (now (a .out)) (p .1) (c .before .before .before .before .before .before .before .before .before .before .before .before .before .before .before .put-header .ensures .1) inside (next (c .before .before)))
 
 counted-by-requires : tie.Need-counted-by-requires Inv-loop μ-loop
-counted-by-requires c κs = rw (c .before .before .before .before .before .before .before .before .before .before .before .loop .inv .2) (counts-small _ (omega (arith, answers-length _ _ _ (here (c .before .before .before .before .before .before .before .before .before)), few (c .before .before .before .before .before .before .before .before .before))))
+counted-by-requires c κs = rw (c .before .before .before .before .before .before .before .before .before .before .before .before .loop .inv .2) (counts-small _ (omega (arith, answers-length _ _ _ (here (c .before .before .before .before .before .before .before .before .before .before)), few (c .before .before .before .before .before .before .before .before .before .before))))
 
 note-requires : tie.Need-note-requires Inv-loop μ-loop
-note-requires c κs = (here (c .before .before .before .before .before .before .before .before .before .before .before .before .before), c .before .before .before .before .before .before .before .before .before .before .before .before .before .before .before .loop .inv .1)
+note-requires c κs = (here (c .before .before .before .before .before .before .before .before .before .before .before .before .before .before), c .before .before .before .before .before .before .before .before .before .before .before .before .before .before .before .before .loop .inv .1)
+
+note-sizes-requires : tie.Need-note-sizes-requires Inv-loop μ-loop
+note-sizes-requires c κs =
+    let l = c .before .before .before .before .before .before .before .before .before .before .before .before .before .before .before .before .before .before .before .loop in
+    let h = here (c .before .before .before .before .before .before .before .before .before .before .before .before .before .before .before .before .before) in
+    let f = c .before .before .note .ensures in
+    let k = packets _ _ (l .i + 1) (h .file) _ _ (f .numbered) (omega (arith, h .inside)) in
+    (h .file, k .0, k .1, sized-next _ _ _ h _ _ _ _ (l .inv .1 .numbered) (f .numbered) _ _ (l .inv .5))
 
 add-i : tie.Need-add-i Inv-loop μ-loop
-add-i c = omega (arith, few (c .before .before .before .before .before .before .before .before .before .before .before .before .before .before))
+add-i c = omega (arith, few (c .before .before .before .before .before .before .before .before .before .before .before .before .before .before .before .before .before .before))
 
 loop-less : tie.Need-loop-less Inv-loop μ-loop
-loop-less c = omega (arith, here (c .before .before .before .before .before .before .before .before .before .before .before .before .before .before) .inside)
+loop-less c = omega (arith, here (c .before .before .before .before .before .before .before .before .before .before .before .before .before .before .before .before .before .before) .inside)
 
 loop-again : tie.Need-loop-again Inv-loop μ-loop
 loop-again c =
-    let l = c .before .before .before .before .before .before .before .before .before .before .before .before .before .before .before .before .loop in
-    let h = here (c .before .before .before .before .before .before .before .before .before .before .before .before .before .before) in (
+    let l = c .before .before .before .before .before .before .before .before .before .before .before .before .before .before .before .before .before .before .before .before .loop in
+    let h = here (c .before .before .before .before .before .before .before .before .before .before .before .before .before .before .before .before .before .before) in (
       omega (arith, h .inside),
-      c .note .ensures,
-      c .before .before .before .before .counted-by .ensures ∙ ap₂ countsBy (l .inv .2) (ap classOf (c .before .before .before .before .before .before .before .before .before .look .ensures))
+      c .before .before .before .note .ensures,
+      c .before .before .before .before .before .before .before .counted-by .ensures ∙ ap₂ countsBy (l .inv .2) (ap classOf (c .before .before .before .before .before .before .before .before .before .before .before .before .look .ensures))
           ∙ sym (ap counts (answers-next _ _ _ h) ∙ counts-more _ _),
-      next (c .before .before .before .before .before .before .before),
-      ap length (c .before .before .before .before .before .before .before .put-record .ensures .1) ∙ put-length _ _ _ ∙ l .inv .4,
+      next (c .before .before .before .before .before .before .before .before .before .before),
+      ap length (c .before .before .before .before .before .before .before .before .before .before .put-record .ensures .1) ∙ put-length _ _ _ ∙ l .inv .4,
+      c .note-sizes .ensures,
     )
 
 put-end-requires : tie.Need-put-end-requires Inv-loop μ-loop
@@ -158,6 +171,7 @@ list-spec =
     add-at
     counted-by-requires
     note-requires
+    note-sizes-requires
     add-i
     loop-less
     loop-again

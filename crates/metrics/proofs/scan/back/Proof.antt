@@ -1,0 +1,67 @@
+-- `back` goes back one by one. The loop's invariant: the numbers from p to before `from` are above s. The measure is p. Assumes nothing.
+use mathlib.Core.Path.{refl}
+use native.Mathlib.Omega.{arith}
+use borrow.Author.Needs.{needs}
+use Rattle.metrics.specs.Tables.{Above}
+use Rattle.metrics.proofs.Reordered.{above-none, above-one, above-back}
+use Rattle.metrics.proofs.scan.back.Statement.{statement}
+use Rattle.metrics.proofs.scan.back.Tie as tie
+
+abbrev Inv-loop : tie.InvT-loop
+Inv-loop numbers from least s p₀ p = Above numbers s p from
+
+abbrev μ-loop : tie.MeasureT-loop
+μ-loop numbers from least s p₀ p = p
+
+loop-holds : tie.Need-loop-holds Inv-loop μ-loop
+loop-holds c = above-none _ _ refl
+
+sub-place : tie.Need-sub-place Inv-loop μ-loop
+sub-place c = omega arith
+
+cast-place : tie.Need-cast-place Inv-loop μ-loop
+cast-place c = omega arith
+
+mul-wide : tie.Need-mul-wide Inv-loop μ-loop
+mul-wide c = omega arith
+
+element-copy-out-wide : tie.Need-element-copy-out-wide Inv-loop μ-loop
+element-copy-out-wide c = omega arith
+
+wide-requires : tie.Need-wide-requires Inv-loop μ-loop
+wide-requires c κs = search needs
+
+returns : tie.Need-returns Inv-loop μ-loop
+returns c = (c .before .before .before .before .loop .inv, λ low. rw (c .before .wide .ensures) at (c .if1 .taken))
+
+sub-p : tie.Need-sub-p Inv-loop μ-loop
+sub-p c = omega arith
+
+loop-less : tie.Need-loop-less Inv-loop μ-loop
+loop-less c = omega arith
+
+loop-again : tie.Need-loop-again Inv-loop μ-loop
+loop-again c =
+    above-back _ _ 1 (c .before .before .before .before .loop .inv) (omega arith)
+    (above-one _ _ _ (rw (c .before .wide .ensures) at (c .if1 .left)))
+
+returns-2 : tie.Need-returns-2 Inv-loop μ-loop
+returns-2 c = (c .before .loop .inv, λ low. absurd (omega arith))
+
+pub back-spec : {M : Type 1} → statement M
+back-spec =
+    tie.close
+    (tie.spec
+    Inv-loop
+    μ-loop
+    loop-holds
+    sub-place
+    cast-place
+    mul-wide
+    element-copy-out-wide
+    wide-requires
+    returns
+    sub-p
+    loop-less
+    loop-again
+    returns-2)
