@@ -22,6 +22,7 @@ use Rattle.rfc4737.proofs.Arrivals.{count-more, has-firsts, firsts-more, with-d
 use Rattle.rfc4737.proofs.Folds.{next-more, answers-more, runs-more, answer-duplicate, answer-first, first-in-order, first-reordered}
 use Rattle.rfc4737.proofs.Jumps.{jumps-more}
 use Rattle.rfc4737.proofs.Packets.{OfPackets, all-firsts}
+use Rattle.rfc4737.specs.Times.{nextReference}
 use Rattle.receiver.specs.declared.Receiver.{Receiver}
 use Rattle.receiver.specs.declared.Noted.{Noted}
 use Rattle.receiver.specs.declared.Noted.the-variants.{Duplicate, Exact, Beyond}
@@ -184,7 +185,7 @@ search-window account a s = rw (s .is)
 module _ (k : ℕ) (account : List Arrival) (a : Arrival) where
   -- a duplicate
   duplicate-agrees : has (a .number) account ≡ true → duplicateStep (stateOf k account) (a .time) ≡ added k account a
-  unfolding duplicateStep duplicateState stateOf inForm answerIn runsAfter
+  unfolding duplicateStep duplicateState nextReference stateOf inForm answerIn runsAfter
   duplicate-agrees e =
       let ans : answerIn account a ≡ answer.Duplicate (record { first = firstRecord (a .number) account }) = answer-duplicate (λ _. 0) account a e in
       let fs = sym (firsts-duplicate account a e) in
@@ -201,7 +202,7 @@ module _ (k : ℕ) (account : List Arrival) (a : Arrival) where
   -- in order
   in-order-agrees : has (a .number) account ≡ false → nextExp (firsts account) ≤ a .number
       → inOrderStep (stateOf k account) (a .number) (a .time) ≡ added k account a
-  unfolding inOrderStep inOrderState stateOf inForm answerIn inOrderAnswer jumpSize runsAfter
+  unfolding inOrderStep inOrderState nextReference stateOf inForm answerIn inOrderAnswer jumpSize runsAfter
   in-order-agrees e h =
       let ans : answerIn account a ≡ inOrderAnswer (firsts account) a =
       answer-first (λ _. 0) account a e ∙ first-in-order (λ _. 0) (firsts account) a h in
@@ -220,7 +221,7 @@ module _ (k : ℕ) (account : List Arrival) (a : Arrival) where
   -- the state after a reordered packet
   reordered-state : has (a .number) account ≡ false → a .number < nextExp (firsts account)
       → reorderedState (stateOf k account) (a .number) (a .time) ≡ stateOf k (account ++ (a ∷ []))
-  unfolding reorderedState stateOf reorderedAnswer runsAfter
+  unfolding reorderedState nextReference stateOf reorderedAnswer runsAfter
   reordered-state e h =
       let ans = answer-late account a e h in
       let fs = firsts-first account a e in

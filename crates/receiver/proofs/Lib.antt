@@ -1,6 +1,7 @@
 -- Laws behind the receiver's step and demand 3. Assumes nothing.
 pub mod Fits
 pub mod Places
+pub mod Passes
 pub mod Jumped
 pub mod Refused
 pub mod Shift

@@ -130,9 +130,9 @@ module _ (r : Receiver) (number time : ℕ) where
 
     -- what is noted makes the state
     pub done-noted : (w : Noted) (s : Receiver) → d .refusal ≡ 0 → w ≡ d .noted → s ≡ notedState r number time (d .noted)
-        → _≡_ {A = Stepped} (record { refusal = d .refusal; noted = w; state = s }) (stepOf r number time)
+        → _≡_ {A = Stepped} (record { refusal = 0; noted = w; state = s }) (stepOf r number time)
     unfolding done
-    done-noted w s z n k = (simp (eq-eqb (d .refusal) 0 z, n, k)) ∙ e
+    done-noted w s z n k = (simp (z, n, k)) ∙ e
 
 -- the oldest kept jump stands in the first place
 pub oldest-kept : (j : Jumps) → 0 < j .kept → oldest (keptOf j) ≡ some (placeAt j 0)

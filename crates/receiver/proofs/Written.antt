@@ -1,18 +1,16 @@
--- What the step writes into the state, part by part, makes the state of the definitions. Assumes nothing.
+-- What is written, part by part, makes the state of the definitions. Assumes nothing.
 use Prim.Native.Nat.{ℕ, _+_}
-use mathlib.Core.Bool.{cond}
+use mathlib.Core.Bool.{Bool, true, false, cond}
 use mathlib.Core.List.{List, [], _∷_}
 use mathlib.Core.Logic.{⊎-elim}
 use mathlib.Core.Path.{_≡_, refl}
 use native.Mathlib.Omega.{arith}
 use borrow.Author.Tests.{eq-eqb, ne-eqb}
 use denote.Enum.Declared.{tagOf}
-use lib.Dec.{ltb}
+use lib.Dec.{eqb, ltb}
 use lib.ListN.{getD}
 use types.Run.{OneOf}
-use Rattle.rfc4737.specs.declared.Runs.{Runs}
-use Rattle.rfc4737.specs.Order.{Placed, nextAfter}
-use Rattle.rfc4737.specs.Runs.{lengthened, ended}
+use Rattle.rfc4737.specs.Order.{Placed}
 use Rattle.receiver.specs.declared.Jumps.{Jumps}
 use Rattle.receiver.specs.declared.Receiver.{Receiver}
 use Rattle.receiver.specs.declared.Noted.{Noted}
@@ -21,67 +19,61 @@ use Rattle.receiver.specs.declared.fields.Fields.{Fields}
 use Rattle.receiver.specs.Limits.{window}
 use Rattle.receiver.specs.Marks.{withMark}
 use Rattle.receiver.specs.Step.{duplicateState, jumpsAfter, inOrderState, reorderedState}
-use Rattle.receiver.specs.Decision.{fieldsOf, pushed, notedState}
+use Rattle.receiver.specs.Parts.{fieldsOf, whole}
+use Rattle.receiver.specs.Decision.{pushed, notedState}
 use Rattle.receiver.proofs.Noted.{the-type}
 use Rattle.receiver.proofs.Jumped.{with-jump-parts}
 
-module _ (r : Receiver) (f : Fields) (same : f ≡ fieldsOf r) (number time : ℕ) (v : Noted) where
+module _ (j : Jumps) (size : ℕ) (p : Placed) where
+  -- how many jumps are kept after an in-order arrival
+  pub kept-counted : jumpsAfter j size p .kept ≡ cond (eqb size 0) (j .kept) (cond (ltb (j .kept) window) (j .kept + 1) (j .kept))
+  unfolding jumpsAfter
+  kept-counted = go (eqb size 0) refl
+    where
+      go : (b : Bool) → eqb size 0 ≡ b
+          → jumpsAfter j size p .kept ≡ cond (eqb size 0) (j .kept) (cond (ltb (j .kept) window) (j .kept + 1) (j .kept))
+      go true e = simp e
+      go false e = simp (e, with-jump-parts j p)
+
+  -- and the number of the last jump dropped
+  pub dropped-known : jumpsAfter j size p .dropped
+      ≡ cond (eqb size 0) (j .dropped) (cond (ltb (j .kept) window) (j .dropped) (getD (j .numbers) 0 0))
+  unfolding jumpsAfter
+  dropped-known = go (eqb size 0) refl
+    where
+      go : (b : Bool) → eqb size 0 ≡ b
+          → jumpsAfter j size p .dropped
+          ≡ cond (eqb size 0) (j .dropped) (cond (ltb (j .kept) window) (j .dropped) (getD (j .numbers) 0 0))
+      go true e = simp e
+      go false e = simp (e, with-jump-parts j p)
+
+module _ (f g : Fields) (marks positions numbers times : List ℕ) (number time : ℕ) (v : Noted) where
+  -- the receiver before
+  abbrev r : Receiver
+  r = whole f marks positions numbers times
+
   -- after a duplicate
-  pub duplicate-written : v ≡ Duplicate
-      → _≡_ {A = Receiver}
-      (record {
-        sent = r .sent;
-        arrived = r .arrived;
-        duplicates = f .duplicates + 1;
-        inorder = r .inorder;
-        next = r .next;
-        last = time;
-        marks = r .marks;
-        runs = r .runs;
-        jumps = r .jumps;
-      })
-      (notedState r number time v)
+  pub duplicate-written : v ≡ Duplicate → g ≡ fieldsOf (duplicateState r time)
+      → whole g marks positions numbers times ≡ notedState r number time v
   unfolding notedState duplicateState
-  duplicate-written n = rw (n, same)
+  duplicate-written n e = rw (n, e)
 
-  -- after an in-order arrival
-  pub in-order-written : (size next : ℕ) (marks : List ℕ) (jumps : Jumps) → v ≡ InOrder size → next ≡ nextAfter (f .next) number
-      → marks ≡ withMark (r .marks) number
-      → jumps ≡ jumpsAfter (r .jumps) size (record { position = f .arrived + 1; number = number; time = time })
-      → _≡_ {A = Receiver}
-      (record {
-        sent = r .sent;
-        arrived = f .arrived + 1;
-        duplicates = r .duplicates;
-        inorder = f .inorder + 1;
-        next = next;
-        last = time;
-        marks = marks;
-        runs = record { closed = r .runs .closed; squares = r .runs .squares; current = f .runs .current + 1 };
-        jumps = jumps;
-      })
-      (notedState r number time v)
-  unfolding notedState inOrderState lengthened
-  in-order-written size next marks jumps n x m j = rw (n, x, m, j, same)
+  -- after an in-order arrival that is no jump
+  pub in-order-written : (size : ℕ) (marks′ : List ℕ) → v ≡ InOrder size → size ≡ 0
+      → g ≡ fieldsOf (inOrderState r size number time) → marks′ ≡ withMark marks number
+      → whole g marks′ positions numbers times ≡ notedState r number time v
+  unfolding notedState inOrderState jumpsAfter
+  in-order-written size marks′ n z e m = rw (n, e, m, z)
 
-  -- the jumps after an in-order arrival that is no jump
-  pub no-jump : (size : ℕ) (p : Placed) → size ≡ 0 → r .jumps ≡ jumpsAfter (r .jumps) size p
-  unfolding jumpsAfter
-  no-jump size p z = rw (eq-eqb size 0 z)
-
-  -- the jumps after one that is
-  pub jump-written : (size kept dropped : ℕ) (positions numbers times : List ℕ) (p : Placed) → (size ≡ 0 → ⊥)
-      → kept ≡ cond (ltb (f .kept) window) (f .kept + 1) (f .kept)
-      → dropped ≡ cond (ltb (f .kept) window) (f .dropped) (getD (r .jumps .numbers) 0 0)
-      → positions ≡ pushed (f .kept) (r .jumps .positions) (p .position)
-      → numbers ≡ pushed (f .kept) (r .jumps .numbers) (p .number)
-      → times ≡ pushed (f .kept) (r .jumps .times) (p .time)
-      → _≡_ {A = Jumps}
-      (record { kept = kept; dropped = dropped; positions = positions; numbers = numbers; times = times })
-      (jumpsAfter (r .jumps) size p)
-  unfolding jumpsAfter
-  jump-written size kept dropped positions numbers times p z k d a b t =
-      rw (ne-eqb size 0 z, with-jump-parts (r .jumps) p, k, d, a, b, t, same)
+  -- after one that is
+  pub jump-written : (size : ℕ) (marks′ positions′ numbers′ times′ : List ℕ) → v ≡ InOrder size → (size ≡ 0 → ⊥)
+      → g ≡ fieldsOf (inOrderState r size number time) → marks′ ≡ withMark marks number
+      → positions′ ≡ pushed (f .kept) positions (f .arrived + 1) → numbers′ ≡ pushed (f .kept) numbers number
+      → times′ ≡ pushed (f .kept) times time
+      → whole g marks′ positions′ numbers′ times′ ≡ notedState r number time v
+  unfolding notedState inOrderState jumpsAfter
+  jump-written size marks′ positions′ numbers′ times′ n z e m a b t =
+      rw (n, e, m, a, b, t, ne-eqb size 0 z, with-jump-parts (r .jumps) (record { position = f .arrived + 1; number = number; time = time }))
 
   -- what is noted of a reordered packet, exact or beyond the window, makes one state
   late-state : (w : Noted) → OneOf (2 ∷ 3 ∷ []) (tagOf the-type w) → notedState r number time w ≡ reorderedState r number time
@@ -92,20 +84,7 @@ module _ (r : Receiver) (f : Fields) (same : f ≡ fieldsOf r) (number time : �
   late-state (Beyond l) k = refl
 
   -- after a reordered packet
-  pub late-written : (next : ℕ) (marks : List ℕ) (runs : Runs) → OneOf (2 ∷ 3 ∷ []) (tagOf the-type v)
-      → next ≡ nextAfter (f .next) number → marks ≡ withMark (r .marks) number → runs ≡ ended (f .runs)
-      → _≡_ {A = Receiver}
-      (record {
-        sent = r .sent;
-        arrived = f .arrived + 1;
-        duplicates = r .duplicates;
-        inorder = r .inorder;
-        next = next;
-        last = time;
-        marks = marks;
-        runs = runs;
-        jumps = r .jumps;
-      })
-      (notedState r number time v)
+  pub late-written : (marks′ : List ℕ) → OneOf (2 ∷ 3 ∷ []) (tagOf the-type v) → g ≡ fieldsOf (reorderedState r number time)
+      → marks′ ≡ withMark marks number → whole g marks′ positions numbers times ≡ notedState r number time v
   unfolding reorderedState
-  late-written next marks runs k x m u = rw (late-state v k, x, m, u, same)
+  late-written marks′ k e m = rw (late-state v k, e, m)

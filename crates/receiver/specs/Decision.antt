@@ -1,58 +1,22 @@
 -- A step in two parts, as the code does it: what is decided of an arrival, and what is done then. `stepOf` stands for
 -- itself; these definitions are for the contracts of private functions. Assumes nothing.
-use Prim.Native.Nat.{ℕ, _<_, _≤_}
-use mathlib.Core.Bool.{false, cond}
+use Prim.Native.Nat.{ℕ, zero, suc, _<_, _≤_}
+use mathlib.Core.Bool.{Bool, true, false, cond, _&&_}
 use mathlib.Core.List.{List, [], _∷_, _++_}
 use mathlib.Core.Path.{_≡_}
-use lib.Dec.{eqb, ltb}
+use lib.Dec.{eqb, leb, ltb}
 use lib.ListN.{getD, set, drop}
 use Rattle.rfc4737.specs.Extent.{firstAbove}
-use Rattle.receiver.specs.declared.Jumps.{Jumps}
 use Rattle.receiver.specs.declared.Receiver.{Receiver}
 use Rattle.receiver.specs.declared.Noted.{Noted}
 use Rattle.receiver.specs.declared.Noted.the-variants.{Duplicate, InOrder, Exact, Beyond}
 use Rattle.receiver.specs.declared.Stepped.{Stepped}
-use Rattle.receiver.specs.declared.fields.Fields.{Fields}
 use Rattle.receiver.specs.declared.decide.Decision.{Decision}
-use Rattle.receiver.specs.Limits.{window}
+use Rattle.receiver.specs.declared.fields.Fields.{Fields}
+use Rattle.receiver.specs.Limits.{window, packets, squaresMost}
 use Rattle.receiver.specs.Fit.{FieldsFit, PlacesFit}
 use Rattle.receiver.specs.Kept.{keptOf}
 use Rattle.receiver.specs.Step.{duplicateState, inOrderState, reorderedState, reorderedStep, stepOf}
-
--- the fields of a receiver
-abbrev pub fieldsOf : Receiver → Fields
-fieldsOf r =
-    record {
-      sent = r .sent;
-      arrived = r .arrived;
-      duplicates = r .duplicates;
-      inorder = r .inorder;
-      next = r .next;
-      last = r .last;
-      runs = r .runs;
-      kept = r .jumps .kept;
-      dropped = r .jumps .dropped;
-    }
-
--- the jumps of some fields, with their places
-abbrev pub jumpsOf : Fields → List ℕ → List ℕ → List ℕ → Jumps
-jumpsOf f positions numbers times =
-    record { kept = f .kept; dropped = f .dropped; positions = positions; numbers = numbers; times = times }
-
--- the receiver of some fields, with its marks and places
-abbrev pub whole : Fields → List ℕ → List ℕ → List ℕ → List ℕ → Receiver
-whole f marks positions numbers times =
-    record {
-      sent = f .sent;
-      arrived = f .arrived;
-      duplicates = f .duplicates;
-      inorder = f .inorder;
-      next = f .next;
-      last = f .last;
-      marks = marks;
-      runs = f .runs;
-      jumps = jumpsOf f positions numbers times;
-    }
 
 -- the state after an arrival that is noted
 unfoldable pub notedState : Receiver → ℕ → ℕ → Noted → Receiver
@@ -99,3 +63,21 @@ pushed kept l v = cond (ltb kept window) (set l kept v) (drop 1 l ++ (v ∷ []))
 pub record After (positions : List ℕ) (place position : ℕ) : Type 0 where
   pub place-high : place < window
   pub position-high : getD positions place 0 ≤ position
+
+-- whether a time is at most the last
+abbrev pub upTo : ℕ → ℕ → Bool
+upTo last time = leb time last
+
+-- whether each of the first n of some values passes a test
+unfoldable pub firstPass : (ℕ → Bool) → List ℕ → ℕ → Bool
+firstPass t l zero = true
+firstPass t l (suc n) = firstPass t l n && t (getD l n 0)
+
+-- fields so small that none overflows under one arrival more
+pub record Small (f : Fields) : Type 0 where
+  pub arrived-high : f .arrived ≤ packets
+  pub inorder-high : f .inorder ≤ packets
+  pub current-high : f .runs .current ≤ packets
+  pub closed-high : f .runs .closed ≤ packets
+  pub squares-high : f .runs .squares ≤ squaresMost
+  pub kept-high : f .kept ≤ window

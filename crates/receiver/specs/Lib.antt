@@ -4,6 +4,7 @@ pub mod Marks
 pub mod Kept
 pub mod Fit
 pub mod Step
+pub mod Parts
 pub mod Decision
 pub mod Account
 pub mod Demand3

@@ -7,7 +7,7 @@ use lib.ListN.{replicate}
 use Rattle.rfc4737.specs.Order.{Placed, nextAfter}
 use Rattle.rfc4737.specs.Extent.{firstAbove, extentFrom, lateFrom}
 use Rattle.rfc4737.specs.Runs.{lengthened, ended}
-use Rattle.rfc4737.specs.Times.{tooEarly}
+use Rattle.rfc4737.specs.Times.{tooEarly, nextReference}
 use Rattle.rfc4737.specs.Refusals.{within, sentOutside, numberOutside, timeBack, stateUnfit, stateFull}
 use Rattle.receiver.specs.declared.Jumps.{Jumps}
 use Rattle.receiver.specs.declared.Receiver.{Receiver}
@@ -70,7 +70,7 @@ duplicateState r time =
       duplicates = r .duplicates + 1;
       inorder = r .inorder;
       next = r .next;
-      last = time;
+      last = nextReference (r .last) time;
       marks = r .marks;
       runs = r .runs;
       jumps = r .jumps;
@@ -93,7 +93,7 @@ inOrderState r size number time =
       duplicates = r .duplicates;
       inorder = r .inorder + 1;
       next = nextAfter (r .next) number;
-      last = time;
+      last = nextReference (r .last) time;
       marks = withMark (r .marks) number;
       runs = lengthened (r .runs);
       jumps = jumpsAfter (r .jumps) size (record { position = r .arrived + 1; number = number; time = time });
@@ -128,7 +128,7 @@ reorderedState r number time =
       duplicates = r .duplicates;
       inorder = r .inorder;
       next = nextAfter (r .next) number;
-      last = time;
+      last = nextReference (r .last) time;
       marks = withMark (r .marks) number;
       runs = ended (r .runs);
       jumps = r .jumps;

@@ -3,8 +3,13 @@
 use crate::Receiver;
 use crate::fields::Fields;
 ghost use mathlib.Core.Path.{_≡_};
-ghost use Rattle.receiver.specs.Fit.{fieldsFit, jumpFit, placesFit};
-ghost use Rattle.receiver.specs.Decision.{jumpsOf};
+ghost use mathlib.Core.Bool.{_&&_};
+ghost use Prim.Native.Nat.{_≤_};
+ghost use Rattle.rfc4737.specs.Refusals.{within};
+ghost use Rattle.receiver.specs.Limits.{window, packets};
+ghost use Rattle.receiver.specs.Fit.{fieldsFit, placesFit};
+ghost use Rattle.receiver.specs.Parts.{jumpsOf};
+ghost use Rattle.receiver.specs.Decision.{firstPass, upTo};
 
 // The greatest sum of squares.
 const SQUARES_MOST: u32 = 16777216;
@@ -46,26 +51,49 @@ pub(crate) fn fields_fit(f: Fields) -> bool
     true
 }
 
-// Whether a kept jump is fit, under K, L and the last time.
-fn jump_fit(f: Fields, position: u16, number: u16, time: u64) -> bool
-    ensures { λ r. ⌜ r ≡ jumpFit (f .sent) (f .arrived) (f .last) (record { position = position; number = number; time = time }) ⌝ }
+// Whether both of two tests hold.
+fn both(a: bool, b: bool) -> bool
+    ensures { λ r. ⌜ r ≡ (a && b) ⌝ }
 {
-    if position == 0 {
+    if a { b } else { false }
+}
+
+// Whether a value lies from 1 to the most.
+fn is_within(most: u16, value: u16) -> bool
+    ensures { λ r. ⌜ r ≡ within 1 most value ⌝ }
+{
+    if value == 0 {
         return false;
     }
-    if f.arrived < position as u32 {
-        return false;
+    value <= most
+}
+
+// Whether each of the first values lies from 1 to the most. All are looked at, several at a time.
+fn all_within(places: &[u16; Receiver::WINDOW], count: usize, most: u16) -> bool
+    requires { ⌜ count ≤ window ⌝ }
+    ensures { λ r. ⌜ r ≡ firstPass (within 1 most) (now (places .entry)) count ⌝ }
+{
+    let mut fit = true;
+    let mut i = 0;
+    while i < count {
+        fit = both(fit, is_within(most, places[i]));
+        i += 1;
     }
-    if number == 0 {
-        return false;
+    fit
+}
+
+// Whether none of the first times is after the last. All are looked at, several at a time.
+fn none_after(times: &[u64; Receiver::WINDOW], count: usize, last: u64) -> bool
+    requires { ⌜ count ≤ window ⌝ }
+    ensures { λ r. ⌜ r ≡ firstPass (upTo last) (now (times .entry)) count ⌝ }
+{
+    let mut fit = true;
+    let mut i = 0;
+    while i < count {
+        fit = both(fit, times[i] <= last);
+        i += 1;
     }
-    if f.sent < number as u32 {
-        return false;
-    }
-    if f.last < time {
-        return false;
-    }
-    true
+    fit
 }
 
 // Whether the kept places are fit, under K, L and the last time.
@@ -75,22 +103,21 @@ pub(crate) fn places_fit<'a>(
     numbers: &'a [u16; Receiver::WINDOW],
     times: &'a [u64; Receiver::WINDOW],
 ) -> bool
+    requires { ⌜ (f .sent ≤ packets) × (f .arrived ≤ packets) ⌝ }
     ensures { λ r. ⌜ r ≡ placesFit (f .sent) (f .arrived) (f .last) (jumpsOf f (now (positions .entry)) (now (numbers .entry)) (now (times .entry))) ⌝ }
 {
     let kept = f.kept as usize;
     if Receiver::WINDOW < kept {
         return false;
     }
-    let mut i = 0;
-    while i < kept {
-        if jump_fit(f, positions[i], numbers[i], times[i]) {
-            i += 1;
-        } else {
-            return false;
-        }
-    }
     if f.sent < f.dropped as u32 {
         return false;
     }
-    true
+    if !all_within(positions, kept, f.arrived as u16) {
+        return false;
+    }
+    if !all_within(numbers, kept, f.sent as u16) {
+        return false;
+    }
+    none_after(times, kept, f.last)
 }

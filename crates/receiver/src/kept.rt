@@ -4,7 +4,7 @@ use crate::Receiver;
 ghost use mathlib.Core.Path.{_≡_};
 ghost use mathlib.Core.Bool.{cond};
 ghost use Prim.Native.Nat.{_+_, _≤_};
-ghost use lib.Dec.{ltb};
+ghost use lib.Dec.{eqb, ltb};
 ghost use lib.ListN.{length, getD};
 ghost use Rattle.receiver.specs.Limits.{window};
 ghost use Rattle.receiver.specs.Decision.{pushed, Found};
@@ -35,21 +35,32 @@ pub(crate) fn place_above(numbers: &[u16; Receiver::WINDOW], kept: u32, number: 
     count
 }
 
-// How many jumps are kept after a new one.
-pub(crate) fn kept_after(kept: u32) -> u32
+// How many jumps are kept after an in-order arrival with a jump size.
+pub(crate) fn kept_after(kept: u32, size: u32) -> u32
     requires { ⌜ kept ≤ window ⌝ }
-    ensures { λ r. ⌜ r ≡ cond (ltb kept window) (kept + 1) kept ⌝ }
+    ensures { λ r. ⌜ r ≡ cond (eqb size 0) kept (cond (ltb kept window) (kept + 1) kept) ⌝ }
 {
+    if size == 0 {
+        return kept;
+    }
     if (kept as usize) < Receiver::WINDOW {
         return kept + 1;
     }
     kept
 }
 
-// The number of the last jump dropped, after a new one.
-pub(crate) fn dropped_after(dropped: u16, kept: u32, numbers: &[u16; Receiver::WINDOW]) -> u16
-    ensures { λ r. ⌜ r ≡ cond (ltb kept window) dropped (getD (now (numbers .entry)) 0 0) ⌝ }
+// The number of the last jump dropped, after an in-order arrival with a jump size.
+pub(crate) fn dropped_after(
+    dropped: u16,
+    kept: u32,
+    size: u32,
+    numbers: &[u16; Receiver::WINDOW],
+) -> u16
+    ensures { λ r. ⌜ r ≡ cond (eqb size 0) dropped (cond (ltb kept window) dropped (getD (now (numbers .entry)) 0 0)) ⌝ }
 {
+    if size == 0 {
+        return dropped;
+    }
     if (kept as usize) < Receiver::WINDOW {
         return dropped;
     }
@@ -58,8 +69,7 @@ pub(crate) fn dropped_after(dropped: u16, kept: u32, numbers: &[u16; Receiver::W
 
 // A new value of 16 bits after the kept ones; if all places are taken, they move by one.
 pub(crate) fn push16(places: &mut [u16; Receiver::WINDOW], kept: u32, value: u16)
-    requires { ⌜ length (now places) ≡ window ⌝ }
-    ensures { λ _. ⌜ now (places .exit) ≡ pushed kept (now (places .entry)) value ⌝ }
+    ensures { λ _. ⌜ (length (now (places .entry)) ≡ window → now (places .exit) ≡ pushed kept (now (places .entry)) value) ⌝ }
 {
     let count = kept as usize;
     if count < Receiver::WINDOW {
@@ -76,8 +86,7 @@ pub(crate) fn push16(places: &mut [u16; Receiver::WINDOW], kept: u32, value: u16
 
 // A new value of 64 bits after the kept ones; if all places are taken, they move by one.
 pub(crate) fn push64(places: &mut [u64; Receiver::WINDOW], kept: u32, value: u64)
-    requires { ⌜ length (now places) ≡ window ⌝ }
-    ensures { λ _. ⌜ now (places .exit) ≡ pushed kept (now (places .entry)) value ⌝ }
+    ensures { λ _. ⌜ (length (now (places .entry)) ≡ window → now (places .exit) ≡ pushed kept (now (places .entry)) value) ⌝ }
 {
     let count = kept as usize;
     if count < Receiver::WINDOW {

@@ -1,19 +1,15 @@
 // The receiver: fed one arrival at a time, it answers each and keeps a state of fixed size, handed in and
 // back by value. Its rule is specs/Step.antt, after the scope's "The receiver".
 
+pub mod advance;
 mod decide;
-mod fields;
+pub mod fields;
 mod fit;
 mod kept;
 mod marking;
 
-use decide::decide;
+use advance::advance;
 use fields::fields_of;
-use kept::dropped_after;
-use kept::kept_after;
-use kept::push16;
-use kept::push64;
-use marking::mark;
 use rfc4737::Runs;
 use rfc4737::refusal;
 ghost use mathlib.Core.Path.{_≡_};
@@ -114,50 +110,42 @@ impl Receiver {
         }
     }
 
-    // The answer to an arrival, and the state after it: first what is noted is decided, which only reads; then the
-    // state is written where it stands.
+    // The answer to an arrival, and the state after it: the state's parts are taken out, advanced, and put back.
     pub fn step(mut self, number: u32, time: u64) -> Stepped
         ensures { λ r. ⌜ r ≡ stepOf self number time ⌝ }
     {
-        let f = fields_of(self);
-        let decision = decide(
-            f,
-            &self.marks,
-            &self.jumps.positions,
-            &self.jumps.numbers,
-            &self.jumps.times,
+        let mut marks = self.marks;
+        let mut positions = self.jumps.positions;
+        let mut numbers = self.jumps.numbers;
+        let mut times = self.jumps.times;
+        let a = advance(
+            fields_of(self),
+            &mut marks,
+            &mut positions,
+            &mut numbers,
+            &mut times,
             number,
             time,
         );
-        let noted = decision.noted;
-        if decision.refusal == 0 {
-            self.last = time;
-            match noted {
-                Noted::Duplicate => self.duplicates = f.duplicates + 1,
-                Noted::InOrder(size) => {
-                    self.arrived = f.arrived + 1;
-                    self.inorder = f.inorder + 1;
-                    self.next = next_after(f.next, number);
-                    self.runs.current = f.runs.current + 1;
-                    mark(&mut self.marks, number);
-                    if size != 0 {
-                        self.jumps.dropped = dropped_after(f.dropped, f.kept, &self.jumps.numbers);
-                        self.jumps.kept = kept_after(f.kept);
-                        push16(&mut self.jumps.positions, f.kept, (f.arrived + 1) as u16);
-                        push16(&mut self.jumps.numbers, f.kept, number as u16);
-                        push64(&mut self.jumps.times, f.kept, time);
-                    }
-                }
-                _ => {
-                    self.arrived = f.arrived + 1;
-                    self.next = next_after(f.next, number);
-                    self.runs = closed(f.runs);
-                    mark(&mut self.marks, number);
-                }
-            }
-        }
+        let noted = a.noted;
+        let runs = a.fields.runs;
+        self.sent = a.fields.sent;
+        self.arrived = a.fields.arrived;
+        self.duplicates = a.fields.duplicates;
+        self.inorder = a.fields.inorder;
+        self.next = a.fields.next;
+        self.last = a.fields.last;
+        self.marks = marks;
+        self.runs = runs;
+        let mut jumps = self.jumps;
+        jumps.kept = a.fields.kept;
+        jumps.dropped = a.fields.dropped;
+        jumps.positions = positions;
+        jumps.numbers = numbers;
+        jumps.times = times;
+        self.jumps = jumps;
         Stepped {
-            refusal: decision.refusal,
+            refusal: a.refusal,
             noted,
             state: self,
         }
@@ -188,28 +176,5 @@ fn made_for(k: u32) -> Receiver
             numbers: [0u16; Receiver::WINDOW],
             times: [0u64; Receiver::WINDOW],
         },
-    }
-}
-
-// NextExp after a first arrival of a number.
-fn next_after(next: u32, number: u32) -> u32
-    requires { ⌜ number ≤ packets ⌝ }
-    ensures { λ r. ⌜ r ≡ nextAfter next number ⌝ }
-{
-    if next <= number {
-        return number + 1;
-    }
-    next
-}
-
-// The runs after a reordered packet.
-fn closed(runs: Runs) -> Runs
-    requires { ⌜ (runs .current ≤ packets) × ((runs .closed ≤ packets) × (runs .squares ≤ squaresMost)) ⌝ }
-    ensures { λ r. ⌜ r ≡ ended runs ⌝ }
-{
-    Runs {
-        closed: runs.closed + 1,
-        squares: runs.squares + runs.current * runs.current,
-        current: 0,
     }
 }

@@ -5,7 +5,7 @@ use native.Mathlib.Omega.{arith}
 use borrow.Author.Needs.{needs}
 use lib.ListN.{getD}
 use Rattle.receiver.specs.declared.Receiver.{Receiver}
-use Rattle.receiver.specs.Decision.{whole}
+use Rattle.receiver.specs.Parts.{whole}
 use Rattle.receiver.specs.Kept.{placeAt}
 use Rattle.receiver.proofs.Places.{search-found, search-none}
 use Rattle.receiver.proofs.Steps.{late-none, late-beyond, late-exact, after-place, oldest-kept}

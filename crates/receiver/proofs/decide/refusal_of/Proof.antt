@@ -5,7 +5,7 @@ use mathlib.Core.Bool.{true}
 use native.Mathlib.Omega.{arith}
 use borrow.Author.Tests.{not-true, not-false, eq-eqb, ne-eqb, le-leb, lt-leb}
 use borrow.Author.Needs.{needs}
-use Rattle.receiver.specs.Decision.{jumpsOf}
+use Rattle.receiver.specs.Parts.{jumpsOf}
 use Rattle.receiver.specs.Step.{refusalOf}
 use Rattle.receiver.specs.Fit.{fieldsFit, placesFit, fit}
 use Rattle.receiver.proofs.Fits.{fields-facts}
@@ -30,7 +30,9 @@ unfolding refusalOf fit
 returns c = simp (sym (c .before .fields-fit .ensures) ∙ not-true _ (c .if1 .taken))
 
 places-fit-requires : tie.Need-places-fit-requires
-places-fit-requires c κs = search needs
+places-fit-requires c κs =
+    let h = fields-facts _ _ _ _ _ _ (sym (c .before .fields-fit .ensures) ∙ not-false _ (c .if1 .left)) in
+    (h .sent-high, omega (arith, h .arrived-high, h .sent-high))
 
 returns-2 : tie.Need-returns-2
 unfolding refusalOf fit

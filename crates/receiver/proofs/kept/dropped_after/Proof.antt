@@ -1,17 +1,20 @@
 -- `receiver::kept::dropped_after` meets its contract. Assumes nothing.
-use borrow.Author.Tests.{lt-ltb, le-ltb}
+use borrow.Author.Tests.{eq-eqb, ne-eqb, lt-ltb, le-ltb}
 use borrow.Author.Needs.{needs}
 use Rattle.receiver.proofs.kept.dropped_after.Statement.{statement}
 use Rattle.receiver.proofs.kept.dropped_after.Tie as tie
 
 returns : tie.Need-returns
-returns c = simp (lt-ltb _ _ (c .if1 .taken))
+returns c = simp (eq-eqb _ _ (c .if1 .taken))
+
+returns-2 : tie.Need-returns-2
+returns-2 c = simp (ne-eqb _ _ (c .before .if1 .left), lt-ltb _ _ (c .if2 .taken))
 
 element-copy-out-result : tie.Need-element-copy-out-result
 element-copy-out-result c = search needs
 
-returns-2 : tie.Need-returns-2
-returns-2 c = simp (le-ltb _ _ (c .before .if1 .left))
+returns-3 : tie.Need-returns-3
+returns-3 c = simp (ne-eqb _ _ (c .before .before .if1 .left), le-ltb _ _ (c .before .if2 .left))
 
 pub dropped-after-spec : {M : Type 1} → statement M
-dropped-after-spec = tie.close (tie.spec returns element-copy-out-result returns-2)
+dropped-after-spec = tie.close (tie.spec returns returns-2 element-copy-out-result returns-3)

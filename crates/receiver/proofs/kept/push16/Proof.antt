@@ -6,14 +6,15 @@ use mathlib.Core.Path.{_≡_, refl, ap, _∙_}
 use native.Mathlib.Omega.{arith}
 use borrow.Author.Tests.{lt-ltb, le-ltb}
 use borrow.Author.Needs.{needs}
-use lib.ListN.{getD, set}
+use lib.ListN.{length, getD, set}
+use Rattle.receiver.specs.Limits.{window}
 use Rattle.receiver.specs.Decision.{pushed}
 use Rattle.receiver.proofs.Shift.{moved, moved-next, moved-last}
 use Rattle.receiver.proofs.kept.push16.Statement.{statement}
 use Rattle.receiver.proofs.kept.push16.Tie as tie
 
 abbrev Inv-loop : tie.InvT-loop
-Inv-loop places₀ kept value count i₀ places i = (i ≤ 63) × (places ≡ moved i places₀)
+Inv-loop places₀ kept value count i₀ places i = (i ≤ 63) × (length places₀ ≡ window → places ≡ moved i places₀)
 
 abbrev μ-loop : tie.MeasureT-loop
 μ-loop places₀ kept value count i₀ places i = 63 - i
@@ -26,10 +27,10 @@ element-write-places c = search needs
 
 returns : tie.Need-returns Inv-loop μ-loop
 unfolding pushed
-returns c = simp (lt-ltb _ _ (c .if1 .taken))
+returns c = λ size. simp (lt-ltb _ _ (c .if1 .taken))
 
 loop-holds : tie.Need-loop-holds Inv-loop μ-loop
-loop-holds c = (search needs, refl)
+loop-holds c = (search needs, λ size. refl)
 
 add-places : tie.Need-add-places Inv-loop μ-loop
 add-places c = search needs
@@ -56,7 +57,7 @@ loop-again : tie.Need-loop-again Inv-loop μ-loop
 loop-again c =
     let l = c .before .before .before .before .args .places .now in
     let e = c .before .before .loop .inv .1 in
-    (search needs, ap (λ (t : List ℕ). set t (c .before .before .loop .i) (getD t (c .before .before .loop .i + 1) 0)) e ∙ moved-next l 63 (c .before .before .before .before .pre) (c .before .before .loop .i) (c .before .loop-test .taken))
+    (search needs, λ size. ap (λ (t : List ℕ). set t (c .before .before .loop .i) (getD t (c .before .before .loop .i + 1) 0)) (e size) ∙ moved-next l 63 size (c .before .before .loop .i) (c .before .loop-test .taken))
 
 element-write-places-3 : tie.Need-element-write-places-3 Inv-loop μ-loop
 element-write-places-3 c = search needs
@@ -66,7 +67,7 @@ unfolding pushed
 returns-2 c =
     let l = c .before .before .before .args .places .now in
     let all : c .before .loop .i ≡ 63 = omega arith in
-    simp (le-ltb _ _ (c .before .before .if1 .left), c .before .loop .inv .1, all, moved-last l 63 (c .before .before .before .pre) (c .before .before .before .args .value))
+    λ size. simp (le-ltb _ _ (c .before .before .if1 .left), c .before .loop .inv .1 size, all, moved-last l 63 size (c .before .before .before .args .value))
 
 pub push16-spec : {M : Type 1} → statement M
 push16-spec =

@@ -1,10 +1,10 @@
--- `receiver::closed` meets its contract: the square of a run of at most 4,096 is at most 16,777,216. Assumes nothing.
+-- `receiver::fields::closed` meets its contract: the square of a run of at most 4,096 is at most 16,777,216. Assumes nothing.
 use mathlib.Core.Path.{refl}
 use borrow.Author.Needs.{needs}
 use Rattle.rfc4737.specs.Runs.{ended}
 use Rattle.receiver.proofs.Squares.{square-high}
-use Rattle.receiver.proofs.closed.Statement.{statement}
-use Rattle.receiver.proofs.closed.Tie as tie
+use Rattle.receiver.proofs.fields.closed.Statement.{statement}
+use Rattle.receiver.proofs.fields.closed.Tie as tie
 
 add-t2 : tie.Need-add-t2
 add-t2 c = search needs

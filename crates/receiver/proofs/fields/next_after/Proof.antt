@@ -1,9 +1,9 @@
--- `receiver::next_after` meets its contract. Assumes nothing.
+-- `receiver::fields::next_after` meets its contract. Assumes nothing.
 use borrow.Author.Needs.{needs}
 use borrow.Author.Tests.{le-leb, lt-leb}
 use Rattle.rfc4737.specs.Order.{nextAfter}
-use Rattle.receiver.proofs.next_after.Statement.{statement}
-use Rattle.receiver.proofs.next_after.Tie as tie
+use Rattle.receiver.proofs.fields.next_after.Statement.{statement}
+use Rattle.receiver.proofs.fields.next_after.Tie as tie
 
 add-result : tie.Need-add-result
 add-result c = search needs

@@ -1,0 +1,59 @@
+-- `receiver::fit::all_within` meets its contract. The loop's invariant: the flag says whether each value so far passes. The
+-- measure is the number of values left. Assumes nothing.
+use Prim.Native.Nat.{_-_, _≤_}
+use mathlib.Core.Path.{_≡_, refl}
+use borrow.Author.Needs.{needs}
+use Rattle.rfc4737.specs.Refusals.{within}
+use Rattle.receiver.specs.Decision.{firstPass}
+use Rattle.receiver.proofs.Passes.{pass-none, pass-more, pass-done}
+use Rattle.receiver.proofs.fit.all_within.Statement.{statement}
+use Rattle.receiver.proofs.fit.all_within.Tie as tie
+
+abbrev Inv-loop : tie.InvT-loop
+Inv-loop places count most fit₀ i₀ fit i = (i ≤ count) × (fit ≡ firstPass (within 1 most) places i)
+
+abbrev μ-loop : tie.MeasureT-loop
+μ-loop places count most fit₀ i₀ fit i = count - i
+
+loop-holds : tie.Need-loop-holds Inv-loop μ-loop
+loop-holds c = (search needs, pass-none _ _)
+
+mul-is-within : tie.Need-mul-is-within Inv-loop μ-loop
+mul-is-within c = search needs
+
+element-copy-out-is-within : tie.Need-element-copy-out-is-within Inv-loop μ-loop
+element-copy-out-is-within c = search needs
+
+is-within-requires : tie.Need-is-within-requires Inv-loop μ-loop
+is-within-requires c κs = search needs
+
+both-requires : tie.Need-both-requires Inv-loop μ-loop
+both-requires c κs = search needs
+
+add-i : tie.Need-add-i Inv-loop μ-loop
+add-i c = search needs
+
+loop-less : tie.Need-loop-less Inv-loop μ-loop
+loop-less c = search needs
+
+loop-again : tie.Need-loop-again Inv-loop μ-loop
+loop-again c = (search needs, pass-more _ _ _ _ _ _ (c .before .before .before .before .loop .inv .1) (c .before .is-within .ensures) (c .both .ensures))
+
+returns : tie.Need-returns Inv-loop μ-loop
+returns c = pass-done _ _ _ _ _ (search needs) (search needs) (c .before .loop .inv .1)
+
+pub all-within-spec : {M : Type 1} → statement M
+all-within-spec =
+    tie.close
+    (tie.spec
+    Inv-loop
+    μ-loop
+    loop-holds
+    mul-is-within
+    element-copy-out-is-within
+    is-within-requires
+    both-requires
+    add-i
+    loop-less
+    loop-again
+    returns)

@@ -1,0 +1,55 @@
+-- `receiver::fit::none_after` meets its contract. The loop's invariant: the flag says whether each value so far passes. The
+-- measure is the number of values left. Assumes nothing.
+use Prim.Native.Nat.{_-_, _≤_}
+use mathlib.Core.Path.{_≡_, refl}
+use borrow.Author.Needs.{needs}
+use Rattle.receiver.specs.Decision.{upTo}
+use Rattle.receiver.specs.Decision.{firstPass}
+use Rattle.receiver.proofs.Passes.{pass-none, pass-more, pass-done}
+use Rattle.receiver.proofs.fit.none_after.Statement.{statement}
+use Rattle.receiver.proofs.fit.none_after.Tie as tie
+
+abbrev Inv-loop : tie.InvT-loop
+Inv-loop times count last fit₀ i₀ fit i = (i ≤ count) × (fit ≡ firstPass (upTo last) times i)
+
+abbrev μ-loop : tie.MeasureT-loop
+μ-loop times count last fit₀ i₀ fit i = count - i
+
+loop-holds : tie.Need-loop-holds Inv-loop μ-loop
+loop-holds c = (search needs, pass-none _ _)
+
+mul-both : tie.Need-mul-both Inv-loop μ-loop
+mul-both c = search needs
+
+element-copy-out-both : tie.Need-element-copy-out-both Inv-loop μ-loop
+element-copy-out-both c = search needs
+
+both-requires : tie.Need-both-requires Inv-loop μ-loop
+both-requires c κs = search needs
+
+add-i : tie.Need-add-i Inv-loop μ-loop
+add-i c = search needs
+
+loop-less : tie.Need-loop-less Inv-loop μ-loop
+loop-less c = search needs
+
+loop-again : tie.Need-loop-again Inv-loop μ-loop
+loop-again c = (search needs, pass-more _ _ _ _ _ _ (c .before .before .before .loop .inv .1) refl (c .both .ensures))
+
+returns : tie.Need-returns Inv-loop μ-loop
+returns c = pass-done _ _ _ _ _ (search needs) (search needs) (c .before .loop .inv .1)
+
+pub none-after-spec : {M : Type 1} → statement M
+none-after-spec =
+    tie.close
+    (tie.spec
+    Inv-loop
+    μ-loop
+    loop-holds
+    mul-both
+    element-copy-out-both
+    both-requires
+    add-i
+    loop-less
+    loop-again
+    returns)
