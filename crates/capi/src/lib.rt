@@ -160,5 +160,5 @@ pub extern "C" fn krakobran_step_lent(state: &mut Receiver, number: u32, time: u
     ensures { λ r. ⌜ (r ≡ saidAnswer (saidOf (stepOf (now (state .entry)) number time)))
         × (now (state .exit) ≡ stepOf (now (state .entry)) number time .state) ⌝ }
 {
-    said_answer(gateway::step(state, number, time))
+    said_answer(gateway::step_in_place(state, number, time))
 }

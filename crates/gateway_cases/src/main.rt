@@ -109,4 +109,31 @@ fn main() {
     let p = feed(p, 7, 90);
     // The first packet again.
     feed(p, 1, 100);
+    refused_states(state);
+}
+
+// Feeds an arrival to states that no arrival is taken in: one that has accepted 4,096 arrivals (11), one with more
+// first arrivals than packets (10), and one in which a reordered packet finds no greater jump (10).
+fn refused_states(state: Receiver) {
+    let mut full = state;
+    full.duplicates = 4096;
+    let p = Pair {
+        lent: full,
+        value: full,
+    };
+    feed(p, 1, 10);
+    let mut unfit = state;
+    unfit.arrived = 9;
+    let p = Pair {
+        lent: unfit,
+        value: unfit,
+    };
+    feed(p, 1, 10);
+    let mut late = state;
+    late.next = 3;
+    let p = Pair {
+        lent: late,
+        value: late,
+    };
+    feed(p, 1, 10);
 }

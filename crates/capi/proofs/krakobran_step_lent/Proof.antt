@@ -37,7 +37,7 @@ use denote.Exit.{yes}
 use Rattle.receiver.specs.declared.Receiver.{Receiver}
 use Rattle.receiver.specs.Step.{stepOf}
 use Rattle.gateway.specs.declared.Said.{Said}
-use Rattle.gateway.specs.Said.{saidOf}
+use Rattle.gateway.specs.Said.{saidOf, AsStep}
 use Rattle.gateway.proofs.Returned.{returned}
 use Rattle.capi.specs.declared.noted.SaidAnswer.{SaidAnswer}
 use Rattle.capi.specs.Noted.{saidAnswer}
@@ -46,10 +46,10 @@ use Rattle.gateway.proofs.Said as S
 use Rattle.gateway.proofs.Said.Laws as S′
 use Rattle.capi.proofs.noted.SaidAnswer as F
 use Rattle.capi.proofs.noted.SaidAnswer.Laws as F′
-use Rattle.gateway.proofs.step as step
-use Rattle.gateway.proofs.step.Symbol as step-def
-use Rattle.gateway.proofs.step.Symbol.{name as #step}
-use Rattle.gateway.proofs.step.Met as step-thm
+use Rattle.gateway.proofs.step_in_place as step
+use Rattle.gateway.proofs.step_in_place.Symbol as step-def
+use Rattle.gateway.proofs.step_in_place.Symbol.{name as #step}
+use Rattle.gateway.proofs.step_in_place.Met as step-thm
 use Rattle.capi.proofs.noted.said_answer as said
 use Rattle.capi.proofs.noted.said_answer.Symbol as said-def
 use Rattle.capi.proofs.noted.said_answer.Symbol.{name as #said}
@@ -63,11 +63,6 @@ use Rattle.capi.proofs.krakobran_step_lent.Code as code
 abbrev stayed : Stays (f.ended .signature .params) (f.ended .kept)
 stayed =
     (gave-ref (0 ∷ []) tt (plain (λ _. R.the-row)), (stay-none (λ _. u32) yes, (stay-none (λ _. u64) yes, tt)))
-
--- what the gateway's step ensures: of the receiver h at entry and h′ at exit, and of the answer s
-abbrev Ensured : Receiver → ℕ → ℕ → Said → Receiver → Type 0
-Ensured h n t s h′ =
-    (s ≡ saidOf (stepOf h n t)) × (h′ ≡ stepOf h n t .state) × ((s .refusal ≡ 0 → ⊥) → h′ ≡ h)
 
 module _ {M : Type 1} (𝓤 : URA M) (H : Heap 𝓤) (A : Atoms 𝓤) (at-mem : Memory → SProp 𝓤) (run : Routine → Fun 𝓤) where
   -- the contracts that the walk cites: of the gateway's step and of `said_answer`
@@ -159,9 +154,9 @@ module _ {M : Type 1} (𝓤 : URA M) (H : Heap 𝓤) (A : Atoms 𝓤) (W : Given
         use1 W (later (some (λ (s : Said).
         ((‵ (flft κ q) ⊛ ‵ ftrue) ⊛ ‵ (S.the-row .own s (v₁ ∷ [])))
         ⊛ some (λ (ws : Receiver × (Unit {0} × (Unit {0} × Unit {0}))).
-        ‵ (lasts step.ended (κ, tt) x ws) ⊛ raw (fact 𝓤 (Ensured h n t s (ws .0)))))))
+        ‵ (lasts step.ended (κ, tt) x ws) ⊛ raw (fact 𝓤 (AsStep h n t s (ws .0)))))))
         (id⊢ 𝓤 _) $ await ! tt $ pick ! (λ s. split ! $ move ! (1 ∷ []) $ pick ! (λ ws. split ! $ move ! (1 ∷ []) $
-        heard ! (Ensured h n t s (ws .0)) (λ e₁. fsplit ! $ move ! (2 ∷ []) $ split ! $ move ! (1 ∷ []) $
+        heard ! (AsStep h n t s (ws .0)) (λ e₁. fsplit ! $ move ! (2 ∷ []) $ split ! $ move ! (1 ∷ []) $
         facts ! S.the-row (Is S.the-row) (shows 𝓤 H A S.the-row) s (v₁ ∷ []) (λ is₁. split ! $
         -- the context: the token; true; what says the last state; the rest of the last values; then the locals, _5 at 4
         -- to _0 at 14
@@ -216,7 +211,7 @@ krakobran-step-lent-spec 𝓤 H 𝓜 𝓖 𝓡 =
     entered 𝓤 H (tripleOf 𝓤 H (𝓖 .A) f.signature (f.spec 𝓤 H (𝓖 .A) (𝓜 .mem) (𝓡 .run)))
     (tables 𝓤 H 𝓜 𝓡 code.env .C) (tables 𝓤 H 𝓜 𝓡 code.env .Λ) #f code.function (code.unfolded 𝓤 H 𝓜 𝓡)
     (meets 𝓤 H (𝓖 .A) (givenOf 𝓤 H 𝓜 𝓖) (𝓜 .mem) (𝓡 .run) (tablesOf 𝓤 H 𝓜 (tables 𝓤 H 𝓜 𝓡 code.env))
-    (cited 𝓤 H (Step 𝓤 H (𝓖 .A) (𝓜 .mem) (𝓡 .run)) 𝓜 𝓡 code.env #step step-def.routine code.calls-gateway·step
+    (cited 𝓤 H (Step 𝓤 H (𝓖 .A) (𝓜 .mem) (𝓡 .run)) 𝓜 𝓡 code.env #step step-def.routine code.calls-gateway·step-in-place
     (step-thm.met 𝓤 H 𝓜 𝓖 𝓡))
     (cited 𝓤 H (Saying 𝓤 H (𝓖 .A) (𝓜 .mem) (𝓡 .run)) 𝓜 𝓡 code.env #said said-def.routine
     code.calls-capi·noted·said-answer (said-thm.met 𝓤 H 𝓜 𝓖 𝓡)))

@@ -43,7 +43,7 @@ use denote.Exit.{yes}
 use Rattle.receiver.specs.declared.Receiver.{Receiver}
 use Rattle.receiver.specs.Step.{stepOf}
 use Rattle.gateway.specs.declared.Said.{Said}
-use Rattle.gateway.specs.Said.{saidOf}
+use Rattle.gateway.specs.Said.{saidOf, AsStep}
 use Rattle.gateway.proofs.Returned.{returned}
 use Rattle.gateway_cases.specs.declared.Fed.{Fed}
 use Rattle.gateway_cases.specs.Fed.{fedOf}
@@ -73,11 +73,6 @@ stayed = (stay-none (λ _. R.the-row) yes, (stay-none (λ _. u32) yes, (stay-non
 -- a receiver's machine value
 abbrev mach : Receiver → Val
 mach h = LL.val R.the-type R′.the-laws h
-
--- what the gateway's step ensures: of the receiver h at entry and h′ at exit, and of the answer s
-abbrev Ensured : Receiver → ℕ → ℕ → Said → Receiver → Type 0
-Ensured h n t s h′ =
-    (s ≡ saidOf (stepOf h n t)) × (h′ ≡ stepOf h n t .state) × ((s .refusal ≡ 0 → ⊥) → h′ ≡ h)
 
 module _ {M : Type 1} (𝓤 : URA M) (H : Heap 𝓤) (A : Atoms 𝓤) (at-mem : Memory → SProp 𝓤) (run : Routine → Fun 𝓤) where
   -- the contracts that the walk cites: of the gateway's step and of `together`
@@ -211,9 +206,9 @@ module _ {M : Type 1} (𝓤 : URA M) (H : Heap 𝓤) (A : Atoms 𝓤) (W : Given
         use1 W (later (some (λ (s : Said).
         ((‵ (flft (α ∷ []) fullShare) ⊛ ‵ ftrue) ⊛ ‵ (S.the-row .own s (v₁ ∷ [])))
         ⊛ some (λ (ws : Receiver × (Unit {0} × (Unit {0} × Unit {0}))).
-        ‵ (lasts step.ended (α ∷ [], tt) (ref l₄ γ, (n, (t, tt))) ws) ⊛ raw (fact 𝓤 (Ensured h n t s (ws .0)))))))
+        ‵ (lasts step.ended (α ∷ [], tt) (ref l₄ γ, (n, (t, tt))) ws) ⊛ raw (fact 𝓤 (AsStep h n t s (ws .0)))))))
         (id⊢ 𝓤 _) $ await ! tt $ pick ! (λ s. split ! $ move ! (1 ∷ []) $ pick ! (λ ws. split ! $ move ! (1 ∷ []) $
-        heard ! (Ensured h n t s (ws .0)) (λ e₁. fsplit ! $ move ! (2 ∷ []) $ split ! $ move ! (1 ∷ []) $
+        heard ! (AsStep h n t s (ws .0)) (λ e₁. fsplit ! $ move ! (2 ∷ []) $ split ! $ move ! (1 ∷ []) $
         facts ! S.the-row (Is S.the-row) (shows 𝓤 H A S.the-row) s (v₁ ∷ []) (λ is₁.
         land ! (from ! (stop !)) (init ! 8 refl (LL.lawful S.the-type S′.the-laws 𝓤 H A W .typed s _ is₁ .0)) $
         -- the lifetime is ended, and the local comes back at the state that the step leaves
