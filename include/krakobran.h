@@ -241,7 +241,7 @@ krakobran_started krakobran_fresh(uint32_t sent);
 /* The answer to an arrival, and the state after it. */
 krakobran_stepped krakobran_step(krakobran_receiver state, uint32_t number, uint64_t time);
 
-/* The same, with the new state left in the lent receiver. */
+/* The same, with the new state left in the lent receiver: it is written where it stands, and nothing is copied. */
 krakobran_said krakobran_step_lent(krakobran_receiver *state, uint32_t number, uint64_t time);
 
 #ifdef __cplusplus

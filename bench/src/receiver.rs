@@ -174,6 +174,14 @@ impl Receiver {
         Stepped { refusal, answer, receiver: self }
     }
 
+    /// The step by value, handed over by C's convention as an archive's is: the caller copies the state for the call.
+    #[inline(never)]
+    #[allow(improper_ctypes_definitions)]
+    pub extern "C" fn step_by_c(mut self, number: u32, time: u64) -> Stepped {
+        let Answered { refusal, answer } = self.advance(number, time);
+        Stepped { refusal, answer, receiver: self }
+    }
+
     /// The step by pointer. Never inlined either.
     #[inline(never)]
     pub fn step_mut(&mut self, number: u32, time: u64) -> Answered {

@@ -106,20 +106,23 @@ pub fn run() {
     }
     println!();
     println!(
-        "{:22} {:>5} {:>11} {:>11} {:>6} {:>11} {:>11} {:>6}",
-        "step, each", "A", "library", "reference", "ratio", "lib. lent", "ref. lent", "ratio"
+        "{:22} {:>5} {:>9} {:>9} {:>6} {:>9} {:>6} {:>9} {:>9} {:>6}",
+        "step, each", "A", "library", "ref. C", "ratio", "ref.", "ratio", "lib. lent", "ref. lent", "ratio"
     );
     for kind in KINDS {
         for many in AMOUNTS {
             let list = steps(kind, many);
             let all = measure([
                 calls(|| LIBRARY.feed_by_value(&list)),
+                calls(|| feed_by_c(&list)),
                 calls(|| Reference.feed_by_value(&list)),
                 calls(|| LIBRARY.feed_lent(&list)),
                 calls(|| Reference.feed_lent(&list)),
             ]);
-            let [a, b, c, d] = all.map(|whole| whole / many as f64);
-            println!("{:22} {many:5} {a:11.1} {b:11.1} {:6.2} {c:11.1} {d:11.1} {:6.2}", name(kind), a / b, c / d);
+            let [a, b, c, d, e] = all.map(|whole| whole / many as f64);
+            let (by_c, by_rust, lent) = (a / b, a / c, d / e);
+            let name = name(kind);
+            println!("{name:22} {many:5} {a:9.1} {b:9.1} {by_c:6.2} {c:9.1} {by_rust:6.2} {d:9.1} {e:9.1} {lent:6.2}");
         }
     }
     println!();
@@ -221,6 +224,17 @@ fn name(kind: Kind) -> &'static str {
         Kind::InOrder => "in order",
         Kind::Window => "window full",
     }
+}
+
+/// Feeds a list to the reference, by value and by C's convention, as `Meter::feed_by_value` does by Rust's.
+fn feed_by_c(list: &[(u32, u64)]) -> u32 {
+    let mut receiver = Receiver::fresh(Receiver::PACKETS as u32).receiver;
+    for &(number, time) in list {
+        let stepped = receiver.step_by_c(number, time);
+        black_box((stepped.refusal, stepped.answer));
+        receiver = stepped.receiver;
+    }
+    receiver.first_arrivals
 }
 
 /// A list of so many arrivals, for K = 4,096.
