@@ -5,3 +5,6 @@ pub mod Folds
 pub mod Jumps
 pub mod Packets
 pub mod Cases
+pub mod Due
+pub mod Pairs
+pub mod Judged

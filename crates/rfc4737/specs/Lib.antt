@@ -10,3 +10,4 @@ pub mod Tally
 pub mod Ratios
 pub mod Cases
 pub mod Refusals
+pub mod Judge

@@ -8,6 +8,9 @@ pub mod refusal;
 // What is asked of arrival times.
 pub mod time;
 
+// What is refused of K and arrivals.
+pub mod judge;
+
 // An arrival of a test packet: its sequence number, and its arrival time in microseconds.
 pub struct Arrival {
     pub number: u32,

@@ -15,7 +15,7 @@ use Rattle.sample.specs.Decode.{labelCount, sentAt, sentCount, arrivedAt
 use Rattle.sample.specs.Places.{sizeFound, numberFound, timeFound, arrivalsAt}
 use Rattle.sample.specs.declared.Layout.{Layout}
 use Rattle.sample.proofs.Items.{items-stand, arrival-stands}
-use Rattle.sample.proofs.Judged.{judged-number, judged-times}
+use Rattle.rfc4737.proofs.Judged.{judged-number, judged-times}
 use Rattle.sample.proofs.Decoded.{accepted-decode, layout-accepted}
 use Rattle.sample.proofs.Exact.{Limits, limits, file-length, exact}
 use Rattle.sample.proofs.Answers.{found-accepted}

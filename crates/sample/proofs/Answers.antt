@@ -11,13 +11,15 @@ use Rattle.octets.specs.BigEndian.{beValue}
 use Rattle.octets.specs.Memory.{over, splice}
 use Rattle.octets.proofs.Memory.{splice-next, over-splice}
 use Rattle.rfc4737.specs.Refusals.{inCase, firstOf, outputShort}
-use Rattle.sample.specs.Format.{section, sizeOctets, arrivalOctets, itemOctets, itemsIn, fileOf, numbersOf, timesOf, arrivalsOf}
+use Rattle.rfc4737.specs.Judge.{numbersOf, timesOf, arrivalsOf}
+use Rattle.sample.specs.Format.{section, sizeOctets, arrivalOctets, itemOctets, itemsIn, fileOf}
 use Rattle.sample.specs.Decode.{labelCount, sentAt, sentCount, arrivedAt, arrivalCount, arrivalIn, sampleIn, refusalIn, Decoded, refused, accepted, decode, sampleOf, layoutOf}
 use Rattle.sample.specs.Places.{sizesAt, arrivalsAt}
 use Rattle.sample.specs.Calls.{listsShort, decodeInto, ReadFrom, sampleFrom, refusalFrom, refusalInto, octetsInto, unlessRefused, WrittenTo}
 use Rattle.sample.specs.declared.Layout.{Layout}
-use Rattle.sample.proofs.Due.{first-due, or-false}
-use Rattle.sample.proofs.Items.{size-long, octets-many, arrivals-length}
+use Rattle.rfc4737.proofs.Due.{first-due, or-false}
+use Rattle.rfc4737.proofs.Pairs.{arrivals-length}
+use Rattle.sample.proofs.Items.{size-long, octets-many}
 use Rattle.sample.proofs.Decoded.{refused-none, decided-refusal, decode-accepted, decode-refused, layout-accepted}
 use Rattle.sample.proofs.Exact.{section-length, file-length}
 

@@ -7,7 +7,7 @@ use Rattle.rfc4737.specs.declared.Arrival.{Arrival}
 use Rattle.rfc4737.specs.Refusals.{outside}
 use Rattle.sample.specs.Format.{section, arrivalOctets, itemOctets, itemsIn, fileOf}
 use Rattle.rfc4737.specs.Times.{tooEarly, nextReference}
-use Rattle.sample.specs.Judge.{judgeOne, judge}
+use Rattle.rfc4737.specs.Judge.{judgeOne, judge}
 use Rattle.sample.specs.Decode.{countAt, arrivalIn, sectionStage, refusalIn}
 
 -- a file of two sent packets with two arrivals, by their numbers and times

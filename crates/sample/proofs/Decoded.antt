@@ -10,10 +10,11 @@ use lib.ListN.{length}
 use Rattle.octets.specs.BigEndian.{beValue}
 use Rattle.octets.proofs.Memory.{part-length}
 use Rattle.rfc4737.specs.Refusals.{outside, endsEarly, octetsFollow, longLabel, sentOutside, manyArrivals}
-use Rattle.sample.specs.Format.{Sample, labelMost, sentMost, arrivalsMost}
-use Rattle.sample.specs.Judge.{judge, judgeLabel, judgeSent, judgeArrivals}
+use Rattle.rfc4737.specs.Judge.{sentMost, arrivalsMost, judgeSent, judgeArrivals, judge}
+use Rattle.sample.specs.Format.{Sample, labelMost}
+use Rattle.sample.specs.Judge.{judgeLabel}
 use Rattle.sample.specs.Decode.{countAt, endOf, labelCount, sentAt, sentCount, arrivedAt, arrivalCount, fileEnd, arrivalIn, arrivalsIn, sampleIn, countStage, lengthStage, sectionStage, labelStage, sentStage, arrivedStage, endStage, arrivalsStage, refusalIn, refused, accepted, decided, decode, refusalOf, layoutOf}
-use Rattle.sample.proofs.Due.{first-none, first-due, first-one, case-none, between, not-outside}
+use Rattle.rfc4737.proofs.Due.{first-none, first-due, first-one, case-none, between, not-outside}
 use Rattle.sample.proofs.Items.{items-length}
 
 -- ---- a section

@@ -17,13 +17,14 @@ use Rattle.octets.proofs.BigEndian.{octets-length, value-octets}
 use Rattle.octets.proofs.Memory.{part-length, part-append}
 use Rattle.rfc4737.specs.declared.Arrival.{Arrival}
 use Rattle.rfc4737.specs.Refusals.{outside, longLabel, sentOutside, manyArrivals}
-use Rattle.sample.specs.Format.{Sample, section, sizeOctets, arrivalOctets, itemOctets, itemsIn, fileOf, labelMost, sentMost, arrivalsMost}
-use Rattle.sample.specs.Judge.{judge, judgeLabel, judgeSent, judgeArrivals, judgeSample, Fit}
+use Rattle.rfc4737.specs.Judge.{sentMost, arrivalsMost, judgeSent, judgeArrivals, judge}
+use Rattle.sample.specs.Format.{Sample, section, sizeOctets, arrivalOctets, itemOctets, itemsIn, fileOf, labelMost}
+use Rattle.sample.specs.Judge.{judgeLabel, judgeSample, Fit}
 use Rattle.sample.specs.Decode.{countAt, endOf, labelCount, sentAt, sentCount, arrivedAt, arrivalCount, arrivalIn, sizesIn, arrivalsIn, sampleIn, decode, accepted}
 use Rattle.sample.specs.RoundTrip.{Exact}
-use Rattle.sample.proofs.Due.{first-none, case-none, between, not-outside}
+use Rattle.rfc4737.proofs.Due.{first-none, case-none, between, not-outside}
 use Rattle.sample.proofs.Items.{items-length, items-stand, part-fits, octets-many, read-written, written-read, arrival-long, arrival-read, arrival-back, time-stands, size-long, size-back}
-use Rattle.sample.proofs.Judged.{judged-number}
+use Rattle.rfc4737.proofs.Judged.{judged-number}
 use Rattle.sample.proofs.Decoded.{WholeFile, refused-none, none-refused, decode-accepted, accepted-decode, label-length, sizes-length, arrivals-number}
 
 -- what stands past the last arrival

@@ -14,7 +14,8 @@ use Rattle.octets.proofs.Below.{below-take, below-drop, below-part}
 use Rattle.octets.proofs.BigEndian.{octets-length, value-octets, octets-value, value-fits}
 use Rattle.octets.proofs.Memory.{take-snoc, drop-take, part-most, taken, taken-part}
 use Rattle.rfc4737.specs.declared.Arrival.{Arrival}
-use Rattle.sample.specs.Format.{itemOctets, itemsIn, arrivalOctets, arrivalsOf, numbersOf, timesOf}
+use Rattle.rfc4737.specs.Judge.{numbersOf, timesOf}
+use Rattle.sample.specs.Format.{itemOctets, itemsIn, arrivalOctets}
 use Rattle.sample.specs.Decode.{arrivalIn}
 
 -- the value of so many octets of a file
@@ -180,42 +181,3 @@ size-long size = octets-length 2 size
 -- two octets are written back as themselves
 pub size-back : (os : List ℕ) → Octets os → length os ≡ 2 → beOctets 2 (beValue os) ≡ os
 size-back os o h = subst (λ (n : ℕ). beOctets n (beValue os) ≡ os) h (octets-value os o)
-
--- ---- arrivals as two lists of one length
-
--- as many as each list has
-pub arrivals-length : (ns ts : List ℕ) → length ts ≡ length ns → length (arrivalsOf ns ts) ≡ length ns
-unfolding arrivalsOf
-arrivals-length [] ts h = refl
-arrivals-length (n ∷ ns) [] h = absurd (omega arith)
-arrivals-length (n ∷ ns) (t ∷ ts) h = ap suc (arrivals-length ns ts (omega arith))
-
--- each has the number and the time at its place
-pub arrivals-getD : (ns ts : List ℕ) (i : ℕ) (z : Arrival) → length ts ≡ length ns → i < length ns
-    → record { number = getD ns i 0; time = getD ts i 0 } ≡ getD (arrivalsOf ns ts) i z
-unfolding arrivalsOf
-arrivals-getD [] ts i z h p = absurd (omega arith)
-arrivals-getD (n ∷ ns) [] i z h p = absurd (omega arith)
-arrivals-getD (n ∷ ns) (t ∷ ts) zero z h p = refl
-arrivals-getD (n ∷ ns) (t ∷ ts) (suc i) z h p = arrivals-getD ns ts i z (omega arith) (omega arith)
-
--- their numbers are the first list
-pub numbers-back : (ns ts : List ℕ) → length ts ≡ length ns → numbersOf (arrivalsOf ns ts) ≡ ns
-unfolding arrivalsOf
-numbers-back [] ts h = refl
-numbers-back (n ∷ ns) [] h = absurd (omega arith)
-numbers-back (n ∷ ns) (t ∷ ts) h = ap (λ (l : List ℕ). n ∷ l) (numbers-back ns ts (omega arith))
-
--- their times are the second list
-pub times-back : (ns ts : List ℕ) → length ts ≡ length ns → timesOf (arrivalsOf ns ts) ≡ ts
-unfolding arrivalsOf
-times-back [] [] h = refl
-times-back [] (t ∷ ts) h = absurd (omega arith)
-times-back (n ∷ ns) [] h = absurd (omega arith)
-times-back (n ∷ ns) (t ∷ ts) h = ap (λ (l : List ℕ). t ∷ l) (times-back ns ts (omega arith))
-
--- the arrivals of their numbers and times are themselves
-pub arrivals-back : (l : List Arrival) → arrivalsOf (numbersOf l) (timesOf l) ≡ l
-unfolding arrivalsOf
-arrivals-back [] = refl
-arrivals-back (a ∷ l) = ap (λ (k : List Arrival). a ∷ k) (arrivals-back l)

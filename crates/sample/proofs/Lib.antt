@@ -1,8 +1,6 @@
 -- Laws of the definitions of specs/, for the proofs of this crate and of the crates above it.
 pub mod Cases
-pub mod Due
 pub mod Items
-pub mod Judged
 pub mod Readings
 pub mod Writing
 pub mod Decoded

@@ -11,11 +11,12 @@ use lib.Seq.{take-take}
 use Rattle.octets.specs.BigEndian.{beValue}
 use Rattle.octets.proofs.Memory.{drop-take}
 use Rattle.rfc4737.specs.Refusals.{outside, inCase, octetsFollow, longLabel, sentOutside, manyArrivals}
-use Rattle.sample.specs.Format.{labelMost, sentMost, arrivalsMost, longest}
-use Rattle.sample.specs.Judge.{judgeLabel, judgeSent, judgeArrivals}
+use Rattle.rfc4737.specs.Judge.{sentMost, arrivalsMost, judgeSent, judgeArrivals}
+use Rattle.sample.specs.Format.{labelMost, longest}
+use Rattle.sample.specs.Judge.{judgeLabel}
 use Rattle.sample.specs.Decode.{countAt, endOf, lengthStage, labelCount, sentAt, sentCount, arrivedAt, arrivalCount, fileEnd, sectionStage, labelStage, sentStage, refusalIn}
 use Rattle.sample.specs.RoundTrip.{Longer}
-use Rattle.sample.proofs.Due.{between, first-due}
+use Rattle.rfc4737.proofs.Due.{between, first-due}
 use Rattle.sample.proofs.Decoded.{none-stage, refused-label, refused-sent, refused-arrived, refused-end}
 
 -- a count that is refused

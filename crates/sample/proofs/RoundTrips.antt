@@ -1,26 +1,27 @@
 -- Both round trips: what was read is written back as the same octets, and what was written is read back as the same lists. Assumes nothing.
 use Prim.Native.Nat.{ℕ, _^_, _≤_}
 use native.Mathlib.Omega.{arith}
-use mathlib.Core.Bool.{not}
-use mathlib.Core.Path.{_≡_, refl, sym, ap, ap₂, _∙_, subst}
+use mathlib.Core.Path.{_≡_, sym, ap, ap₂, _∙_, subst}
 use mathlib.Core.List.{List, [], _∷_}
-use borrow.Author.Tests.{le-ltb, eq-eqb, eqb-true, not-false}
-use lib.Dec.{ltb, eqb}
+use borrow.Author.Tests.{le-ltb}
+use lib.Dec.{ltb}
 use lib.ListN.{length, take, length-map}
 use Rattle.octets.specs.Below.{Below, Octets}
 use Rattle.octets.specs.Memory.{over}
 use Rattle.octets.proofs.Memory.{over-read}
 use Rattle.rfc4737.specs.declared.Arrival.{Arrival}
-use Rattle.rfc4737.specs.Refusals.{inCase, firstOf, listsDiffer, outputShort}
-use Rattle.sample.specs.Format.{Sample, fileOf, numbersOf, timesOf, arrivalsOf, labelMost, sentMost, arrivalsMost}
-use Rattle.sample.specs.Judge.{judge, judgeLabel, judgeSent, judgeArrivals, judgeSample, Fit}
+use Rattle.rfc4737.specs.Refusals.{outside, inCase, firstOf, longLabel, outputShort}
+use Rattle.rfc4737.specs.Judge.{arrivalsMost, numbersOf, timesOf, arrivalsOf, judge, refusalOfLists}
+use Rattle.sample.specs.Format.{Sample, fileOf, labelMost}
+use Rattle.sample.specs.Judge.{judgeLabel, judgeSample, Fit}
 use Rattle.sample.specs.Decode.{refusalIn, sampleIn, decided, decode, accepted, sampleOf, refusalOf, layoutOf}
 use Rattle.sample.specs.Calls.{listsShort, decodeInto, sampleFrom, refusalFrom, refusalInto, octetsInto, unlessRefused, WrittenTo}
 use Rattle.sample.specs.RoundTrip.{WrittenAgain, ReadAgain}
 use Rattle.sample.specs.declared.Layout.{Layout}
 use Rattle.sample.specs.declared.Written.{Written}
-use Rattle.sample.proofs.Due.{first-none, case-none, not-outside}
-use Rattle.sample.proofs.Items.{arrivals-length, numbers-back, times-back, arrivals-back}
+use Rattle.rfc4737.proofs.Due.{first-none, case-none, between, not-outside}
+use Rattle.rfc4737.proofs.Judged.{ListsFit, lists-fit, fit-lists}
+use Rattle.rfc4737.proofs.Pairs.{arrivals-length, numbers-back, times-back, arrivals-back}
 use Rattle.sample.proofs.Decoded.{refused-none, decided-refusal, decode-accepted, accepted-decode}
 use Rattle.sample.proofs.Exact.{limits, sample-fit, file-back, decode-file}
 
@@ -44,35 +45,25 @@ into-room a b c file s e p q r =
 
 -- ---- the writer
 
--- what holds of a label and lists of which nothing is refused
-pub from-none : (label sizes numbers times : List ℕ) → refusalFrom label sizes numbers times ≡ 0
-    → (judgeSample (sampleFrom label sizes numbers times) ≡ 0) × (length times ≡ length numbers)
-unfolding refusalFrom judgeSample
+-- of a label and lists nothing is refused: the label has at most 64 octets, and K and the lists are fit
+pub label-fit : (label sizes numbers times : List ℕ) → refusalFrom label sizes numbers times ≡ 0
+    → (length label ≤ labelMost) × ListsFit (length sizes) numbers times
+unfolding refusalFrom
+label-fit label sizes numbers times e =
+    let r = refusalOfLists (length sizes) numbers times in
+    let p = first-none (judgeLabel (length label)) (r ∷ []) e in
+    let l = between 0 labelMost (length label) (case-none (outside 0 labelMost (length label)) longLabel (omega arith) (p .0)) in
+    (l .1, lists-fit (length sizes) numbers times (first-none r [] (p .1) .0))
+
+-- nothing of their sample is refused
+from-none : (label sizes numbers times : List ℕ) → refusalFrom label sizes numbers times ≡ 0 → judgeSample (sampleFrom label sizes numbers times) ≡ 0
+unfolding judgeSample
 from-none label sizes numbers times e =
-    let j = judge (length sizes) 0 (arrivalsOf numbers times) in
-    let d = inCase (not (eqb (length numbers) (length times))) listsDiffer in
-    let p = first-none (judgeLabel (length label)) (judgeSent (length sizes) ∷ judgeArrivals (length numbers) ∷ d ∷ j ∷ []) e in
-    let q = first-none (judgeSent (length sizes)) (judgeArrivals (length numbers) ∷ d ∷ j ∷ []) (p .1) in
-    let r = first-none (judgeArrivals (length numbers)) (d ∷ j ∷ []) (q .1) in
-    let s = first-none d (j ∷ []) (r .1) in
-    let t = first-none j [] (s .1) in
-    let l : length times ≡ length numbers = sym (eqb-true (length numbers) (length times) (not-false (eqb (length numbers) (length times)) (case-none (not (eqb (length numbers) (length times))) listsDiffer (omega arith) (s .0)))) in
-    (simp (p .0, q .0, arrivals-length numbers times l, r .0, t .0), l)
-
--- the limits of a label and lists
-pub record ListsFit (label sizes numbers times : List ℕ) : Type 0 where
-  pub labelFits : length label ≤ labelMost
-  pub sizesFit : length sizes ≤ sentMost
-  pub numbersFit : length numbers ≤ arrivalsMost
-  pub same : length times ≡ length numbers
-
--- nothing of them is refused: all of that holds
-pub lists-fit : (label sizes numbers times : List ℕ) → refusalFrom label sizes numbers times ≡ 0 → ListsFit label sizes numbers times
-lists-fit label sizes numbers times e =
-    let j = from-none label sizes numbers times e in
-    let l = limits (sampleFrom label sizes numbers times) (j .0) in
-    let n = arrivals-length numbers times (j .1) in
-    record { labelFits = l .labelFits; sizesFit = l .sentFits; numbersFit = subst (λ (k : ℕ). k ≤ arrivalsMost) n (l .arrivalsFit); same = j .1 }
+    let f = label-fit label sizes numbers times e in
+    let n = arrivals-length numbers times (f .1 .same) in
+    let p = not-outside 0 labelMost (length label) (omega arith) (f .0) in
+    let q = not-outside 0 arrivalsMost (length numbers) (omega arith) (f .1 .few) in
+    simp (p, f .1 .sent, n, q, f .1 .judged)
 
 -- nothing of a sample is refused: nothing of its lists is
 pub none-from : (s : Sample) → judgeSample s ≡ 0 → refusalFrom (s .label) (s .sizes) (numbersOf (s .arrivals)) (timesOf (s .arrivals)) ≡ 0
@@ -82,10 +73,8 @@ none-from s e =
     let n = length-map (s .arrivals) (λ (a : Arrival). a .number) in
     let t = length-map (s .arrivals) (λ (a : Arrival). a .time) in
     let p = not-outside 0 labelMost (length (s .label)) (omega arith) (l .labelFits) in
-    let q = not-outside 1 sentMost (length (s .sizes)) (l .sentSome) (l .sentFits) in
-    let r = not-outside 0 arrivalsMost (length (s .arrivals)) (omega arith) (l .arrivalsFit) in
-    let u = eq-eqb (length (s .arrivals)) (length (s .arrivals)) refl in
-    simp (n, t, p, q, r, u, arrivals-back (s .arrivals), l .judged)
+    let j : judge (length (s .sizes)) 0 (arrivalsOf (numbersOf (s .arrivals)) (timesOf (s .arrivals))) ≡ 0 = rw (arrivals-back (s .arrivals)) (l .judged) in
+    simp (p, fit-lists (length (s .sizes)) (numbersOf (s .arrivals)) (timesOf (s .arrivals)) (l .sentSome) (l .sentFits) (rw n (l .arrivalsFit)) (t ∙ sym n) j)
 
 -- nothing is refused where there is room
 pub written-into : (room : ℕ) (label sizes numbers times : List ℕ) → refusalFrom label sizes numbers times ≡ 0
@@ -142,18 +131,19 @@ pub read-again : (label sizes numbers times : List ℕ) → Octets label → Bel
 read-again label sizes numbers times fl fs ft out out′ sizes₀ numbers₀ times₀ sizes′ numbers′ times′ written read w z ps pn pt h =
     let s = sampleFrom label sizes numbers times in
     let r = sym (w .refusal) ∙ z in
-    let j = from-none label sizes numbers times (into-written (length out) label sizes numbers times r) in
-    let n = arrivals-length numbers times (j .1) in
+    let e = into-written (length out) label sizes numbers times r in
+    let q = label-fit label sizes numbers times e .1 .same in
+    let n = arrivals-length numbers times q in
     let os : octetsInto (length out) label sizes numbers times ≡ fileOf s = ap (λ (k : ℕ). unlessRefused k (fileOf s)) r in
     let file : take (written .length) out′ ≡ fileOf s =
     ap₂ take (w .octets ∙ ap length os) (w .filled ∙ ap (λ (l : List ℕ). over l out) os) ∙ over-read (fileOf s) out in
-    let fit : Fit s = record { judged = j .0; octets = fl; sizes = fs; times = rw (times-back numbers times (j .1)) ft } in
+    let fit : Fit s = record { judged = from-none label sizes numbers times e; octets = fl; sizes = fs; times = rw (times-back numbers times q) ft } in
     let d : decode (take (written .length) out′) ≡ accepted s = ap decode file ∙ decode-file s fit in
     let i = into-room (length sizes₀) (length numbers₀) (length times₀) (take (written .length) out′) s d ps (omega arith) (omega arith) in
     record {
       layout = h .layout ∙ ap layoutOf i ∙ ap (λ (k : ℕ). record { refusal = 0; label = length label; sent = length sizes; arrivals = k }) n;
       sameLabel = ap (λ x. sampleOf x .label) d;
       sameSizes = h .filledSizes ∙ ap (λ x. over (sampleOf x .sizes) sizes₀) i;
-      sameNumbers = h .filledNumbers ∙ ap (λ x. over (numbersOf (sampleOf x .arrivals)) numbers₀) i ∙ ap (λ (l : List ℕ). over l numbers₀) (numbers-back numbers times (j .1));
-      sameTimes = h .filledTimes ∙ ap (λ x. over (timesOf (sampleOf x .arrivals)) times₀) i ∙ ap (λ (l : List ℕ). over l times₀) (times-back numbers times (j .1));
+      sameNumbers = h .filledNumbers ∙ ap (λ x. over (numbersOf (sampleOf x .arrivals)) numbers₀) i ∙ ap (λ (l : List ℕ). over l numbers₀) (numbers-back numbers times q);
+      sameTimes = h .filledTimes ∙ ap (λ x. over (timesOf (sampleOf x .arrivals)) times₀) i ∙ ap (λ (l : List ℕ). over l times₀) (times-back numbers times q);
     }

@@ -12,8 +12,10 @@ use Rattle.octets.specs.Memory.{splice, put}
 use Rattle.octets.proofs.BigEndian.{octets-length}
 use Rattle.octets.proofs.Memory.{splice-nil, splice-length, splice-next, taken, put-room, put-next, put-lent}
 use Rattle.rfc4737.specs.declared.Arrival.{Arrival}
-use Rattle.sample.specs.Format.{itemOctets, section, arrivalOctets, arrivalsOf}
-use Rattle.sample.proofs.Items.{octets-snoc, octets-many, arrivals-getD}
+use Rattle.rfc4737.specs.Judge.{arrivalsOf}
+use Rattle.sample.specs.Format.{itemOctets, section, arrivalOctets}
+use Rattle.rfc4737.proofs.Pairs.{arrivals-getD}
+use Rattle.sample.proofs.Items.{octets-snoc, octets-many}
 
 module _ {ℓ} {A : Type ℓ} (octets : A → List ℕ) (width : ℕ) (long : (x : A) → length (octets x) ≡ width) (xs : List A) (at : ℕ) (old : List ℕ)
     (room : at + width * length xs ≤ length old) where

@@ -1,14 +1,15 @@
 -- What the calls answer, and what lent memory holds after them. Assumes nothing.
 use Prim.Native.Nat.{ℕ, zero, suc}
-use mathlib.Core.Bool.{Bool, not, _||_}
+use mathlib.Core.Bool.{Bool, _||_}
 use mathlib.Core.List.{List, [], _∷_}
 use mathlib.Core.Path.{_≡_}
-use lib.Dec.{ltb, eqb}
+use lib.Dec.{ltb}
 use lib.ListN.{length}
 use Rattle.octets.specs.Memory.{over}
-use Rattle.rfc4737.specs.Refusals.{inCase, firstOf, outputShort, listsDiffer}
-use Rattle.sample.specs.Format.{Sample, fileOf, numbersOf, timesOf, arrivalsOf}
-use Rattle.sample.specs.Judge.{judge, judgeLabel, judgeSent, judgeArrivals}
+use Rattle.rfc4737.specs.Refusals.{inCase, firstOf, outputShort}
+use Rattle.rfc4737.specs.Judge.{numbersOf, timesOf, arrivalsOf, refusalOfLists}
+use Rattle.sample.specs.Format.{Sample, fileOf}
+use Rattle.sample.specs.Judge.{judgeLabel}
 use Rattle.sample.specs.Decode.{Decoded, refused, accepted, refusalIn, sampleIn, decided, decode, sampleOf, layoutOf}
 use Rattle.sample.specs.declared.Layout.{Layout}
 use Rattle.sample.specs.declared.Written.{Written}
@@ -44,16 +45,9 @@ pub record ReadFrom (file sizes numbers times : List ℕ) (answer : Layout) (siz
 abbrev pub sampleFrom : List ℕ → List ℕ → List ℕ → List ℕ → Sample
 sampleFrom label sizes numbers times = record { label = label; sizes = sizes; arrivals = arrivalsOf numbers times }
 
--- the first refusal that is due of a label and lists: 3, 4, 5 (by the list of numbers), 12, the arrivals in turn
+-- the first refusal that is due of a label and lists: 3, then those of K, the number of sizes, and the lists
 unfoldable pub refusalFrom : List ℕ → List ℕ → List ℕ → List ℕ → ℕ
-refusalFrom label sizes numbers times =
-    firstOf
-    (judgeLabel (length label)
-    ∷ judgeSent (length sizes)
-    ∷ judgeArrivals (length numbers)
-    ∷ inCase (not (eqb (length numbers) (length times))) listsDiffer
-    ∷ judge (length sizes) 0 (arrivalsOf numbers times)
-    ∷ [])
+refusalFrom label sizes numbers times = firstOf (judgeLabel (length label) ∷ refusalOfLists (length sizes) numbers times ∷ [])
 
 -- the same where so many octets can be written: 8 comes last
 unfoldable pub refusalInto : ℕ → List ℕ → List ℕ → List ℕ → List ℕ → ℕ

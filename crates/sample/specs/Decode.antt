@@ -9,7 +9,8 @@ use Rattle.octets.specs.Memory.{part}
 use Rattle.rfc4737.specs.declared.Arrival.{Arrival}
 use Rattle.rfc4737.specs.Refusals.{inCase, firstOf, endsEarly, octetsFollow}
 use Rattle.sample.specs.Format.{Sample, itemsIn}
-use Rattle.sample.specs.Judge.{judge, judgeLabel, judgeSent, judgeArrivals}
+use Rattle.rfc4737.specs.Judge.{judgeSent, judgeArrivals, judge}
+use Rattle.sample.specs.Judge.{judgeLabel}
 use Rattle.sample.specs.declared.Layout.{Layout}
 
 -- ---- where the sections stand

@@ -1,7 +1,7 @@
 -- The sample file: three sections in a fixed order, each after its count of two octets. All numbers are big-endian.
 -- Assumes nothing.
 use Prim.Native.Nat.{ℕ, zero, suc}
-use mathlib.Core.List.{List, [], _∷_, _++_, map}
+use mathlib.Core.List.{List, [], _∷_, _++_}
 use lib.ListN.{length, take, drop}
 use Rattle.octets.specs.BigEndian.{beOctets}
 use Rattle.rfc4737.specs.declared.Arrival.{Arrival}
@@ -16,14 +16,6 @@ pub record Sample : Type 0 where
 -- the greatest number of octets of a label
 abbrev pub labelMost : ℕ
 labelMost = 64
-
--- the greatest number of sent packets
-abbrev pub sentMost : ℕ
-sentMost = 4096
-
--- the greatest number of arrivals
-abbrev pub arrivalsMost : ℕ
-arrivalsMost = 4096
 
 -- the number of octets of the longest sample
 abbrev pub longest : ℕ
@@ -60,17 +52,3 @@ fileOf s =
     section (length (s .label)) (s .label)
     ++ (section (length (s .sizes)) (itemOctets sizeOctets (s .sizes))
     ++ section (length (s .arrivals)) (itemOctets arrivalOctets (s .arrivals)))
-
--- the numbers of arrivals
-abbrev pub numbersOf : List Arrival → List ℕ
-numbersOf l = map (λ (a : Arrival). a .number) l
-
--- the times of arrivals
-abbrev pub timesOf : List Arrival → List ℕ
-timesOf l = map (λ (a : Arrival). a .time) l
-
--- the arrivals of a list of numbers and a list of times
-unfoldable pub arrivalsOf : List ℕ → List ℕ → List Arrival
-arrivalsOf [] times = []
-arrivalsOf (n ∷ ns) [] = []
-arrivalsOf (n ∷ ns) (t ∷ ts) = record { number = n; time = t } ∷ arrivalsOf ns ts

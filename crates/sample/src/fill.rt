@@ -4,7 +4,8 @@ ghost use Prim.Native.Nat.{_+_, _*_, _≤_};
 ghost use lib.ListN.{length, drop};
 ghost use Rattle.octets.specs.BigEndian.{beValue};
 ghost use Rattle.octets.specs.Memory.{over};
-ghost use Rattle.sample.specs.Format.{itemsIn, numbersOf, timesOf};
+ghost use Rattle.rfc4737.specs.Judge.{numbersOf, timesOf};
+ghost use Rattle.sample.specs.Format.{itemsIn};
 ghost use Rattle.sample.specs.Decode.{arrivalIn};
 
 // Fills the payload sizes: so many, which stand from a place on.

@@ -8,15 +8,16 @@ ghost use Rattle.sample.specs.Calls.{labelPlace, ReadFrom, WrittenTo, re
 ghost use Rattle.sample.specs.RoundTrip.{Exact, Longer, WrittenAgain, ReadAgain};
 
 mod fill;
-pub mod judge;
+mod judge;
 mod sections;
 
 use fill::fill_arrivals;
 use fill::fill_sizes;
 use judge::judge_file;
-use judge::judge_lists;
-use judge::outside;
-use rfc4737::refusal::LISTS_DIFFER;
+use rfc4737::judge::ARRIVALS_MOST;
+use rfc4737::judge::SENT_MOST;
+use rfc4737::judge::outside;
+use rfc4737::judge::refusal_of_lists;
 use rfc4737::refusal::LONG_LABEL;
 use rfc4737::refusal::MANY_ARRIVALS;
 use rfc4737::refusal::OCTETS_FOLLOW;
@@ -30,13 +31,7 @@ use sections::write_label;
 use sections::write_sizes;
 
 // The greatest number of octets of a label.
-pub const LABEL_MOST: u64 = 64;
-
-// The greatest number of sent packets.
-pub const SENT_MOST: u64 = 4096;
-
-// The greatest number of arrivals.
-pub const ARRIVALS_MOST: u64 = 4096;
+const LABEL_MOST: u64 = 64;
 
 // The number of octets of the longest sample.
 pub const LONGEST: usize = 57_414;
@@ -174,16 +169,7 @@ fn refusal_from(label: &[u8], sizes: &[u16], numbers: &[u32], times: &[u64]) -> 
     if outside(0, LABEL_MOST, label.len() as u64) {
         return LONG_LABEL;
     }
-    if outside(1, SENT_MOST, sizes.len() as u64) {
-        return SENT_OUTSIDE;
-    }
-    if outside(0, ARRIVALS_MOST, numbers.len() as u64) {
-        return MANY_ARRIVALS;
-    }
-    if numbers.len() != times.len() {
-        return LISTS_DIFFER;
-    }
-    judge_lists(sizes.len() as u64, numbers, times)
+    refusal_of_lists(sizes.len() as u64, numbers, times)
 }
 
 // Writes the file of a label and lists from the start of `out`. With a refusal `out` stays as it was.

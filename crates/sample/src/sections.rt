@@ -3,9 +3,10 @@ ghost use mathlib.Core.Path.{_≡_};
 ghost use Prim.Native.Nat.{_+_, _*_, _≤_, _<_};
 ghost use lib.ListN.{length};
 ghost use Rattle.octets.specs.Memory.{splice};
-ghost use Rattle.sample.specs.Format.{section, sizeOctets, arrivalOctets, itemOctets, arrivalsOf};
+ghost use Rattle.rfc4737.specs.Judge.{arrivalsOf};
+ghost use Rattle.sample.specs.Format.{section, sizeOctets, arrivalOctets, itemOctets};
 ghost use Rattle.sample.specs.Readings.{countReading, placeReading, sectionReading, refusalOfSection};
-use crate::judge::outside;
+use rfc4737::judge::outside;
 use rfc4737::refusal::ENDS_EARLY;
 
 // A number that was read, unless the file ends before it.

@@ -10,8 +10,9 @@ use mir.Syntax.{w8}
 use denote.Ref.{now}
 use Rattle.octets.proofs.Below.{below-fits}
 use Rattle.rfc4737.specs.Refusals.{inCase, octetsFollow, longLabel, sentOutside, manyArrivals}
-use Rattle.sample.specs.Format.{itemsIn, labelMost, sentMost, arrivalsMost}
-use Rattle.sample.specs.Judge.{judge, judgeLabel, judgeSent, judgeArrivals}
+use Rattle.rfc4737.specs.Judge.{sentMost, arrivalsMost, judgeSent, judgeArrivals, judge}
+use Rattle.sample.specs.Format.{itemsIn, labelMost}
+use Rattle.sample.specs.Judge.{judgeLabel}
 use Rattle.sample.specs.Decode.{labelCount, sentAt, sentCount, arrivedAt, arrivalCount, fileEnd, arrivalIn, labelStage, sentStage, arrivedStage, endStage, refusalIn, refused, decode, layoutOf}
 use Rattle.sample.specs.Readings.{refusalOfSection, sectionReading}
 use Rattle.sample.specs.declared.Layout.{Layout}

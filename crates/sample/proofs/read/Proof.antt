@@ -9,7 +9,8 @@ use denote.Ref.{now}
 use Rattle.octets.specs.BigEndian.{beValue}
 use Rattle.octets.specs.Memory.{over}
 use Rattle.octets.proofs.Below.{below-fits}
-use Rattle.sample.specs.Format.{itemsIn, numbersOf, timesOf}
+use Rattle.rfc4737.specs.Judge.{numbersOf, timesOf}
+use Rattle.sample.specs.Format.{itemsIn}
 use Rattle.sample.specs.Decode.{arrivalIn}
 use Rattle.sample.specs.Calls.{ReadFrom}
 use Rattle.sample.specs.declared.Layout.{Layout}

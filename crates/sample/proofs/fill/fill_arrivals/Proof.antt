@@ -11,7 +11,8 @@ use denote.Ref.{now}
 use Rattle.rfc4737.specs.declared.Arrival.{Arrival}
 use Rattle.octets.proofs.Below.{below-fits}
 use Rattle.octets.proofs.Memory.{fill-length, fill-next, fill-done}
-use Rattle.sample.specs.Format.{itemsIn, numbersOf, timesOf}
+use Rattle.rfc4737.specs.Judge.{numbersOf, timesOf}
+use Rattle.sample.specs.Format.{itemsIn}
 use Rattle.sample.specs.Decode.{arrivalIn}
 use Rattle.sample.proofs.Items.{items-length, taken-fits, number-found, time-found}
 use Rattle.sample.proofs.fill.fill_arrivals.Statement.{statement}

@@ -10,9 +10,9 @@ use denote.Ref.{now}
 use Rattle.rfc4737.specs.declared.Arrival.{Arrival}
 use Rattle.sample.specs.Format.{itemsIn}
 use Rattle.sample.specs.Decode.{arrivalIn}
-use Rattle.sample.specs.Judge.{judge}
+use Rattle.rfc4737.specs.Judge.{judge}
 use Rattle.sample.proofs.Items.{items-length, arrival-taken}
-use Rattle.sample.proofs.Judged.{judge-stop, judge-next, judge-done}
+use Rattle.rfc4737.proofs.Judged.{judge-stop, judge-next, judge-done}
 use Rattle.sample.proofs.judge.judge_file.Statement.{statement}
 use Rattle.sample.proofs.judge.judge_file.Tie as tie
 

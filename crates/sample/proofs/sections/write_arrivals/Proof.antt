@@ -10,8 +10,10 @@ use denote.Ref.{now}
 use Rattle.rfc4737.specs.declared.Arrival.{Arrival}
 use Rattle.octets.specs.Memory.{splice}
 use Rattle.octets.proofs.Memory.{taken}
-use Rattle.sample.specs.Format.{itemOctets, arrivalOctets, arrivalsOf}
-use Rattle.sample.proofs.Items.{arrival-long, octets-many, arrivals-length}
+use Rattle.rfc4737.specs.Judge.{arrivalsOf}
+use Rattle.sample.specs.Format.{itemOctets, arrivalOctets}
+use Rattle.rfc4737.proofs.Pairs.{arrivals-length}
+use Rattle.sample.proofs.Items.{arrival-long, octets-many}
 use Rattle.sample.proofs.Writing.{write-start, write-length, write-next, write-done, section-done, arrival-put}
 use Rattle.sample.proofs.sections.write_arrivals.Statement.{statement}
 use Rattle.sample.proofs.sections.write_arrivals.Tie as tie

@@ -1,18 +1,20 @@
--- The judge of arrivals: one arrival more, and what it says of arrivals that none is refused. Assumes nothing.
+-- The judge: one arrival more, and what it says of arrivals, and of K and lists, that none is refused. Assumes nothing.
 use Prim.Native.Nat.{ℕ, zero, suc, _+_, _≤_, _<_}
 use native.Mathlib.Numerals.{add-one}
 use native.Mathlib.Omega.{arith}
-use mathlib.Core.Bool.{false}
+use mathlib.Core.Bool.{false, not}
 use mathlib.Core.Path.{_≡_, refl, sym, ap, _∙_}
 use mathlib.Core.List.{List, [], _∷_}
-use borrow.Author.Tests.{ltb-false}
+use borrow.Author.Tests.{ltb-false, eq-eqb, eqb-true, not-false}
+use lib.Dec.{eqb}
 use lib.ListN.{length, getD, drop, drop-of-length-le}
 use lib.Seq.{drop-cons}
 use Rattle.rfc4737.specs.declared.Arrival.{Arrival}
-use Rattle.rfc4737.specs.Refusals.{outside, inCase, numberOutside, timeBack}
+use Rattle.rfc4737.specs.Refusals.{outside, inCase, sentOutside, manyArrivals, numberOutside, timeBack, listsDiffer}
 use Rattle.rfc4737.specs.Times.{tooEarly, nextReference}
-use Rattle.sample.specs.Judge.{judgeOne, judge}
-use Rattle.sample.proofs.Due.{first-none, first-due, first-next, first-one, case-none, between}
+use Rattle.rfc4737.specs.Judge.{sentMost, arrivalsMost, arrivalsOf, judgeSent, judgeArrivals, judgeOne, judge, refusalOfLists}
+use Rattle.rfc4737.proofs.Due.{first-none, first-due, first-next, first-one, case-none, between, not-outside}
+use Rattle.rfc4737.proofs.Pairs.{arrivals-length, arrivals-getD}
 
 -- a number that is not 0
 positive : (n : ℕ) → (n ≡ 0 → ⊥) → 0 < n
@@ -50,7 +52,7 @@ judge-done k l reference i h inv = sym (inv ∙ ap (judge k reference) (drop-of-
 -- ---- arrivals of which none is refused
 
 -- the first is not refused, nor one of the others
-judge-split : (k reference : ℕ) (a : Arrival) (l : List Arrival) → judge k reference (a ∷ l) ≡ 0
+pub judge-split : (k reference : ℕ) (a : Arrival) (l : List Arrival) → judge k reference (a ∷ l) ≡ 0
     → (judgeOne k reference a ≡ 0) × (judge k (nextReference reference (a .time)) l ≡ 0)
 unfolding judge
 judge-split k reference a l e =
@@ -58,7 +60,7 @@ judge-split k reference a l e =
     (p .0, sym (first-one (judge k (nextReference reference (a .time)) l)) ∙ p .1)
 
 -- of one arrival: its number lies in 1 to k, and its time is not too early
-one-split : (k reference : ℕ) (a : Arrival) → judgeOne k reference a ≡ 0
+pub one-split : (k reference : ℕ) (a : Arrival) → judgeOne k reference a ≡ 0
     → ((1 ≤ a .number) × (a .number ≤ k)) × (tooEarly reference (a .time) ≡ false)
 unfolding judgeOne
 one-split k reference a e =
@@ -75,7 +77,7 @@ judged-number k reference (a ∷ l) e (suc i) z h =
     judged-number k (nextReference reference (a .time)) l (judge-split k reference a l e .1) i z (omega arith)
 
 -- no time is before the reference
-judged-reference : (k reference : ℕ) (l : List Arrival) → judge k reference l ≡ 0 → (i : ℕ) (z : Arrival) → i < length l
+pub judged-reference : (k reference : ℕ) (l : List Arrival) → judge k reference l ≡ 0 → (i : ℕ) (z : Arrival) → i < length l
     → reference ≤ getD l i z .time
 unfolding tooEarly nextReference
 judged-reference k reference [] e i z h = absurd (omega arith)
@@ -95,3 +97,53 @@ judged-times k reference (a ∷ l) e zero zero z p h = omega arith
 judged-times k reference (a ∷ l) e zero (suc j) z p h = judged-reference k (a .time) l (judge-split k reference a l e .1) j z (omega arith)
 judged-times k reference (a ∷ l) e (suc i) zero z p h = absurd (omega arith)
 judged-times k reference (a ∷ l) e (suc i) (suc j) z p h = judged-times k (a .time) l (judge-split k reference a l e .1) i j z (omega arith) (omega arith)
+
+-- ---- K and lists of which nothing is refused
+
+-- K lies in 1 to 4,096, the lists are of one length of at most 4,096, every number lies in 1 to K, and no arrival is refused
+pub record ListsFit (k : ℕ) (numbers times : List ℕ) : Type 0 where
+  pub sent : judgeSent k ≡ 0
+  pub least : 1 ≤ k
+  pub most : k ≤ sentMost
+  pub few : length numbers ≤ arrivalsMost
+  pub same : length times ≡ length numbers
+  pub judged : judge k 0 (arrivalsOf numbers times) ≡ 0
+  pub numbered : (i : ℕ) → i < length numbers → (1 ≤ getD numbers i 0) × (getD numbers i 0 ≤ k)
+
+pub lists-fit : (k : ℕ) (numbers times : List ℕ) → refusalOfLists k numbers times ≡ 0 → ListsFit k numbers times
+unfolding refusalOfLists
+lists-fit k numbers times e =
+    let j = judge k 0 (arrivalsOf numbers times) in
+    let d = inCase (not (eqb (length numbers) (length times))) listsDiffer in
+    let p = first-none (judgeSent k) (judgeArrivals (length numbers) ∷ d ∷ j ∷ []) e in
+    let q = first-none (judgeArrivals (length numbers)) (d ∷ j ∷ []) (p .1) in
+    let r = first-none d (j ∷ []) (q .1) in
+    let b = between 1 sentMost k (case-none (outside 1 sentMost k) sentOutside (omega arith) (p .0)) in
+    let c = between 0 arrivalsMost (length numbers) (case-none (outside 0 arrivalsMost (length numbers)) manyArrivals (omega arith) (q .0)) in
+    let s = sym (eqb-true (length numbers) (length times) (not-false _ (case-none (not (eqb (length numbers) (length times))) listsDiffer (omega arith) (r .0)))) in
+    let u = sym (first-one j) ∙ r .1 in
+    let n = arrivals-length numbers times s in
+    record {
+      sent = p .0;
+      least = b .0;
+      most = b .1;
+      few = c .1;
+      same = s;
+      judged = u;
+      numbered = λ i h. numbered n s u i h;
+    }
+  where
+    numbered : length (arrivalsOf numbers times) ≡ length numbers → length times ≡ length numbers → judge k 0 (arrivalsOf numbers times) ≡ 0
+        → (i : ℕ) → i < length numbers → (1 ≤ getD numbers i 0) × (getD numbers i 0 ≤ k)
+    numbered n s u i h =
+        let z : Arrival = record { number = 0; time = 0 } in
+        let m : getD numbers i 0 ≡ getD (arrivalsOf numbers times) i z .number = ap (λ (a : Arrival). a .number) (arrivals-getD numbers times i z s h) in
+        let w = judged-number k 0 (arrivalsOf numbers times) u i z (omega arith) in
+        (omega arith, omega arith)
+
+-- and the other way
+pub fit-lists : (k : ℕ) (numbers times : List ℕ) → 1 ≤ k → k ≤ sentMost → length numbers ≤ arrivalsMost → length times ≡ length numbers
+    → judge k 0 (arrivalsOf numbers times) ≡ 0 → refusalOfLists k numbers times ≡ 0
+unfolding refusalOfLists
+fit-lists k numbers times a b c s j =
+    rw (not-outside 1 sentMost k a b, not-outside 0 arrivalsMost (length numbers) (omega arith) c, eq-eqb (length numbers) (length times) (sym s), j)

@@ -1,9 +1,8 @@
--- `sample::judge::outside` meets its contract: each test settles its limit. Assumes nothing.
-use mathlib.Core.Path.{refl}
+-- `rfc4737::judge::outside` meets its contract: each test settles its limit. Assumes nothing.
 use borrow.Author.Tests.{le-leb, lt-leb}
 use Rattle.rfc4737.specs.Refusals.{outside}
-use Rattle.sample.proofs.judge.outside.Statement.{statement}
-use Rattle.sample.proofs.judge.outside.Tie as tie
+use Rattle.rfc4737.proofs.judge.outside.Statement.{statement}
+use Rattle.rfc4737.proofs.judge.outside.Tie as tie
 
 returns : tie.Need-returns
 unfolding outside

@@ -1,0 +1,65 @@
+-- The judge of K and the arrivals, wherever they come from: a file, a text, lists. Assumes nothing.
+use Prim.Native.Nat.{ℕ}
+use mathlib.Core.Bool.{not}
+use mathlib.Core.List.{List, [], _∷_, map}
+use lib.Dec.{eqb}
+use lib.ListN.{length}
+use Rattle.rfc4737.specs.declared.Arrival.{Arrival}
+use Rattle.rfc4737.specs.Times.{tooEarly, nextReference}
+use Rattle.rfc4737.specs.Refusals.{outside, inCase, firstOf, sentOutside, manyArrivals, numberOutside, timeBack, listsDiffer}
+
+-- ---- limits
+
+-- the greatest number of sent packets
+abbrev pub sentMost : ℕ
+sentMost = 4096
+
+-- the greatest number of arrivals
+abbrev pub arrivalsMost : ℕ
+arrivalsMost = 4096
+
+-- ---- arrivals as two lists
+
+-- the numbers of arrivals
+abbrev pub numbersOf : List Arrival → List ℕ
+numbersOf l = map (λ (a : Arrival). a .number) l
+
+-- the times of arrivals
+abbrev pub timesOf : List Arrival → List ℕ
+timesOf l = map (λ (a : Arrival). a .time) l
+
+-- the arrivals of a list of numbers and a list of times
+unfoldable pub arrivalsOf : List ℕ → List ℕ → List Arrival
+arrivalsOf [] times = []
+arrivalsOf (n ∷ ns) [] = []
+arrivalsOf (n ∷ ns) (t ∷ ts) = record { number = n; time = t } ∷ arrivalsOf ns ts
+
+-- ---- what is refused
+
+-- 4: K is 0 or over 4,096
+abbrev pub judgeSent : ℕ → ℕ
+judgeSent k = inCase (outside 1 sentMost k) sentOutside
+
+-- 5: over 4,096 arrivals
+abbrev pub judgeArrivals : ℕ → ℕ
+judgeArrivals n = inCase (outside 0 arrivalsMost n) manyArrivals
+
+-- one arrival, by K and the reference for its time: 6 before 7
+unfoldable pub judgeOne : ℕ → ℕ → Arrival → ℕ
+judgeOne k reference a =
+    firstOf (inCase (outside 1 k (a .number)) numberOutside ∷ inCase (tooEarly reference (a .time)) timeBack ∷ [])
+
+-- the arrivals in turn
+unfoldable pub judge : ℕ → ℕ → List Arrival → ℕ
+judge k reference [] = 0
+judge k reference (a ∷ l) = firstOf (judgeOne k reference a ∷ judge k (nextReference reference (a .time)) l ∷ [])
+
+-- the first refusal that is due of K and lists: 4, 5 by the list of numbers, 12, the arrivals in turn; 0 if none is
+unfoldable pub refusalOfLists : ℕ → List ℕ → List ℕ → ℕ
+refusalOfLists k numbers times =
+    firstOf
+    (judgeSent k
+    ∷ judgeArrivals (length numbers)
+    ∷ inCase (not (eqb (length numbers) (length times))) listsDiffer
+    ∷ judge k 0 (arrivalsOf numbers times)
+    ∷ [])

@@ -1,0 +1,81 @@
+// The judge of K and the arrivals: one leaf for each case, which files, texts and lists share.
+ghost use mathlib.Core.Path.{_≡_};
+ghost use lib.ListN.{length};
+ghost use Rattle.rfc4737.specs.Refusals.{outside};
+ghost use Rattle.rfc4737.specs.Judge.{arrivalsOf, judgeOne, judge, refusalOfLists};
+use crate::refusal::LISTS_DIFFER;
+use crate::refusal::MANY_ARRIVALS;
+use crate::refusal::NUMBER_OUTSIDE;
+use crate::refusal::SENT_OUTSIDE;
+use crate::refusal::TIME_BACK;
+use crate::time::next_reference;
+use crate::time::too_early;
+
+// The greatest number of sent packets.
+pub const SENT_MOST: u64 = 4096;
+
+// The greatest number of arrivals.
+pub const ARRIVALS_MOST: u64 = 4096;
+
+// Whether a number lies outside `low` to `high`.
+pub fn outside(low: u64, high: u64, n: u64) -> bool
+    ensures { λ r. ⌜ r ≡ outside low high n ⌝ }
+{
+    if n < low {
+        return true;
+    }
+    if high < n {
+        return true;
+    }
+    false
+}
+
+// One arrival: 6 before 7.
+pub fn judge_one(k: u64, reference: u64, number: u64, time: u64) -> u32
+    ensures { λ r. ⌜ r ≡ judgeOne k reference (record { number = number; time = time }) ⌝ }
+{
+    let strange = outside(1, k, number);
+    let early = too_early(reference, time);
+    if strange {
+        return NUMBER_OUTSIDE;
+    }
+    if early {
+        return TIME_BACK;
+    }
+    0
+}
+
+// The arrivals of two lists in turn.
+fn judge_lists(k: u64, numbers: &[u32], times: &[u64]) -> u32
+    requires { ⌜ length (now times) ≡ length (now numbers) ⌝ }
+    ensures { λ r. ⌜ r ≡ judge k 0 (arrivalsOf (now (numbers .entry)) (now (times .entry))) ⌝ }
+{
+    let mut reference: u64 = 0;
+    let mut i = 0;
+    while i < numbers.len() {
+        let time = times[i];
+        let refusal = judge_one(k, reference, numbers[i] as u64, time);
+        if refusal != 0 {
+            return refusal;
+        }
+        reference = next_reference(reference, time);
+        i += 1;
+    }
+    0
+}
+
+// The first refusal that is due of K and lists, 0 if none is.
+pub fn refusal_of_lists(k: u64, numbers: &[u32], times: &[u64]) -> u32
+    ensures { λ r. ⌜ r ≡ refusalOfLists k (now (numbers .entry)) (now (times .entry)) ⌝ }
+{
+    if outside(1, SENT_MOST, k) {
+        return SENT_OUTSIDE;
+    }
+    if outside(0, ARRIVALS_MOST, numbers.len() as u64) {
+        return MANY_ARRIVALS;
+    }
+    if numbers.len() != times.len() {
+        return LISTS_DIFFER;
+    }
+    judge_lists(k, numbers, times)
+}
