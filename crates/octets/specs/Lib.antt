@@ -2,3 +2,4 @@
 pub mod Below
 pub mod BigEndian
 pub mod Memory
+pub mod RoundTrip

@@ -6,6 +6,7 @@ ghost use lib.Dec.{leb};
 ghost use lib.ListN.{length};
 ghost use Rattle.octets.specs.BigEndian.{beValue, beOctets};
 ghost use Rattle.octets.specs.Memory.{part, splice, put};
+ghost use Rattle.octets.specs.RoundTrip.{ReadBack};
 
 // The most octets that a number has: those of a u64.
 const MOST: usize = 8;
@@ -73,6 +74,7 @@ fn write_number(out: &mut [u8], at: usize, n: usize, v: u64)
 // is no room for all of them.
 pub fn put_number(out: &mut [u8], at: usize, width: usize, v: u64)
     ensures { λ _. ⌜ now (out .exit) ≡ put at (beOctets (min width 8) v) (now (out .entry)) ⌝ }
+    ensures back { λ _. ⌜ ReadBack ⌝ }
 {
     let n = octets_of(width);
     if has_room(out.len(), at, n) {

@@ -8,6 +8,7 @@ use Rattle.octets.specs.BigEndian.{beOctets}
 use Rattle.octets.specs.Memory.{put}
 use Rattle.octets.proofs.BigEndian.{octets-length}
 use Rattle.octets.proofs.Memory.{put-room}
+use Rattle.octets.proofs.RoundTrip.{read-back}
 use Rattle.octets.proofs.put_number.Statement.{statement}
 use Rattle.octets.proofs.put_number.Tie as tie
 
@@ -30,13 +31,13 @@ returns c =
     let args = at-octets-of .before .before .args in
     let xs = beOctets (at-octets-of .octets-of .result) (args .v) in
     let h : args .at + length xs ≤ length (args .out .now) = rw octets-length (leb-true _ _ (sym (at-if .before .has-room .ensures) ∙ at-if .if1 .taken)) in
-    rw (← at-octets-of .octets-of .ensures) (c .before .before .write-number .ensures ∙ sym (put-room (args .at) xs (args .out .now) h))
+    (rw (← at-octets-of .octets-of .ensures) (c .before .before .write-number .ensures ∙ sym (put-room (args .at) xs (args .out .now) h)), read-back)
 
 returns-2 : tie.Need-returns-2
 unfolding put
 returns-2 c =
     let at-octets-of = c .before .before in
-    rw (← at-octets-of .octets-of .ensures, octets-length, ← c .before .has-room .ensures, c .if1 .left)
+    (rw (← at-octets-of .octets-of .ensures, octets-length, ← c .before .has-room .ensures, c .if1 .left), read-back)
 
 pub put-number-spec : {M : Type 1} → statement M
 put-number-spec =

@@ -122,7 +122,7 @@ loop-again c =
       search needs,
       write-next arrivalOctets 12 arrival-long (arrivalsOf (now (a .numbers)) (now (a .times))) (a .at + 2) (l .before .before .before .put-number .last .0) (room l) (l .loop .i) (l .loop .inv .1) none (omega arith)
           (arrival-put (now (a .numbers)) (now (a .times)) (l .loop .i) none lent (search needs) (omega arith) (omega arith)
-          (c .before .before .before .before .before .before .put-number2 .ensures) (c .before .before .put-number3 .ensures)),
+          (c .before .before .before .before .before .before .put-number2 .ensures .0) (c .before .before .put-number3 .ensures .0)),
     )
 
 same-length : tie.Need-same-length Inv-loop μ-loop
@@ -135,7 +135,7 @@ returns c =
     let a = l .before .before .before .before .before .before .before .before .args in
     let k = arrivals-length (now (a .numbers)) (now (a .times)) (search needs) in
     let n = octets-many arrivalOctets 12 arrival-long (arrivalsOf (now (a .numbers)) (now (a .times))) in
-    section-done (a .at) (length (now (a .numbers))) (itemOctets arrivalOctets (arrivalsOf (now (a .numbers)) (now (a .times)))) (now (a .out)) (omega arith) (l .before .before .before .put-number .ensures)
+    section-done (a .at) (length (now (a .numbers))) (itemOctets arrivalOctets (arrivalsOf (now (a .numbers)) (now (a .times)))) (now (a .out)) (omega arith) (l .before .before .before .put-number .ensures .0)
     (write-done arrivalOctets 12 arrival-long (arrivalsOf (now (a .numbers)) (now (a .times))) (a .at + 2) (l .before .before .before .put-number .last .0) (room l) (l .loop .i) (l .loop .inv .1) (omega arith))
 
 pub write-arrivals-spec : {M : Type 1} → statement M

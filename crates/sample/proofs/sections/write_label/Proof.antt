@@ -23,7 +23,7 @@ returns c =
     let a = c .before .before .before .before .before .before .before .before .before .before .args in
     let k = c .before .before .before .before .before .before .put-number .kept .0 in
     section-done 0 (length (now (a .label))) (now (a .label)) (now (a .out)) (search needs)
-    (c .before .before .before .before .before .before .put-number .ensures)
+    (c .before .before .before .before .before .before .put-number .ensures .0)
     (c .before .before .put-octets .ensures ∙ put-room 2 (now (a .label)) (c .before .before .before .before .before .before .put-number .last .0) (omega arith))
 
 pub write-label-spec : {M : Type 1} → statement M

@@ -92,7 +92,7 @@ loop-again c =
     let a = l .before .before .before .before .before .before .before .args in (
       search needs,
       write-next sizeOctets 2 size-long (now (a .sizes)) (a .at + 2) (l .before .before .before .put-number .last .0) (room l) (l .loop .i) (l .loop .inv .1) 0
-          (c .before .before .before .before .before .loop-test .taken) (c .before .before .put-number2 .ensures),
+          (c .before .before .before .before .before .loop-test .taken) (c .before .before .put-number2 .ensures .0),
     )
 
 same-length : tie.Need-same-length Inv-loop μ-loop
@@ -104,7 +104,7 @@ returns c =
     let l = c .before in
     let a = l .before .before .before .before .before .before .before .args in
     let n = octets-many sizeOctets 2 size-long (now (a .sizes)) in
-    section-done (a .at) (length (now (a .sizes))) (itemOctets sizeOctets (now (a .sizes))) (now (a .out)) (omega arith) (l .before .before .before .put-number .ensures)
+    section-done (a .at) (length (now (a .sizes))) (itemOctets sizeOctets (now (a .sizes))) (now (a .out)) (omega arith) (l .before .before .before .put-number .ensures .0)
     (write-done sizeOctets 2 size-long (now (a .sizes)) (a .at + 2) (l .before .before .before .put-number .last .0) (room l) (l .loop .i) (l .loop .inv .1) (c .loop-test .left))
 
 pub write-sizes-spec : {M : Type 1} → statement M

@@ -1,0 +1,28 @@
+-- Reading and writing a number undo each other, over the width, and the table of cases by computation. Assumes nothing.
+use Prim.Native.Nat.{ℕ, _≤_, min}
+use native.Mathlib.Omega.{arith}
+use mathlib.Core.Path.{_≡_, refl, ap, _∙_}
+use mathlib.Core.List.{List, map}
+use lib.ListN.{length}
+use Rattle.octets.specs.BigEndian.{beValue, beOctets}
+use Rattle.octets.specs.Memory.{part, put}
+use Rattle.octets.specs.RoundTrip.{table, ReadBack}
+use Rattle.octets.proofs.BigEndian.{value-octets, octets-value, put-value}
+
+-- each number of the table is written as its octets
+written : map (λ (c : ℕ × List ℕ). beOctets (length (c .1)) (c .0)) table ≡ map (λ (c : ℕ × List ℕ). c .1) table
+unfolding beOctets
+written = refl
+
+-- a width of at most 8 is not cut
+uncut : (width : ℕ) → width ≤ 8 → min width 8 ≡ width
+uncut width h = omega arith
+
+pub read-back : ReadBack
+read-back =
+    record {
+      number = value-octets;
+      octets = octets-value;
+      inPlace = λ at width v old h b room. ap (λ (n : ℕ). beValue (part at n (put at (beOctets n v) old))) (uncut width h) ∙ put-value at width v old b room;
+      cases = written;
+    }
