@@ -1,23 +1,30 @@
--- A file longer than the longest sample: its first 57,415 octets, one more than the longest sample has, are refused as the whole is.
+-- Files beside the longest sample: an accepted one is not longer, one is as long, and a longer one is refused as its first 57,415 octets are,
+-- one more than the longest sample has.
 -- Assumes nothing.
-use Prim.Native.Nat.{ℕ, _+_, _-_, _≤_, _<_}
+use Prim.Native.Nat.{ℕ, zero, suc, _+_, _*_, _-_, _^_, _≤_, _<_}
 use native.Mathlib.Omega.{arith}
 use mathlib.Core.Bool.{Bool, true, false}
 use mathlib.Core.Path.{_≡_, refl, sym, ap, _∙_}
 use mathlib.Core.List.{List, [], _∷_}
 use borrow.Author.Tests.{le-ltb, lt-ltb}
-use lib.ListN.{length, take, drop, length-take}
+use lib.ListN.{length, take, drop, length-take, replicate, length-replicate}
 use lib.Seq.{take-take}
+use Rattle.octets.specs.Below.{Below, Octets}
 use Rattle.octets.specs.BigEndian.{beValue}
+use Rattle.octets.proofs.Below.{below-nil, below-cons}
 use Rattle.octets.proofs.Memory.{drop-take}
+use Rattle.rfc4737.specs.declared.Arrival.{Arrival}
+use Rattle.rfc4737.specs.Times.{tooEarly, nextReference}
 use Rattle.rfc4737.specs.Refusals.{outside, inCase, octetsFollow, longLabel, sentOutside, manyArrivals}
-use Rattle.rfc4737.specs.Judge.{sentMost, arrivalsMost, judgeSent, judgeArrivals}
-use Rattle.sample.specs.Format.{labelMost, longest}
-use Rattle.sample.specs.Judge.{judgeLabel}
-use Rattle.sample.specs.Decode.{countAt, endOf, lengthStage, labelCount, sentAt, sentCount, arrivedAt, arrivalCount, fileEnd, sectionStage, labelStage, sentStage, refusalIn}
-use Rattle.sample.specs.RoundTrip.{Longer}
-use Rattle.rfc4737.proofs.Due.{between, first-due}
-use Rattle.sample.proofs.Decoded.{none-stage, refused-label, refused-sent, refused-arrived, refused-end}
+use Rattle.rfc4737.specs.Judge.{sentMost, arrivalsMost, timesOf, judgeSent, judgeArrivals, judgeOne, judge}
+use Rattle.sample.specs.Format.{fileOf, labelMost, longest}
+use Rattle.sample.specs.Judge.{judgeLabel, Fit}
+use Rattle.sample.specs.Decode.{countAt, endOf, lengthStage, labelCount, sentAt, sentCount, arrivedAt, arrivalCount, fileEnd, sectionStage, labelStage, sentStage, refusalIn, Decoded, decode, refusalOf}
+use Rattle.sample.specs.RoundTrip.{filled, among, Lengths}
+use Rattle.rfc4737.proofs.Due.{between, not-outside, first-due}
+use Rattle.sample.proofs.Decoded.{none-stage, decode-refused, refused-label, refused-sent, refused-arrived, refused-end}
+use Rattle.sample.proofs.Exact.{within-limits, file-length, decode-file}
+use Rattle.sample.proofs.Accepted.{accepted-most}
 
 -- a count that is refused
 stage-judged : (at width : ℕ) (judged : ℕ → ℕ) (file : List ℕ) (r : ℕ) → at + 2 ≤ length file → 0 < r → judged (countAt at file) ≡ r → sectionStage at width judged file ≡ r
@@ -89,8 +96,19 @@ count-within at m file h =
 abbrev pub begin : List ℕ → List ℕ
 begin file = take (longest + 1) file
 
--- the whole is refused as they are
-pub longer-refused : (file : List ℕ) → Longer file
+-- the refusals that a longer file can have
+abbrev fourRefusals : List ℕ
+fourRefusals = octetsFollow ∷ longLabel ∷ sentOutside ∷ manyArrivals ∷ []
+
+-- the whole and its beginning are refused with one of them
+record Refused (file : List ℕ) : Type 0 where
+  pub with : ℕ
+  pub due : 0 < with
+  pub one : among with fourRefusals ≡ true
+  pub whole : refusalIn file ≡ with
+  pub start : refusalIn (begin file) ≡ with
+
+longer-refused : (file : List ℕ) → longest < length file → Refused file
 longer-refused f h = first (outside 0 labelMost (labelCount f)) refl where
   -- the beginning is longer than the longest sample too
   k : longest < length (begin f)
@@ -104,14 +122,17 @@ longer-refused f h = first (outside 0 labelMost (labelCount f)) refl where
   third : (t : Bool) → outside 0 arrivalsMost (arrivalCount f) ≡ t
       → outside 0 labelMost (labelCount f) ≡ false → outside 1 sentMost (sentCount f) ≡ false
       → sentCount (begin f) ≡ sentCount f → arrivalCount (begin f) ≡ arrivalCount f
-      → refusalIn f ≡ refusalIn (begin f)
-  third true e a b s r = five f h a b e ∙ sym (five (begin f) k (ap (outside 0 labelMost) l ∙ a) (ap (outside 1 sentMost) s ∙ b) (ap (outside 0 arrivalsMost) r ∙ e))
-  third false e a b s r = two f h a b e ∙ sym (two (begin f) k (ap (outside 0 labelMost) l ∙ a) (ap (outside 1 sentMost) s ∙ b) (ap (outside 0 arrivalsMost) r ∙ e))
+      → Refused f
+  third true e a b s r =
+      record { with = manyArrivals; due = omega arith; one = refl; whole = five f h a b e; start = five (begin f) k (ap (outside 0 labelMost) l ∙ a) (ap (outside 1 sentMost) s ∙ b) (ap (outside 0 arrivalsMost) r ∙ e) }
+  third false e a b s r =
+      record { with = octetsFollow; due = omega arith; one = refl; whole = two f h a b e; start = two (begin f) k (ap (outside 0 labelMost) l ∙ a) (ap (outside 1 sentMost) s ∙ b) (ap (outside 0 arrivalsMost) r ∙ e) }
 
   -- by the count of sent packets
   second : (t : Bool) → outside 1 sentMost (sentCount f) ≡ t → outside 0 labelMost (labelCount f) ≡ false → sentCount (begin f) ≡ sentCount f
-      → refusalIn f ≡ refusalIn (begin f)
-  second true e a s = four f h a e ∙ sym (four (begin f) k (ap (outside 0 labelMost) l ∙ a) (ap (outside 1 sentMost) s ∙ e))
+      → Refused f
+  second true e a s =
+      record { with = sentOutside; due = omega arith; one = refl; whole = four f h a e; start = four (begin f) k (ap (outside 0 labelMost) l ∙ a) (ap (outside 1 sentMost) s ∙ e) }
   second false e a s =
       let p = between 0 labelMost (labelCount f) a in
       let q = between 1 sentMost (sentCount f) e in
@@ -120,10 +141,72 @@ longer-refused f h = first (outside 0 labelMost (labelCount f)) refl where
       (ap (λ (n : ℕ). countAt n (begin f)) u ∙ count-within (arrivedAt f) (longest + 1) f (omega arith))
 
   -- by the count of the label
-  first : (t : Bool) → outside 0 labelMost (labelCount f) ≡ t → refusalIn f ≡ refusalIn (begin f)
-  first true e = three f h e ∙ sym (three (begin f) k (ap (outside 0 labelMost) l ∙ e))
+  first : (t : Bool) → outside 0 labelMost (labelCount f) ≡ t → Refused f
+  first true e = record { with = longLabel; due = omega arith; one = refl; whole = three f h e; start = three (begin f) k (ap (outside 0 labelMost) l ∙ e) }
   first false e =
       let p = between 0 labelMost (labelCount f) e in
       let u : sentAt (begin f) ≡ sentAt f = omega (arith, l) in
       second (outside 1 sentMost (sentCount f)) refl e
       (ap (λ (n : ℕ). countAt n (begin f)) u ∙ count-within (sentAt f) (longest + 1) f (omega arith))
+
+-- ---- a sample that is filled
+
+-- zeros are below every bound
+zeros-below : (m n : ℕ) → 0 < m → Below m (replicate n 0)
+zeros-below m zero h = below-nil m h
+zeros-below m (suc n) h = below-cons m 0 (replicate n 0) h (zeros-below m n h)
+
+-- packet 1 at time 0
+abbrev again : Arrival
+again = record { number = 1; time = 0 }
+
+-- its times
+again-below : (m n : ℕ) → 0 < m → Below m (timesOf (replicate n again))
+again-below m zero h = below-nil m h
+again-below m (suc n) h = below-cons m 0 (timesOf (replicate n again)) h (again-below m n h)
+
+-- so many times is never refused
+again-judged : (k n : ℕ) → 1 ≤ k → judge k 0 (replicate n again) ≡ 0
+unfolding judge judgeOne tooEarly nextReference
+again-judged k zero h = refl
+again-judged k (suc n) h = rw (not-outside 1 k 1 (omega arith) h, again-judged k n h)
+
+-- up to the limits it is fit
+filled-fit : (label sent arrivals : ℕ) → label ≤ labelMost → 1 ≤ sent → sent ≤ sentMost → arrivals ≤ arrivalsMost → Fit (filled label sent arrivals)
+unfolding filled
+filled-fit label sent arrivals l p s a =
+    let n = length-replicate {A = ℕ} label 0 in
+    let m = length-replicate {A = ℕ} sent 0 in
+    let o = length-replicate arrivals again in
+    record {
+      judged = within-limits (record { label = replicate label 0; sizes = replicate sent 0; arrivals = replicate arrivals again })
+          (record { labelFits = omega arith; sentSome = omega arith; sentFits = omega arith; arrivalsFit = omega arith; judged = again-judged (length (replicate sent 0)) arrivals (omega arith) });
+      octets = zeros-below 256 label (omega arith);
+      sizes = zeros-below (2 ^ 16) sent (omega arith);
+      times = again-below (2 ^ 64) arrivals (omega arith);
+    }
+
+-- its length
+filled-length : (label sent arrivals : ℕ) → length (fileOf (filled label sent arrivals)) ≡ 6 + label + 2 * sent + 12 * arrivals
+unfolding filled
+filled-length label sent arrivals =
+    file-length (record { label = replicate label 0; sizes = replicate sent 0; arrivals = replicate arrivals again })
+    ∙ rw (length-replicate {A = ℕ} label 0, length-replicate {A = ℕ} sent 0, length-replicate arrivals again)
+
+-- ---- together
+
+pub lengths : (file : List ℕ) → Octets file → Lengths file
+lengths file o =
+    record {
+      most = λ s e. accepted-most file s e o;
+      reached = decode-file (filled labelMost sentMost arrivalsMost) (filled-fit labelMost sentMost arrivalsMost (omega arith) (omega arith) (omega arith) (omega arith));
+      reachedBy = filled-length labelMost sentMost arrivalsMost;
+      longer = λ h. one-of (longer-refused file h);
+      begun = λ h. same (longer-refused file h);
+    }
+  where
+    one-of : Refused file → among (refusalOf (decode file)) fourRefusals ≡ true
+    one-of r = ap (λ (d : Decoded). among (refusalOf d) fourRefusals) (decode-refused file (r .with) (r .due) (r .whole)) ∙ r .one
+
+    same : Refused file → decode file ≡ decode (begin file)
+    same r = decode-refused file (r .with) (r .due) (r .whole) ∙ sym (decode-refused (begin file) (r .with) (r .due) (r .start))

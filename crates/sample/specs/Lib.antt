@@ -6,3 +6,4 @@ pub mod Readings
 pub mod Places
 pub mod Calls
 pub mod RoundTrip
+pub mod Cases

@@ -1,14 +1,18 @@
 -- The statements that tie decoding to the format and the reader to the writer, over all input. The calls' contracts carry them.
 -- Assumes nothing.
 use Prim.Native.Nat.{ℕ, _+_, _≤_, _<_}
-use mathlib.Core.List.{List}
+use mathlib.Core.Bool.{Bool, true, false, _||_}
+use mathlib.Core.List.{List, [], _∷_}
 use mathlib.Core.Logic.{_↔_}
 use mathlib.Core.Path.{_≡_}
-use lib.ListN.{length, take}
+use lib.Dec.{eqb}
+use lib.ListN.{length, take, replicate}
 use Rattle.octets.specs.Memory.{over}
-use Rattle.sample.specs.Format.{Sample, fileOf, longest}
+use Rattle.rfc4737.specs.Refusals.{octetsFollow, longLabel, sentOutside, manyArrivals}
+use Rattle.rfc4737.specs.Judge.{sentMost, arrivalsMost}
+use Rattle.sample.specs.Format.{Sample, fileOf, labelMost, longest}
 use Rattle.sample.specs.Judge.{Fit}
-use Rattle.sample.specs.Decode.{decode, refusalIn, accepted, sampleOf}
+use Rattle.sample.specs.Decode.{decode, accepted, sampleOf, refusalOf}
 use Rattle.sample.specs.Calls.{ReadFrom, WrittenTo}
 use Rattle.sample.specs.declared.Layout.{Layout}
 use Rattle.sample.specs.declared.Written.{Written}
@@ -17,9 +21,27 @@ use Rattle.sample.specs.declared.Written.{Written}
 abbrev pub Exact : List ℕ → Type 0
 Exact file = (s : Sample) → (decode file ≡ accepted s) ↔ (Fit s × (file ≡ fileOf s))
 
--- a file longer than the longest sample is refused as its first octets are, one more than that sample has
-abbrev pub Longer : List ℕ → Type 0
-Longer file = longest < length file → refusalIn file ≡ refusalIn (take (longest + 1) file)
+-- a sample of so many label octets, sent packets and arrivals: every octet, size and time is 0, every arrival is of packet 1
+unfoldable pub filled : ℕ → ℕ → ℕ → Sample
+filled label sent arrivals =
+    record { label = replicate label 0; sizes = replicate sent 0; arrivals = replicate arrivals (record { number = 1; time = 0 }) }
+
+-- whether a number is in a list
+abbrev pub among : ℕ → List ℕ → Bool
+among n [] = false
+among n (m ∷ l) = eqb n m || among n l
+
+-- a file beside the longest sample
+pub record Lengths (file : List ℕ) : Type 0 where
+  -- an accepted file has at most as many octets
+  pub most : (s : Sample) → decode file ≡ accepted s → length file ≤ longest
+  -- some accepted file has as many: that of a sample that is filled up to the limits
+  pub reached : decode (fileOf (filled labelMost sentMost arrivalsMost)) ≡ accepted (filled labelMost sentMost arrivalsMost)
+  pub reachedBy : length (fileOf (filled labelMost sentMost arrivalsMost)) ≡ longest
+  -- a longer file is refused with 2, 3, 4 or 5
+  pub longer : longest < length file → among (refusalOf (decode file)) (octetsFollow ∷ longLabel ∷ sentOutside ∷ manyArrivals ∷ []) ≡ true
+  -- and decoded as its first octets are, one more than the longest sample has
+  pub begun : longest < length file → decode file ≡ decode (take (longest + 1) file)
 
 -- an accepted file that is read and written again, its label with it, gives the same octets
 abbrev pub WrittenAgain : List ℕ → Type 0

@@ -5,7 +5,8 @@ ghost use Rattle.sample.specs.Format.{longest};
 ghost use Rattle.sample.specs.Decode.{decode, refused, sampleOf, layoutOf};
 ghost use Rattle.sample.specs.Places.{sizesAt, arrivalsAt, sizeFound, numberFound, timeFound};
 ghost use Rattle.sample.specs.Calls.{labelPlace, ReadFrom, WrittenTo, refusalFrom, listsShort};
-ghost use Rattle.sample.specs.RoundTrip.{Exact, Longer, WrittenAgain, ReadAgain};
+ghost use Rattle.sample.specs.Cases.{RefusalsInOrder};
+ghost use Rattle.sample.specs.RoundTrip.{Exact, Lengths, WrittenAgain, ReadAgain};
 
 mod fill;
 mod judge;
@@ -69,7 +70,8 @@ fn refused_with(refusal: u32) -> Layout
 pub fn check(file: &[u8]) -> Layout
     ensures { λ r. ⌜ r ≡ layoutOf (decode (now (file .entry))) ⌝ }
     ensures exact { λ _. ⌜ Exact (now (file .entry)) ⌝ }
-    ensures longer { λ _. do ⌜ ((← ⟦LONGEST⟧ .entry) ≡ longest) × Longer (now (file .entry)) ⌝ }
+    ensures lengths { λ _. do ⌜ ((← ⟦LONGEST⟧ .entry) ≡ longest) × Lengths (now (file .entry)) ⌝ }
+    ensures order { λ _. ⌜ RefusalsInOrder ⌝ }
 {
     let label = section_at(file, 0, 1, 0, LABEL_MOST, LONG_LABEL);
     let Section::Whole(label_count, sent_at) = label else {

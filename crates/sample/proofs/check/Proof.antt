@@ -8,24 +8,32 @@ use borrow.Author.Tests.{lt-ltb, le-ltb}
 use lib.ListN.{length, drop}
 use mir.Syntax.{w8}
 use denote.Ref.{now}
+use Rattle.octets.specs.Below.{Octets}
 use Rattle.octets.proofs.Below.{below-fits}
 use Rattle.rfc4737.specs.Refusals.{inCase, octetsFollow, longLabel, sentOutside, manyArrivals}
 use Rattle.rfc4737.specs.Judge.{sentMost, arrivalsMost, judgeSent, judgeArrivals, judge}
-use Rattle.sample.specs.Format.{itemsIn, labelMost}
+use Rattle.sample.specs.Format.{itemsIn, labelMost, longest}
 use Rattle.sample.specs.Judge.{judgeLabel}
 use Rattle.sample.specs.Decode.{labelCount, sentAt, sentCount, arrivedAt, arrivalCount, fileEnd, arrivalIn, labelStage, sentStage, arrivedStage, endStage, refusalIn, refused, decode, layoutOf}
+use Rattle.sample.specs.RoundTrip.{Exact, Lengths}
+use Rattle.sample.specs.Cases.{RefusalsInOrder}
 use Rattle.sample.specs.Readings.{refusalOfSection, sectionReading}
 use Rattle.sample.specs.declared.Layout.{Layout}
 use Rattle.sample.proofs.Readings.{whole-section, refusal-section, refused-section}
 use Rattle.sample.proofs.Decoded.{WholeFile, refused-none, stage-none, decode-refused, layout-accepted, refused-label, refused-sent, refused-arrived, refused-end, refused-arrivals}
 use Rattle.sample.proofs.Exact.{exact}
-use Rattle.sample.proofs.Longer.{longer-refused}
+use Rattle.sample.proofs.Longer.{lengths}
+use Rattle.sample.proofs.Cases.{in-order}
 use Rattle.sample.proofs.check.Statement.{statement}
 use Rattle.sample.proofs.check.Tie as tie
 
 -- the answer with a refusal that is due
 answer : (f : List ℕ) (n : ℕ) → 0 < n → refusalIn f ≡ n → {r : ℕ} {y : Layout} → y ≡ layoutOf (refused r) → r ≡ n → y ≡ layoutOf (decode f)
 answer f n h e p q = p ∙ ap (λ (k : ℕ). layoutOf (refused k)) q ∙ ap layoutOf (sym (decode-refused f n h e))
+
+-- what is promised beside it, at each `return`
+promised : (f : List ℕ) → Octets f → Exact f × (((longest ≡ longest) × Lengths f) × RefusalsInOrder)
+promised f o = (exact f o, ((refl, lengths f o), in-order))
 
 -- after the label: nothing of its section is refused, and its count and its end are those of the file
 labelled : (c : tie.After-known-told)
@@ -107,7 +115,7 @@ returns c =
     let r = c .before .refusal-of .ensures ∙ ap refusalOfSection s ∙ refusal-section 0 1 0 labelMost longLabel f in
     let p = refused-section 0 1 0 labelMost longLabel f (sym s ∙ c .before .before .enum-told .given .1) in (
       answer f (labelStage f) p (refused-label f (labelStage f) p refl) (c .refused-with .ensures) r,
-      (exact f (below-fits w8 f (c .before .before .before .before .before .shared-slice-known .given)), (refl, longer-refused f)),
+      promised f (below-fits w8 f (c .before .before .before .before .before .shared-slice-known .given)),
     )
 
 section-at-requires-2 : tie.Need-section-at-requires-2
@@ -137,7 +145,7 @@ returns-2 c =
     let r = c .before .refusal-of2 .ensures ∙ ap refusalOfSection s ∙ refusal-section (sentAt f) 2 1 sentMost sentOutside f in
     let p = refused-section (sentAt f) 2 1 sentMost sentOutside f (sym s ∙ c .before .before .enum-told2 .given .1) in (
       answer f (sentStage f) p (refused-sent f (w .0) (sentStage f) p refl) (c .refused-with2 .ensures) r,
-      (exact f (below-fits w8 f (b .before .before .before .before .shared-slice-known .given)), (refl, longer-refused f)),
+      promised f (below-fits w8 f (b .before .before .before .before .shared-slice-known .given)),
     )
 
 section-at-requires-3 : tie.Need-section-at-requires-3
@@ -170,7 +178,7 @@ returns-3 c =
     let r = c .before .refusal-of3 .ensures ∙ ap refusalOfSection s ∙ refusal-section (arrivedAt f) 12 0 arrivalsMost manyArrivals f in
     let p = refused-section (arrivedAt f) 12 0 arrivalsMost manyArrivals f (sym s ∙ c .before .before .enum-told3 .given .1) in (
       answer f (arrivedStage f) p (refused-arrived f (w .0) (v .0) (arrivedStage f) p refl) (c .refused-with3 .ensures) r,
-      (exact f (below-fits w8 f (l .before .before .before .before .shared-slice-known .given)), (refl, longer-refused f)),
+      promised f (below-fits w8 f (l .before .before .before .before .shared-slice-known .given)),
     )
 
 refused-with-requires-4 : tie.Need-refused-with-requires-4
@@ -185,7 +193,7 @@ returns-4 c =
     let u = arrived b in
     let e : endStage f ≡ octetsFollow = ap (λ t. inCase t octetsFollow) (lt-ltb (fileEnd f) (length f) (omega arith)) in (
       answer f octetsFollow (omega arith) (refused-end f (labelled l .0) (counted k .0) (u .0) octetsFollow (omega arith) e) (c .refused-with4 .ensures) refl,
-      (exact f (below-fits w8 f (l .before .before .before .before .shared-slice-known .given)), (refl, longer-refused f)),
+      promised f (below-fits w8 f (l .before .before .before .before .shared-slice-known .given)),
     )
 
 add-judge-file : tie.Need-add-judge-file
@@ -210,7 +218,7 @@ returns-5 c =
     let j = judged (c .before .before) in
     let n : 0 < c .before .before .judge-file .result = omega (arith, c .before .if2 .taken) in (
       answer f (c .before .before .judge-file .result) n j (c .refused-with5 .ensures) refl,
-      (exact f (below-fits w8 f (l .before .before .before .before .shared-slice-known .given)), (refl, longer-refused f)),
+      promised f (below-fits w8 f (l .before .before .before .before .shared-slice-known .given)),
     )
 
 cast-t18 : tie.Need-cast-t18
@@ -242,7 +250,7 @@ returns-6 c =
     let q = counted k .1 in
     let r = arrived b .1 in (
       (λ i. record { refusal = 0; label = p i; sent = q i; arrivals = r i }) ∙ sym (layout-accepted f j),
-      (exact f (below-fits w8 f (l .before .before .before .before .shared-slice-known .given)), (refl, longer-refused f)),
+      promised f (below-fits w8 f (l .before .before .before .before .shared-slice-known .given)),
     )
 
 pub check-spec : {M : Type 1} → statement M

@@ -1,0 +1,34 @@
+-- The order of the refusals, by small files: one statement over a table of them. The check's contract carries it. Assumes nothing.
+use Prim.Native.Nat.{ℕ}
+use mathlib.Core.List.{List, [], _∷_, _++_, map}
+use mathlib.Core.Path.{_≡_}
+use Rattle.sample.specs.Format.{fileOf}
+use Rattle.sample.specs.Decode.{decode, refusalOf}
+
+-- a file of two sent packets with two arrivals, by their numbers and times
+abbrev pub twoArrivals : ℕ → ℕ → ℕ → ℕ → List ℕ
+twoArrivals n t m u =
+    fileOf (record { label = []; sizes = 100 ∷ 100 ∷ []; arrivals = record { number = n; time = t } ∷ record { number = m; time = u } ∷ [] })
+
+-- files, each with the refusal that it is due
+abbrev pub table : List (List ℕ × ℕ)
+table =
+    -- no count, half of one, a label that is not there
+    ([], 1) ∷ (0 ∷ [], 1) ∷ (0 ∷ 1 ∷ [], 1)
+    -- a label of 65 octets, of which none is there; no packets, of 4,097 of which none is there
+    ∷ (0 ∷ 65 ∷ [], 3) ∷ (0 ∷ 0 ∷ 0 ∷ 0 ∷ [], 4) ∷ (0 ∷ 0 ∷ 16 ∷ 1 ∷ [], 4)
+    -- no packets, and octets that follow
+    ∷ (0 ∷ 0 ∷ 0 ∷ 0 ∷ 0 ∷ 0 ∷ 9 ∷ [], 4)
+    -- 4,097 arrivals, of which none is there
+    ∷ (0 ∷ 0 ∷ 0 ∷ 1 ∷ 0 ∷ 100 ∷ 16 ∷ 1 ∷ [], 5)
+    -- no arrivals; and an octet that follows
+    ∷ (0 ∷ 0 ∷ 0 ∷ 1 ∷ 0 ∷ 100 ∷ 0 ∷ 0 ∷ [], 0) ∷ (0 ∷ 0 ∷ 0 ∷ 1 ∷ 0 ∷ 100 ∷ 0 ∷ 0 ∷ 9 ∷ [], 2)
+    -- arrivals: fit with equal times, a number that is 0 or over K, a time that goes back
+    ∷ (twoArrivals 1 10 2 10, 0) ∷ (twoArrivals 1 10 0 10, 6) ∷ (twoArrivals 1 10 3 10, 6) ∷ (twoArrivals 1 10 2 9, 7)
+    -- 6 before 7 in one arrival; 2 before both
+    ∷ (twoArrivals 1 10 3 9, 6) ∷ (twoArrivals 1 10 3 9 ++ (0 ∷ []), 2)
+    ∷ []
+
+-- each is refused as it is due
+pub record RefusalsInOrder : Type 0 where
+  pub due : map (λ (c : List ℕ × ℕ). refusalOf (decode (c .0))) table ≡ map (λ (c : List ℕ × ℕ). c .1) table
