@@ -10,7 +10,7 @@ use lib.ListN.{length}
 use Rattle.octets.specs.Below.{Octets}
 use Rattle.rfc4737.specs.Refusals.{outside, inCase, firstOf, endsEarly}
 use Rattle.sample.specs.Decode.{countAt, endOf, sectionStage}
-use Rattle.sample.specs.Readings.{countReading, placeReading, settled, sectionReading, refusalOfSection}
+use Rattle.sample.specs.Private.Readings.{countReading, placeReading, settled, sectionReading, refusalOfSection}
 use Rattle.sample.specs.declared.sections.Reading.the-variants.{Value, Ended}
 use Rattle.sample.specs.declared.sections.Section.the-variants.{Whole, Refused}
 use Rattle.sample.proofs.Items.{part-fits}

@@ -2,8 +2,8 @@
 pub mod Format
 pub mod Judge
 pub mod Decode
-pub mod Readings
 pub mod Places
 pub mod Calls
 pub mod RoundTrip
 pub mod Cases
+pub mod Private

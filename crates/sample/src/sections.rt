@@ -5,7 +5,7 @@ ghost use lib.ListN.{length};
 ghost use Rattle.octets.specs.Memory.{splice};
 ghost use Rattle.rfc4737.specs.Judge.{arrivalsOf};
 ghost use Rattle.sample.specs.Format.{section, sizeOctets, arrivalOctets, itemOctets};
-ghost use Rattle.sample.specs.Readings.{countReading, placeReading, sectionReading, refusalOfSection};
+ghost use Rattle.sample.specs.Private.Readings.{countReading, placeReading, sectionReading, refusalOfSection};
 use rfc4737::judge::outside;
 use rfc4737::refusal::ENDS_EARLY;
 

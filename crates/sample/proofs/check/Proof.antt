@@ -17,7 +17,7 @@ use Rattle.sample.specs.Judge.{judgeLabel}
 use Rattle.sample.specs.Decode.{labelCount, sentAt, sentCount, arrivedAt, arrivalCount, fileEnd, arrivalIn, labelStage, sentStage, arrivedStage, endStage, refusalIn, refused, decode, layoutOf}
 use Rattle.sample.specs.RoundTrip.{Exact, Lengths}
 use Rattle.sample.specs.Cases.{RefusalsInOrder}
-use Rattle.sample.specs.Readings.{refusalOfSection, sectionReading}
+use Rattle.sample.specs.Private.Readings.{refusalOfSection, sectionReading}
 use Rattle.sample.specs.declared.Layout.{Layout}
 use Rattle.sample.proofs.Readings.{whole-section, refusal-section, refused-section}
 use Rattle.sample.proofs.Decoded.{WholeFile, refused-none, stage-none, decode-refused, layout-accepted, refused-label, refused-sent, refused-arrived, refused-end, refused-arrivals}

@@ -2,7 +2,7 @@
 use mathlib.Core.Path.{ap}
 use borrow.Author.Tests.{lt-ltb, le-ltb}
 use Rattle.sample.specs.Decode.{countAt}
-use Rattle.sample.specs.Readings.{countReading}
+use Rattle.sample.specs.Private.Readings.{countReading}
 use Rattle.sample.specs.declared.sections.Reading.the-variants.{Value}
 use borrow.Author.Needs.{needs}
 use Rattle.sample.proofs.sections.count_at.Statement.{statement}

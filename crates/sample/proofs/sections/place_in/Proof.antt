@@ -1,6 +1,6 @@
 -- `sample::sections::place_in` meets its contract: the test says whether the file ends before the place. Assumes nothing.
 use borrow.Author.Tests.{lt-ltb, le-ltb}
-use Rattle.sample.specs.Readings.{placeReading}
+use Rattle.sample.specs.Private.Readings.{placeReading}
 use Rattle.sample.proofs.sections.place_in.Statement.{statement}
 use Rattle.sample.proofs.sections.place_in.Tie as tie
 
