@@ -9,14 +9,14 @@
 /* Prints what is noted of an arrival. */
 static void print_noted(krakobran_noted noted) {
     switch (noted.kind) {
-    case KRAKOBRAN_DUPLICATE:
-        printf("duplicate\n");
-        break;
     case KRAKOBRAN_IN_ORDER:
         printf("in order, jump size %" PRIu32 "\n", noted.jump);
         break;
     case KRAKOBRAN_REORDERED:
         printf("reordered, extent %" PRIu32 ", late by %" PRIu64 "\n", noted.extent, noted.late);
+        break;
+    case KRAKOBRAN_DUPLICATE:
+        printf("duplicate\n");
         break;
     case KRAKOBRAN_BEYOND:
         printf("reordered beyond the window, at least %" PRIu32 ", late by at least %" PRIu64 "\n", noted.extent,

@@ -80,6 +80,10 @@ int main(void) {
     FIELD(gapped, refusal);
     FIELD(gapped, known);
     FIELD(gapped, positions);
+    SIZE(degree_counts);
+    FIELD(degree_counts, refusal);
+    FIELD(degree_counts, reordered);
+    FIELD(degree_counts, arrived);
     SIZE(ratio);
     FIELD(ratio, refusal);
     FIELD(ratio, known);

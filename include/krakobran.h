@@ -2,9 +2,10 @@
  *
  * Every function takes all input there is. An answer carries a refusal, which is KRAKOBRAN_NONE or one of the
  * numbers below; with a refusal every other part of the answer is as the comment at its struct says, lent memory is
- * untouched, and a receiver comes back equal. A list is passed as a pointer and its number of places, not of octets;
- * the pointer is not NULL, also where there are no places. Lists that are passed to one call do not overlap.
- * No function allocates, keeps a pointer, or has a state of its own, so all may be called from many threads. */
+ * untouched, and a receiver comes back equal. A list is passed as a pointer and its number of places, not of octets.
+ * No pointer is NULL, also where there are no places; each is aligned for its type; and what a call writes to does not
+ * overlap anything else that is passed to it. No function allocates, keeps a pointer, or has a state of its own, so all
+ * may be called from many threads. */
 
 #ifndef KRAKOBRAN_H
 #define KRAKOBRAN_H
@@ -34,12 +35,12 @@ enum {
     KRAKOBRAN_LISTS_DIFFER = 12    /* the writer's lists of numbers and of times differ in length */
 };
 
-/* Cases of an answer; the fourth is a receiver's only. A refused answer is in order, with zeros. */
+/* Cases of an answer; the last is a receiver's only. A refused answer is in order, with zeros. */
 enum {
-    KRAKOBRAN_DUPLICATE = 1, /* the packet has arrived before */
-    KRAKOBRAN_IN_ORDER = 2,  /* its number is at least the next expected */
-    KRAKOBRAN_REORDERED = 3, /* it is not */
-    KRAKOBRAN_BEYOND = 4     /* it is not, and its discontinuity is beyond the receiver's window */
+    KRAKOBRAN_IN_ORDER = 0,  /* the number is at least the next expected */
+    KRAKOBRAN_REORDERED = 1, /* it is not */
+    KRAKOBRAN_DUPLICATE = 3, /* the packet has arrived before */
+    KRAKOBRAN_BEYOND = 4     /* reordered, with its discontinuity beyond the receiver's window */
 };
 
 /* Sizes. */
@@ -57,7 +58,7 @@ enum {
 
 /* ---- the sample file */
 
-/* What was read: octets of the label, K and A; 0 with a refusal. */
+/* What is found in a file: octets of the label, K and A; 0 with a refusal. */
 typedef struct {
     uint32_t refusal;
     uint32_t label;
@@ -77,6 +78,9 @@ typedef struct {
     uint32_t length;
 } krakobran_written;
 
+/* Checks a sample file. */
+krakobran_layout krakobran_check(const uint8_t *file, size_t octets);
+
 /* Reads a sample file into lists of payload sizes, sequence numbers and arrival times, from their start. */
 krakobran_layout krakobran_read(const uint8_t *file, size_t octets, uint16_t *sizes, size_t size_places,
                                 uint32_t *numbers, size_t number_places, uint64_t *times, size_t time_places);
@@ -92,7 +96,8 @@ krakobran_written krakobran_write(const uint8_t *label, size_t label_octets, con
 /* ---- figures of a sample file */
 
 /* The answer for a record: its case; the record of the first copy if a duplicate; the position if not, and the jump
- * size if in order; extent, byte offset, largest n and late time if reordered. What a case does not have is 0. */
+ * size if in order; extent, byte offset, largest n and late time if reordered. What a case does not have is 0, and
+ * with a refusal all is. */
 typedef struct {
     uint32_t refusal;
     uint32_t kind;
@@ -135,6 +140,13 @@ typedef struct {
     uint32_t positions;
 } krakobran_gapped;
 
+/* The two counts of a degree of n-reordering: n-reordered packets, and first arrivals (L); 0 with a refusal. */
+typedef struct {
+    uint32_t refusal;
+    uint32_t reordered;
+    uint32_t arrived;
+} krakobran_degree_counts;
+
 /* Whether a ratio is known (1) or undefined (0), and the bits of the double; 0 and 0 with a refusal. */
 typedef struct {
     uint32_t refusal;
@@ -170,7 +182,10 @@ krakobran_tallied krakobran_tally(const uint8_t *file, size_t octets);
 /* The gap of a record. */
 krakobran_gapped krakobran_gap(const uint8_t *file, size_t octets, uint32_t record);
 
-/* The degree of n-reordering, n from 1 to 100. */
+/* How many packets are n-reordered, and of how many, n from 1 to 100. */
+krakobran_degree_counts krakobran_n_reordered(const uint8_t *file, size_t octets, uint32_t n);
+
+/* The degree of n-reordering, n from 1 to 100: the one count over the other. */
 krakobran_ratio krakobran_degree(const uint8_t *file, size_t octets, uint32_t n);
 
 /* The ratio figures of a sample. */
@@ -214,7 +229,8 @@ typedef struct {
 } krakobran_started;
 
 /* What a receiver notes of an arrival: the case; the jump size if in order; extent and late time if reordered, exact
- * ones or, beyond the window, those of the oldest kept jump. What a case does not have is 0. */
+ * ones or, beyond the window, those of the oldest kept jump. What a case does not have is 0, and with a refusal all
+ * is. */
 typedef struct {
     uint32_t kind;
     uint32_t jump;

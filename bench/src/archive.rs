@@ -6,13 +6,13 @@ use std::hint::black_box;
 use crate::boundary::{Meter, Place};
 use crate::receiver::Jumps;
 use crate::reference::{
-    Answer, Answered, Counts, Degree, Figures, Fresh, Gap, Ratios, Read, Receiver, RecordAnswer, Step, Stepped, Tally,
-    Written,
+    Answer, Answered, Counts, Degree, DegreeCounts, Figures, Fresh, Gap, Ratios, Read, Receiver, RecordAnswer, Step,
+    Stepped, Tally, Written,
 };
 
-const DUPLICATE: u32 = 1;
-const IN_ORDER: u32 = 2;
-const REORDERED: u32 = 3;
+const IN_ORDER: u32 = 0;
+const REORDERED: u32 = 1;
+const DUPLICATE: u32 = 3;
 const BEYOND: u32 = 4;
 
 /// The archive's structs.
@@ -81,6 +81,13 @@ pub mod c {
     pub struct Tally {
         pub refusal: u32,
         pub places: [u32; 101],
+    }
+
+    #[repr(C)]
+    pub struct DegreeCounts {
+        pub refusal: u32,
+        pub reordered: u32,
+        pub arrived: u32,
     }
 
     #[repr(C)]
@@ -153,6 +160,7 @@ pub mod c {
 
     #[rustfmt::skip]
     extern "C" {
+        pub fn krakobran_check(file: *const u8, octets: usize) -> Layout;
         pub fn krakobran_read(
             file: *const u8, octets: usize, sizes: *mut u16, size_places: usize, numbers: *mut u32, number_places: usize,
             times: *mut u64, time_places: usize,
@@ -166,6 +174,7 @@ pub mod c {
         pub fn krakobran_counts(file: *const u8, octets: usize) -> Counts;
         pub fn krakobran_tally(file: *const u8, octets: usize) -> Tally;
         pub fn krakobran_gap(file: *const u8, octets: usize, record: u32) -> Gap;
+        pub fn krakobran_n_reordered(file: *const u8, octets: usize, n: u32) -> DegreeCounts;
         pub fn krakobran_degree(file: *const u8, octets: usize, n: u32) -> Degree;
         pub fn krakobran_ratios(file: *const u8, octets: usize) -> Ratios;
         pub fn krakobran_listing(file: *const u8, octets: usize, out: *mut u8, room: usize) -> Written;
@@ -256,23 +265,30 @@ fn known<T>(flag: u32, zeros: bool, value: T) -> Option<T> {
     }
 }
 
+/// What is found in a file.
+fn found(l: &c::Layout) -> Read {
+    Read { refusal: l.refusal, label: l.label, sent: l.sent, arrivals: l.arrivals }
+}
+
 /// The archive.
 pub struct Archive;
 
 impl Meter for Archive {
     #[inline(always)]
+    fn check(&self, file: &[u8]) -> Read {
+        // SAFETY: the pointer has as many places as the number after it says; so below.
+        found(&unsafe { c::krakobran_check(file.as_ptr(), file.len()) })
+    }
+    #[inline(always)]
     fn read(&self, file: &[u8], sizes: &mut [u16], numbers: &mut [u32], times: &mut [u64]) -> Read {
         let (s, n, t) = (sizes.len(), numbers.len(), times.len());
-        // SAFETY: each pointer has as many places as the number after it says.
-        let r = unsafe {
+        found(&unsafe {
             let (sizes, numbers, times) = (sizes.as_mut_ptr(), numbers.as_mut_ptr(), times.as_mut_ptr());
             c::krakobran_read(file.as_ptr(), file.len(), sizes, s, numbers, n, times, t)
-        };
-        Read { refusal: r.refusal, sent: r.sent, arrivals: r.arrivals }
+        })
     }
     #[inline(always)]
     fn label(&self, file: &[u8]) -> Place {
-        // SAFETY: as for `read`; so below.
         let part = unsafe { c::krakobran_label(file.as_ptr(), file.len()) };
         Place { start: part.start as usize, length: part.length as usize }
     }
@@ -315,6 +331,11 @@ impl Meter for Archive {
         Gap { refusal: g.refusal, gap: known(g.known, g.positions == 0, g.positions) }
     }
     #[inline(always)]
+    fn n_reordered(&self, file: &[u8], n: u32) -> DegreeCounts {
+        let c = unsafe { c::krakobran_n_reordered(file.as_ptr(), file.len(), n) };
+        DegreeCounts { refusal: c.refusal, reordered: c.reordered, first_arrivals: c.arrived }
+    }
+    #[inline(always)]
     fn degree(&self, file: &[u8], n: u32) -> Degree {
         let d = unsafe { c::krakobran_degree(file.as_ptr(), file.len(), n) };
         Degree { refusal: d.refusal, ratio: known(d.known, d.bits == 0, f64::from_bits(d.bits)) }
@@ -324,7 +345,10 @@ impl Meter for Archive {
         let r = unsafe { c::krakobran_ratios(file.as_ptr(), file.len()) };
         let bits = [r.reordered, r.degree1, r.degree3];
         let [reordered, degree_1, degree_3] = bits.map(f64::from_bits);
-        Ratios { refusal: r.refusal, figures: known(r.known, bits == [0; 3], Figures { reordered, degree_1, degree_3 }) }
+        Ratios {
+            refusal: r.refusal,
+            figures: known(r.known, bits == [0; 3], Figures { reordered, degree_1, degree_3 }),
+        }
     }
     #[inline(always)]
     fn listing(&self, file: &[u8], out: &mut [u8]) -> Written {
@@ -397,6 +421,7 @@ pub fn layout() {
         "counted" c::Counts: refusal arrived reordered duplicates inorder runs;
         "tallied" c::Tally: refusal places;
         "gapped" c::Gap: refusal known positions;
+        "degree_counts" c::DegreeCounts: refusal reordered arrived;
         "ratio" c::Degree: refusal known bits;
         "ratio_figures" c::Ratios: refusal known reordered degree1 degree3;
     }

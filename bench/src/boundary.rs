@@ -5,7 +5,8 @@ use std::hint::black_box;
 
 use crate::archive::Archive;
 use crate::reference::{
-    self, Answered, Counts, Degree, Fresh, Gap, Ratios, Read, Receiver, RecordAnswer, Stepped, Tally, Written,
+    self, Answered, Counts, Degree, DegreeCounts, Fresh, Gap, Ratios, Read, Receiver, RecordAnswer, Stepped, Tally,
+    Written,
 };
 
 /// Where the label stands in the file.
@@ -16,6 +17,7 @@ pub struct Place {
 }
 
 pub trait Meter {
+    fn check(&self, file: &[u8]) -> Read;
     fn read(&self, file: &[u8], sizes: &mut [u16], numbers: &mut [u32], times: &mut [u64]) -> Read;
     fn label(&self, file: &[u8]) -> Place;
     fn write(&self, label: &[u8], sizes: &[u16], numbers: &[u32], times: &[u64], out: &mut [u8]) -> Written;
@@ -23,6 +25,7 @@ pub trait Meter {
     fn counts(&self, file: &[u8]) -> Counts;
     fn tally(&self, file: &[u8]) -> Tally;
     fn gap(&self, file: &[u8], record: u32) -> Gap;
+    fn n_reordered(&self, file: &[u8], n: u32) -> DegreeCounts;
     fn degree(&self, file: &[u8], n: u32) -> Degree;
     fn ratios(&self, file: &[u8]) -> Ratios;
     fn listing(&self, file: &[u8], out: &mut [u8]) -> Written;
@@ -68,6 +71,10 @@ pub struct Reference;
 
 impl Meter for Reference {
     #[inline(always)]
+    fn check(&self, file: &[u8]) -> Read {
+        reference::found(file)
+    }
+    #[inline(always)]
     fn read(&self, file: &[u8], sizes: &mut [u16], numbers: &mut [u32], times: &mut [u64]) -> Read {
         reference::read(file, sizes, numbers, times)
     }
@@ -94,6 +101,10 @@ impl Meter for Reference {
     #[inline(always)]
     fn gap(&self, file: &[u8], record: u32) -> Gap {
         reference::gap(file, record)
+    }
+    #[inline(always)]
+    fn n_reordered(&self, file: &[u8], n: u32) -> DegreeCounts {
+        reference::n_reordered(file, n)
     }
     #[inline(always)]
     fn degree(&self, file: &[u8], n: u32) -> Degree {
@@ -125,6 +136,9 @@ impl Meter for Reference {
 pub struct ByAnswers<E>(pub std::marker::PhantomData<E>);
 
 impl<E: reference::Engine> Meter for ByAnswers<E> {
+    fn check(&self, file: &[u8]) -> Read {
+        reference::found(file)
+    }
     fn read(&self, file: &[u8], sizes: &mut [u16], numbers: &mut [u32], times: &mut [u64]) -> Read {
         reference::read(file, sizes, numbers, times)
     }
@@ -145,6 +159,9 @@ impl<E: reference::Engine> Meter for ByAnswers<E> {
     }
     fn gap(&self, file: &[u8], record: u32) -> Gap {
         reference::gap(file, record)
+    }
+    fn n_reordered(&self, file: &[u8], n: u32) -> DegreeCounts {
+        reference::n_reordered_of_answers::<E>(file, n)
     }
     fn degree(&self, file: &[u8], n: u32) -> Degree {
         reference::degree_of_answers::<E>(file, n)

@@ -291,11 +291,11 @@ fn refusal_order(run: &mut Run) {
         let (mut sizes, mut numbers, mut times) = (vec![7; room[0]], vec![7; room[1]], vec![7; room[2]]);
         let found = read(&whole, &mut sizes, &mut numbers, &mut times);
         if room.iter().any(|&room| room < 3) {
-            run.equal("short list", found, Read { refusal: 8, sent: 0, arrivals: 0 });
+            run.equal("short list", found, Read { refusal: 8, ..Read::default() });
             run.check("short list", sizes.iter().all(|&v| v == 7) && numbers.iter().all(|&v| v == 7));
             run.check("short list", times.iter().all(|&v| v == 7));
         } else {
-            run.equal("lists", found, Read { refusal: 0, sent: 3, arrivals: 3 });
+            run.equal("lists", found, Read { refusal: 0, label: 0, sent: 3, arrivals: 3 });
             run.check("lists", sizes[..3] == [100; 3] && numbers[..3] == [1, 2, 3] && times[..3] == [10, 20, 30]);
             run.check("past the lists", sizes[3..].iter().all(|&v| v == 7) && times[3..].iter().all(|&v| v == 7));
         }
@@ -436,13 +436,15 @@ fn generated(run: &mut Run, amounts: &Amounts) {
 
 /// Every refusal of every call and every kind of answer came.
 fn covered(run: &mut Run, seen: &Seen) {
-    let wanted: [(&str, &[u32]); 11] = [
+    let wanted: [(&str, &[u32]); 13] = [
+        ("check", &[0, 1, 2, 3, 4, 5, 6, 7]),
         ("read", &[0, 1, 2, 3, 4, 5, 6, 7, 8]),
         ("write", &[0, 3, 4, 5, 6, 7, 8, 12]),
         ("answer", &[0, 1, 2, 3, 4, 5, 6, 7, 9]),
         ("gap", &[0, 1, 2, 3, 4, 5, 6, 7, 9]),
         ("counts", &[0, 1, 2, 3, 4, 5, 6, 7]),
         ("tally", &[0, 1, 2, 3, 4, 5, 6, 7]),
+        ("n_reordered", &[0, 1, 2, 3, 4, 5, 6, 7, 9]),
         ("degree", &[0, 1, 2, 3, 4, 5, 6, 7, 9]),
         ("ratios", &[0, 1, 2, 3, 4, 5, 6, 7]),
         ("listing", &[0, 1, 2, 3, 4, 5, 6, 7, 8]),

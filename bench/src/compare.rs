@@ -34,7 +34,7 @@ impl Seen {
         let mut last = "";
         for (&(name, refusal), many) in &self.refusals {
             if name != last {
-                let _ = write!(table, "{}{name:9}", if last.is_empty() { "" } else { "\n" });
+                let _ = write!(table, "{}{name:11}", if last.is_empty() { "" } else { "\n" });
                 last = name;
             }
             let _ = write!(table, " {refusal}:{many}");
@@ -118,6 +118,9 @@ fn compare_sample(
     seen: &mut Seen,
 ) -> Result<(), String> {
     let file = &case.file[..];
+    let found = left.check(file);
+    same("check", found, right.check(file))?;
+    seen.call("check", found.refusal);
     read(left, right, case, seen)?;
     write(left, right, case, seen)?;
     same("label", left.label(file), right.label(file))?;
@@ -160,6 +163,9 @@ fn compare_sample(
         seen.kind("tally: places 0 and 100 both used");
     }
     for &n in &case.degrees {
+        let counts = left.n_reordered(file, n);
+        same(&format!("n_reordered {n}"), counts, right.n_reordered(file, n))?;
+        seen.call("n_reordered", counts.refusal);
         let degree = degree_bits(left.degree(file, n));
         same(&format!("degree {n}"), degree, degree_bits(right.degree(file, n)))?;
         seen.call("degree", degree.0);

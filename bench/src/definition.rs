@@ -5,8 +5,8 @@ use std::cell::RefCell;
 
 use crate::boundary::{Meter, Place};
 use crate::reference::{
-    Answer, Answered, Counts, Degree, Figures, Fresh, Gap, Ratios, Read, Receiver, RecordAnswer, Step, Stepped, Tally,
-    Written, LISTING_ROOM,
+    Answer, Answered, Counts, Degree, DegreeCounts, Figures, Fresh, Gap, Ratios, Read, Receiver, RecordAnswer, Step,
+    Stepped, Tally, Written, LISTING_ROOM,
 };
 
 /// A wrong reading.
@@ -426,7 +426,8 @@ impl Definition {
     }
 
     /// Part over L, where part counts the reordered packets that `counted` holds of, by largest n.
-    fn ratio(&self, answers: &[Answer], counted: impl Fn(u32) -> bool) -> Option<f64> {
+    /// The two counts of a ratio: the reordered packets that are counted, and L.
+    fn parts(&self, answers: &[Answer], counted: impl Fn(u32) -> bool) -> (usize, usize) {
         let part = answers
             .iter()
             .filter(|answer| matches!(answer, Answer::Reordered { largest_n, .. } if counted(*largest_n)))
@@ -435,6 +436,11 @@ impl Definition {
             .iter()
             .filter(|answer| !matches!(answer, Answer::Duplicate { .. }) || self.is(Mistake::RatioOverArrivals))
             .count();
+        (part, firsts)
+    }
+
+    fn ratio(&self, answers: &[Answer], counted: impl Fn(u32) -> bool) -> Option<f64> {
+        let (part, firsts) = self.parts(answers, counted);
         if firsts == 0 {
             return self.is(Mistake::RatioZeroWithoutArrivals).then_some(0.0);
         }
@@ -533,9 +539,26 @@ impl Definition {
     }
 }
 
+/// What is found in a file, or the refusal.
+fn found(known: Result<&Lists, u32>) -> Read {
+    match known {
+        Err(refusal) => Read { refusal, label: 0, sent: 0, arrivals: 0 },
+        Ok(lists) => Read {
+            refusal: 0,
+            label: lists.label.len() as u32,
+            sent: lists.sizes.len() as u32,
+            arrivals: lists.arrivals.len() as u32,
+        },
+    }
+}
+
 impl Meter for Definition {
+    fn check(&self, file: &[u8]) -> Read {
+        self.with(file, |known| found(known.map(|(lists, _)| lists)))
+    }
+
     fn read(&self, file: &[u8], sizes: &mut [u16], numbers: &mut [u32], times: &mut [u64]) -> Read {
-        let refused = |refusal| Read { refusal, sent: 0, arrivals: 0 };
+        let refused = |refusal| found(Err(refusal));
         self.with(file, |known| {
             let lists = match known {
                 Ok((lists, _)) => lists,
@@ -555,7 +578,7 @@ impl Meter for Definition {
             if self.is(Mistake::FillsWholeList) {
                 times[a..].fill(0);
             }
-            Read { refusal: 0, sent: k as u32, arrivals: a as u32 }
+            found(Ok(lists))
         })
     }
 
@@ -616,6 +639,17 @@ impl Meter for Definition {
             match found {
                 Ok(gap) => Gap { refusal: 0, gap },
                 Err(refusal) => Gap { refusal, gap: None },
+            }
+        })
+    }
+
+    fn n_reordered(&self, file: &[u8], n: u32) -> DegreeCounts {
+        self.with(file, |known| match known {
+            Err(refusal) => DegreeCounts { refusal, ..DegreeCounts::default() },
+            Ok(_) if !(1..=100).contains(&n) => DegreeCounts { refusal: 9, ..DegreeCounts::default() },
+            Ok((_, answers)) => {
+                let (reordered, firsts) = self.parts(answers, self.reordered_at_least(n));
+                DegreeCounts { refusal: 0, reordered: reordered as u32, first_arrivals: firsts as u32 }
             }
         })
     }

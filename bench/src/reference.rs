@@ -45,6 +45,8 @@ pub const LISTING_ROOM: usize = 262_144;
 #[derive(Clone, Copy, PartialEq, Eq, Debug, Default)]
 pub struct Read {
     pub refusal: u32,
+    /// Octets of the label.
+    pub label: u32,
     /// K.
     pub sent: u32,
     /// A.
@@ -94,6 +96,14 @@ pub struct Tally {
 pub struct Gap {
     pub refusal: u32,
     pub gap: Option<u32>,
+}
+
+/// The two counts of a degree: n-reordered packets, and L.
+#[derive(Clone, Copy, PartialEq, Eq, Debug, Default)]
+pub struct DegreeCounts {
+    pub refusal: u32,
+    pub reordered: u32,
+    pub first_arrivals: u32,
 }
 
 #[derive(Clone, Copy, Debug)]
@@ -182,16 +192,32 @@ pub fn check(file: &[u8]) -> Result<Sample<'_>, u32> {
     Ok(Sample { label, sizes, arrivals })
 }
 
+impl Read {
+    fn refused(refusal: u32) -> Read {
+        Read { refusal, ..Read::default() }
+    }
+
+    fn of(sample: &Sample) -> Read {
+        let [label, sent, arrivals] =
+            [sample.label.len(), sample.sizes.len(), sample.arrivals.len()].map(|count| count as u32);
+        Read { refusal: 0, label, sent, arrivals }
+    }
+}
+
+/// What is found in a file.
+pub fn found(file: &[u8]) -> Read {
+    check(file).map_or_else(Read::refused, |sample| Read::of(&sample))
+}
+
 /// Fills the three lists from their start.
 pub fn read(file: &[u8], sizes: &mut [u16], numbers: &mut [u32], times: &mut [u64]) -> Read {
-    let refused = |refusal| Read { refusal, sent: 0, arrivals: 0 };
     let sample = match check(file) {
         Ok(sample) => sample,
-        Err(refusal) => return refused(refusal),
+        Err(refusal) => return Read::refused(refusal),
     };
     let (sent, arrivals) = (sample.sizes.len(), sample.arrivals.len());
     if sizes.len() < sent || numbers.len() < arrivals || times.len() < arrivals {
-        return refused(OUTPUT_SHORT);
+        return Read::refused(OUTPUT_SHORT);
     }
     for (size, octets) in sizes.iter_mut().zip(sample.sizes) {
         *size = u16::from_be_bytes(*octets);
@@ -199,7 +225,7 @@ pub fn read(file: &[u8], sizes: &mut [u16], numbers: &mut [u32], times: &mut [u6
     for ((number, time), octets) in numbers.iter_mut().zip(times).zip(sample.arrivals) {
         (*number, *time) = number_and_time(octets);
     }
-    Read { refusal: 0, sent: sent as u32, arrivals: arrivals as u32 }
+    Read::of(&sample)
 }
 
 /// The label as a part of the file; with a refusal, 1 to 7, the empty part at its start.
@@ -464,16 +490,34 @@ fn ratio(part: u32, whole: u32) -> Option<f64> {
     (whole > 0).then(|| f64::from(part) / f64::from(whole))
 }
 
-pub fn degree(file: &[u8], n: u32) -> Degree {
-    let sample = check(file).and_then(|sample| judge((1..=MOST_DEGREE).contains(&n), OUTSIDE).map(|()| sample));
-    match sample {
-        Err(refusal) => Degree { refusal, ratio: None },
+impl DegreeCounts {
+    fn refused(refusal: u32) -> DegreeCounts {
+        DegreeCounts { refusal, ..DegreeCounts::default() }
+    }
+
+    fn degree(self) -> Degree {
+        Degree { refusal: self.refusal, ratio: ratio(self.reordered, self.first_arrivals) }
+    }
+}
+
+fn check_degree(file: &[u8], n: u32) -> Result<Sample<'_>, u32> {
+    check(file).and_then(|sample| judge((1..=MOST_DEGREE).contains(&n), OUTSIDE).map(|()| sample))
+}
+
+pub fn n_reordered(file: &[u8], n: u32) -> DegreeCounts {
+    match check_degree(file, n) {
+        Err(refusal) => DegreeCounts::refused(refusal),
         Ok(sample) => {
-            let mut many = 0;
-            let whole = each_late(&sample, |firsts, number| many += u32::from(largest_n(firsts, number) >= n));
-            Degree { refusal: 0, ratio: ratio(many, whole) }
+            let mut reordered = 0;
+            let first_arrivals =
+                each_late(&sample, |firsts, number| reordered += u32::from(largest_n(firsts, number) >= n));
+            DegreeCounts { refusal: 0, reordered, first_arrivals }
         }
     }
+}
+
+pub fn degree(file: &[u8], n: u32) -> Degree {
+    n_reordered(file, n).degree()
 }
 
 pub fn ratios(file: &[u8]) -> Ratios {
@@ -746,21 +790,25 @@ pub fn ratios_of_answers<E: Engine>(file: &[u8]) -> Ratios {
     Ratios { refusal: 0, figures: figures(reordered, one, three, whole) }
 }
 
-pub fn degree_of_answers<E: Engine>(file: &[u8], n: u32) -> Degree {
-    let sample = match check(file).and_then(|sample| judge((1..=MOST_DEGREE).contains(&n), OUTSIDE).map(|()| sample)) {
+pub fn n_reordered_of_answers<E: Engine>(file: &[u8], n: u32) -> DegreeCounts {
+    let sample = match check_degree(file, n) {
         Ok(sample) => sample,
-        Err(refusal) => return Degree { refusal, ratio: None },
+        Err(refusal) => return DegreeCounts::refused(refusal),
     };
-    let (mut whole, mut many) = (0, 0);
+    let mut counts = DegreeCounts::default();
     each_answer::<E>(&sample, |_, _, answer| match answer {
         Answer::Duplicate { .. } => {}
-        Answer::InOrder { .. } => whole += 1,
+        Answer::InOrder { .. } => counts.first_arrivals += 1,
         Answer::Reordered { largest_n, .. } => {
-            whole += 1;
-            many += u32::from(largest_n >= n);
+            counts.first_arrivals += 1;
+            counts.reordered += u32::from(largest_n >= n);
         }
     });
-    Degree { refusal: 0, ratio: ratio(many, whole) }
+    counts
+}
+
+pub fn degree_of_answers<E: Engine>(file: &[u8], n: u32) -> Degree {
+    n_reordered_of_answers::<E>(file, n).degree()
 }
 
 // The listing.

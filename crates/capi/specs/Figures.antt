@@ -6,18 +6,19 @@ use Rattle.rfc4737.specs.declared.Answer.{Answer}
 use Rattle.rfc4737.specs.declared.Gap.{Gap}
 use Rattle.rfc4737.specs.declared.Ratio.{Ratio}
 use Rattle.rfc4737.specs.declared.Ratios.{Ratios}
+use Rattle.rfc4737.specs.Numbering.{answerNumber}
 use Rattle.capi.specs.declared.figures.AnswerFigures.{AnswerFigures}
 use Rattle.capi.specs.declared.figures.GapFigures.{GapFigures}
 use Rattle.capi.specs.declared.figures.DegreeFigures.{DegreeFigures}
 use Rattle.capi.specs.declared.figures.RatiosFigures.{RatiosFigures}
 
--- the answer for a record: a duplicate is 1, with the record of the first copy; in order 2, with position and jump size; reordered 3,
--- with position, extent, late time, byte offset and largest n
+-- the answer for a record: the number of its case, with the record of the first copy if a duplicate; with position and jump size if in
+-- order; with position, extent, late time, byte offset and largest n if reordered
 abbrev pub answerFigures : ℕ → Answer → AnswerFigures
 answerFigures n (Answer.Duplicate d) =
     record {
       refusal = n;
-      kind = 1;
+      kind = answerNumber (Answer.Duplicate d);
       first = d .first;
       position = 0;
       jump = 0;
@@ -29,7 +30,7 @@ answerFigures n (Answer.Duplicate d) =
 answerFigures n (Answer.InOrder d) =
     record {
       refusal = n;
-      kind = 2;
+      kind = answerNumber (Answer.InOrder d);
       first = 0;
       position = d .position;
       jump = d .jump;
@@ -41,7 +42,7 @@ answerFigures n (Answer.InOrder d) =
 answerFigures n (Answer.Reordered d) =
     record {
       refusal = n;
-      kind = 3;
+      kind = answerNumber (Answer.Reordered d);
       first = 0;
       position = d .position;
       jump = 0;

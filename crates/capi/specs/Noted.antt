@@ -5,6 +5,7 @@ use Rattle.receiver.specs.declared.Lateness.{Lateness}
 use Rattle.receiver.specs.declared.Noted.{Noted}
 use Rattle.receiver.specs.declared.Noted.the-variants.{Duplicate, InOrder, Exact, Beyond}
 use Rattle.receiver.specs.declared.Stepped.{Stepped}
+use Rattle.receiver.specs.Numbering.{notedNumber}
 use Rattle.gateway.specs.declared.Said.{Said}
 use Rattle.capi.specs.declared.noted.NotedFigures.{NotedFigures}
 use Rattle.capi.specs.declared.noted.SaidAnswer.{SaidAnswer}
@@ -14,12 +15,13 @@ use Rattle.capi.specs.declared.noted.StepAnswer.{StepAnswer}
 abbrev pub lateFigures : ℕ → Lateness → NotedFigures
 lateFigures n l = record { kind = n; jump = 0; extent = l .extent; late = l .late }
 
--- a duplicate is 1; in order 2, with the jump size; reordered with exact figures 3; reordered beyond the window 4
+-- what is noted: the number of its case, with the jump size if in order; with extent and late time if reordered, exact or beyond the
+-- window
 abbrev pub notedFigures : Noted → NotedFigures
-notedFigures Duplicate = record { kind = 1; jump = 0; extent = 0; late = 0 }
-notedFigures (InOrder jump) = record { kind = 2; jump = jump; extent = 0; late = 0 }
-notedFigures (Exact l) = lateFigures 3 l
-notedFigures (Beyond l) = lateFigures 4 l
+notedFigures Duplicate = record { kind = notedNumber Duplicate; jump = 0; extent = 0; late = 0 }
+notedFigures (InOrder jump) = record { kind = notedNumber (InOrder jump); jump = jump; extent = 0; late = 0 }
+notedFigures (Exact l) = lateFigures (notedNumber (Exact l)) l
+notedFigures (Beyond l) = lateFigures (notedNumber (Beyond l)) l
 
 -- a step's answer: its refusal, what it notes, and its state
 abbrev pub stepAnswer : Stepped → StepAnswer

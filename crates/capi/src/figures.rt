@@ -1,13 +1,13 @@
 // The figures of a sample, as C has them: an enum is the number of its case, or whether it is known, beside the figures
 // of all cases, and an f64 is its bits.
 
-use crate::noted::DUPLICATE;
-use crate::noted::IN_ORDER;
-use crate::noted::REORDERED;
 use rfc4737::Answer;
 use rfc4737::Gap;
 use rfc4737::Ratio;
 use rfc4737::Ratios;
+use rfc4737::numbering::DUPLICATE;
+use rfc4737::numbering::IN_ORDER;
+use rfc4737::numbering::REORDERED;
 ghost use mathlib.Core.Path.{_≡_};
 ghost use lib.Ieee.{binary64, toBits};
 ghost use Rattle.capi.specs.Figures.{answerFigures, gapFigures, degreeFigures, ratiosFigures};

@@ -17,6 +17,7 @@ use figures::gap_figures;
 use figures::ratios_figures;
 use label::LabelPart;
 use label::label_part;
+use metrics::DegreeCounts;
 use metrics::SampleCounts;
 use metrics::SampleListing;
 use metrics::SampleTally;
@@ -29,15 +30,23 @@ use receiver::Started;
 use sample::Layout;
 use sample::Written;
 ghost use mathlib.Core.Path.{_≡_};
-ghost use Rattle.sample.specs.Decode.{decode};
+ghost use Rattle.sample.specs.Decode.{decode, layoutOf};
 ghost use Rattle.sample.specs.Calls.{ReadFrom, WrittenTo};
-ghost use Rattle.metrics.specs.Figures.{recordAnswer, recordGap, sampleCounts, sampleTally, sampleDegree, sampleRatios};
+ghost use Rattle.metrics.specs.Figures.{recordAnswer, recordGap, sampleCounts, sampleTally, degreeCounts, sampleDegree, sampleRatios};
 ghost use Rattle.metrics.specs.Report.{ListedTo};
 ghost use Rattle.receiver.specs.Step.{freshOf, stepOf};
 ghost use Rattle.gateway.specs.Said.{saidOf};
 ghost use Rattle.capi.specs.Figures.{answerFigures, gapFigures, degreeFigures, ratiosFigures};
 ghost use Rattle.capi.specs.Label.{labelPart};
 ghost use Rattle.capi.specs.Noted.{stepAnswer, saidAnswer};
+
+// Checks a file: what is found in it.
+#[no_mangle]
+pub extern "C" fn krakobran_check(file: &[u8]) -> Layout
+    ensures { λ r. ⌜ r ≡ layoutOf (decode (now (file .entry))) ⌝ }
+{
+    sample::check(file)
+}
 
 // Reads a file into lists of sizes, numbers and times.
 #[no_mangle]
@@ -108,6 +117,14 @@ pub extern "C" fn krakobran_gap(file: &[u8], asked: u32) -> GapFigures
     let g = metrics::gap(file, asked);
     let gap = g.gap;
     gap_figures(g.refusal, gap)
+}
+
+// The two counts of which the degree of n-reordering is made.
+#[no_mangle]
+pub extern "C" fn krakobran_n_reordered(file: &[u8], n: u32) -> DegreeCounts
+    ensures { λ r. ⌜ r ≡ degreeCounts (decode (now (file .entry))) n ⌝ }
+{
+    metrics::n_reordered(file, n)
 }
 
 // The degree of n-reordering.

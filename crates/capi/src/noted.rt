@@ -5,20 +5,12 @@ use receiver::Lateness;
 use receiver::Noted;
 use receiver::Receiver;
 use receiver::Stepped;
+use receiver::numbering::BEYOND;
+use rfc4737::numbering::DUPLICATE;
+use rfc4737::numbering::IN_ORDER;
+use rfc4737::numbering::REORDERED;
 ghost use mathlib.Core.Path.{_≡_};
 ghost use Rattle.capi.specs.Noted.{notedFigures, lateFigures, stepAnswer, saidAnswer};
-
-// A duplicate.
-pub const DUPLICATE: u32 = 1;
-
-// In order.
-pub const IN_ORDER: u32 = 2;
-
-// Reordered, with exact figures.
-pub const REORDERED: u32 = 3;
-
-// Reordered beyond the window.
-pub const BEYOND: u32 = 4;
 
 // What a receiver notes of an arrival: the case, and jump size, extent and late time.
 #[repr(C)]

@@ -58,6 +58,7 @@ pub struct SampleTally {
 }
 
 // The two counts of a degree of n-reordering, and the refusal (0 for none).
+#[repr(C)]
 pub struct DegreeCounts {
     pub refusal: u32,
     pub reordered: u32,

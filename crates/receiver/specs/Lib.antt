@@ -9,3 +9,4 @@ pub mod Decision
 pub mod Account
 pub mod Demand3
 pub mod WindowCases
+pub mod Numbering

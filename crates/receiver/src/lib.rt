@@ -7,6 +7,7 @@ pub mod fields;
 mod fit;
 mod kept;
 mod marking;
+pub mod numbering;
 
 use advance::advance;
 use fields::fields_of;

@@ -4,6 +4,7 @@ pub mod Times
 pub mod Order
 pub mod Extent
 pub mod Answer
+pub mod Numbering
 pub mod Gaps
 pub mod Runs
 pub mod Tally

@@ -1,6 +1,9 @@
 // The values that the definitions of specs/ name: an arrival, the answer for a record, and the figures
-// of a sample. What each value means is said in specs/, after RFC 4737. Beside them stand the refusals'
-// numbers and the three rules about times, which every crate above shares.
+// of a sample. What each value means is said in specs/, after RFC 4737. Beside them stand the numbers of
+// an answer's cases and of the refusals, and the three rules about times, which every crate above shares.
+
+// The numbers of an answer's cases.
+pub mod numbering;
 
 // The numbers given back instead of an answer.
 pub mod refusal;

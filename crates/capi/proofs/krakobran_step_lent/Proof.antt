@@ -1,6 +1,6 @@
 -- `capi::krakobran_step_lent` meets its contract: a walk of its MIR, by hand. The reference is passed on to the gateway's
--- step, which gives it up at the new state, and what the step says is made figures. All that is known of the two callees
--- is that each meets its contract. Assumes nothing.
+-- step in place, which gives it up at the new state, and what the step says is made figures. All that is known of the
+-- two callees is that each meets its contract. Assumes nothing.
 use mathlib.Core.Path.{_≡_, refl, ap, _∙_}
 use Prim.Native.Nat.{ℕ, _<_, _^_}
 use mathlib.Core.List.{[], _∷_, List}
@@ -65,7 +65,7 @@ stayed =
     (gave-ref (0 ∷ []) tt (plain (λ _. R.the-row)), (stay-none (λ _. u32) yes, (stay-none (λ _. u64) yes, tt)))
 
 module _ {M : Type 1} (𝓤 : URA M) (H : Heap 𝓤) (A : Atoms 𝓤) (at-mem : Memory → SProp 𝓤) (run : Routine → Fun 𝓤) where
-  -- the contracts that the walk cites: of the gateway's step and of `said_answer`
+  -- the contracts that the walk cites: of the gateway's step in place and of `said_answer`
   abbrev Step : Contract 𝓤
   Step = tripleOf 𝓤 H A step.signature (step.spec 𝓤 H A at-mem run)
 
@@ -107,7 +107,7 @@ module _ {M : Type 1} (𝓤 : URA M) (H : Heap 𝓤) (A : Atoms 𝓤) (W : Given
   abbrev Lends : Fml
   Lends = MutRef (named 0) κ R.the-row .own (x .0) (vptr b o ∷ [])
 
-  -- what the gateway's step is handed: all that is passed
+  -- what the gateway's step in place is handed: all that is passed
   abbrev to-step : Step 𝓤 H A at-mem run .Ghost
   to-step = (((κ, tt), (q, tt), tt, x, at), tt)
 
