@@ -1,10 +1,11 @@
 // Feeds a list of arrivals to a receiver that is lent by reference and to one that is handed in by value. For each
 // arrival it writes what is said of it and what the receiver then holds, of the one and of the other.
+mod print;
 
 use gateway::Said;
-use printing::write_answer;
-use printing::write_number;
-use printing::write_word;
+use print::write_answer;
+use print::write_number;
+use print::write_word;
 use receiver::Receiver;
 use receiver::Stepped;
 ghost use mathlib.Core.Path.{_≡_};

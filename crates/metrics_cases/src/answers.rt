@@ -1,9 +1,9 @@
 // The answer and the gap for a record, and the degree of n-reordering.
 use crate::files::EXAMPLE;
 use crate::files::put_example;
-use printing::write_either;
-use printing::write_number;
-use printing::write_word;
+use crate::print::write_either;
+use crate::print::write_number;
+use crate::print::write_word;
 use rfc4737::Answer;
 use rfc4737::Counts;
 use rfc4737::Gap;

@@ -1,10 +1,10 @@
 // The listing into lent octets.
 use crate::files::first_octets;
 use crate::files::put_example;
+use crate::print::write_either;
+use crate::print::write_number;
+use crate::print::write_word;
 use listing::LISTING_OCTETS;
-use printing::write_either;
-use printing::write_number;
-use printing::write_word;
 
 // What lent octets are filled with.
 const OCTET: u8 = 165;

@@ -3,6 +3,7 @@
 mod answers;
 mod files;
 mod listings;
+mod print;
 mod refusals;
 
 use answers::edges_of_n;

@@ -7,8 +7,8 @@ use crate::files::EXAMPLE;
 use crate::files::first_octets;
 use crate::files::put_example;
 use crate::listings::run_listing;
-use printing::write_number;
-use printing::write_word;
+use crate::print::write_number;
+use crate::print::write_word;
 use rfc4737::Ratios;
 ghost use Prim.Native.Nat.{_≤_};
 

@@ -1,11 +1,12 @@
 // Runs the scope's cases on the receiver: the window, the edges of K, number and time, and each refusal, where the
 // receiver that comes back is compared with the one handed in. A line is written for each case.
+mod print;
 mod same;
 
-use printing::write_answer;
-use printing::write_either;
-use printing::write_number;
-use printing::write_word;
+use print::write_answer;
+use print::write_either;
+use print::write_number;
+use print::write_word;
 use receiver::Receiver;
 use same::same;
 ghost use Prim.Native.Nat.{_≤_};

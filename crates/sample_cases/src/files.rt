@@ -13,9 +13,9 @@ use crate::memory::numbers_kept;
 use crate::memory::same_octets;
 use crate::memory::sizes_kept;
 use crate::memory::times_kept;
-use printing::write_either;
-use printing::write_number;
-use printing::write_word;
+use crate::print::write_either;
+use crate::print::write_number;
+use crate::print::write_word;
 use sample::Layout;
 
 // Writes what is found in a file: the refusal, or the octets of the label, K and A.

@@ -4,6 +4,7 @@ mod build;
 mod files;
 mod lists;
 mod memory;
+mod print;
 mod writer;
 
 use files::damaged;

@@ -10,9 +10,9 @@ use crate::lists::first_times;
 use crate::memory::OCTET;
 use crate::memory::octets_kept;
 use crate::memory::same_octets;
-use printing::write_either;
-use printing::write_number;
-use printing::write_word;
+use crate::print::write_either;
+use crate::print::write_number;
+use crate::print::write_word;
 
 // Writes a file into lent octets, and writes the refusal or how many octets it has, and whether those after it are
 // untouched. The answer is how many octets it has.
