@@ -84,12 +84,12 @@ pub fn step_answer(s: Stepped) -> StepAnswer
 }
 
 // The answer of a step by reference.
-pub fn said_answer(s: Said) -> SaidAnswer
-    ensures { λ r. ⌜ r ≡ saidAnswer s ⌝ }
+pub fn said_answer(said: Said) -> SaidAnswer
+    ensures { λ r. ⌜ r ≡ saidAnswer said ⌝ }
 {
-    let noted = s.noted;
+    let noted = said.noted;
     SaidAnswer {
-        refusal: s.refusal,
+        refusal: said.refusal,
         noted: noted_figures(noted),
     }
 }
