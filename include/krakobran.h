@@ -191,8 +191,8 @@ krakobran_ratio krakobran_degree(const uint8_t *file, size_t octets, uint32_t n)
 /* The ratio figures of a sample. */
 krakobran_ratio_figures krakobran_ratios(const uint8_t *file, size_t octets);
 
-/* Writes the report of a sample, or the one line of a refused file, from the start of out, which has at least
- * KRAKOBRAN_LISTING_OCTETS places. A refused file has its refusal beside the line's octets. */
+/* Writes the report of a sample from the start of out; KRAKOBRAN_OUTPUT_SHORT if it does not fit. Any report fits into
+ * KRAKOBRAN_LISTING_OCTETS places. With a refusal nothing is written and the length is 0. */
 krakobran_written krakobran_listing(const uint8_t *file, size_t octets, uint8_t *out, size_t room);
 
 /* ---- the receiver */

@@ -71,9 +71,7 @@ fn file(numbers: &[u32]) -> Vec<u8> {
 }
 
 fn listed(file: &[u8]) -> String {
-    let mut out = vec![0; LISTING_ROOM];
-    let written = listing(file, &mut out);
-    String::from_utf8(out[..written.length as usize].to_vec()).unwrap()
+    String::from_utf8(report(file)).unwrap()
 }
 
 fn late(position: u32, extent: u32, late_time: u64, byte_offset: u32, largest_n: u32) -> Answer {
@@ -109,7 +107,12 @@ fn example(run: &mut Run) {
         "sent 5 arrivals 5\n1 1 in 1 0\n2 2 in 2 0\n3 4 in 3 1\n4 5 in 4 0\n5 3 late 5 2 30 200 2\nend 5 1 0 1 16 0\n";
     run.equal("P1 listing", listed(&file).as_str(), wanted);
     run.equal("P1 counts", counts(&file), counts_of([5, 1, 0, 1, 16, 0]));
-    run.equal("refused listing", listed(&file[..75]).as_str(), "refused 1\n");
+    run.equal("refused input", listed(&file[..75]).as_str(), "refused 1\n");
+    for (octets, room, refusal, length) in [(76, 101, 0, 101), (76, 100, 8, 0), (75, 101, 1, 0), (75, 0, 1, 0)] {
+        let mut out = vec![7; room];
+        run.equal("listing", listing(&file[..octets], &mut out), Written { refusal, length });
+        run.check("listing's output", refusal == 0 || out.iter().all(|&octet| octet == 7));
+    }
 }
 
 fn table(run: &mut Run) {
@@ -455,7 +458,7 @@ fn covered(run: &mut Run, seen: &Seen) {
         let found: Vec<u32> = seen.refusals.keys().filter(|key| key.0 == call).map(|key| key.1).collect();
         run.equal(call, found, refusals.to_vec());
     }
-    run.equal("kinds of answers", seen.kinds.len(), 26);
+    run.equal("kinds of answers", seen.kinds.len(), 27);
 }
 
 /// Each wrong reading differs from the reference on some generated input.

@@ -255,6 +255,9 @@ fn listing(
     same("listing", l, r)?;
     memory?;
     seen.call("listing", l.refusal);
+    if l.refusal == 0 && l.length as usize == case.listing {
+        seen.kind("listing: fills its room");
+    }
     if clean {
         Ok(())
     } else {

@@ -59,6 +59,8 @@ pub enum Mistake {
     DegreeMoreThanN,
     RecordFromZero,
     DegreeNineFirst,
+    ListingOfRefused,
+    ListingRoomForAny,
     // of the receiver
     GreaterIsExact,
     DroppedIsBeyond,
@@ -131,6 +133,8 @@ impl Mistake {
             DegreeMoreThanN,
             RecordFromZero,
             DegreeNineFirst,
+            ListingOfRefused,
+            ListingRoomForAny,
             GreaterIsExact,
             DroppedIsBeyond,
             BeyondFromOwnJump,
@@ -685,9 +689,10 @@ impl Meter for Definition {
         self.with(file, |known| {
             let (refusal, text) = match known {
                 Ok((lists, answers)) => (0, self.text(lists, answers)),
-                Err(refusal) => (refusal, format!("refused {refusal}\n")),
+                Err(refusal) if self.is(Mistake::ListingOfRefused) => (refusal, format!("refused {refusal}\n")),
+                Err(refusal) => (refusal, String::new()),
             };
-            if out.len() < LISTING_ROOM {
+            if out.len() < text.len() || self.is(Mistake::ListingRoomForAny) && out.len() < LISTING_ROOM {
                 return Written { refusal: if refusal == 0 { 8 } else { refusal }, length: 0 };
             }
             out[..text.len()].copy_from_slice(text.as_bytes());

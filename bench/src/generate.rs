@@ -1,7 +1,7 @@
 //! Inputs: samples, arrival lists for a receiver and receiver states. Each is made from a seed and an index, so that
 //! any one of them can be made again.
 
-use crate::reference::{Receiver, LISTING_ROOM, LONGEST_FILE, MOST_ARRIVALS, MOST_LABEL, MOST_SENT};
+use crate::reference::{report, Receiver, LISTING_ROOM, LONGEST_FILE, MOST_ARRIVALS, MOST_LABEL, MOST_SENT};
 
 /// SplitMix64.
 pub struct Random(u64);
@@ -455,7 +455,9 @@ pub fn sample_case(seed: u64, index: u64) -> SampleCase {
     let room = if random.once_in(2) { lists.map(|n| n + random.below(4)) } else { lists.map(|n| room_of(random, n)) };
     let length = 6 + draft.label.len() + 2 * lists[0] + 12 * lists[1];
     let out = room_of(random, length);
-    let listing = random.pick(&[LISTING_ROOM, LISTING_ROOM, LISTING_ROOM + 5, LISTING_ROOM - 1, 0]);
+    // Room for any listing, or about as much as this one has.
+    let near = room_of(random, report(&file).len());
+    let listing = random.pick(&[LISTING_ROOM, LISTING_ROOM + 5, LISTING_ROOM - 1, 0, near, near]);
     SampleCase {
         order,
         damages,

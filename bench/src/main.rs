@@ -8,7 +8,7 @@ use bench::archive;
 use bench::boundary::{Meter, Reference, LIBRARY};
 use bench::cases;
 use bench::diff::{self, Amounts};
-use bench::reference::{listing, LISTING_ROOM};
+use bench::reference;
 use bench::time::{self, Kind};
 
 const USAGE: &str = "\
@@ -80,7 +80,5 @@ fn steps(kind: &str, meter: &str, way: &str, times: u64) -> bool {
 fn report() -> bool {
     let mut file = Vec::new();
     let _ = std::io::stdin().lock().read_to_end(&mut file);
-    let mut out = vec![0; LISTING_ROOM];
-    let written = listing(&file, &mut out);
-    std::io::stdout().lock().write_all(&out[..written.length as usize]).is_ok()
+    std::io::stdout().lock().write_all(&reference::report(&file)).is_ok()
 }

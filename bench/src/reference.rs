@@ -892,33 +892,44 @@ impl Text<'_> {
     }
 }
 
-/// The report, or its one line `refused`, in a lent buffer of at least `LISTING_ROOM` octets. Into a shorter one
-/// nothing is written: the answer is the file's refusal, or else 8, with length 0.
+/// The report of a sample in a lent buffer; 8 if it does not fit. With a refusal nothing is written.
 pub fn listing(file: &[u8], out: &mut [u8]) -> Written {
     listing_by::<Scan>(file, out)
 }
 
 pub fn listing_by<E: Engine>(file: &[u8], out: &mut [u8]) -> Written {
-    let fits = out.len() >= LISTING_ROOM;
-    let mut text = Text { out, length: 0 };
-    let refusal = match check(file) {
-        Ok(sample) if fits => {
-            report::<E>(&sample, &mut text);
-            0
-        }
-        Ok(_) => OUTPUT_SHORT,
-        Err(refusal) => {
-            if fits {
-                text.word(b"refused ");
-                text.numbers([refusal]);
-            }
-            refusal
-        }
+    let sample = match check(file) {
+        Ok(sample) => sample,
+        Err(refusal) => return Written { refusal, length: 0 },
     };
-    Written { refusal, length: text.length as u32 }
+    if out.len() >= LISTING_ROOM {
+        return Written { refusal: 0, length: lines::<E>(&sample, out) as u32 };
+    }
+    let mut whole = vec![0; LISTING_ROOM];
+    let length = lines::<E>(&sample, &mut whole);
+    match out.get_mut(..length) {
+        None => Written { refusal: OUTPUT_SHORT, length: 0 },
+        Some(out) => {
+            out.copy_from_slice(&whole[..length]);
+            Written { refusal: 0, length: length as u32 }
+        }
+    }
 }
 
-fn report<E: Engine>(sample: &Sample, text: &mut Text) {
+/// What the report program prints: the listing, or the one line of a refused input.
+pub fn report(file: &[u8]) -> Vec<u8> {
+    let mut out = vec![0; LISTING_ROOM];
+    let written = listing(file, &mut out);
+    if written.refusal != 0 {
+        return format!("refused {}\n", written.refusal).into_bytes();
+    }
+    out.truncate(written.length as usize);
+    out
+}
+
+/// Writes the lines of a sample where there is room for any; how many octets they have.
+fn lines<E: Engine>(sample: &Sample, out: &mut [u8]) -> usize {
+    let text = &mut Text { out, length: 0 };
     text.word(b"sent ");
     text.number(sample.sizes.len() as u64, b' ');
     text.word(b"arrivals ");
@@ -935,4 +946,5 @@ fn report<E: Engine>(sample: &Sample, text: &mut Text) {
     let c = counter.0;
     text.word(b"end ");
     text.numbers([c.first_arrivals, c.reordered, c.duplicates, c.closed_runs, c.squares, c.open_run]);
+    text.length
 }
