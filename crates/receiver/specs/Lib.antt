@@ -4,9 +4,9 @@ pub mod Marks
 pub mod Kept
 pub mod Fit
 pub mod Step
+pub mod Numbering
 pub mod Parts
 pub mod Decision
 pub mod Account
 pub mod Demand3
 pub mod WindowCases
-pub mod Numbering
