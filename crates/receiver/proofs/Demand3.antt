@@ -201,13 +201,15 @@ module _ (k : ℕ) (low : 1 ≤ k) (high : k ≤ packets) where
         sum = omega arith;
       }
 
--- as `fresh` carries it: of a fresh receiver that is not refused
-pub demand3-fresh : (k : ℕ) → freshOf k .refusal ≡ 0 → (fed : List Arrival) → Demand3 k fed
-unfolding freshOf
-demand3-fresh k e = go (within 1 packets k) refl e
+-- as `fresh` carries it: of the receiver that it hands back, which is always made for 1 to 4,096 packets
+pub demand3-fresh : (k : ℕ) (fed : List Arrival) → Demand3 (freshOf k .state .sent) fed
+unfolding freshOf madeFor
+demand3-fresh k = go (within 1 packets k) refl
   where
     go : (t : Bool) → within 1 packets k ≡ t
-        → cond {A = Started} t (record { refusal = 0; state = madeFor k }) (record { refusal = sentOutside; state = madeFor 1 }) .refusal ≡ 0
-        → (fed : List Arrival) → Demand3 k fed
-    go true w e = let h = within-true 1 packets k w in demand3 k (h .0) (h .1)
-    go false w e = absurd (omega arith)
+        → (fed : List Arrival)
+        → Demand3
+        (cond {A = Started} t (record { refusal = 0; state = madeFor k }) (record { refusal = sentOutside; state = madeFor 1 }) .state .sent)
+        fed
+    go true w = let h = within-true 1 packets k w in demand3 k (h .0) (h .1)
+    go false w = demand3 1 (omega arith) (omega arith)

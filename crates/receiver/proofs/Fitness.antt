@@ -17,7 +17,8 @@ use Rattle.rfc4737.proofs.Jumps.{Within, jumps-within, jumps-until}
 use Rattle.rfc4737.proofs.Packets.{all-firsts, next-high, firsts-most}
 use Rattle.receiver.specs.Limits.{window, packets}
 use Rattle.receiver.specs.Kept.{keptOf}
-use Rattle.receiver.specs.Fit.{every, jumpFit, placesFit, fit, FieldsFit, JumpFit}
+use Rattle.receiver.specs.Fit.{every, jumpFit, placesFit, fit}
+use Rattle.receiver.specs.Private.Facts.{FieldsFit, JumpFit}
 use Rattle.receiver.specs.Account.{answersIn}
 use Rattle.receiver.proofs.Fits.{both, fields-pass, jump-passes}
 use Rattle.receiver.proofs.Window.{lastNumber, last-more}

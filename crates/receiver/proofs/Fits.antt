@@ -10,7 +10,8 @@ use Rattle.rfc4737.specs.declared.Runs.{Runs}
 use Rattle.rfc4737.specs.Refusals.{within}
 use Rattle.receiver.specs.declared.Jumps.{Jumps}
 use Rattle.receiver.specs.Limits.{packets}
-use Rattle.receiver.specs.Fit.{every, fieldsFit, jumpFit, placesFit, FieldsFit, JumpFit, PlacesFit}
+use Rattle.receiver.specs.Fit.{every, fieldsFit, jumpFit, placesFit}
+use Rattle.receiver.specs.Private.Facts.{FieldsFit, JumpFit, PlacesFit}
 
 -- two tests that hold
 pub both : {a b : Bool} → a ≡ true → b ≡ true → (a && b) ≡ true

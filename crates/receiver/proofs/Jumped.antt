@@ -8,7 +8,7 @@ use Rattle.rfc4737.specs.Order.{Placed}
 use Rattle.receiver.specs.declared.Jumps.{Jumps}
 use Rattle.receiver.specs.Limits.{window}
 use Rattle.receiver.specs.Kept.{appended, shifted, withJump}
-use Rattle.receiver.specs.Decision.{pushed}
+use Rattle.receiver.specs.Private.Decision.{pushed}
 
 -- each part of the jumps is pushed by itself
 pub with-jump-parts : (j : Jumps) (p : Placed) →

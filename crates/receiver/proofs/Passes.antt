@@ -13,9 +13,10 @@ use Rattle.rfc4737.specs.Order.{Placed}
 use Rattle.rfc4737.specs.Refusals.{within}
 use Rattle.receiver.specs.declared.Jumps.{Jumps}
 use Rattle.receiver.specs.Limits.{window}
-use Rattle.receiver.specs.Fit.{every, jumpFit, placesFit, JumpFit}
+use Rattle.receiver.specs.Fit.{every, jumpFit, placesFit}
+use Rattle.receiver.specs.Private.Facts.{JumpFit}
 use Rattle.receiver.specs.Kept.{placeAt, placesFrom, keptOf}
-use Rattle.receiver.specs.Decision.{firstPass, upTo}
+use Rattle.receiver.specs.Private.Decision.{firstPass, upTo}
 use Rattle.receiver.proofs.Fits.{both, and-true, within-true, jump-facts, jump-passes, places-pass, places-false}
 use Rattle.receiver.proofs.Places.{all-at}
 

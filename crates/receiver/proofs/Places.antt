@@ -15,7 +15,7 @@ use Rattle.rfc4737.specs.Extent.{firstAbove}
 use Rattle.receiver.specs.declared.Jumps.{Jumps}
 use Rattle.receiver.specs.Fit.{every}
 use Rattle.receiver.specs.Kept.{placeAt, placesFrom, keptOf}
-use Rattle.receiver.specs.Decision.{Found}
+use Rattle.receiver.specs.Private.Decision.{Found}
 use Rattle.receiver.proofs.Fits.{every-true}
 
 -- the places from one on, with that one first

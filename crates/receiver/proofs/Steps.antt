@@ -22,7 +22,7 @@ use Rattle.receiver.specs.Marks.{markAt}
 use Rattle.receiver.specs.Fit.{fit, jumpFit}
 use Rattle.receiver.specs.Kept.{placeAt, placesFrom, keptOf, oldest}
 use Rattle.receiver.specs.Step.{refusalOf, latenessFrom, duplicateStep, inOrderStep, reorderedNoted, reorderedStep, firstStep, lookedAt, stepOf}
-use Rattle.receiver.specs.Decision.{notedState, done, IsStep, IsLate, Unrefused, After}
+use Rattle.receiver.specs.Private.Decision.{notedState, done, IsStep, IsLate, Unrefused, After}
 use Rattle.receiver.proofs.Fits.{and-true, within-true, fields-facts, places-facts, jump-facts}
 use Rattle.receiver.proofs.Places.{all-at}
 

@@ -20,7 +20,7 @@ use Rattle.receiver.specs.Limits.{window}
 use Rattle.receiver.specs.Marks.{withMark}
 use Rattle.receiver.specs.Step.{duplicateState, jumpsAfter, inOrderState, reorderedState}
 use Rattle.receiver.specs.Parts.{fieldsOf, whole}
-use Rattle.receiver.specs.Decision.{pushed, notedState}
+use Rattle.receiver.specs.Private.Decision.{pushed, notedState}
 use Rattle.receiver.proofs.Noted.{the-type}
 use Rattle.receiver.proofs.Jumped.{with-jump-parts}
 

@@ -2,10 +2,9 @@
 -- run > in-order, closed runs > L, squares > 16,777,216, NextExp outside 1 to K + 1, more than 64 kept jumps, a kept jump
 -- with position outside 1 to L, number outside 1 to K or time after the last, or a dropped number > K." Fit and unfit are
 -- terms of the scope. Assumes nothing.
-use Prim.Native.Nat.{ℕ, _+_, _≤_}
+use Prim.Native.Nat.{ℕ, _+_}
 use mathlib.Core.Bool.{Bool, true, _&&_}
 use mathlib.Core.List.{List, [], _∷_, map}
-use mathlib.Core.Path.{_≡_}
 use lib.Dec.{leb}
 use Rattle.rfc4737.specs.Order.{Placed}
 use Rattle.rfc4737.specs.declared.Runs.{Runs}
@@ -53,30 +52,3 @@ unfoldable pub fit : Receiver → Bool
 fit r =
     fieldsFit (r .sent) (r .arrived) (r .duplicates) (r .inorder) (r .next) (r .runs)
     && placesFit (r .sent) (r .arrived) (r .last) (r .jumps)
-
--- what fit fields say
-pub record FieldsFit (sent arrived duplicates inorder next : ℕ) (runs : Runs) : Type 0 where
-  pub sent-low : 1 ≤ sent
-  pub sent-high : sent ≤ packets
-  pub arrived-high : arrived ≤ sent
-  pub accepted-high : arrived + duplicates ≤ packets
-  pub inorder-high : inorder ≤ arrived
-  pub current-high : runs .current ≤ inorder
-  pub closed-high : runs .closed ≤ arrived
-  pub squares-high : runs .squares ≤ squaresMost
-  pub next-low : 1 ≤ next
-  pub next-high : next ≤ sent + 1
-
--- what a fit kept jump says
-pub record JumpFit (sent arrived last : ℕ) (p : Placed) : Type 0 where
-  pub position-low : 1 ≤ p .position
-  pub position-high : p .position ≤ arrived
-  pub number-low : 1 ≤ p .number
-  pub number-high : p .number ≤ sent
-  pub time-high : p .time ≤ last
-
--- what fit places say
-pub record PlacesFit (sent arrived last : ℕ) (j : Jumps) : Type 0 where
-  pub kept-high : j .kept ≤ window
-  pub jumps-fit : every (map (jumpFit sent arrived last) (keptOf j)) ≡ true
-  pub dropped-high : j .dropped ≤ sent

@@ -6,7 +6,7 @@ pub mod Fit
 pub mod Step
 pub mod Numbering
 pub mod Parts
-pub mod Decision
 pub mod Account
 pub mod Demand3
 pub mod WindowCases
+pub mod Private

@@ -19,7 +19,7 @@ ghost use Prim.Native.Nat.{ℕ};
 ghost use lib.ListN.{getD};
 ghost use Rattle.receiver.specs.Step.{refusalOf, latenessFrom};
 ghost use Rattle.receiver.specs.Parts.{whole};
-ghost use Rattle.receiver.specs.Decision.{IsStep, IsLate, Unrefused, After};
+ghost use Rattle.receiver.specs.Private.Decision.{IsStep, IsLate, Unrefused, After};
 
 // The refusal of an arrival, 0 for none, and what is noted of it.
 pub struct Decision {

@@ -13,7 +13,7 @@ ghost use Rattle.rfc4737.specs.Runs.{lengthened, ended};
 ghost use Rattle.receiver.specs.Limits.{packets, squaresMost};
 ghost use Rattle.receiver.specs.Step.{duplicateState, inOrderState, reorderedState};
 ghost use Rattle.receiver.specs.Parts.{fieldsOf, whole};
-ghost use Rattle.receiver.specs.Decision.{Small};
+ghost use Rattle.receiver.specs.Private.Decision.{Small};
 
 // K, L, duplicates, in-order count, NextExp, the last time, the runs, and of the jumps how many are kept and
 // the number of the last one dropped.

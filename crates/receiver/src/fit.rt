@@ -9,7 +9,7 @@ ghost use Rattle.rfc4737.specs.Refusals.{within};
 ghost use Rattle.receiver.specs.Limits.{window, packets};
 ghost use Rattle.receiver.specs.Fit.{fieldsFit, placesFit};
 ghost use Rattle.receiver.specs.Parts.{jumpsOf};
-ghost use Rattle.receiver.specs.Decision.{firstPass, upTo};
+ghost use Rattle.receiver.specs.Private.Decision.{firstPass, upTo};
 
 // The greatest sum of squares.
 const SQUARES_MOST: u32 = 16777216;

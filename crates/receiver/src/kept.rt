@@ -7,7 +7,7 @@ ghost use Prim.Native.Nat.{_+_, _≤_};
 ghost use lib.Dec.{eqb, ltb};
 ghost use lib.ListN.{length, getD};
 ghost use Rattle.receiver.specs.Limits.{window};
-ghost use Rattle.receiver.specs.Decision.{pushed, Found};
+ghost use Rattle.receiver.specs.Private.Decision.{pushed, Found};
 
 // The last place.
 const LAST: usize = Receiver::WINDOW - 1;

@@ -22,6 +22,7 @@ ghost use Rattle.rfc4737.specs.Runs.{ended};
 ghost use Rattle.receiver.specs.Limits.{packets, squaresMost};
 ghost use Rattle.receiver.specs.Step.{madeFor, freshOf, stepOf};
 ghost use Rattle.receiver.specs.Demand3.{Demand3};
+ghost use Rattle.receiver.specs.WindowCases.{WindowCasesHold};
 
 // The last jumps: how many are kept, the number of the last jump dropped (0 for none), and position, number
 // and time of each kept one, the oldest first. The places after the kept ones are unused.
@@ -91,7 +92,8 @@ impl Receiver {
     // A fresh receiver for k packets; where k is refused, one for a single packet.
     pub fn fresh(k: u32) -> Started
         ensures fresh { λ r. ⌜ r ≡ freshOf k ⌝ }
-        ensures demand3 { λ r. ⌜ (r .refusal ≡ 0 → (fed : List Arrival) → Demand3 k fed) ⌝ }
+        ensures demand3 { λ r. ⌜ ((fed : List Arrival) → Demand3 (r .state .sent) fed) ⌝ }
+        ensures windowcases { λ _. ⌜ WindowCasesHold ⌝ }
     {
         if k == 0 {
             return Started {

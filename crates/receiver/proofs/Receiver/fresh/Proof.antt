@@ -1,8 +1,9 @@
--- `receiver::Receiver::fresh` meets its contract: each return is a case of the definition, and demand 3 holds of it.
+-- `receiver::Receiver::fresh` meets its contract: each return is a case of the definition, and demand 3 and the
+-- window cases are laws.
 -- Assumes nothing.
 use Prim.Native.Nat.{ℕ, _≤_, _<_}
 use mathlib.Core.List.{List}
-use mathlib.Core.Path.{_≡_, sym, ap, _∙_}
+use mathlib.Core.Path.{_≡_, sym, subst}
 use native.Mathlib.Omega.{arith}
 use borrow.Author.Needs.{needs}
 use borrow.Author.Tests.{le-leb, lt-leb}
@@ -11,13 +12,17 @@ use Rattle.receiver.specs.declared.Started.{Started}
 use Rattle.receiver.specs.Limits.{packets}
 use Rattle.receiver.specs.Step.{freshOf}
 use Rattle.receiver.specs.Demand3.{Demand3}
+use Rattle.receiver.specs.WindowCases.{WindowCasesHold}
 use Rattle.receiver.proofs.Demand3.{demand3-fresh}
+use Rattle.receiver.proofs.WindowCases.{window-cases-hold}
 use Rattle.receiver.proofs.Receiver.fresh.Statement.{statement}
 use Rattle.receiver.proofs.Receiver.fresh.Tie as tie
 
--- demand 3 holds of what is the definition's
-carries : (k : ℕ) (r : Started) → r ≡ freshOf k → (r ≡ freshOf k) × (r .refusal ≡ 0 → (fed : List Arrival) → Demand3 k fed)
-carries k r e = (e, λ z fed. demand3-fresh k (ap (λ (s : Started). s .refusal) (sym e) ∙ z) fed)
+-- what is carried: demand 3 of the receiver handed back, and the window cases
+carries : (k : ℕ) (r : Started) → r ≡ freshOf k
+    → (r ≡ freshOf k) × (((fed : List Arrival) → Demand3 (r .state .sent) fed) × WindowCasesHold)
+carries k r e =
+    (e, ((λ fed. subst (λ (s : Started). Demand3 (s .state .sent) fed) (sym e) (demand3-fresh k fed)), window-cases-hold))
 
 made-for-requires : tie.Need-made-for-requires
 made-for-requires c κs = search needs
@@ -25,8 +30,9 @@ made-for-requires c κs = search needs
 returns : tie.Need-returns
 unfolding freshOf
 returns c =
-    let low : c .before .before .args .k < 1 = omega arith in
-    carries _ _ (simp (lt-leb 1 _ low, c .made-for .ensures))
+    let k = c .before .before .args .k in
+    let low : k < 1 = omega arith in
+    carries k _ (simp (lt-leb 1 _ low, c .made-for .ensures))
 
 made-for-requires-2 : tie.Need-made-for-requires-2
 made-for-requires-2 c κs = search needs
@@ -34,8 +40,9 @@ made-for-requires-2 c κs = search needs
 returns-2 : tie.Need-returns-2
 unfolding freshOf
 returns-2 c =
-    let low : 1 ≤ c .before .before .before .args .k = omega arith in
-    carries _ _ (simp (le-leb 1 _ low, lt-leb _ packets (c .before .if2 .taken), c .made-for2 .ensures))
+    let k = c .before .before .before .args .k in
+    let low : 1 ≤ k = omega arith in
+    carries k _ (simp (le-leb 1 _ low, lt-leb _ packets (c .before .if2 .taken), c .made-for2 .ensures))
 
 made-for-requires-3 : tie.Need-made-for-requires-3
 made-for-requires-3 c κs = search needs
@@ -43,8 +50,9 @@ made-for-requires-3 c κs = search needs
 returns-3 : tie.Need-returns-3
 unfolding freshOf
 returns-3 c =
-    let low : 1 ≤ c .before .before .before .args .k = omega arith in
-    carries _ _ (simp (le-leb 1 _ low, le-leb _ packets (c .before .if2 .left), c .made-for3 .ensures))
+    let k = c .before .before .before .args .k in
+    let low : 1 ≤ k = omega arith in
+    carries k _ (simp (le-leb 1 _ low, le-leb _ packets (c .before .if2 .left), c .made-for3 .ensures))
 
 pub fresh-spec : {M : Type 1} → statement M
 fresh-spec =

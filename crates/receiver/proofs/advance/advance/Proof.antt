@@ -6,7 +6,7 @@ use native.Mathlib.Omega.{arith}
 use borrow.Author.Needs.{needs}
 use Rattle.receiver.specs.declared.Receiver.{Receiver}
 use Rattle.receiver.specs.Parts.{fieldsOf, whole}
-use Rattle.receiver.specs.Decision.{Unrefused, Small}
+use Rattle.receiver.specs.Private.Decision.{Unrefused, Small}
 use Rattle.receiver.proofs.Steps.{decided-accepted, done-refused, done-noted}
 use Rattle.receiver.proofs.Written.{duplicate-written, in-order-written, jump-written, late-written}
 use Rattle.receiver.proofs.advance.advance.Statement.{statement}

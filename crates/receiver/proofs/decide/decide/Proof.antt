@@ -7,7 +7,7 @@ use Rattle.receiver.specs.declared.Receiver.{Receiver}
 use Rattle.receiver.specs.Step.{refusalOf}
 use Rattle.receiver.specs.Fit.{fit}
 use Rattle.receiver.specs.Parts.{whole}
-use Rattle.receiver.specs.Decision.{Unrefused}
+use Rattle.receiver.specs.Private.Decision.{Unrefused}
 use Rattle.receiver.proofs.Steps.{accepted-facts, step-refused, step-duplicate, step-in-order, step-late}
 use Rattle.receiver.proofs.decide.decide.Statement.{statement}
 use Rattle.receiver.proofs.decide.decide.Tie as tie

@@ -3,8 +3,8 @@
 use Prim.Native.Nat.{_-_, _≤_}
 use mathlib.Core.Path.{_≡_, refl}
 use borrow.Author.Needs.{needs}
-use Rattle.receiver.specs.Decision.{upTo}
-use Rattle.receiver.specs.Decision.{firstPass}
+use Rattle.receiver.specs.Private.Decision.{upTo}
+use Rattle.receiver.specs.Private.Decision.{firstPass}
 use Rattle.receiver.proofs.Passes.{pass-none, pass-more, pass-done}
 use Rattle.receiver.proofs.fit.none_after.Statement.{statement}
 use Rattle.receiver.proofs.fit.none_after.Tie as tie

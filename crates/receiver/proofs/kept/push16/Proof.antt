@@ -8,7 +8,7 @@ use borrow.Author.Tests.{lt-ltb, le-ltb}
 use borrow.Author.Needs.{needs}
 use lib.ListN.{length, getD, set}
 use Rattle.receiver.specs.Limits.{window}
-use Rattle.receiver.specs.Decision.{pushed}
+use Rattle.receiver.specs.Private.Decision.{pushed}
 use Rattle.receiver.proofs.Shift.{moved, moved-next, moved-last}
 use Rattle.receiver.proofs.kept.push16.Statement.{statement}
 use Rattle.receiver.proofs.kept.push16.Tie as tie

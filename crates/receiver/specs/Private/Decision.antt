@@ -14,7 +14,7 @@ use Rattle.receiver.specs.declared.Stepped.{Stepped}
 use Rattle.receiver.specs.declared.decide.Decision.{Decision}
 use Rattle.receiver.specs.declared.fields.Fields.{Fields}
 use Rattle.receiver.specs.Limits.{window, packets, squaresMost}
-use Rattle.receiver.specs.Fit.{FieldsFit, PlacesFit}
+use Rattle.receiver.specs.Private.Facts.{FieldsFit, PlacesFit}
 use Rattle.receiver.specs.Kept.{keptOf}
 use Rattle.receiver.specs.Step.{duplicateState, inOrderState, reorderedState, reorderedStep, stepOf}
 
