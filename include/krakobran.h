@@ -93,6 +93,11 @@ krakobran_written krakobran_write(const uint8_t *label, size_t label_octets, con
                                   const uint32_t *numbers, size_t number_count, const uint64_t *times,
                                   size_t time_count, uint8_t *out, size_t room);
 
+/* The first refusal that is due of K and lists of numbers and times, as the writer's are: 4, 5, 12, and the arrivals in
+ * turn with 6 before 7; KRAKOBRAN_NONE if none is. */
+uint32_t krakobran_refusal_of_lists(uint64_t sent, const uint32_t *numbers, size_t number_count, const uint64_t *times,
+                                    size_t time_count);
+
 /* ---- figures of a sample file */
 
 /* The answer for a record: its case; the record of the first copy if a duplicate; the position if not, and the jump

@@ -170,6 +170,9 @@ pub mod c {
             label: *const u8, label_octets: usize, sizes: *const u16, sent: usize, numbers: *const u32,
             number_count: usize, times: *const u64, time_count: usize, out: *mut u8, room: usize,
         ) -> Written;
+        pub fn krakobran_refusal_of_lists(
+            sent: u64, numbers: *const u32, number_count: usize, times: *const u64, time_count: usize,
+        ) -> u32;
         pub fn krakobran_answer(file: *const u8, octets: usize, record: u32) -> Answer;
         pub fn krakobran_counts(file: *const u8, octets: usize) -> Counts;
         pub fn krakobran_tally(file: *const u8, octets: usize) -> Tally;
@@ -300,6 +303,9 @@ impl Meter for Archive {
             c::krakobran_write(label.as_ptr(), label.len(), sizes, s, numbers, n, times, t, out.as_mut_ptr(), room)
         };
         Written { refusal: w.refusal, length: w.length }
+    }
+    fn refusal_of_lists(&self, sent: u64, numbers: &[u32], times: &[u64]) -> u32 {
+        unsafe { c::krakobran_refusal_of_lists(sent, numbers.as_ptr(), numbers.len(), times.as_ptr(), times.len()) }
     }
     #[inline(always)]
     fn answer(&self, file: &[u8], record: u32) -> RecordAnswer {

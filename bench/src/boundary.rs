@@ -21,6 +21,11 @@ pub trait Meter {
     fn read(&self, file: &[u8], sizes: &mut [u16], numbers: &mut [u32], times: &mut [u64]) -> Read;
     fn label(&self, file: &[u8]) -> Place;
     fn write(&self, label: &[u8], sizes: &[u16], numbers: &[u32], times: &[u64], out: &mut [u8]) -> Written;
+    /// The refusal of K and lists: the writer's, of no label and with room for any file.
+    fn refusal_of_lists(&self, sent: u64, numbers: &[u32], times: &[u64]) -> u32 {
+        let sizes = vec![0; sent as usize];
+        self.write(&[], &sizes, numbers, times, &mut vec![0; reference::LONGEST_FILE]).refusal
+    }
     fn answer(&self, file: &[u8], record: u32) -> RecordAnswer;
     fn counts(&self, file: &[u8]) -> Counts;
     fn tally(&self, file: &[u8]) -> Tally;

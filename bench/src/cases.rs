@@ -439,10 +439,11 @@ fn generated(run: &mut Run, amounts: &Amounts) {
 
 /// Every refusal of every call and every kind of answer came.
 fn covered(run: &mut Run, seen: &Seen) {
-    let wanted: [(&str, &[u32]); 13] = [
+    let wanted: [(&str, &[u32]); 14] = [
         ("check", &[0, 1, 2, 3, 4, 5, 6, 7]),
         ("read", &[0, 1, 2, 3, 4, 5, 6, 7, 8]),
         ("write", &[0, 3, 4, 5, 6, 7, 8, 12]),
+        ("refusal_of_lists", &[0, 4, 5, 6, 7, 12]),
         ("answer", &[0, 1, 2, 3, 4, 5, 6, 7, 9]),
         ("gap", &[0, 1, 2, 3, 4, 5, 6, 7, 9]),
         ("counts", &[0, 1, 2, 3, 4, 5, 6, 7]),

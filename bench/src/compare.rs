@@ -232,6 +232,10 @@ fn write(left: &dyn Meter, right: &dyn Meter, case: &SampleCase, seen: &mut Seen
     same(&name, l.0, r.0)?;
     same_memory(&name, &l.1, &r.1)?;
     seen.call("write", l.0.refusal);
+    let judge = |meter: &dyn Meter| meter.refusal_of_lists(draft.sizes.len() as u64, &draft.numbers, &draft.times);
+    let (l, r) = (judge(left), judge(right));
+    same(&name, l, r)?;
+    seen.call("refusal_of_lists", l);
     Ok(())
 }
 

@@ -30,6 +30,7 @@ use receiver::Started;
 use sample::Layout;
 use sample::Written;
 ghost use mathlib.Core.Path.{_≡_};
+ghost use Rattle.rfc4737.specs.Judge.{refusalOfLists};
 ghost use Rattle.sample.specs.Decode.{decode, layoutOf};
 ghost use Rattle.sample.specs.Calls.{ReadFrom, WrittenTo};
 ghost use Rattle.metrics.specs.Figures.{recordAnswer, recordGap, sampleCounts, sampleTally, degreeCounts, sampleDegree, sampleRatios};
@@ -81,6 +82,14 @@ pub extern "C" fn krakobran_write(
     ensures { λ r. ⌜ WrittenTo (now (label .entry)) (now (sizes .entry)) (now (numbers .entry)) (now (times .entry)) (now (out .entry)) r (now (out .exit)) ⌝ }
 {
     sample::write(label, sizes, numbers, times, out)
+}
+
+// The first refusal that is due of K and lists, as the writer's are.
+#[no_mangle]
+pub extern "C" fn krakobran_refusal_of_lists(sent: u64, numbers: &[u32], times: &[u64]) -> u32
+    ensures { λ r. ⌜ r ≡ refusalOfLists sent (now (numbers .entry)) (now (times .entry)) ⌝ }
+{
+    rfc4737::judge::refusal_of_lists(sent, numbers, times)
 }
 
 // The answer for a record.
