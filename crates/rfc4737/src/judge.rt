@@ -34,12 +34,12 @@ pub fn outside(low: u64, high: u64, n: u64) -> bool
 pub fn judge_one(k: u64, reference: u64, number: u64, time: u64) -> u32
     ensures { λ r. ⌜ r ≡ judgeOne k reference (record { number = number; time = time }) ⌝ }
 {
-    let strange = outside(1, k, number);
-    let early = too_early(reference, time);
-    if strange {
+    let number_outside = outside(1, k, number);
+    let time_back = too_early(reference, time);
+    if number_outside {
         return NUMBER_OUTSIDE;
     }
-    if early {
+    if time_back {
         return TIME_BACK;
     }
     0

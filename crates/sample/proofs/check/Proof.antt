@@ -93,6 +93,16 @@ judged c =
 accepted : (c : tie.Else2) → WholeFile (now (c .before .before .before .before .before .before .before .before .before .before .before .before .before .before .before .before .args .file))
 accepted c = refused-none (now (c .before .before .before .before .before .before .before .before .before .before .before .before .before .before .before .before .args .file)) (judged (c .before) ∙ c .if2 .left)
 
+-- and each count is within its limit
+within : (c : tie.Else2)
+    → (c .before .before .before .before .before .before .before .before .before .before .before .before .label .given .0 .0 ≤ labelMost) × (c .before .before .before .before .before .before .before .before .sent .given .0 .0 ≤ sentMost) × (c .before .before .before .before .arrived .given .0 .0 ≤ arrivalsMost)
+within c =
+    let w = accepted c in
+    let p = labelled (c .before .before .before .before .before .before .before .before .before .before .before) in
+    let q = counted (c .before .before .before .before .before .before .before) in
+    let r = arrived (c .before .before .before) in
+    (omega arith, omega arith, omega arith)
+
 section-at-requires : tie.Need-section-at-requires
 section-at-requires c κs = search needs
 
@@ -223,20 +233,17 @@ returns-5 c =
 
 cast-t18 : tie.Need-cast-t18
 cast-t18 c =
-    let w = accepted c in
-    let p = labelled (c .before .before .before .before .before .before .before .before .before .before .before) in
+    let w = within c in
     omega arith
 
 cast-t19 : tie.Need-cast-t19
 cast-t19 c =
-    let w = accepted c in
-    let p = counted (c .before .before .before .before .before .before .before) in
+    let w = within c in
     omega arith
 
 cast-t20 : tie.Need-cast-t20
 cast-t20 c =
-    let w = accepted c in
-    let p = arrived (c .before .before .before) in
+    let w = within c in
     omega arith
 
 returns-6 : tie.Need-returns-6
