@@ -1,3 +1,2 @@
--- Decimal digits of a number, the definitions that contracts cite.
+-- Numbers in decimal, as ASCII octets: the definitions that contracts cite. Assumes nothing.
 pub mod Decimal
-pub mod Digits

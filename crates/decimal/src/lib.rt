@@ -1,19 +1,12 @@
-// The decimal digits of a number of 64 bits as ASCII octets, by value and into lent memory.
+// The decimal digits of a number of 64 bits as ASCII octets, written into lent memory.
 ghost use mathlib.Core.Path.{_≡_};
 ghost use Prim.Native.Nat.{_+_, _%_, _≤_};
 ghost use lib.ListN.{length};
 ghost use Rattle.octets.specs.Memory.{put, splice};
 ghost use Rattle.decimal.specs.Decimal.{decimalOf};
-ghost use Rattle.decimal.specs.Digits.{digitsOf};
-
-// The digits of a number: the first `len` places, the most significant first; the places after them are 0.
-pub struct Digits {
-    pub octets: [u8; 20],
-    pub len: usize,
-}
 
 // How many digits a number has, 1 to 20: four are cut off at a time.
-pub fn count(v: u64) -> usize
+fn count(v: u64) -> usize
     ensures { λ r. ⌜ r ≡ length (decimalOf v) ⌝ }
 {
     let mut rest = v;
@@ -72,13 +65,4 @@ pub fn put_decimal(out: &mut [u8], at: usize, v: u64) -> usize
         }
     }
     n
-}
-
-// The digits of `v`, by value.
-pub fn digits_of(v: u64) -> Digits
-    ensures { λ r. ⌜ r ≡ digitsOf v ⌝ }
-{
-    let mut octets = [0u8; 20];
-    let len = put_decimal(&mut octets, 0, v);
-    Digits { octets, len }
 }

@@ -7,7 +7,7 @@ use Rattle.rfc4737.specs.declared.Answer.{Answer}
 use Rattle.rfc4737.specs.declared.Answer.the-variants.{Duplicate, InOrder, Reordered}
 use Rattle.rfc4737.specs.declared.Counts.{Counts}
 use Rattle.listing.specs.Lines.{number, headerLine, recordLine, endLine, refusedLine}
-use Rattle.listing.specs.Room.{Small, AnswerWithin, CountsWithin}
+use Rattle.listing.specs.Private.Within.{Small, AnswerWithin, CountsWithin}
 
 -- a number of at most four digits
 small : (n : ℕ) → Small n → length (number n) ≤ 4

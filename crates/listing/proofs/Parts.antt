@@ -10,7 +10,7 @@ use Rattle.rfc4737.specs.declared.Answer.{Answer}
 use Rattle.rfc4737.specs.declared.Answer.the-variants.{Duplicate, InOrder, Reordered}
 use Rattle.listing.specs.Words.{space}
 use Rattle.listing.specs.Lines.{number, line, answerFields, recordLine}
-use Rattle.listing.specs.Written.{Written}
+use Rattle.listing.specs.Private.Written.{Written}
 
 -- octets put where there is room, and one octet stored after them
 pub with-after : (at : ℕ) (xs : List ℕ) (x : ℕ) (old : List ℕ) → at + (length xs + 1) ≤ length old

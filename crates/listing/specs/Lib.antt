@@ -3,5 +3,4 @@ pub mod Words
 pub mod Lines
 pub mod Example
 pub mod Room
-pub mod Listed
-pub mod Written
+pub mod Private

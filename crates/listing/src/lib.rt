@@ -9,7 +9,7 @@ ghost use Rattle.octets.specs.Memory.{put};
 ghost use Rattle.decimal.specs.Decimal.{decimalOf};
 ghost use Rattle.rfc4737.specs.declared.Answer.the-variants.{Duplicate, InOrder, Reordered};
 ghost use Rattle.listing.specs.Lines.{number, lateTime, line, answerFields, headerLine, recordLine, endLine, refusedLine};
-ghost use Rattle.listing.specs.Written.{Written};
+ghost use Rattle.listing.specs.Private.Written.{Written};
 use rfc4737::Answer;
 use rfc4737::Counts;
 use rfc4737::DuplicateFigures;

@@ -23,9 +23,10 @@ use Rattle.rfc4737.proofs.Arrivals.{has-firsts, firsts-more, with-duplicate, wi
 use Rattle.rfc4737.proofs.Folds.{answer-duplicate, answer-first, arrived-answers, length-answers}
 use Rattle.sample.specs.declared.Layout.{Layout}
 use Rattle.sample.specs.Decode.{Decoded, refused, accepted, refusalOf}
-use Rattle.metrics.specs.Sample.{noArrival, sizeOf, arrivalsOf, answersOf, arrivalAt, before, answerAt, Laid, Has}
+use Rattle.metrics.specs.Sample.{sizeOf, arrivalsOf, answersOf}
+use Rattle.metrics.specs.Private.Sample.{noArrival, arrivalAt, before, answerAt, Laid, Has}
 use Rattle.metrics.specs.Figures.{atRecord, askedRefusal, recordRefusal, degreeInside, degreeAnswers, recordAnswer, recordGap, degreeCounts}
-use Rattle.metrics.specs.Steps.{placeIn, Marked, gapBy}
+use Rattle.metrics.specs.Private.Steps.{placeIn, Marked, gapBy}
 use Rattle.metrics.specs.declared.RecordAnswer.{RecordAnswer}
 use Rattle.metrics.specs.declared.RecordGap.{RecordGap}
 use Rattle.metrics.specs.declared.DegreeCounts.{DegreeCounts}

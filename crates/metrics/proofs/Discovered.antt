@@ -13,7 +13,7 @@ use Rattle.rfc4737.specs.declared.Gap.{Gap}
 use Rattle.rfc4737.specs.Runs.{arrived}
 use Rattle.rfc4737.specs.Gaps.{discoverer, isSome, discontinuitiesTo, discontinuities, gapAfter, gapAmong, gapOf}
 use Rattle.rfc4737.proofs.Lists.{All, all-append, all-weaken}
-use Rattle.metrics.specs.Steps.{orZero, Marked, lastTo, gapFrom, gapBy}
+use Rattle.metrics.specs.Private.Steps.{orZero, Marked, lastTo, gapFrom, gapBy}
 
 -- ---- the last discontinuity of a table up to a position
 

@@ -19,8 +19,9 @@ use Rattle.rfc4737.proofs.Folds.{next-more}
 use Rattle.rfc4737.proofs.Jumps.{has-more-false, placed-more, firstAbove-append, firstAbove-none, search-agrees, Within, jumps-within, reordered-discontinuity}
 use Rattle.sample.specs.declared.Layout.{Layout}
 use Rattle.sample.specs.Decode.{Decoded}
-use Rattle.metrics.specs.Sample.{noArrival, arrivalsOf, arrivalAt, before, Laid, Has}
-use Rattle.metrics.specs.Tables.{Filled, Numbered, Recorded, Follows, placeOf}
+use Rattle.metrics.specs.Sample.{arrivalsOf}
+use Rattle.metrics.specs.Private.Sample.{noArrival, arrivalAt, before, Laid, Has}
+use Rattle.metrics.specs.Private.Tables.{Filled, Numbered, Recorded, Follows, placeOf}
 use Rattle.metrics.specs.declared.tables.State.{State}
 use Rattle.metrics.proofs.Records.{record-none, record-some}
 

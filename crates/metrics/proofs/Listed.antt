@@ -1,12 +1,13 @@
--- The listing of a checked file, written line by line: `old` is memory before it, `start` that with the first line. Assumes nothing.
+-- The listing of a checked file: how long it is, and how it is written, line by line. Assumes nothing.
 use mathlib.Core.Path.{_≡_, refl, sym, ap, ap₂, _∙_}
-use mathlib.Core.Bool.{Bool}
+use mathlib.Core.Bool.{Bool, true, false}
 use mathlib.Core.List.{List, [], _∷_, _++_}
-use Prim.Native.Nat.{ℕ, zero, suc, _+_, _*_, _^_, _≤_, _<_}
+use Prim.Native.Nat.{ℕ, zero, suc, _+_, _*_, _≤_, _<_}
 use native.Mathlib.Omega.{arith}
+use lib.Dec.{ltb}
 use lib.ListN.{length, length-append}
 use lib.Seq.{take-all}
-use borrow.Author.Tests.{lt-ltb, le-ltb}
+use borrow.Author.Tests.{ltb-false, lt-ltb, le-ltb}
 use Rattle.octets.specs.Below.{Octets}
 use Rattle.octets.specs.Memory.{over, put}
 use Rattle.octets.proofs.Memory.{over-drop, put-over, put-length}
@@ -15,21 +16,66 @@ use Rattle.rfc4737.specs.declared.Answer.{Answer}
 use Rattle.rfc4737.specs.declared.Counts.{Counts}
 use Rattle.rfc4737.specs.Runs.{counts}
 use Rattle.rfc4737.specs.Refusals.{inCase, firstOf, outputShort}
-use Rattle.listing.specs.Lines.{headerLine, recordLine, endLine, refusedLine, listingOf}
-use Rattle.listing.specs.Listed.{Listed}
-use Rattle.listing.specs.Room.{CountsWithin, listingOctets}
-use Rattle.listing.proofs.Lengths.{header-octets, end-octets}
-use Rattle.listing.proofs.Listed.{listed-start, listed-next, listed-end}
+use Rattle.listing.specs.Lines.{headerLine, recordLine, endLine, listingOf}
+use Rattle.listing.specs.Private.Listed.{upTo, Listed}
+use Rattle.listing.specs.Room.{listingOctets}
+use Rattle.listing.proofs.Lengths.{header-octets, record-octets, end-octets}
+use Rattle.listing.proofs.Listed.{up-to-none, up-to-more, up-to-end, listed-start, listed-next, listed-end}
 use Rattle.rfc4737.proofs.Folds.{length-answers}
-use Rattle.sample.specs.Format.{Sample}
-use Rattle.sample.specs.Decode.{Decoded, refused, accepted, decode, sampleOf, refusalOf}
+use Rattle.sample.specs.Calls.{unlessRefused}
+use Rattle.sample.specs.Decode.{Decoded, decode, sampleOf, refusalOf}
 use Rattle.sample.specs.declared.Layout.{Layout}
-use Rattle.metrics.specs.Sample.{arrivalsOf, answersOf, arrivalAt, before, answerAt, sizeOf, Laid, Has}
-use Rattle.metrics.specs.Report.{sampleText, listingText, listingShort, writtenText, ListedTo}
+use Rattle.metrics.specs.Sample.{arrivalsOf, answersOf, sizeOf}
+use Rattle.metrics.specs.Private.Sample.{arrivalAt, before, answerAt, Laid, Has}
+use Rattle.metrics.specs.Report.{sampleText, listingRefusal, ListedTo}
 use Rattle.metrics.specs.declared.SampleListing.{SampleListing}
-use Rattle.metrics.proofs.Follow.{arrivals-laid, before-more, before-count, before-length}
-use Rattle.metrics.proofs.Passes.{answersTo, answers-start, answers-next, answers-end}
+use Rattle.metrics.proofs.Follow.{arrivals-laid, before-more, before-length}
+use Rattle.metrics.proofs.Passes.{answersTo, answers-start, answers-next, answers-end, answers-length}
 use Rattle.metrics.proofs.Within.{answers-within, counts-within}
+
+-- ---- how long it is
+
+-- the listing up to record i
+abbrev linesTo : Decoded → Layout → ℕ → List ℕ
+linesTo d y i = upTo (y .sent) (y .arrivals) (before d i) (answersTo d i)
+
+module _ (d : Decoded) (y : Layout) (laid : Laid d y) where
+  -- up to the last record, with the last line, it is whole
+  lines-end : linesTo d y (y .arrivals) ++ endLine (counts (answersOf d)) ≡ sampleText d
+  lines-end =
+      let many = arrivals-laid d y laid in
+      let l : before d (y .arrivals) ≡ arrivalsOf d = take-all (y .arrivals) (arrivalsOf d) (omega (arith, many)) in
+      let m : answersTo d (y .arrivals) ≡ answersOf d = answers-end d y (y .arrivals) laid (omega arith) in
+      let k : y .sent ≡ length (sampleOf d .sizes) = ap (λ (y : Layout). y .sent) (laid .laid) in
+      rw (m, l, many, k) (up-to-end (length (sampleOf d .sizes)) (arrivalsOf d) (answersOf d) (counts (answersOf d)))
+
+module _ (file : List ℕ) (y : Layout) (laid : Laid (decode file) y) (o : Octets file) where
+  -- up to record i it has at most 24 octets for the first line and 61 for each record
+  pub lines-within : (i : ℕ) → i ≤ y .arrivals → length (linesTo (decode file) y i) ≤ 24 + 61 * i
+  lines-within zero h =
+      rw (answers-start (decode file), up-to-none (y .sent) (y .arrivals))
+      (omega (arith, header-octets (y .sent) (y .arrivals) (omega (arith, laid .sentFew)) (omega (arith, laid .few))))
+  lines-within (suc i) h =
+      let d = decode file in
+      let r : Has d y i = record { file = laid; inside = omega arith } in
+      let b = before-length d y i r in
+      let paired : length (answersTo d i) ≡ length (before d i) = answers-length d y i r ∙ sym b in
+      let more = rw b at (up-to-more (y .sent) (y .arrivals) (before d i) (answersTo d i) (arrivalAt d i) (answerAt d i) paired) in
+      let line = record-octets (i + 1) (arrivalAt d i .number) (answerAt d i) (omega (arith, laid .few)) (omega (arith, laid .numbers i (r .inside), laid .sentFew)) (answers-within file y i o r) in
+      let rest = lines-within i (omega arith) in
+      let e : suc i ≡ i + 1 = omega arith in
+      rw (e, answers-next d y i r, before-more d y i r, more, length-append (linesTo d y i) _) (omega arith)
+
+  -- any listing has room in so many octets
+  pub sample-within : length (sampleText (decode file)) ≤ listingOctets
+  sample-within =
+      let d = decode file in
+      let few : length (answersOf d) ≤ 4096 = omega (arith, laid .few, arrivals-laid d y laid, length-answers (sizeOf d) (arrivalsOf d)) in
+      let end = end-octets (counts (answersOf d)) (counts-within (answersOf d) few) in
+      let lines = lines-within (y .arrivals) (omega arith) in
+      rw (← lines-end d y laid, length-append (linesTo d y (y .arrivals)) _) (omega (arith, laid .few))
+
+-- ---- how it is written: `old` is memory before it, `start` that with the first line
 
 -- what was written is written over by more
 over-again : (xs ys old : List ℕ) → length xs ≤ length ys → over ys (over xs old) ≡ over ys old
@@ -44,68 +90,57 @@ header-le k l m c = simp length-append (omega arith)
 abbrev pub ListedAt : Decoded → Layout → ℕ → ℕ → List ℕ → List ℕ → Type 0
 ListedAt d y i at start out = Listed (y .sent) (y .arrivals) (before d i) (answersTo d i) at start out
 
-module _ (file : List ℕ) (y : Layout) (laid : Laid (decode file) y) (old : List ℕ) (room : listingOctets ≤ length old) {start : List ℕ}
+module _ (d : Decoded) (y : Layout) (laid : Laid d y) (old : List ℕ) {start : List ℕ}
     (first : start ≡ put 0 (headerLine (y .sent) (y .arrivals)) old) where
-  -- memory with the first line
-  header-over : start ≡ over (headerLine (y .sent) (y .arrivals)) old
-  header-over =
-      let most = header-octets (y .sent) (y .arrivals) (omega (arith, laid .sentFew)) (omega (arith, laid .few)) in
-      first ∙ put-over 0 [] (headerLine (y .sent) (y .arrivals)) old refl (omega arith)
+  -- the first line
+  abbrev header : List ℕ
+  header = headerLine (y .sent) (y .arrivals)
 
-  -- there is as much room with it
-  room-start : listingOctets ≤ length start
-  room-start = rw (first, put-length 0 (headerLine (y .sent) (y .arrivals)) old) room
+  -- memory with the first line, if it fits
+  header-over : length header ≤ length old → start ≡ over header old
+  header-over h = first ∙ put-over 0 [] header old refl (omega arith)
 
-  -- the first line once more changes nothing
-  again : start ≡ put 0 (headerLine (y .sent) (y .arrivals)) start
-  again =
-      let most = header-octets (y .sent) (y .arrivals) (omega (arith, laid .sentFew)) (omega (arith, laid .few)) in
-      let h = headerLine (y .sent) (y .arrivals) in
-      header-over ∙ sym (over-again h h old (omega arith)) ∙ ap (over h) (sym header-over)
-      ∙ sym (put-over 0 [] h start refl (omega (arith, room-start)))
+  -- memory is as long with it
+  start-length : length start ≡ length old
+  start-length = ap length first ∙ put-length 0 header old
 
   -- after the first line
-  pub listing-start : {n : ℕ} → n ≡ length (headerLine (y .sent) (y .arrivals)) → ListedAt (decode file) y 0 n start start
+  pub listing-start : {n : ℕ} → n ≡ length header → ListedAt d y 0 n start start
   listing-start e =
-      rw (answers-start (decode file))
-      (listed-start (y .sent) (y .arrivals) start room-start (omega (arith, laid .sentFew)) (omega (arith, laid .few)) e again)
+      rw (answers-start d)
+      (listed-start (y .sent) (y .arrivals) e
+      (λ h.
+      let f = header-over (omega (arith, start-length)) in
+      f ∙ sym (over-again header header old (omega arith)) ∙ ap (over header) (sym f)))
 
   -- after the line of record i + 1
-  pub listing-next : {i at n number : ℕ} {answer : Answer} {out newer : List ℕ} → Octets file → Has (decode file) y i → ListedAt (decode file) y i at start out
-      → number ≡ arrivalAt (decode file) i .number → answer ≡ answerAt (decode file) i
-      → n ≡ length (recordLine (i + 1) number answer) → newer ≡ put at (recordLine (i + 1) number answer) out
-      → ListedAt (decode file) y (i + 1) (at + n) start newer
-  listing-next {i} o h s en ea e w =
-      rw (answers-next (decode file) y i h, before-more (decode file) y i h)
-      (listed-next (y .sent) (y .arrivals) start room-start i (arrivalAt (decode file) i) (answerAt (decode file) i) (before-length (decode file) y i h)
-      (omega (arith, h .inside, laid .few)) (omega (arith, laid .numbers i (h .inside), laid .sentFew)) (answers-within file y i o h) s
-      (rw (en, ea) at e) (rw (en, ea) at w))
-
-  -- the lines up to record i are few
-  pub listing-within : {i at : ℕ} {out : List ℕ} → i ≤ y .arrivals → ListedAt (decode file) y i at start out → at ≤ 24 + 61 * 4096
-  listing-within {i} {at} h s =
-      omega (arith, s .within, laid .few, before-count (decode file) y i laid h)
+  pub listing-next : {i at n number : ℕ} {answer : Answer} {out newer : List ℕ} → Has d y i → ListedAt d y i at start out
+      → number ≡ arrivalAt d i .number → answer ≡ answerAt d i → n ≡ length (recordLine (i + 1) number answer)
+      → newer ≡ put at (recordLine (i + 1) number answer) out → ListedAt d y (i + 1) (at + n) start newer
+  listing-next {i} h s en ea e w =
+      rw (answers-next d y i h, before-more d y i h)
+      (listed-next (y .sent) (y .arrivals) start i (arrivalAt d i) (answerAt d i) (before-length d y i h) s (rw (en, ea) at e) (rw (en, ea) at w))
 
   -- after the last line
-  pub listing-end : {i at n : ℕ} {c : Counts} {out newer : List ℕ} → y .arrivals ≤ i → ListedAt (decode file) y i at start out
-      → c ≡ counts (answersTo (decode file) i) → n ≡ length (endLine c) → newer ≡ put at (endLine c) out
-      → (at + n ≡ length (sampleText (decode file))) × (newer ≡ over (sampleText (decode file)) old) × (at + n ≤ listingOctets)
+  pub listing-end : {i at n : ℕ} {c : Counts} {out newer : List ℕ} → y .arrivals ≤ i → ListedAt d y i at start out
+      → c ≡ counts (answersTo d i) → n ≡ length (endLine c) → newer ≡ put at (endLine c) out
+      → (at + n ≡ length (sampleText d)) × (at + n ≤ length old → newer ≡ over (sampleText d) old)
   listing-end {i} {at} {n} {c} {out} {newer} h s ec e w =
-      let d = decode file in
       let many = arrivals-laid d y laid in
       let l : before d i ≡ arrivalsOf d = take-all i (arrivalsOf d) (omega (arith, many)) in
       let m : answersTo d i ≡ answersOf d = answers-end d y i laid h in
       let all : Listed (y .sent) (length (arrivalsOf d)) (arrivalsOf d) (answersOf d) at start out = rw (m, l, many) at s in
       let cs : c ≡ counts (answersOf d) = ec ∙ ap counts m in
-      let small : CountsWithin c = rw cs (counts-within (answersOf d) (omega (arith, laid .few, many, length-answers (sizeOf d) (arrivalsOf d)))) in
       let k : y .sent ≡ length (sampleOf d .sizes) = ap (λ (y : Layout). y .sent) (laid .laid) in
       let text : listingOf (y .sent) (arrivalsOf d) (answersOf d) c ≡ sampleText d = ap₂ (λ (k : ℕ) (c : Counts). listingOf k (arrivalsOf d) (answersOf d) c) k cs in
-      let r = listed-end (y .sent) start room-start c all (omega (arith, laid .few, many)) small e w in
-      let head : length (headerLine (y .sent) (y .arrivals)) ≤ length (sampleText d) =
-      rw (← text, many) (header-le (y .sent) (arrivalsOf d) (answersOf d) c) in (
-        r .0 ∙ ap length text,
-        r .1 ∙ ap (λ (t : List ℕ). over t start) text ∙ ap (over (sampleText d)) header-over ∙ over-again (headerLine (y .sent) (y .arrivals)) (sampleText d) old head,
-        omega (arith, all .within, end-octets c small, laid .few, many),
+      let r = listed-end (y .sent) start c all e w in
+      let head : length header ≤ length (sampleText d) =
+      rw (← text, many) (header-le (y .sent) (arrivalsOf d) (answersOf d) c) in
+      let long : at + n ≡ length (sampleText d) = r .0 ∙ ap length text in (
+        long,
+        λ fits.
+            r .1 (omega (arith, start-length)) ∙ ap (λ (t : List ℕ). over t start) text ∙ ap (over (sampleText d)) (header-over (omega arith))
+            ∙ over-again header (sampleText d) old head,
       )
 
 -- ---- what the call leaves
@@ -115,41 +150,42 @@ pub own-due : (short r : ℕ) → (r ≡ 0 → ⊥) → r ≡ firstOf (r ∷ sho
 own-due short zero h = absurd (h refl)
 own-due short (suc r) h = refl
 
--- and alone where memory is not too short
-own-alone : (r : ℕ) → r ≡ firstOf (r ∷ 0 ∷ [])
-own-alone zero = refl
-own-alone (suc r) = refl
+module _ (d : Decoded) (room : ℕ) where
+  -- the file's own refusal
+  pub refused-own : {own : ℕ} → own ≡ refusalOf d → (own ≡ 0 → ⊥) → own ≡ listingRefusal d room
+  unfolding listingRefusal
+  refused-own {own} e h = rw (← e) (own-due (inCase (ltb room (length (sampleText d))) outputShort) own h)
 
--- memory is too short
-pub listed-short : (d : Decoded) (old : List ℕ) → length old < listingOctets → {r : ℕ} → r ≡ firstOf (refusalOf d ∷ outputShort ∷ [])
+  -- the listing does not fit
+  pub refused-short : {own : ℕ} → own ≡ refusalOf d → own ≡ 0 → room < length (sampleText d) → 8 ≡ listingRefusal d room
+  unfolding listingRefusal
+  refused-short e z h = rw (← e, z, lt-ltb _ _ h)
+
+  -- nothing is refused
+  pub refused-none : {own : ℕ} → own ≡ refusalOf d → own ≡ 0 → length (sampleText d) ≤ room → 0 ≡ listingRefusal d room
+  unfolding listingRefusal
+  refused-none e z h = rw (← e, z, le-ltb _ _ h)
+
+-- refused: nothing is written
+pub listed-refused : (d : Decoded) (old : List ℕ) (r : ℕ) → r ≡ listingRefusal d (length old) → (r ≡ 0 → ⊥)
     → ListedTo d old (record { refusal = r; length = 0 }) old
-unfolding writtenText
-listed-short d old h e = record { answer = simp (lt-ltb _ _ h, e); memory = simp (lt-ltb _ _ h) }
+listed-refused d old zero e h = absurd (h refl)
+listed-refused d old (suc r) e h = record { answer = rw (← e); memory = rw (← e) }
 
--- the call's answer: the refusal and the octets written
-abbrev answered : ℕ → ℕ → SampleListing
-answered r n = record { refusal = r; length = n }
+-- not refused: the listing fits
+fits-into : (own : ℕ) (short : Bool) → 0 ≡ firstOf (own ∷ inCase short outputShort ∷ []) → short ≡ false
+fits-into zero true e = absurd (omega (arith, e))
+fits-into zero false e = refl
+fits-into (suc own) short e = absurd (omega (arith, e))
 
--- memory is not too short
-pub listed-room : (d : Decoded) (old : List ℕ) → listingOctets ≤ length old → {r n : ℕ} {new text : List ℕ} → r ≡ refusalOf d → text ≡ listingText d
-    → n ≡ length text → new ≡ over text old → ListedTo d old (record { refusal = r; length = n }) new
-unfolding writtenText
-listed-room d old room own is e w =
-    let all : writtenText d old ≡ listingText d = simp (le-ltb _ _ room) in
-    let due : refusalOf d ≡ firstOf (refusalOf d ∷ inCase (listingShort old) outputShort ∷ []) =
-    own-alone (refusalOf d) ∙ sym (ap (λ (b : Bool). firstOf (refusalOf d ∷ inCase b outputShort ∷ [])) (le-ltb _ _ room)) in
+-- not refused: it is written whole
+pub listed-whole : (d : Decoded) (old : List ℕ) (r n : ℕ) {new : List ℕ} → r ≡ listingRefusal d (length old) → r ≡ 0 → n ≡ length (sampleText d)
+    → (n ≤ length old → new ≡ over (sampleText d) old) → ListedTo d old (record { refusal = r; length = n }) new
+unfolding listingRefusal
+listed-whole d old r n e z l w =
+    let none : 0 ≡ listingRefusal d (length old) = sym z ∙ e in
+    let fits : length (sampleText d) ≤ length old = ltb-false _ _ (fits-into (refusalOf d) (ltb (length old) (length (sampleText d))) none) in
     record {
-      answer = ap₂ answered (own ∙ due) (e ∙ ap length (is ∙ sym all));
-      memory = w ∙ ap (λ (t : List ℕ). over t old) (is ∙ sym all);
+      answer = rw (z, l, ← none);
+      memory = rw (← none) (w (omega arith));
     }
-
--- a refused file has one line
-pub text-refused : (d : Decoded) {r : ℕ} → r ≡ refusalOf d → (r ≡ 0 → ⊥) → refusedLine r ≡ listingText d
-unfolding listingText
-text-refused (refused q) own due = ap refusedLine own
-text-refused (accepted s) own due = absurd (due own)
-
--- any other the lines of its sample
-pub text-accepted : (d : Decoded) {s : Sample} → d ≡ accepted s → sampleText d ≡ listingText d
-unfolding listingText
-text-accepted d e = ap sampleText e ∙ sym (ap listingText e)

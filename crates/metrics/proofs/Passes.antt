@@ -24,9 +24,10 @@ use Rattle.rfc4737.proofs.Arrivals.{count-more}
 use Rattle.rfc4737.proofs.Folds.{answers-more, length-answers, arrived-more, runs-more, tally-more, in-order-or-reordered, duplicate-or-first, closed-reordered, current-le, squares-le}
 use Rattle.sample.specs.declared.Layout.{Layout}
 use Rattle.sample.specs.Decode.{Decoded}
-use Rattle.metrics.specs.Sample.{sizeOf, arrivalsOf, answersOf, arrivalAt, before, answerAt, Laid, Has}
-use Rattle.metrics.specs.Tables.{Follows, Late, classOf}
-use Rattle.metrics.specs.Steps.{Inside, Small, noCounts, countsBy, tallyBy, Fewer, noParts, partsBy, partsOf, orZero, Marked, markBy}
+use Rattle.metrics.specs.Sample.{sizeOf, arrivalsOf, answersOf}
+use Rattle.metrics.specs.Private.Sample.{arrivalAt, before, answerAt, Laid, Has}
+use Rattle.metrics.specs.Private.Tables.{Follows, Late, classOf}
+use Rattle.metrics.specs.Private.Steps.{Inside, Small, noCounts, countsBy, tallyBy, Fewer, noParts, partsBy, partsOf, orZero, Marked, markBy}
 use Rattle.metrics.specs.declared.look.Class.{Class}
 use Rattle.metrics.specs.declared.figures.Parts.{Parts}
 use Rattle.metrics.specs.declared.tables.State.{State}

@@ -9,7 +9,8 @@ use Rattle.sample.specs.declared.Layout.{Layout}
 use Rattle.sample.specs.Decode.{Decoded, refused, accepted, decode, layoutOf}
 use Rattle.sample.specs.Places.{sizeFound, numberFound, timeFound}
 use Rattle.sample.proofs.Accepted.{accepted-limits, number-within, size-found, number-found, time-found}
-use Rattle.metrics.specs.Sample.{noArrival, sizeOf, arrivalAt, Laid}
+use Rattle.metrics.specs.Sample.{sizeOf}
+use Rattle.metrics.specs.Private.Sample.{noArrival, arrivalAt, Laid}
 
 module _ (file : List ℕ) where
   -- the check's answer lays the file out

@@ -19,8 +19,8 @@ use Rattle.rfc4737.proofs.Lists.{snoc-ind}
 use Rattle.rfc4737.proofs.Arrivals.{fold-take}
 use Rattle.rfc4737.proofs.Folds.{offset-more}
 use Rattle.rfc4737.proofs.Jumps.{placed-more, firstAbove-append, orElse}
-use Rattle.metrics.specs.Sample.{noArrival}
-use Rattle.metrics.specs.Tables.{Numbered, Sized, Above}
+use Rattle.metrics.specs.Private.Sample.{noArrival}
+use Rattle.metrics.specs.Private.Tables.{Numbered, Sized, Above}
 
 -- ---- numbers above a packet's, from a place to another
 

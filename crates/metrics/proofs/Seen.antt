@@ -22,9 +22,10 @@ use Rattle.rfc4737.proofs.Folds.{next-more}
 use Rattle.rfc4737.proofs.Jumps.{nextAfter-above}
 use Rattle.sample.specs.declared.Layout.{Layout}
 use Rattle.sample.specs.Decode.{Decoded}
-use Rattle.metrics.specs.Sample.{sizeOf, arrivalAt, before, answerAt, Has}
-use Rattle.metrics.specs.Tables.{classOf}
-use Rattle.metrics.specs.Steps.{countsBy, kindBy}
+use Rattle.metrics.specs.Sample.{sizeOf}
+use Rattle.metrics.specs.Private.Sample.{arrivalAt, before, answerAt, Has}
+use Rattle.metrics.specs.Private.Tables.{classOf}
+use Rattle.metrics.specs.Private.Steps.{countsBy, kindBy}
 use Rattle.metrics.specs.declared.look.Class.{Class}
 use Rattle.metrics.proofs.Follow.{before-more}
 use Rattle.metrics.proofs.Passes.{answersTo, answers-next, counts-more}

@@ -13,8 +13,8 @@ use Rattle.rfc4737.specs.Arrivals.{has, firsts, withArrival}
 use Rattle.rfc4737.proofs.Arrivals.{firsts-more, with-duplicate, with-first}
 use Rattle.sample.specs.declared.Layout.{Layout}
 use Rattle.sample.specs.Decode.{Decoded}
-use Rattle.metrics.specs.Sample.{noArrival, arrivalAt, before, Has}
-use Rattle.metrics.specs.Tables.{Numbered, Sized}
+use Rattle.metrics.specs.Private.Sample.{noArrival, arrivalAt, before, Has}
+use Rattle.metrics.specs.Private.Tables.{Numbered, Sized}
 use Rattle.metrics.proofs.Follow.{before-more}
 
 module _ (size : ℕ → ℕ) (numbers : List ℕ) where

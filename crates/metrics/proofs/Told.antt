@@ -21,9 +21,10 @@ use Rattle.rfc4737.proofs.Folds.{answer-duplicate, answer-first, first-in-order
 use Rattle.rfc4737.proofs.Jumps.{reordered-discontinuity}
 use Rattle.sample.specs.declared.Layout.{Layout}
 use Rattle.sample.specs.Decode.{Decoded}
-use Rattle.metrics.specs.Sample.{noArrival, sizeOf, arrivalsOf, arrivalAt, before, answerAt, Laid, Has}
-use Rattle.metrics.specs.Tables.{Numbered, Packets, Recorded, Follows, Late, placeOf, classBy}
-use Rattle.metrics.specs.Steps.{placeIn, placeBy}
+use Rattle.metrics.specs.Sample.{sizeOf, arrivalsOf}
+use Rattle.metrics.specs.Private.Sample.{noArrival, arrivalAt, before, answerAt, Laid, Has}
+use Rattle.metrics.specs.Private.Tables.{Numbered, Packets, Recorded, Follows, Late, placeOf, classBy}
+use Rattle.metrics.specs.Private.Steps.{placeIn, placeBy}
 use Rattle.metrics.specs.declared.look.Class.{Class}
 use Rattle.metrics.specs.declared.tables.State.{State}
 use Rattle.metrics.proofs.Follow.{before-count, before-length, arrived-recorded, new-recorded}

@@ -17,11 +17,12 @@ use Rattle.rfc4737.specs.Answer.{inOrderAnswer, reorderedAnswer, firstAnswer, a
 use Rattle.rfc4737.specs.Runs.{counts}
 use Rattle.rfc4737.proofs.Arrivals.{length-firsts}
 use Rattle.rfc4737.proofs.Folds.{offset-le, largest-le, in-order-or-reordered, duplicate-or-first, closed-reordered, current-le, squares-le}
-use Rattle.listing.specs.Room.{AnswerWithin, CountsWithin, LateWithin}
+use Rattle.listing.specs.Private.Within.{AnswerWithin, CountsWithin, LateWithin}
 use Rattle.sample.specs.Decode.{Decoded, refused, accepted, decode}
 use Rattle.sample.specs.declared.Layout.{Layout}
 use Rattle.sample.proofs.Accepted.{size-fits, time-fits}
-use Rattle.metrics.specs.Sample.{sizeOf, arrivalAt, before, answerAt, Laid, Has}
+use Rattle.metrics.specs.Sample.{sizeOf}
+use Rattle.metrics.specs.Private.Sample.{arrivalAt, before, answerAt, Laid, Has}
 use Rattle.metrics.proofs.Records.{record-some}
 use Rattle.metrics.proofs.Follow.{before-length}
 

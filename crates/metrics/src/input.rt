@@ -2,7 +2,8 @@
 ghost use mathlib.Core.Path.{_≡_};
 ghost use Prim.Native.Nat.{_≤_};
 ghost use Rattle.sample.specs.Decode.{decode};
-ghost use Rattle.metrics.specs.Sample.{arrivalAt, sizeOf, Laid, Has};
+ghost use Rattle.metrics.specs.Sample.{sizeOf};
+ghost use Rattle.metrics.specs.Private.Sample.{arrivalAt, Laid, Has};
 use sample::Layout;
 
 // The layout of a file, checked.

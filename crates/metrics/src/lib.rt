@@ -3,10 +3,14 @@
 // After that each call makes one pass over the arrivals, of a few steps each; a reordered packet may cost further
 // steps, at most as many as its extent, where the call says so.
 ghost use mathlib.Core.Path.{_≡_};
+ghost use Prim.Native.Nat.{_≤_};
+ghost use lib.ListN.{length};
+ghost use Rattle.rfc4737.specs.Cases.{CasesHold};
 ghost use Rattle.sample.specs.Decode.{decode};
 ghost use Rattle.metrics.specs.Figures.{recordAnswer, recordGap, sampleCounts, sampleTally, degreeCounts, sampleDegree, sampleRatios};
 ghost use Rattle.listing.specs.Example.{ExampleHolds};
-ghost use Rattle.metrics.specs.Report.{ListedTo};
+ghost use Rattle.listing.specs.Room.{listingOctets};
+ghost use Rattle.metrics.specs.Report.{sampleText, ListedTo};
 
 mod answers;
 mod figures;
@@ -28,7 +32,7 @@ use input::layout;
 use quotients::ratio_of;
 use quotients::ratios_of;
 use report::list;
-use report::short_of;
+use report::refusal_into;
 use rfc4737::refusal::NONE;
 
 // The answer for a record, and the refusal (0 for none).
@@ -87,6 +91,7 @@ pub struct SampleListing {
 // The answer for a record: as many steps as there are arrivals before it, and its extent.
 pub fn answer(file: &[u8], asked: u32) -> RecordAnswer
     ensures { λ r. ⌜ r ≡ recordAnswer (decode (now (file .entry))) asked ⌝ }
+    ensures cases { λ _. ⌜ CasesHold ⌝ }
 {
     let y = layout(file);
     answer_of(file, y, asked)
@@ -170,23 +175,17 @@ pub fn ratios(file: &[u8]) -> SampleRatios
     }
 }
 
-// The listing of a sample, or the one line of a refused file, at the start of lent memory of at least
-// LISTING_OCTETS octets: one pass, and for each reordered packet as many steps as its extent.
+// The listing of a sample, at the start of lent memory that has room for it, as LISTING_OCTETS octets have for any:
+// one pass, and for each reordered packet as many steps as its extent; twice that where less is lent.
 pub fn listing(file: &[u8], out: &mut [u8]) -> SampleListing
     ensures { λ r. ⌜ ListedTo (decode (now (file .entry))) (now (out .entry)) r (now (out .exit)) ⌝ }
+    ensures room { λ _. ⌜ length (sampleText (decode (now (file .entry)))) ≤ listingOctets ⌝ }
     ensures example { λ _. ⌜ ExampleHolds ⌝ }
 {
     let y = layout(file);
-    let refusal = y.refusal;
-    if out.len() < listing::LISTING_OCTETS {
-        return SampleListing {
-            refusal: short_of(refusal),
-            length: 0,
-        };
-    }
+    let refusal = refusal_into(file, y, out.len());
     if refusal != NONE {
-        let length = listing::put_refused(out, 0, refusal) as u32;
-        return SampleListing { refusal, length };
+        return SampleListing { refusal, length: 0 };
     }
     SampleListing {
         refusal,

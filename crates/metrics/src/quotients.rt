@@ -1,7 +1,7 @@
 // Ratios of counts: both made f64 and divided once, undefined over 0.
 ghost use mathlib.Core.Path.{_≡_};
 ghost use Rattle.rfc4737.specs.Ratios.{quotient, ratioOf};
-ghost use Rattle.metrics.specs.Steps.{ratiosBy};
+ghost use Rattle.metrics.specs.Private.Steps.{ratiosBy};
 use rfc4737::Ratio;
 use rfc4737::RatioFigures;
 use rfc4737::Ratios;

@@ -1,16 +1,13 @@
 // The listing of a sample, in lent memory, line by line.
 ghost use mathlib.Core.Path.{_≡_};
-ghost use mathlib.Core.List.{[], _∷_};
 ghost use Prim.Native.Nat.{_≤_};
 ghost use lib.ListN.{length};
 ghost use Rattle.octets.specs.Memory.{over};
-ghost use Rattle.rfc4737.specs.Refusals.{firstOf, outputShort};
-ghost use Rattle.listing.specs.Room.{listingOctets};
 ghost use Rattle.sample.specs.Decode.{decode};
-ghost use Rattle.metrics.specs.Sample.{Laid};
-ghost use Rattle.metrics.specs.Tables.{classOf};
-ghost use Rattle.metrics.specs.Steps.{Small, countsBy};
-ghost use Rattle.metrics.specs.Report.{sampleText};
+ghost use Rattle.metrics.specs.Private.Sample.{Laid};
+ghost use Rattle.metrics.specs.Private.Tables.{classOf};
+ghost use Rattle.metrics.specs.Private.Steps.{Small, countsBy};
+ghost use Rattle.metrics.specs.Report.{sampleText, listingRefusal};
 use crate::figures::counted;
 use crate::figures::no_counts;
 use crate::input;
@@ -27,16 +24,6 @@ use rfc4737::refusal::NONE;
 use rfc4737::refusal::OUTPUT_SHORT;
 use sample::Layout;
 
-// The refusal where lent memory is too short: the file's own, then 8.
-pub(crate) fn short_of(own: u32) -> u32
-    ensures { λ r. ⌜ r ≡ firstOf (own ∷ outputShort ∷ []) ⌝ }
-{
-    if own != NONE {
-        return own;
-    }
-    OUTPUT_SHORT
-}
-
 // The counts under one answer more.
 fn counted_by(c: Counts, answer: Answer) -> Counts
     requires { ⌜ Small c ⌝ }
@@ -49,13 +36,12 @@ fn counted_by(c: Counts, answer: Answer) -> Counts
     }
 }
 
-// Writes the lines of a sample at the start of lent memory that has room for them, and answers how many octets
-// they have.
+// Writes the lines of a sample at the start of lent memory if it has room for all of them, and answers how many
+// octets they have. Where it has no room, some of them may stand in it.
 pub(crate) fn list(file: &[u8], y: Layout, out: &mut [u8]) -> u32
-    requires { ⌜ Laid (decode (now file)) y × (listingOctets ≤ length (now out)) ⌝ }
+    requires { ⌜ Laid (decode (now file)) y ⌝ }
     ensures { λ r. ⌜ (r ≡ length (sampleText (decode (now (file .entry)))))
-        × (now (out .exit) ≡ over (sampleText (decode (now (file .entry)))) (now (out .entry)))
-        × (r ≤ listingOctets) ⌝ }
+        × (r ≤ length (now (out .entry)) → now (out .exit) ≡ over (sampleText (decode (now (file .entry)))) (now (out .entry))) ⌝ }
 {
     let mut numbers = [0u16; FIRSTS];
     let mut sizes = [0u16; FIRSTS];
@@ -76,4 +62,23 @@ pub(crate) fn list(file: &[u8], y: Layout, out: &mut [u8]) -> u32
         i += 1;
     }
     (at + listing::put_end(out, at, c)) as u32
+}
+
+// The refusal of a listing into so many octets: the file's own, then 8. Where any listing has room no line is made;
+// else all are, with no memory to stand in.
+pub(crate) fn refusal_into(file: &[u8], y: Layout, room: usize) -> u32
+    requires { ⌜ Laid (decode (now file)) y ⌝ }
+    ensures { λ r. ⌜ r ≡ listingRefusal (decode (now (file .entry))) room ⌝ }
+{
+    if y.refusal != NONE {
+        return y.refusal;
+    }
+    if listing::LISTING_OCTETS <= room {
+        return NONE;
+    }
+    let mut none = [0u8; 1];
+    if room < list(file, y, &mut none) as usize {
+        return OUTPUT_SHORT;
+    }
+    NONE
 }

@@ -6,7 +6,7 @@ ghost use Prim.Native.Nat.{ℕ, _+_, _-_, _≤_, _<_};
 ghost use lib.ListN.{take, getD};
 ghost use Rattle.rfc4737.specs.declared.Arrival.{Arrival};
 ghost use Rattle.rfc4737.specs.Extent.{byteOffset, largestN};
-ghost use Rattle.metrics.specs.Tables.{Numbered, Sized, Above};
+ghost use Rattle.metrics.specs.Private.Tables.{Numbered, Sized, Above};
 use crate::tables::FIRSTS;
 use crate::tables::wide;
 

@@ -5,8 +5,9 @@ ghost use mathlib.Core.Path.{_≡_};
 ghost use Prim.Native.Nat.{_+_, _≤_, _<_};
 ghost use lib.ListN.{length};
 ghost use Rattle.sample.specs.Decode.{decode};
-ghost use Rattle.metrics.specs.Sample.{sizeOf, Laid, Has, before};
-ghost use Rattle.metrics.specs.Tables.{Filled, Packets, Sized, Follows};
+ghost use Rattle.metrics.specs.Sample.{sizeOf};
+ghost use Rattle.metrics.specs.Private.Sample.{Laid, Has, before};
+ghost use Rattle.metrics.specs.Private.Tables.{Filled, Packets, Sized, Follows};
 use crate::input;
 use sample::Layout;
 

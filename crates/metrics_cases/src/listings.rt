@@ -21,9 +21,6 @@ fn octets_kept(s: &[u8], from: usize) -> bool {
     true
 }
 
-// One octet less than a listing is lent.
-const SHORT: usize = LISTING_OCTETS - 1;
-
 // Writes the refusal of the listing, how many octets it has, and whether the octets after it are untouched.
 fn write_listing(file: &[u8], out: &mut [u8]) {
     let l = metrics::listing(file, out);
@@ -43,14 +40,29 @@ pub(crate) fn run_listing(file: &[u8]) {
     write_listing(file, &mut out);
 }
 
-// The listing into lent octets that are one too few, of the example and of a refused file.
-pub(crate) fn short_output() {
-    let mut out = [OCTET; SHORT];
+// Lists a file into the first octets of those lent, of which there are so many.
+fn list_into(file: &[u8], out: &mut [u8], room: usize) {
+    if room <= out.len() {
+        write_listing(file, &mut out[0..room]);
+    }
+}
+
+// Lists so many octets, of the example and zeros after it, where there is this room.
+fn run_into(name: &[u8], octets: usize, room: usize) {
+    let mut out = [OCTET; LISTING_OCTETS];
     let mut file = [0u8; 80];
     put_example(&mut file);
-    write_word(b"listing into 262143 octets");
-    write_listing(first_octets(&file, 76), &mut out);
-    write_word(b"\nlisting of one octet too many, into 262143 octets");
-    write_listing(first_octets(&file, 77), &mut out);
+    write_word(name);
+    list_into(first_octets(&file, octets), &mut out, room);
     write_word(b"\n");
+}
+
+// The edges of the room: the listing of the example, which has 76 octets, has 101; and a refused file.
+pub(crate) fn edges_of_room() {
+    run_into(b"listing into 262143 octets", 76, 262_143);
+    run_into(b"listing into 101 octets", 76, 101);
+    run_into(b"listing into 100 octets", 76, 100);
+    run_into(b"listing into no octets", 76, 0);
+    run_into(b"listing of one octet too many, into 101 octets", 77, 101);
+    run_into(b"listing of one octet too many, into 100 octets", 77, 100);
 }

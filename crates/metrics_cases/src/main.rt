@@ -1,4 +1,4 @@
-// Runs the scope's cases on the figures of a sample: each refusal of each call, and the edges of record and n. A line
+// Runs the scope's cases on the figures of a sample: each refusal of each call, and the edges of record, n and room. A line
 // is written for each case.
 mod answers;
 mod files;
@@ -8,7 +8,7 @@ mod refusals;
 
 use answers::edges_of_n;
 use answers::edges_of_record;
-use listings::short_output;
+use listings::edges_of_room;
 use refusals::no_arrivals;
 use refusals::refusals;
 
@@ -18,5 +18,5 @@ fn main() {
     edges_of_record();
     edges_of_n();
     no_arrivals();
-    short_output();
+    edges_of_room();
 }

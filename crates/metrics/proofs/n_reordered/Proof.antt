@@ -1,6 +1,6 @@
 -- `n_reordered` meets its contract by those of its callees. Assumes nothing.
 use mathlib.Core.Path.{ap}
-use Rattle.metrics.specs.Steps.{partsOf}
+use Rattle.metrics.specs.Private.Steps.{partsOf}
 use Rattle.metrics.specs.declared.figures.Parts.{Parts}
 use Rattle.metrics.proofs.Asked.{laid-refusal, degree-answered-refused, degree-answered}
 use borrow.Author.Needs.{needs}

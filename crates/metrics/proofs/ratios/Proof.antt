@@ -1,7 +1,7 @@
 -- `ratios` meets its contract by those of its callees. Assumes nothing.
 use Rattle.rfc4737.specs.Ratios.{ratios}
 use Rattle.metrics.specs.Figures.{sampleRatios}
-use Rattle.metrics.specs.Steps.{ratiosBy, partsOf}
+use Rattle.metrics.specs.Private.Steps.{ratiosBy, partsOf}
 use borrow.Author.Needs.{needs}
 use Rattle.metrics.proofs.ratios.Statement.{statement}
 use Rattle.metrics.proofs.ratios.Tie as tie

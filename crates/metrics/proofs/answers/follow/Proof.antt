@@ -4,8 +4,8 @@ use mathlib.Core.Path.{_≡_}
 use Prim.Native.Nat.{_≤_, _-_}
 use native.Mathlib.Omega.{arith}
 use Rattle.sample.specs.Decode.{decode}
-use Rattle.metrics.specs.Sample.{before}
-use Rattle.metrics.specs.Tables.{Follows}
+use Rattle.metrics.specs.Private.Sample.{before}
+use Rattle.metrics.specs.Private.Tables.{Follows}
 use borrow.Author.Needs.{needs}
 use Rattle.metrics.proofs.answers.follow.Statement.{statement}
 use Rattle.metrics.proofs.answers.follow.Tie as tie

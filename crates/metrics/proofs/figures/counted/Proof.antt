@@ -1,5 +1,5 @@
 -- `counted` goes by the class. Assumes nothing.
-use Rattle.metrics.specs.Steps.{countsBy}
+use Rattle.metrics.specs.Private.Steps.{countsBy}
 use borrow.Author.Needs.{needs}
 use Rattle.metrics.proofs.figures.counted.Statement.{statement}
 use Rattle.metrics.proofs.figures.counted.Tie as tie

@@ -6,7 +6,7 @@ use native.Mathlib.Omega.{arith}
 use denote.Ref.{now}
 use Rattle.rfc4737.specs.Runs.{counts}
 use Rattle.sample.specs.Decode.{decode}
-use Rattle.metrics.specs.Sample.{before, Has}
+use Rattle.metrics.specs.Private.Sample.{before, Has}
 use borrow.Author.Needs.{needs}
 use Rattle.metrics.proofs.Passes.{answersTo, answers-start, answers-end, answers-length, counts-none, counts-small}
 use Rattle.metrics.proofs.Seen.{Seen, seen-start, seen-next, counts-seen}

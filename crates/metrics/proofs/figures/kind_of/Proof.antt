@@ -1,7 +1,7 @@
 -- `kind_of` goes by the table, then by NextExp. Assumes nothing.
 use native.Mathlib.Omega.{arith}
 use borrow.Author.Tests.{le-leb, lt-leb}
-use Rattle.metrics.specs.Steps.{kindBy}
+use Rattle.metrics.specs.Private.Steps.{kindBy}
 use borrow.Author.Needs.{needs}
 use Rattle.metrics.proofs.figures.kind_of.Statement.{statement}
 use Rattle.metrics.proofs.figures.kind_of.Tie as tie

@@ -1,5 +1,5 @@
 -- `parted` goes by the class, and for a reordered packet by its largest n. Assumes nothing.
-use Rattle.metrics.specs.Steps.{partsBy}
+use Rattle.metrics.specs.Private.Steps.{partsBy}
 use borrow.Author.Needs.{needs}
 use Rattle.metrics.proofs.figures.parted.Statement.{statement}
 use Rattle.metrics.proofs.figures.parted.Tie as tie

@@ -7,9 +7,10 @@ use denote.Ref.{now}
 use Rattle.rfc4737.specs.Runs.{arrived}
 use Rattle.rfc4737.proofs.Folds.{arrived-answers}
 use Rattle.sample.specs.Decode.{decode}
-use Rattle.metrics.specs.Sample.{sizeOf, before, Has}
-use Rattle.metrics.specs.Tables.{Follows}
-use Rattle.metrics.specs.Steps.{partsOf}
+use Rattle.metrics.specs.Sample.{sizeOf}
+use Rattle.metrics.specs.Private.Sample.{before, Has}
+use Rattle.metrics.specs.Private.Tables.{Follows}
+use Rattle.metrics.specs.Private.Steps.{partsOf}
 use borrow.Author.Needs.{needs}
 use Rattle.metrics.proofs.Follow.{count-le}
 use Rattle.metrics.proofs.Told.{Tells, told}

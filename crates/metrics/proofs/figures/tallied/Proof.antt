@@ -3,7 +3,7 @@ use Prim.Native.Nat.{_+_, _-_}
 use native.Mathlib.Omega.{arith}
 use Rattle.rfc4737.specs.Tally.{oneMoreAt}
 use Rattle.rfc4737.proofs.Folds.{place-lt}
-use Rattle.metrics.specs.Steps.{tallyBy}
+use Rattle.metrics.specs.Private.Steps.{tallyBy}
 use borrow.Author.Needs.{needs}
 use Rattle.metrics.proofs.figures.tallied.Statement.{statement}
 use Rattle.metrics.proofs.figures.tallied.Tie as tie

@@ -8,8 +8,8 @@ use lib.ListN.{getD}
 use Rattle.rfc4737.specs.Tally.{tally}
 use Rattle.rfc4737.proofs.Folds.{length-tally, tally-le}
 use Rattle.sample.specs.Decode.{decode}
-use Rattle.metrics.specs.Sample.{before, Has}
-use Rattle.metrics.specs.Tables.{Follows}
+use Rattle.metrics.specs.Private.Sample.{before, Has}
+use Rattle.metrics.specs.Private.Tables.{Follows}
 use borrow.Author.Needs.{needs}
 use Rattle.metrics.proofs.Follow.{count-le}
 use Rattle.metrics.proofs.Told.{Tells, told}

@@ -4,7 +4,7 @@ use Prim.Native.Nat.{_-_}
 use native.Mathlib.Omega.{arith}
 use denote.Ref.{now}
 use borrow.Author.Tests.{eq-eqb, ne-eqb}
-use Rattle.metrics.specs.Steps.{gapBy}
+use Rattle.metrics.specs.Private.Steps.{gapBy}
 use Rattle.metrics.proofs.Discovered.{last-le, gap-some}
 use borrow.Author.Needs.{needs}
 use Rattle.metrics.proofs.gaps.gap_at.Statement.{statement}

@@ -2,7 +2,7 @@
 use mathlib.Core.Path.{_≡_, refl, sym, _∙_}
 use Prim.Native.Nat.{_≤_}
 use native.Mathlib.Omega.{arith}
-use Rattle.metrics.specs.Steps.{lastTo}
+use Rattle.metrics.specs.Private.Steps.{lastTo}
 use Rattle.metrics.proofs.Discovered.{last-here, last-before, last-none}
 use Rattle.metrics.proofs.gaps.last_to.Statement.{statement}
 use Rattle.metrics.proofs.gaps.last_to.Tie as tie

@@ -1,7 +1,7 @@
 -- `mark` goes by the class, and by what stands at the discontinuity. Assumes nothing.
 use native.Mathlib.Omega.{arith}
 use borrow.Author.Tests.{eq-eqb, ne-eqb}
-use Rattle.metrics.specs.Steps.{markBy}
+use Rattle.metrics.specs.Private.Steps.{markBy}
 use borrow.Author.Needs.{needs}
 use Rattle.metrics.proofs.gaps.mark.Statement.{statement}
 use Rattle.metrics.proofs.gaps.mark.Tie as tie

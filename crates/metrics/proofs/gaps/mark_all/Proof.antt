@@ -6,9 +6,9 @@ use Prim.Native.Nat.{_≤_, _<_, _-_}
 use native.Mathlib.Omega.{arith}
 use denote.Ref.{now}
 use Rattle.sample.specs.Decode.{decode}
-use Rattle.metrics.specs.Sample.{before, answerAt, Has}
-use Rattle.metrics.specs.Tables.{Follows}
-use Rattle.metrics.specs.Steps.{placeIn, Marked}
+use Rattle.metrics.specs.Private.Sample.{before, answerAt, Has}
+use Rattle.metrics.specs.Private.Tables.{Follows}
+use Rattle.metrics.specs.Private.Steps.{placeIn, Marked}
 use borrow.Author.Needs.{needs}
 use Rattle.metrics.proofs.Follow.{count-le}
 use Rattle.metrics.proofs.Told.{Tells, told, place-told}

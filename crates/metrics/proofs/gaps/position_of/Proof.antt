@@ -1,5 +1,5 @@
 -- `position_of` goes by the class. Assumes nothing.
-use Rattle.metrics.specs.Steps.{placeBy}
+use Rattle.metrics.specs.Private.Steps.{placeBy}
 use borrow.Author.Needs.{needs}
 use Rattle.metrics.proofs.gaps.position_of.Statement.{statement}
 use Rattle.metrics.proofs.gaps.position_of.Tie as tie

@@ -1,7 +1,7 @@
 -- `class_of` goes by the packet's record, then by NextExp. Assumes nothing.
 use mathlib.Core.Path.{sym, _∙_}
 use borrow.Author.Tests.{eq-eqb, ne-eqb, le-leb, lt-leb}
-use Rattle.metrics.specs.Tables.{classBy}
+use Rattle.metrics.specs.Private.Tables.{classBy}
 use borrow.Author.Needs.{needs}
 use Rattle.metrics.proofs.look.class_of.Statement.{statement}
 use Rattle.metrics.proofs.look.class_of.Tie as tie

@@ -1,6 +1,6 @@
 -- `ratios_of` tests the lower count. Assumes nothing.
 use borrow.Author.Tests.{eq-eqb, ne-eqb}
-use Rattle.metrics.specs.Steps.{ratiosBy}
+use Rattle.metrics.specs.Private.Steps.{ratiosBy}
 use borrow.Author.Needs.{needs}
 use Rattle.metrics.proofs.quotients.ratios_of.Statement.{statement}
 use Rattle.metrics.proofs.quotients.ratios_of.Tie as tie

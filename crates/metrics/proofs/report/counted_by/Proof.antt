@@ -1,6 +1,6 @@
 -- `counted_by` goes by the answer's kind. Assumes nothing.
 use borrow.Author.Needs.{needs}
-use Rattle.metrics.specs.Steps.{countsBy}
+use Rattle.metrics.specs.Private.Steps.{countsBy}
 use Rattle.metrics.proofs.report.counted_by.Statement.{statement}
 use Rattle.metrics.proofs.report.counted_by.Tie as tie
 

@@ -13,14 +13,15 @@ use Rattle.octets.proofs.Memory.{put-length}
 use Rattle.rfc4737.specs.Runs.{counts}
 use Rattle.listing.specs.Room.{listingOctets}
 use Rattle.sample.specs.Decode.{decode}
-use Rattle.metrics.specs.Sample.{sizeOf, before, Has}
-use Rattle.metrics.specs.Tables.{Sized, Follows, classOf}
-use Rattle.metrics.specs.Steps.{countsBy}
+use Rattle.metrics.specs.Sample.{sizeOf}
+use Rattle.metrics.specs.Private.Sample.{before, Has}
+use Rattle.metrics.specs.Private.Tables.{Sized, Follows, classOf}
+use Rattle.metrics.specs.Private.Steps.{countsBy}
 use Rattle.metrics.specs.Report.{sampleText}
 use Rattle.metrics.proofs.Sizes.{sized-none, sized-next}
 use Rattle.metrics.proofs.Told.{packets}
 use Rattle.metrics.proofs.Passes.{answersTo, follows-start, answers-start, answers-length, answers-next, counts-none, counts-small, counts-more}
-use Rattle.metrics.proofs.Listed.{ListedAt, listing-start, listing-next, listing-within, listing-end}
+use Rattle.metrics.proofs.Listed.{ListedAt, lines-within, sample-within, listing-start, listing-next, listing-end}
 use Rattle.metrics.proofs.report.list.Statement.{statement}
 use Rattle.metrics.proofs.report.list.Tie as tie
 
@@ -35,11 +36,11 @@ abbrev μ-loop : tie.MeasureT-loop
 
 -- record i + 1 is there
 here : (c : tie.Then1 Inv-loop μ-loop) → Has (decode (now (c .before .before .before .before .before .before .before .before .before .before .before .args .file))) (c .before .before .before .before .before .before .before .before .before .before .before .args .y) (c .before .before .loop .i)
-here c = record { file = c .before .before .before .before .before .before .before .before .before .before .before .pre .0; inside = c .if1 .taken }
+here c = record { file = c .before .before .before .before .before .before .before .before .before .before .before .pre; inside = c .if1 .taken }
 
 -- it is one of few
 few : (c : tie.Then1 Inv-loop μ-loop) → c .before .before .loop .i < 4096
-few c = omega (arith, c .if1 .taken, c .before .before .before .before .before .before .before .before .before .before .before .pre .0 .few)
+few c = omega (arith, c .if1 .taken, c .before .before .before .before .before .before .before .before .before .before .before .pre .few)
 
 -- after its line
 next : (c : tie.After-put-record Inv-loop μ-loop)
@@ -47,21 +48,28 @@ next : (c : tie.After-put-record Inv-loop μ-loop)
 next c =
     let a = c .before .before .before .before .before .before .before .before .before .before .before .before .before .before .before .before .before .before .before .args in
     let p = c .before .before .before .before .before .before .before .before .before .before .before .before .before .before .before .before .before .before .before .pre in
-    listing-next (now (a .file)) (a .y) (p .0) (now (a .out)) (p .1) (c .before .before .before .before .before .before .before .before .before .before .before .before .before .put-header .ensures .1)
-    (below-fits w8 (now (a .file)) (c .before .before .before .before .before .before .before .before .before .before .before .before .before .before .before .before .before .before .shared-slice-known .given)) (here (c .before .before .before .before .before .before .before .before)) (c .before .before .before .before .before .before .before .before .before .before .loop .inv .3)
+    listing-next (decode (now (a .file))) (a .y) p (now (a .out)) (c .before .before .before .before .before .before .before .before .before .before .before .before .before .put-header .ensures .1)
+    (here (c .before .before .before .before .before .before .before .before)) (c .before .before .before .before .before .before .before .before .before .before .loop .inv .3)
     (c .before .before .before .before .before .before .before .number .ensures .0) (c .before .before .look .ensures) (c .put-record .ensures .0) (c .put-record .ensures .1)
 
 -- after the last line
 whole : (c : tie.After-put-end Inv-loop μ-loop)
     → (c .before .before .before .before .loop .at + c .put-end .result ≡ length (sampleText (decode (now (c .before .before .before .before .before .before .before .before .before .before .before .before .before .args .file)))))
-    × (c .put-end .last .0 ≡ over (sampleText (decode (now (c .before .before .before .before .before .before .before .before .before .before .before .before .before .args .file)))) (now (c .before .before .before .before .before .before .before .before .before .before .before .before .before .args .out)))
-    × (c .before .before .before .before .loop .at + c .put-end .result ≤ listingOctets)
+    × (c .before .before .before .before .loop .at + c .put-end .result ≤ length (now (c .before .before .before .before .before .before .before .before .before .before .before .before .before .args .out))
+    → c .put-end .last .0 ≡ over (sampleText (decode (now (c .before .before .before .before .before .before .before .before .before .before .before .before .before .args .file)))) (now (c .before .before .before .before .before .before .before .before .before .before .before .before .before .args .out)))
 whole c =
     let a = c .before .before .before .before .before .before .before .before .before .before .before .before .before .args in
     let p = c .before .before .before .before .before .before .before .before .before .before .before .before .before .pre in
     let l = c .before .before .before .before .loop in
-    listing-end (now (a .file)) (a .y) (p .0) (now (a .out)) (p .1) (c .before .before .before .before .before .before .before .put-header .ensures .1) (c .before .before .if1 .left) (l .inv .3) (l .inv .2)
+    listing-end (decode (now (a .file))) (a .y) p (now (a .out)) (c .before .before .before .before .before .before .before .put-header .ensures .1) (c .before .before .if1 .left) (l .inv .3) (l .inv .2)
     (c .put-end .ensures .0) (c .put-end .ensures .1)
+
+-- it is not longer than any listing
+few-octets : (c : tie.After-put-end Inv-loop μ-loop) → c .before .before .before .before .loop .at + c .put-end .result ≤ listingOctets
+few-octets c =
+    let s = c .before .before .before .before .before .before .before .before .before .before .before .before in
+    let a = s .before .args in
+    omega (arith, whole c .0, sample-within (now (a .file)) (a .y) (s .before .pre) (below-fits w8 (now (a .file)) (s .shared-slice-known .given)))
 
 start-requires : tie.Need-start-requires Inv-loop μ-loop
 start-requires c κs = search needs
@@ -81,7 +89,7 @@ loop-holds c =
       omega arith,
       rw (c .before .before .before .before .before .start .ensures) (follows-start d),
       c .before .before .before .before .no-counts .ensures ∙ sym (ap counts (answers-start d) ∙ counts-none),
-      listing-start (now (a .file)) (a .y) (p .0) (now (a .out)) (p .1) (e .1) (e .0),
+      listing-start d (a .y) p (now (a .out)) (e .1) (e .0),
       refl,
       rw (c .before .before .before .before .before .start .ensures) (sized-none _ _),
     )
@@ -100,11 +108,11 @@ put-record-requires c κs = search needs
 
 add-at : tie.Need-add-at Inv-loop μ-loop
 add-at c =
-    let a = c .before .before .before .before .before .before .before .before .before .before .before .before .before .before .before .before .before .before .before .before .before .args in
-    let p = c .before .before .before .before .before .before .before .before .before .before .before .before .before .before .before .before .before .before .before .before .before .pre in
+    let s = c .before .before .before .before .before .before .before .before .before .before .before .before .before .before .before .before .before .before .before .before in
+    let a = s .before .args in
     let i = c .before .before .before .before .before .before .before .before .before .before .before .before .loop .i in
     let inside : i + 1 ≤ a .y .arrivals = omega (arith, here (c .before .before .before .before .before .before .before .before .before .before) .inside) in
-    omega (arith, listing-within (now (a .file)) (a .y) (p .0) (now (a .out)) (p .1) (c .before .before .before .before .before .before .before .before .before .before .before .before .before .before .before .put-header .ensures .1) inside (next (c .before .before)))
+    omega (arith, s .before .pre .few, next (c .before .before) .place, lines-within (now (a .file)) (a .y) (s .before .pre) (below-fits w8 (now (a .file)) (s .shared-slice-known .given)) (i + 1) inside)
 
 counted-by-requires : tie.Need-counted-by-requires Inv-loop μ-loop
 counted-by-requires c κs = rw (c .before .before .before .before .before .before .before .before .before .before .before .before .loop .inv .2) (counts-small _ (omega (arith, answers-length _ _ _ (here (c .before .before .before .before .before .before .before .before .before .before)), few (c .before .before .before .before .before .before .before .before .before .before))))
@@ -143,10 +151,10 @@ put-end-requires : tie.Need-put-end-requires Inv-loop μ-loop
 put-end-requires c κs = search needs
 
 add-result : tie.Need-add-result Inv-loop μ-loop
-add-result c = omega (arith, whole (c .before .before) .2)
+add-result c = omega (arith, few-octets (c .before .before))
 
 cast-result : tie.Need-cast-result Inv-loop μ-loop
-cast-result c = omega (arith, whole (c .before .before) .2)
+cast-result c = omega (arith, few-octets (c .before .before))
 
 same-length : tie.Need-same-length Inv-loop μ-loop
 same-length c = search needs

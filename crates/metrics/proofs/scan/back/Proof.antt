@@ -2,7 +2,7 @@
 use mathlib.Core.Path.{refl}
 use native.Mathlib.Omega.{arith}
 use borrow.Author.Needs.{needs}
-use Rattle.metrics.specs.Tables.{Above}
+use Rattle.metrics.specs.Private.Tables.{Above}
 use Rattle.metrics.proofs.Reordered.{above-none, above-one, above-back}
 use Rattle.metrics.proofs.scan.back.Statement.{statement}
 use Rattle.metrics.proofs.scan.back.Tie as tie

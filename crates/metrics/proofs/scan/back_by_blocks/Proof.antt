@@ -2,7 +2,7 @@
 -- Assumes nothing.
 use mathlib.Core.Path.{refl}
 use native.Mathlib.Omega.{arith}
-use Rattle.metrics.specs.Tables.{Above}
+use Rattle.metrics.specs.Private.Tables.{Above}
 use Rattle.metrics.proofs.Reordered.{above-none, above-back}
 use Rattle.metrics.proofs.scan.back_by_blocks.Statement.{statement}
 use Rattle.metrics.proofs.scan.back_by_blocks.Tie as tie

@@ -5,7 +5,7 @@ use mathlib.Core.Bool.{true}
 use Prim.Native.Nat.{ℕ, _+_, _-_, _≤_}
 use native.Mathlib.Omega.{arith}
 use borrow.Author.Needs.{needs}
-use Rattle.metrics.specs.Tables.{Above}
+use Rattle.metrics.specs.Private.Tables.{Above}
 use Rattle.metrics.proofs.Reordered.{above-none, above-more}
 use Rattle.metrics.proofs.scan.block_above.Statement.{statement}
 use Rattle.metrics.proofs.scan.block_above.Tie as tie

@@ -7,7 +7,7 @@ use borrow.Author.Needs.{needs}
 use denote.Ref.{now}
 use Rattle.sample.specs.Decode.{decode}
 use Rattle.metrics.specs.Sample.{sizeOf}
-use Rattle.metrics.specs.Tables.{Sized}
+use Rattle.metrics.specs.Private.Tables.{Sized}
 use Rattle.metrics.proofs.Sizes.{sized-fewer, sized-more}
 use Rattle.metrics.proofs.tables.note_sizes.Statement.{statement}
 use Rattle.metrics.proofs.tables.note_sizes.Tie as tie

@@ -4,7 +4,7 @@ use Prim.Native.Nat.{_≤_, _-_}
 use native.Mathlib.Omega.{arith}
 use lib.ListN.{length, length-set}
 use mathlib.Core.Path.{_≡_}
-use Rattle.metrics.specs.Tables.{Filled}
+use Rattle.metrics.specs.Private.Tables.{Filled}
 use Rattle.metrics.proofs.Follow.{filled-none, filled-more}
 use Rattle.metrics.proofs.tables.skip.Statement.{statement}
 use Rattle.metrics.proofs.tables.skip.Tie as tie

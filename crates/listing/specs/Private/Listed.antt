@@ -1,5 +1,5 @@
 -- What stands in lent memory while a listing is written, line by line, from its start. Assumes nothing.
-use Prim.Native.Nat.{ℕ, _+_, _*_, _≤_}
+use Prim.Native.Nat.{ℕ, _≤_}
 use mathlib.Core.Path.{_≡_}
 use mathlib.Core.List.{List, _++_}
 use lib.ListN.{length}
@@ -12,9 +12,8 @@ use Rattle.listing.specs.Lines.{headerLine, recordLines}
 abbrev pub upTo : ℕ → ℕ → List Arrival → List Answer → List ℕ
 upTo k a l m = headerLine k a ++ recordLines l m
 
--- that much was written in `old`, and `at` is the place after it: at most 24 octets for the first line and 61 for each record
+-- `at` is the place after that much, and where it fits into `old` it was written there
 pub record Listed (k a : ℕ) (l : List Arrival) (m : List Answer) (at : ℕ) (old new : List ℕ) : Type 0 where
   pub paired : length m ≡ length l
   pub place : length (upTo k a l m) ≡ at
-  pub within : at ≤ 24 + 61 * length l
-  pub memory : new ≡ over (upTo k a l m) old
+  pub memory : at ≤ length old → new ≡ over (upTo k a l m) old

@@ -13,7 +13,8 @@ use Rattle.rfc4737.specs.Order.{Placed, nextExp}
 use Rattle.rfc4737.specs.Extent.{discontinuity}
 use Rattle.rfc4737.specs.Answer.{reorderedAnswer}
 use Rattle.sample.specs.Decode.{Decoded}
-use Rattle.metrics.specs.Sample.{noArrival, sizeOf, arrivalAt, before, answerAt}
+use Rattle.metrics.specs.Sample.{sizeOf}
+use Rattle.metrics.specs.Private.Sample.{noArrival, arrivalAt, before, answerAt}
 use Rattle.metrics.specs.declared.look.Class.{Class}
 use Rattle.metrics.specs.declared.tables.State.{State}
 

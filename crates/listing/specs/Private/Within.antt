@@ -1,0 +1,35 @@
+-- How many digits the figures of a sample can have. Assumes nothing.
+use Prim.Native.Nat.{ℕ, _^_, _<_}
+use Rattle.rfc4737.specs.declared.Answer.{Answer}
+use Rattle.rfc4737.specs.declared.Answer.the-variants.{Duplicate, InOrder, Reordered}
+use Rattle.rfc4737.specs.declared.Counts.{Counts}
+use Rattle.rfc4737.specs.declared.ReorderedFigures.{ReorderedFigures}
+
+-- at most four digits, as have K, A and every record, number, position, extent, jump size, largest n and count of a sample:
+-- none is over 4,096
+abbrev pub Small : ℕ → Type 0
+Small n = n < 10 ^ 4
+
+-- the figures of a reordered packet: the late time is one of 64 bits, of at most 20 digits; the byte offset, which is at most
+-- 268,365,825, has at most nine
+pub record LateWithin (f : ReorderedFigures) : Type 0 where
+  pub position : Small (f .position)
+  pub extent : Small (f .extent)
+  pub late : f .late < 2 ^ 64
+  pub offset : f .offset < 10 ^ 9
+  pub largest : Small (f .largest)
+
+-- the figures of an answer
+abbrev pub AnswerWithin : Answer → Type 0
+AnswerWithin (Duplicate f) = Small (f .first)
+AnswerWithin (InOrder f) = Small (f .position) × Small (f .jump)
+AnswerWithin (Reordered f) = LateWithin f
+
+-- the counts of a sample: the sum of squares, which is at most 16,777,216, has at most eight digits
+pub record CountsWithin (c : Counts) : Type 0 where
+  pub arrived : Small (c .arrived)
+  pub reordered : Small (c .reordered)
+  pub duplicates : Small (c .duplicates)
+  pub closed : Small (c .runs .closed)
+  pub squares : c .runs .squares < 10 ^ 8
+  pub current : Small (c .runs .current)

@@ -1,0 +1,39 @@
+-- The records of a decoded file, one by one, and its layout. Assumes nothing.
+use mathlib.Core.Path.{_≡_}
+use Prim.Native.Nat.{ℕ, _<_, _≤_}
+use mathlib.Core.List.{List}
+use lib.ListN.{take, getD}
+use Rattle.rfc4737.specs.declared.Arrival.{Arrival}
+use Rattle.rfc4737.specs.declared.Answer.{Answer}
+use Rattle.rfc4737.specs.Answer.{answerTo}
+use Rattle.sample.specs.declared.Layout.{Layout}
+use Rattle.sample.specs.Decode.{Decoded, layoutOf}
+use Rattle.metrics.specs.Sample.{sizeOf, arrivalsOf}
+
+-- what stands where there is no arrival
+abbrev pub noArrival : Arrival
+noArrival = record { number = 0; time = 0 }
+
+-- the arrival of record i + 1
+abbrev pub arrivalAt : Decoded → ℕ → Arrival
+arrivalAt d i = getD (arrivalsOf d) i noArrival
+
+-- the arrivals before it
+abbrev pub before : Decoded → ℕ → List Arrival
+before d i = take i (arrivalsOf d)
+
+-- its answer
+abbrev pub answerAt : Decoded → ℕ → Answer
+answerAt d i = answerTo (sizeOf d) (before d i) (arrivalAt d i)
+
+-- the layout of a file: what is known of its sample besides
+pub record Laid (d : Decoded) (y : Layout) : Type 0 where
+  pub laid : y ≡ layoutOf d
+  pub sentFew : y .sent ≤ 4096
+  pub few : y .arrivals ≤ 4096
+  pub numbers : (i : ℕ) → i < y .arrivals → (1 ≤ arrivalAt d i .number) × (arrivalAt d i .number ≤ y .sent)
+
+-- a file of this layout has a record i + 1
+pub record Has (d : Decoded) (y : Layout) (i : ℕ) : Type 0 where
+  pub file : Laid d y
+  pub inside : i < y .arrivals

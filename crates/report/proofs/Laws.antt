@@ -1,0 +1,59 @@
+-- The text of a refused input and of an accepted one, and what stands in lent memory with it. Assumes nothing.
+use mathlib.Core.Path.{_≡_, refl, sym, ap, _∙_}
+use mathlib.Core.Bool.{Bool, true, false, cond}
+use mathlib.Core.List.{List, [], _∷_}
+use Prim.Native.Nat.{ℕ, _≤_, _<_}
+use native.Mathlib.Omega.{arith}
+use lib.Dec.{ltb}
+use lib.ListN.{length}
+use borrow.Author.Tests.{lt-ltb, le-ltb}
+use Rattle.octets.specs.Memory.{over, put}
+use Rattle.octets.proofs.Memory.{put-none, put-over}
+use Rattle.rfc4737.specs.Refusals.{inCase, firstOf, outputShort}
+use Rattle.listing.specs.Lines.{refusedLine}
+use Rattle.metrics.specs.Report.{sampleText, listingRefusal, listingInto, ListedTo}
+use Rattle.metrics.specs.declared.SampleListing.{SampleListing}
+use Rattle.sample.specs.Calls.{unlessRefused}
+use Rattle.sample.specs.Decode.{Decoded, refused, accepted, refusalOf}
+use Rattle.sample.specs.Format.{Sample}
+use Rattle.report.specs.Text.{reportText, fitting, PutWhole}
+
+-- a text put at the start of memory, where it does not fit
+pub put-short : (text old : List ℕ) {n : ℕ} {new : List ℕ} → n ≡ length text → new ≡ put 0 text old → length old < n → PutWhole text old 0 new
+put-short text old e w h =
+    let s : length old < length text = omega arith in
+    record { answer = simp (lt-ltb _ _ s); memory = simp (lt-ltb _ _ s) (w ∙ put-none 0 text old (omega arith)) }
+
+-- and where it does
+pub put-fitting : (text old : List ℕ) {n : ℕ} {new : List ℕ} → n ≡ length text → new ≡ put 0 text old → n ≤ length old → PutWhole text old n new
+put-fitting text old e w h =
+    let s : length text ≤ length old = omega arith in
+    record { answer = simp (le-ltb _ _ s) e; memory = simp (le-ltb _ _ s) (w ∙ put-over 0 [] text old refl (omega arith)) }
+
+-- the text of a refused input
+pub text-refused : (d : Decoded) {r : ℕ} → r ≡ refusalOf d → (r ≡ 0 → ⊥) → reportText d ≡ refusedLine r
+unfolding reportText
+text-refused (refused q) own due = ap refusedLine (sym own)
+text-refused (accepted s) own due = absurd (due own)
+
+-- the text of an accepted one
+pub text-accepted : (d : Decoded) {s : Sample} → d ≡ accepted s → reportText d ≡ sampleText d
+unfolding reportText
+text-accepted d e = ap reportText e ∙ sym (ap sampleText e)
+
+-- a listing with no refusal but 8
+none-but-short : (short : Bool) (text : List ℕ) → unlessRefused (firstOf (0 ∷ inCase short outputShort ∷ [])) text ≡ cond short [] text
+none-but-short true text = refl
+none-but-short false text = refl
+
+-- what a listing of an accepted sample leaves is its text
+pub listed-text : (d : Decoded) (old : List ℕ) {r : SampleListing} {new : List ℕ} → 0 ≡ refusalOf d → reportText d ≡ sampleText d → ListedTo d old r new
+    → PutWhole (reportText d) old (r .length) new
+unfolding listingRefusal
+listed-text d old {r} {new} own text l =
+    let so : listingInto d (length old) ≡ fitting (length old) (reportText d) =
+    rw (← own, text) (none-but-short (ltb (length old) (length (sampleText d))) (sampleText d)) in
+    record {
+      answer = ap (λ (s : SampleListing). s .length) (l .answer) ∙ ap length so;
+      memory = l .memory ∙ ap (λ (t : List ℕ). over t old) so;
+    }

@@ -1,0 +1,2 @@
+-- What the report program prints. Assumes nothing.
+pub mod Text
