@@ -10,7 +10,7 @@ answer-figures-requires : tie.Need-answer-figures-requires
 answer-figures-requires c κs = search needs
 
 returns : tie.Need-returns
-returns c = simp (c .answer-figures .ensures, c .before .answer .ensures)
+returns c = simp (c .answer-figures .ensures, c .before .answer .ensures .0)
 
 pub krakobran-answer-spec : {M : Type 1} → statement M
 krakobran-answer-spec = tie.close (tie.spec answer-requires answer-figures-requires returns)
