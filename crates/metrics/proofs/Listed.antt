@@ -22,13 +22,11 @@ use Rattle.listing.specs.Room.{listingOctets}
 use Rattle.listing.proofs.Lengths.{header-octets, record-octets, end-octets}
 use Rattle.listing.proofs.Listed.{up-to-none, up-to-more, up-to-end, listed-start, listed-next, listed-end}
 use Rattle.rfc4737.proofs.Folds.{length-answers}
-use Rattle.sample.specs.Calls.{unlessRefused}
 use Rattle.sample.specs.Decode.{Decoded, decode, sampleOf, refusalOf}
 use Rattle.sample.specs.declared.Layout.{Layout}
 use Rattle.metrics.specs.Sample.{arrivalsOf, answersOf, sizeOf}
 use Rattle.metrics.specs.Private.Sample.{arrivalAt, before, answerAt, Laid, Has}
 use Rattle.metrics.specs.Report.{sampleText, listingRefusal, ListedTo}
-use Rattle.metrics.specs.declared.SampleListing.{SampleListing}
 use Rattle.metrics.proofs.Follow.{arrivals-laid, before-more, before-length}
 use Rattle.metrics.proofs.Passes.{answersTo, answers-start, answers-next, answers-end, answers-length}
 use Rattle.metrics.proofs.Within.{answers-within, counts-within}

@@ -11,7 +11,7 @@ use lib.ListN.{length, getD, set, replicate, length-append, length-set}
 use lib.Seq.{take-all, getD-set-same, getD-set-other}
 use borrow.Author.Tests.{eqb-true, eqb-false}
 use Rattle.rfc4737.specs.declared.Answer.{Answer}
-use Rattle.rfc4737.specs.Arrivals.{has, firsts, firstRecord, recordFrom, each, eachAfter, count}
+use Rattle.rfc4737.specs.Arrivals.{firsts, firstRecord, recordFrom, each, eachAfter, count}
 use Rattle.rfc4737.specs.Order.{nextExp}
 use Rattle.rfc4737.specs.Extent.{extentFrom, largestN}
 use Rattle.rfc4737.specs.Answer.{reorderedAnswer, answers}

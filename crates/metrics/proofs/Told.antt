@@ -2,7 +2,6 @@
 use mathlib.Core.Path.{_≡_, refl, sym, ap, _∙_}
 use mathlib.Core.Bool.{Bool, true, false, cond}
 use mathlib.Core.List.{List}
-use mathlib.Core.Option.{none}
 use Prim.Native.Nat.{ℕ, _+_, _-_, _≤_, _<_}
 use native.Mathlib.Omega.{arith}
 use lib.Dec.{eqb, leb}
@@ -14,7 +13,7 @@ use Rattle.rfc4737.specs.declared.Answer.{Answer}
 use Rattle.rfc4737.specs.Times.{elapsed}
 use Rattle.rfc4737.specs.Arrivals.{has, firsts, firstRecord}
 use Rattle.rfc4737.specs.Order.{isInOrder, jumpSize, nextExp}
-use Rattle.rfc4737.specs.Extent.{discontinuity, extentFrom, lateFrom, byteOffset, largestN}
+use Rattle.rfc4737.specs.Extent.{extentFrom, lateFrom, byteOffset, largestN}
 use Rattle.rfc4737.specs.Answer.{inOrderAnswer, reorderedAnswer}
 use Rattle.rfc4737.proofs.Arrivals.{has-firsts, length-firsts}
 use Rattle.rfc4737.proofs.Folds.{answer-duplicate, answer-first, first-in-order, first-reordered}

@@ -1,28 +1,28 @@
 -- The figures of a sample have no more digits than a listing has room for. Assumes nothing.
-use mathlib.Core.Path.{_≡_, refl, sym, ap, ap₂, subst, _∙_}
+use mathlib.Core.Path.{_≡_, refl}
 use mathlib.Core.Bool.{Bool, true, false, cond}
 use mathlib.Core.List.{List}
 use mathlib.Core.Option.{Option, none, some}
-use Prim.Native.Nat.{ℕ, _+_, _-_, _*_, _^_, _≤_, _<_}
+use Prim.Native.Nat.{ℕ, _+_, _-_, _^_, _≤_, _<_}
 use native.Mathlib.Omega.{arith}
-use lib.ListN.{length, getD}
+use lib.ListN.{length}
 use Rattle.octets.specs.Below.{Octets}
 use Rattle.rfc4737.specs.declared.Arrival.{Arrival}
 use Rattle.rfc4737.specs.declared.Answer.{Answer}
 use Rattle.rfc4737.specs.Arrivals.{has, firsts, firstRecord}
-use Rattle.rfc4737.specs.Order.{Placed, isInOrder, nextExp, jumpSize}
+use Rattle.rfc4737.specs.Order.{Placed, isInOrder, jumpSize}
 use Rattle.rfc4737.specs.Times.{elapsed}
 use Rattle.rfc4737.specs.Extent.{extentFrom, lateFrom, sizeIn, discontinuity}
 use Rattle.rfc4737.specs.Answer.{inOrderAnswer, reorderedAnswer, firstAnswer, answerTo}
 use Rattle.rfc4737.specs.Runs.{counts}
 use Rattle.rfc4737.proofs.Arrivals.{length-firsts}
 use Rattle.rfc4737.proofs.Folds.{offset-le, largest-le, in-order-or-reordered, duplicate-or-first, closed-reordered, current-le, squares-le}
-use Rattle.listing.specs.Private.Within.{AnswerWithin, CountsWithin, LateWithin}
+use Rattle.listing.specs.Private.Within.{AnswerWithin, CountsWithin}
 use Rattle.sample.specs.Decode.{Decoded, refused, accepted, decode}
 use Rattle.sample.specs.declared.Layout.{Layout}
 use Rattle.sample.proofs.Accepted.{size-fits, time-fits}
 use Rattle.metrics.specs.Sample.{sizeOf}
-use Rattle.metrics.specs.Private.Sample.{arrivalAt, before, answerAt, Laid, Has}
+use Rattle.metrics.specs.Private.Sample.{arrivalAt, before, answerAt, Has}
 use Rattle.metrics.proofs.Records.{record-some}
 use Rattle.metrics.proofs.Follow.{before-length}
 

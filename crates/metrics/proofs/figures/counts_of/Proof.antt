@@ -1,12 +1,13 @@
 -- `counts_of` goes over the arrivals. The loop's invariant: the table has the packets that have arrived before i, `next` is their NextExp,
 -- and the counts are those of their answers. The measure is what is left of the arrivals. Assumes nothing.
-use mathlib.Core.Path.{_≡_, sym, ap, _∙_}
+use mathlib.Core.Path.{_≡_, sym, ap, ap₂, _∙_}
 use Prim.Native.Nat.{_≤_, _<_, _-_}
 use native.Mathlib.Omega.{arith}
 use denote.Ref.{now}
 use Rattle.rfc4737.specs.Runs.{counts}
 use Rattle.sample.specs.Decode.{decode}
 use Rattle.metrics.specs.Private.Sample.{before, Has}
+use Rattle.metrics.specs.Private.Steps.{countsBy}
 use borrow.Author.Needs.{needs}
 use Rattle.metrics.proofs.Passes.{answersTo, answers-start, answers-end, answers-length, counts-none, counts-small}
 use Rattle.metrics.proofs.Seen.{Seen, seen-start, seen-next, counts-seen}
@@ -67,7 +68,7 @@ loop-again c =
     let n = c .before .before .before .before .number .ensures in (
       omega (arith, here at .inside),
       rw (c .next-after .ensures) (seen-next _ _ _ (here at) _ _ (l .inv .1) _ (n .0) (n .2)),
-      c .before .counted .ensures ∙ rw (l .inv .2, at .kind-of .ensures) (sym (counts-seen _ _ _ (here at) _ _ (l .inv .1) _ (n .0) (n .2))),
+      c .before .counted .ensures ∙ ap₂ countsBy (l .inv .2) (at .kind-of .ensures) ∙ sym (counts-seen _ _ _ (here at) _ _ (l .inv .1) _ (n .0) (n .2)),
     )
 
 returns : tie.Need-returns Inv-loop μ-loop
