@@ -61,7 +61,7 @@ unfolding decimalOf
 more-digits n h = ap (λ (l : List ℕ). l ++ ((48 + n % 10) ∷ [])) (some n (n / 10) (omega arith) (omega arith))
 
 -- digits and one more read as ten times the number and the last digit
-value-more : (os : List ℕ) (o : ℕ) → decimalValue (os ++ (o ∷ [])) ≡ decimalValue os * 10 + (o - 48)
+pub value-more : (os : List ℕ) (o : ℕ) → decimalValue (os ++ (o ∷ [])) ≡ decimalValue os * 10 + (o - 48)
 unfolding decimalValue
 value-more os o = foldl-append _ 0 os (o ∷ [])
 

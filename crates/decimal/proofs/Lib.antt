@@ -2,3 +2,4 @@
 mod Cases
 pub mod Laws
 pub mod Backward
+pub mod Leading

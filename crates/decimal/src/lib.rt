@@ -1,12 +1,14 @@
-// The decimal digits of a number of 64 bits as ASCII octets, written into lent memory.
+// The decimal digits of a number of 64 bits as ASCII octets, written into lent memory; module `reading` reads them.
 ghost use mathlib.Core.Path.{_≡_};
 ghost use Prim.Native.Nat.{_+_, _%_, _≤_};
 ghost use lib.ListN.{length};
 ghost use Rattle.octets.specs.Memory.{put, splice};
 ghost use Rattle.decimal.specs.Decimal.{decimalOf};
 
+pub mod reading;
+
 // How many digits a number has, 1 to 20: four are cut off at a time.
-fn count(v: u64) -> usize
+pub fn count(v: u64) -> usize
     ensures { λ r. ⌜ r ≡ length (decimalOf v) ⌝ }
 {
     let mut rest = v;

@@ -1,0 +1,66 @@
+-- `decimal::reading::number_at` meets its contract. The loop's invariant: the digits up to `end` are passed, and `value` is their
+-- number. The measure is what is left of the octets. Assumes nothing.
+use Prim.Native.Nat.{_-_}
+use native.Mathlib.Omega.{arith}
+use borrow.Author.Needs.{needs}
+use borrow.Author.Tests.{not-true, not-false}
+use mathlib.Core.Path.{sym, _∙_}
+use lib.ListN.{length}
+use denote.Ref.{now}
+use Rattle.decimal.proofs.Leading.{digit-bounds, none-past, back, Passed, passed-none, passed-more, passed-all}
+use Rattle.decimal.proofs.reading.number_at.Statement.{statement}
+use Rattle.decimal.proofs.reading.number_at.Tie as tie
+
+abbrev Inv-loop : tie.InvT-loop
+Inv-loop s at value₀ end₀ value end = Passed s at value end
+
+abbrev μ-loop : tie.MeasureT-loop
+μ-loop s at value₀ end₀ value end = length s - end
+
+loop-holds : tie.Need-loop-holds Inv-loop μ-loop
+loop-holds c = passed-none _ _
+
+shared-slice-read-octet : tie.Need-shared-slice-read-octet Inv-loop μ-loop
+shared-slice-read-octet c = search needs
+
+is-digit-requires : tie.Need-is-digit-requires Inv-loop μ-loop
+is-digit-requires c κs = search needs
+
+returns : tie.Need-returns Inv-loop μ-loop
+returns c = (passed-all _ _ _ _ (c .before .before .before .before .loop .inv) (sym (c .before .is-digit .ensures) ∙ not-true _ (c .if1 .taken)), back)
+
+with-digit-requires : tie.Need-with-digit-requires Inv-loop μ-loop
+with-digit-requires c κs = digit-bounds _ (sym (c .before .is-digit .ensures) ∙ not-false _ (c .if1 .left))
+
+add-end : tie.Need-add-end Inv-loop μ-loop
+add-end c = search needs
+
+loop-less : tie.Need-loop-less Inv-loop μ-loop
+loop-less c = search needs
+
+loop-again : tie.Need-loop-again Inv-loop μ-loop
+loop-again c =
+    passed-more _ _ _ _ (c .before .before .before .before .before .loop .inv) (c .with-digit .result)
+    (c .before .before .before .before .loop-test .taken)
+    (sym (c .before .before .is-digit .ensures) ∙ not-false _ (c .before .if1 .left)) (c .with-digit .ensures)
+
+returns-2 : tie.Need-returns-2 Inv-loop μ-loop
+returns-2 c =
+    let past = none-past (now (c .before .before .before .args .s)) (c .before .loop .end) (c .loop-test .left) in
+    (passed-all _ _ _ _ (c .before .loop .inv) past, back)
+
+pub number-at-spec : {M : Type 1} → statement M
+number-at-spec =
+    tie.close
+    (tie.spec
+    Inv-loop
+    μ-loop
+    loop-holds
+    shared-slice-read-octet
+    is-digit-requires
+    returns
+    with-digit-requires
+    add-end
+    loop-less
+    loop-again
+    returns-2)

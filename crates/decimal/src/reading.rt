@@ -1,0 +1,60 @@
+// Decimal digits read from octets. Their number is exact as far as 64 bits hold it, and is the greatest number of 64 bits
+// from there on, so any number of digits is taken.
+ghost use mathlib.Core.Path.{_≡_};
+ghost use Prim.Native.Nat.{_+_, _*_, _-_, _≤_, min};
+ghost use Rattle.decimal.specs.Reading.{digit, wordMost, numberAt, ReadsBack};
+
+// The greatest number of 64 bits, and the greatest of which ten times fit.
+const WORD_MOST: u64 = 18_446_744_073_709_551_615;
+
+const TENS_MOST: u64 = 1_844_674_407_370_955_161;
+
+// Digits: where they end, and their number, or the greatest of 64 bits where it is greater.
+pub struct Number {
+    pub end: usize,
+    pub value: u64,
+}
+
+// Whether an octet is a decimal digit.
+fn is_digit(octet: u8) -> bool
+    ensures { λ r. ⌜ r ≡ digit octet ⌝ }
+{
+    if octet < 48 {
+        return false;
+    }
+    octet <= 57
+}
+
+// A number and one digit more.
+fn with_digit(value: u64, octet: u8) -> u64
+    requires { ⌜ (48 ≤ octet) × (octet ≤ 57) ⌝ }
+    ensures { λ r. ⌜ r ≡ min (value * 10 + (octet - 48)) wordMost ⌝ }
+{
+    if TENS_MOST < value {
+        return WORD_MOST;
+    }
+    let tens = value * 10;
+    let last = (octet - 48) as u64;
+    if WORD_MOST - tens < last {
+        return WORD_MOST;
+    }
+    tens + last
+}
+
+// The digits that stand from a place on, and their number; where none stands, they end there and the number is 0.
+pub fn number_at(s: &[u8], at: usize) -> Number
+    ensures { λ r. ⌜ r ≡ numberAt at (now (s .entry)) ⌝ }
+    ensures back { λ _. ⌜ ReadsBack ⌝ }
+{
+    let mut value: u64 = 0;
+    let mut end = at;
+    while end < s.len() {
+        let octet = s[end];
+        if !is_digit(octet) {
+            return Number { end, value };
+        }
+        value = with_digit(value, octet);
+        end += 1;
+    }
+    Number { end, value }
+}
