@@ -53,6 +53,10 @@ stateFull = 11
 abbrev pub listsDiffer : ℕ
 listsDiffer = 12
 
+-- 14: a line of a text log is not of its form, or a value is over the field's range
+abbrev pub lineMalformed : ℕ
+lineMalformed = 14
+
 -- whether a number lies in low to high
 abbrev pub within : ℕ → ℕ → ℕ → Bool
 within low high n = leb low n && leb n high

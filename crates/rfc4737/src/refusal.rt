@@ -25,3 +25,5 @@ pub const STATE_UNFIT: u32 = 10;
 pub const STATE_FULL: u32 = 11;
 
 pub const LISTS_DIFFER: u32 = 12;
+
+pub const LINE_MALFORMED: u32 = 14;

@@ -1,0 +1,197 @@
+-- A log that is not refused: it has the form, its arrivals are not refused, and with payload sizes of one size they are a fit
+-- sample. Assumes nothing.
+use Prim.Native.Nat.{ℕ, zero, suc, _+_, _^_, _≤_, _<_}
+use native.Mathlib.Nat.{add-zero, zero-add}
+use native.Mathlib.Omega.{arith}
+use mathlib.Core.Path.{_≡_, refl, sym, ap, _∙_, subst}
+use mathlib.Core.List.{List, [], _∷_, _++_, map}
+use borrow.Author.Tests.{leb-false}
+use lib.Dec.{leb, ltb}
+use lib.ListN.{length, getD, take, length-map, replicate, length-replicate}
+use Rattle.octets.specs.Memory.{over}
+use Rattle.octets.specs.Below.{Below}
+use Rattle.octets.proofs.Below.{below-nil, below-cons}
+use Rattle.octets.proofs.Memory.{over-read}
+use Rattle.rfc4737.specs.declared.Arrival.{Arrival}
+use Rattle.rfc4737.specs.Judge.{sentMost, arrivalsMost, numbersOf, timesOf, arrivalsOf, judgeOne, judge, judgeSent, judgeArrivals, refusalOfLists}
+use Rattle.rfc4737.specs.Refusals.{outside, inCase, firstOf, manyArrivals, sentOutside, outputShort}
+use Rattle.rfc4737.specs.Times.{nextReference}
+use Rattle.rfc4737.proofs.Due.{first-none, first-next, first-one, case-none, not-outside, between}
+use Rattle.rfc4737.proofs.Judged.{fit-lists}
+use Rattle.rfc4737.proofs.Pairs.{arrivals-back}
+use Rattle.sample.specs.Format.{Sample, fileOf}
+use Rattle.sample.specs.Judge.{judgeLabel, judgeSample, Fit}
+use Rattle.sample.specs.Decode.{decode, accepted}
+use Rattle.sample.specs.Calls.{refusalFrom, refusalInto, octetsInto, unlessRefused, WrittenTo}
+use Rattle.sample.specs.declared.Written.{Written}
+use Rattle.sample.proofs.Exact.{decode-file}
+use Rattle.sample.proofs.RoundTrips.{none-from}
+use Rattle.textlog.specs.Form.{LineFits, Log, none, after}
+use Rattle.textlog.specs.Decode.{Decoded, malformed, arrived, decodeLine, lines, arrivalOr0, arrivalsOfLines, arrivalsIn, judgeLine, unless, judgeLines, judgeLog}
+use Rattle.textlog.specs.RoundTrip.{sampleFrom, Writable, FitSample}
+use Rattle.textlog.specs.declared.Imported.{Imported}
+use Rattle.textlog.proofs.Lines.{decoded, joined, lines-joined}
+use Rattle.textlog.proofs.Judging.{unless-split, judge-first}
+use Rattle.textlog.proofs.Filling.{lines-length}
+
+-- ---- lines of which none is refused
+
+-- what holds of them, where so many lines come before them
+pub record Lines (k count reference : ℕ) (ls : List (List ℕ)) : Type 0 where
+  pub answer : judgeLines k count reference ls ≡ record { refusal = 0; arrivals = count + length ls; line = 0 }
+  pub form : Log (joined ls) (arrivalsOfLines ls)
+  pub decodes : (j : ℕ) → j < length ls → decodeLine (getD ls j []) ≡ malformed → ⊥
+  pub judged : judge k reference (arrivalsOfLines ls) ≡ 0
+  pub times : Below (2 ^ 64) (timesOf (arrivalsOfLines ls))
+  pub few : count + length ls ≤ arrivalsMost
+
+-- no line
+no-lines : (k count reference : ℕ) → count ≤ arrivalsMost → Lines k count reference []
+unfolding judgeLines judge joined arrivalsOfLines
+no-lines k count reference h =
+    record {
+      answer = ap (λ (n : ℕ). record { refusal = 0; arrivals = n; line = 0 }) (sym (add-zero count));
+      form = none;
+      decodes = λ j b m. omega arith;
+      judged = refl;
+      times = below-nil (2 ^ 64) (omega arith);
+      few = omega arith;
+    }
+
+-- a line of which nothing is refused, and others
+one-line : (k count reference : ℕ) (l : List ℕ) (ls : List (List ℕ)) (a : Arrival) → decodeLine l ≡ arrived a → judgeOne k reference a ≡ 0
+    → judgeLines k count reference (l ∷ ls) ≡ judgeLines k (count + 1) (nextReference reference (a .time)) ls
+    → Lines k (count + 1) (nextReference reference (a .time)) ls → Lines k count reference (l ∷ ls)
+unfolding judge joined arrivalsOfLines
+one-line k count reference l ls a d j y r =
+    let n : count + 1 + length ls ≡ count + suc (length ls) = omega arith in
+    let f = decoded l a d in
+    let same : arrivalsOfLines (l ∷ ls) ≡ a ∷ arrivalsOfLines ls = ap (λ (x : Decoded). arrivalOr0 x ∷ arrivalsOfLines ls) d in
+    let fits : Below (2 ^ 64) (timesOf (a ∷ arrivalsOfLines ls)) =
+    below-cons (2 ^ 64) (a .time) (timesOf (arrivalsOfLines ls)) (omega (arith, f .time)) (r .times) in
+    record {
+      answer = y ∙ r .answer ∙ ap (λ (n : ℕ). record { refusal = 0; arrivals = n; line = 0 }) n;
+      form = subst (λ (x : List Arrival). Log (l ++ joined ls) x) (sym same) (after f (r .form));
+      decodes = first;
+      judged = ap (judge k reference) same ∙ first-next (judgeOne k reference a) (judge k (nextReference reference (a .time)) (arrivalsOfLines ls) ∷ []) j ∙ first-one _ ∙ r .judged;
+      times = subst (λ (x : List Arrival). Below (2 ^ 64) (timesOf x)) (sym same) fits;
+      few = omega (arith, r .few);
+    }
+  where
+    first : (i : ℕ) → i < suc (length ls) → decodeLine (getD (l ∷ ls) i []) ≡ malformed → ⊥
+    first zero b m = absurd (let z : _≡_ {A = ℕ} 0 1 = cc in omega arith)
+    first (suc i) b m = r .decodes i (omega arith) m
+
+pub accepted-lines : (k count reference : ℕ) (ls : List (List ℕ)) → count ≤ arrivalsMost → judgeLines k count reference ls .refusal ≡ 0
+    → Lines k count reference ls
+accepted-lines k count reference [] h e = no-lines k count reference h
+accepted-lines k count reference (l ∷ ls) h e =
+    go (decodeLine l) refl (accepted-lines k (count + 1) (nextReference reference (arrivalOr0 (decodeLine l) .time)) ls)
+  where
+    go : (d : Decoded) → decodeLine l ≡ d
+        → (count + 1 ≤ arrivalsMost → judgeLines k (count + 1) (nextReference reference (arrivalOr0 d .time)) ls .refusal ≡ 0
+        → Lines k (count + 1) (nextReference reference (arrivalOr0 d .time)) ls)
+        → Lines k count reference (l ∷ ls)
+    go malformed d f =
+        let z : _≡_ {A = ℕ} 14 0 = ap (λ (y : Imported). y .refusal) (sym (judge-first k count reference l ls malformed d)) ∙ e in
+        absurd (omega arith)
+    go (arrived a) d f =
+        let y = judge-first k count reference l ls (arrived a) d in
+        let s = unless-split (judgeLine k count reference (arrived a)) (count + 1) (judgeLines k (count + 1) (nextReference reference (a .time)) ls) (ap (λ (y : Imported). y .refusal) (sym y) ∙ e) in
+        let p = first-none (inCase (leb arrivalsMost count) manyArrivals) (judgeOne k reference a ∷ []) (s .0) in
+        let few : count < arrivalsMost = leb-false arrivalsMost count (case-none (leb arrivalsMost count) manyArrivals (omega arith) (p .0)) in
+        one-line k count reference l ls a d (sym (first-one (judgeOne k reference a)) ∙ p .1) (y ∙ s .1) (f (omega arith) (s .2))
+
+-- ---- a log
+
+-- what holds of a log that is not refused
+pub record Accepted (k : ℕ) (log : List ℕ) : Type 0 where
+  pub sent : judgeSent k ≡ 0
+  pub least : 1 ≤ k
+  pub most : k ≤ sentMost
+  pub answer : judgeLog k log ≡ record { refusal = 0; arrivals = length (lines log); line = 0 }
+  pub form : Log log (arrivalsIn log)
+  pub inTurn : Lines k 0 0 (lines log)
+
+pub accepted-log : (k : ℕ) (log : List ℕ) → judgeLog k log .refusal ≡ 0 → Accepted k log
+unfolding judgeLog
+accepted-log k log e =
+    let s = unless-split (judgeSent k) 0 (judgeLines k 0 0 (lines log)) e in
+    let a = accepted-lines k 0 0 (lines log) (omega arith) (s .2) in
+    let b = between 1 sentMost k (case-none (outside 1 sentMost k) sentOutside (omega arith) (s .0)) in
+    record {
+      sent = s .0;
+      least = b .0;
+      most = b .1;
+      answer = s .1 ∙ a .answer ∙ ap (λ (n : ℕ). record { refusal = 0; arrivals = n; line = 0 }) (zero-add (length (lines log)));
+      form = subst (λ (x : List ℕ). Log x (arrivalsIn log)) (lines-joined log) (a .form);
+      inTurn = a;
+    }
+
+module _ (k : ℕ) (log : List ℕ) (e : judgeLog k log .refusal ≡ 0) where
+  few : length (arrivalsIn log) ≤ arrivalsMost
+  few = omega (arith, lines-length (lines log), accepted-log k log e .inTurn .few)
+
+  -- its arrivals, as lists, are not refused
+  pub accepted-lists : refusalOfLists k (numbersOf (arrivalsIn log)) (timesOf (arrivalsIn log)) ≡ 0
+  accepted-lists =
+      let a = accepted-log k log e in
+      let n : length (numbersOf (arrivalsIn log)) ≡ length (arrivalsIn log) = length-map (arrivalsIn log) _ in
+      let t : length (timesOf (arrivalsIn log)) ≡ length (arrivalsIn log) = length-map (arrivalsIn log) _ in
+      fit-lists k (numbersOf (arrivalsIn log)) (timesOf (arrivalsIn log)) (a .least) (a .most) (omega (arith, few)) (t ∙ sym n)
+      (ap (judge k 0) (arrivals-back (arrivalsIn log)) ∙ a .inTurn .judged)
+
+  -- with so many payload sizes of one size, they are a fit sample
+  pub fit-sample : (size : ℕ) → size < 2 ^ 16 → Fit (sampleFrom k size log)
+  unfolding judgeSample
+  fit-sample size h =
+      let a = accepted-log k log e in
+      let m : length (replicate k size) ≡ k = length-replicate k size in
+      let f : judgeArrivals (length (arrivalsIn log)) ≡ 0 = rw (not-outside 0 arrivalsMost (length (arrivalsIn log)) (omega arith) few) in
+      let z : judgeLabel 0 ≡ 0 = rw (not-outside 0 64 0 (omega arith) (omega arith)) in
+      record {
+        judged = rw (z, m, a .sent, f) (first-one _ ∙ a .inTurn .judged);
+        octets = below-nil 256 (omega arith);
+        sizes = below-replicate k;
+        times = a .inTurn .times;
+      }
+    where
+      below-replicate : (n : ℕ) → Below (2 ^ 16) (replicate n size)
+      below-replicate zero = below-nil (2 ^ 16) (omega arith)
+      below-replicate (suc n) = below-cons (2 ^ 16) size (replicate n size) h (below-replicate n)
+
+-- ---- a fit sample as the sample's writer writes it
+
+module _ (s : Sample) (fit : Fit s) where
+  -- from its lists, it is the sample
+  same : fileOf (record { label = s .label; sizes = s .sizes; arrivals = arrivalsOf (numbersOf (s .arrivals)) (timesOf (s .arrivals)) }) ≡ fileOf s
+  same = ap (λ (l : List Arrival). fileOf (record { label = s .label; sizes = s .sizes; arrivals = l })) (arrivals-back (s .arrivals))
+
+  -- 8 alone is due
+  short-alone : (room : ℕ) → refusalInto room (s .label) (s .sizes) (numbersOf (s .arrivals)) (timesOf (s .arrivals)) ≡ inCase (ltb room (length (fileOf s))) outputShort
+  unfolding refusalInto
+  short-alone room =
+      let short : ℕ = inCase (ltb room (length (fileOf (record { label = s .label; sizes = s .sizes; arrivals = arrivalsOf (numbersOf (s .arrivals)) (timesOf (s .arrivals)) })))) outputShort in
+      first-next (refusalFrom (s .label) (s .sizes) (numbersOf (s .arrivals)) (timesOf (s .arrivals))) (short ∷ []) (none-from s (fit .judged))
+      ∙ first-one short
+      ∙ ap (λ (x : List ℕ). inCase (ltb room (length x)) outputShort) same
+
+  pub fit-writable : Writable s
+  fit-writable = record { fit = fit; refusal = λ out out′ written w. w .refusal ∙ short-alone (length out); decodes = written-decodes }
+    where
+      written-decodes : (out out′ : List ℕ) (written : Written)
+          → WrittenTo (s .label) (s .sizes) (numbersOf (s .arrivals)) (timesOf (s .arrivals)) out written out′
+          → written .refusal ≡ 0 → decode (take (written .length) out′) ≡ accepted s
+      written-decodes out out′ written w z =
+          let i = sym (w .refusal) ∙ z in
+          let o : octetsInto (length out) (s .label) (s .sizes) (numbersOf (s .arrivals)) (timesOf (s .arrivals)) ≡ fileOf s =
+          ap (λ (r : ℕ). unlessRefused r (fileOf (record { label = s .label; sizes = s .sizes; arrivals = arrivalsOf (numbersOf (s .arrivals)) (timesOf (s .arrivals)) }))) i ∙ same in
+          let t : take (written .length) out′ ≡ fileOf s =
+          ap (λ (n : ℕ). take n out′) (w .octets ∙ ap length o)
+          ∙ ap (take (length (fileOf s))) (w .filled ∙ ap (λ (x : List ℕ). over x out) o)
+          ∙ over-read (fileOf s) out in
+          ap decode t ∙ decode-file s fit
+
+-- the arrivals of a log that is not refused are such a sample
+pub fit-log : (k : ℕ) (log : List ℕ) → FitSample k log
+fit-log k log size h e = fit-writable (sampleFrom k size log) (fit-sample k log e size h)

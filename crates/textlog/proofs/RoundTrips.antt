@@ -1,0 +1,172 @@
+-- A log of the form is read as its arrivals, a written log has the form, and so what is written reads back. Assumes nothing.
+use Prim.Native.Nat.{ℕ, _+_, _*_, _-_, _/_, _%_, _^_, _≤_, _<_}
+use native.Mathlib.Nat.{add-zero, zero-add}
+use native.Mathlib.Omega.{arith}
+use mathlib.Core.Path.{_≡_, refl, sym, ap, _∙_, subst}
+use mathlib.Core.List.{List, [], _∷_, _++_, append-assoc}
+use borrow.Author.Tests.{le-ltb}
+use lib.Dec.{ltb}
+use lib.ListN.{length, take, length-map}
+use Rattle.octets.specs.Memory.{over}
+use Rattle.octets.specs.Below.{Below}
+use Rattle.octets.proofs.Below.{below-tail}
+use Rattle.octets.proofs.Memory.{over-read}
+use Rattle.decimal.specs.Decimal.{decimalOf, decimalValue}
+use Rattle.decimal.proofs.Laws.{by-tens, one-digit, more-digits, reads-back}
+use Rattle.rfc4737.specs.declared.Arrival.{Arrival}
+use Rattle.rfc4737.specs.Judge.{arrivalsMost, numbersOf, timesOf, arrivalsOf, judge, refusalOfLists}
+use Rattle.rfc4737.specs.Refusals.{inCase, outputShort}
+use Rattle.rfc4737.specs.Times.{nextReference}
+use Rattle.rfc4737.proofs.Due.{first-none}
+use Rattle.rfc4737.proofs.Judged.{judge-split, one-split, ListsFit, lists-fit}
+use Rattle.rfc4737.proofs.Pairs.{arrivals-length, numbers-back, times-back, arrivals-back}
+use Rattle.sample.specs.Format.{itemOctets}
+use Rattle.sample.specs.Calls.{unlessRefused}
+use Rattle.textlog.specs.Form.{semicolon, comma, lineFeed, numberMost, Digits, one, more, byComma, thousandths, threeDigits, Time, parted, Line, line, LineFits, Log, none, after, lineOf, logOf}
+use Rattle.textlog.specs.Decode.{Decoded, decodeLine, lines, arrivalOr0, arrivalsOfLines, arrivalsIn, unless, judgeLines, judgeLog}
+use Rattle.textlog.specs.Calls.{listsShort, shortLast, importAnswer, arrivalsUnless, refusalInto, octetsInto}
+use Rattle.textlog.specs.RoundTrip.{ExactLog, ReadAgain}
+use Rattle.textlog.specs.declared.Imported.{Imported}
+use Rattle.textlog.proofs.Lines.{decodes, line-first}
+use Rattle.textlog.proofs.Judging.{judge-passed}
+use Rattle.textlog.proofs.Accepted.{accepted-log, accepted-lists}
+
+-- ---- a log of the form is read as its arrivals
+
+-- its arrivals
+form-arrivals : {log : List ℕ} {l : List Arrival} → Log log l → arrivalsIn log ≡ l
+unfolding lines arrivalsOfLines
+form-arrivals none = refl
+form-arrivals (after {l} {log} {a} {rest} f g) =
+    ap arrivalsOfLines (line-first (f .form) log)
+    ∙ ap (λ (d : Decoded). arrivalOr0 d ∷ arrivalsIn log) (decodes l a f)
+    ∙ ap (λ (y : List Arrival). a ∷ y) (form-arrivals g)
+
+-- where no arrival is refused, no line is
+form-judged : (k count reference : ℕ) {log : List ℕ} {l : List Arrival} → Log log l → judge k reference l ≡ 0 → count + length l ≤ arrivalsMost
+    → judgeLines k count reference (lines log) ≡ record { refusal = 0; arrivals = count + length l; line = 0 }
+unfolding lines judgeLines
+form-judged k count reference none j few = ap (λ (n : ℕ). record { refusal = 0; arrivals = n; line = 0 }) (sym (add-zero count))
+form-judged k count reference (after {l} {log} {a} {rest} f g) j few =
+    let s = judge-split k reference a rest j in
+    let n : count + 1 + length rest ≡ count + length (a ∷ rest) = omega arith in
+    ap (judgeLines k count reference) (line-first (f .form) log)
+    ∙ judge-passed k count reference l (lines log) a (decodes l a f) (omega arith) (s .0)
+    ∙ form-judged k (count + 1) (nextReference reference (a .time)) g (s .1) (omega arith)
+    ∙ ap (λ (n : ℕ). record { refusal = 0; arrivals = n; line = 0 }) n
+
+-- so the log is not refused where its arrivals, as lists, are not
+pub form-read : (k : ℕ) {log : List ℕ} {l : List Arrival} → Log log l → judge k 0 l ≡ 0 → ListsFit k (numbersOf l) (timesOf l)
+    → judgeLog k log ≡ record { refusal = 0; arrivals = length l; line = 0 }
+unfolding judgeLog
+form-read k {log} {l} g j f =
+    let n : length (numbersOf l) ≡ length l = length-map l _ in
+    ap (λ (x : ℕ). unless x 0 (judgeLines k 0 0 (lines log))) (f .sent)
+    ∙ form-judged k 0 0 g j (omega (arith, f .few))
+    ∙ ap (λ (n : ℕ). record { refusal = 0; arrivals = n; line = 0 }) (zero-add (length l))
+
+-- a log is not refused exactly if it has the form of arrivals of which nothing is refused
+pub exact-log : (k : ℕ) (log : List ℕ) → ExactLog k log
+exact-log k log l = (there, back)
+  where
+    there : (judgeLog k log .refusal ≡ 0) × (arrivalsIn log ≡ l) → Log log l × (refusalOfLists k (numbersOf l) (timesOf l) ≡ 0)
+    there h = (
+      subst (λ (x : List Arrival). Log log x) (h .1) (accepted-log k log (h .0) .form),
+      subst (λ (x : List Arrival). refusalOfLists k (numbersOf x) (timesOf x) ≡ 0) (h .1) (accepted-lists k log (h .0)),
+    )
+
+    back : Log log l × (refusalOfLists k (numbersOf l) (timesOf l) ≡ 0) → (judgeLog k log .refusal ≡ 0) × (arrivalsIn log ≡ l)
+    back h =
+        let f = lists-fit k (numbersOf l) (timesOf l) (h .1) in
+        let j : judge k 0 l ≡ 0 = ap (judge k 0) (sym (arrivals-back l)) ∙ f .judged in
+        (ap (λ (y : Imported). y .refusal) (form-read k (h .0) j f), form-arrivals (h .0))
+
+-- ---- a written log has the form
+
+digits-append : {a b : List ℕ} → Digits a → Digits b → Digits (a ++ b)
+digits-append (one h k) d = more h k d
+digits-append (more h k c) d = more h k (digits-append c d)
+
+-- one digit by its value, and one before others
+last-digit : (d : ℕ) → d ≤ 9 → Digits ((48 + d) ∷ [])
+last-digit d h = one {o = 48 + d} (omega arith) (omega arith)
+
+next-digit : (d : ℕ) {ds : List ℕ} → d ≤ 9 → Digits ds → Digits ((48 + d) ∷ ds)
+next-digit d h ds = more {o = 48 + d} (omega arith) (omega arith) ds
+
+-- a number in decimal
+digits-of : (n : ℕ) → Digits (decimalOf n)
+digits-of =
+    by-tens (λ (n : ℕ). Digits (decimalOf n)) (λ n h. rw (one-digit n h) (last-digit n (omega arith)))
+    (λ n h d. rw (more-digits n h) (digits-append d (last-digit (n % 10) (omega arith))))
+
+-- three decimals
+three-digits : (n : ℕ) → n < 1000 → (Digits (threeDigits n)) × (thousandths (threeDigits n) ≡ n)
+unfolding decimalValue
+three-digits n h =
+    (next-digit (n / 100) (omega arith) (next-digit (n / 10 % 10) (omega arith) (last-digit (n % 10) (omega arith))), omega arith)
+
+-- a written time
+time-form : (t : ℕ) → Time (decimalOf (t / 1000) ++ (comma ∷ threeDigits (t % 1000))) t
+time-form t =
+    let d = three-digits (t % 1000) (omega arith) in
+    let v : 1000 * decimalValue (decimalOf (t / 1000)) + thousandths (threeDigits (t % 1000)) ≡ t = omega (arith, reads-back (t / 1000), d .1) in
+    subst (λ (x : ℕ). Time (decimalOf (t / 1000) ++ (comma ∷ threeDigits (t % 1000))) x) v (parted (digits-of (t / 1000)) byComma (d .0) (omega arith))
+
+-- a written line
+line-form : (a : Arrival) → Line (lineOf a) (a .number) (a .time)
+unfolding lineOf
+line-form a =
+    let e : (decimalOf (a .time / 1000) ++ (comma ∷ threeDigits (a .time % 1000))) ++ (lineFeed ∷ []) ≡ decimalOf (a .time / 1000) ++ (comma ∷ (threeDigits (a .time % 1000) ++ (lineFeed ∷ []))) =
+    append-assoc (decimalOf (a .time / 1000)) (comma ∷ threeDigits (a .time % 1000)) (lineFeed ∷ []) in
+    subst (λ (x : List ℕ). Line (decimalOf (a .number) ++ (semicolon ∷ x)) (a .number) (a .time)) e
+    (subst (λ (x : ℕ). Line (decimalOf (a .number) ++ (semicolon ∷ ((decimalOf (a .time / 1000) ++ (comma ∷ threeDigits (a .time % 1000))) ++ (lineFeed ∷ [])))) x (a .time)) (reads-back (a .number)) (line (digits-of (a .number)) (time-form (a .time))))
+
+-- a written log, of arrivals that are not refused
+log-form : (k reference : ℕ) (l : List Arrival) → k ≤ numberMost → judge k reference l ≡ 0 → Below (2 ^ 64) (timesOf l) → Log (logOf l) l
+unfolding itemOctets
+log-form k reference [] h j b = none
+log-form k reference (a ∷ l) h j b =
+    let s = judge-split k reference a l j in
+    let o = one-split k reference a (s .0) in
+    after (record { form = line-form a; number = omega (arith, o .0 .1); time = omega (arith, b 0) })
+    (log-form k (nextReference reference (a .time)) l h (s .1) (below-tail (2 ^ 64) (a .time) (timesOf l) b))
+
+-- ---- what is written reads back
+
+-- an accepted log, where the lists have room
+import-accepted : (k : ℕ) (log numbers times : List ℕ) (n : ℕ) → judgeLog k log ≡ record { refusal = 0; arrivals = n; line = 0 }
+    → n ≤ length numbers → n ≤ length times
+    → importAnswer k (length numbers) (length times) log ≡ record { refusal = 0; arrivals = n; line = 0 }
+unfolding importAnswer listsShort
+import-accepted k log numbers times n e h m =
+    ap (λ (y : Imported). shortLast (length numbers) (length times) (y .refusal) y) e
+    ∙ (rw (le-ltb (length numbers) n h, le-ltb (length times) n m))
+
+pub read-again : (k : ℕ) (numbers times : List ℕ) → Below (2 ^ 64) times → ReadAgain k numbers times
+unfolding refusalInto
+read-again k numbers times b out out′ numbers₀ times₀ numbers′ times′ written read w z rn rt r =
+    let i : refusalInto k (length out) numbers times ≡ 0 = sym (w .refusal) ∙ z in
+    let f = lists-fit k numbers times (first-none (refusalOfLists k numbers times) (inCase (ltb (length out) (length (logOf (arrivalsOf numbers times)))) outputShort ∷ []) i .0) in
+    let o : octetsInto k (length out) numbers times ≡ logOf (arrivalsOf numbers times) = ap (λ (x : ℕ). unlessRefused x (logOf (arrivalsOf numbers times))) i in
+    let t : take (written .length) out′ ≡ logOf (arrivalsOf numbers times) =
+    ap (λ (n : ℕ). take n out′) (w .octets ∙ ap length o)
+    ∙ ap (take (length (logOf (arrivalsOf numbers times)))) (w .filled ∙ ap (λ (x : List ℕ). over x out) o)
+    ∙ over-read (logOf (arrivalsOf numbers times)) out in
+    let g = log-form k 0 (arrivalsOf numbers times) (omega (arith, f .most)) (f .judged) (rw (times-back numbers times (f .same)) b) in
+    let fn : ListsFit k (numbersOf (arrivalsOf numbers times)) (timesOf (arrivalsOf numbers times)) = rw (numbers-back numbers times (f .same), times-back numbers times (f .same)) f in
+    let l = arrivals-length numbers times (f .same) in
+    let j = form-read k g (f .judged) fn in
+    let y : read ≡ record { refusal = 0; arrivals = length numbers; line = 0 } =
+    r .answered
+    ∙ ap (importAnswer k (length numbers₀) (length times₀)) t
+    ∙ import-accepted k (logOf (arrivalsOf numbers times)) numbers₀ times₀ (length (arrivalsOf numbers times)) j (omega arith) (omega (arith, f .same))
+    ∙ ap (λ (n : ℕ). record { refusal = 0; arrivals = n; line = 0 }) l in
+    let a : arrivalsUnless (read .refusal) (arrivalsIn (take (written .length) out′)) ≡ arrivalsOf numbers times =
+    ap (λ (x : Imported). arrivalsUnless (x .refusal) (arrivalsIn (take (written .length) out′))) y
+    ∙ ap arrivalsIn t
+    ∙ form-arrivals g in (
+      y,
+      r .filledNumbers ∙ ap (λ (x : List Arrival). over (numbersOf x) numbers₀) a ∙ ap (λ (x : List ℕ). over x numbers₀) (numbers-back numbers times (f .same)),
+      r .filledTimes ∙ ap (λ (x : List Arrival). over (timesOf x) times₀) a ∙ ap (λ (x : List ℕ). over x times₀) (times-back numbers times (f .same)),
+    )

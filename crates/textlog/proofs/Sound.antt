@@ -1,0 +1,180 @@
+-- What is read of a text has the form of a line, and fits. Assumes nothing.
+use Prim.Native.Nat.{ℕ, zero, suc, _+_, _*_, _≤_, _<_}
+use native.Mathlib.Omega.{arith}
+use mathlib.Core.Bool.{Bool, true, false, cond}
+use mathlib.Core.Path.{_≡_, refl, sym, ap, _∙_, subst}
+use mathlib.Core.List.{List, [], _∷_, _++_, append-assoc}
+use borrow.Author.Tests.{leb-true, ltb-false, eqb-true, eqb-false}
+use lib.Dec.{leb, ltb, eqb}
+use lib.ListN.{length, length-append}
+use lib.Seq.{append-snoc}
+use Rattle.decimal.specs.Reading.{digitCount, leading, leadingValue}
+use Rattle.rfc4737.specs.Refusals.{outside}
+use Rattle.rfc4737.proofs.Due.{between}
+use Rattle.textlog.specs.Form.{semicolon, lineFeed, numberMost, timeMost, Digits, Mark, thousandths, Time, whole, parted, Line, line}
+use Rattle.textlog.specs.Decode.{mark, octetAfter, textAfter, inRange, fractionIn, timeIn, lineIn}
+use Rattle.textlog.specs.declared.reading.Found.{Found}
+use Rattle.textlog.specs.declared.reading.Found.the-variants.{Read, Malformed}
+use Rattle.textlog.proofs.Begun.{digits-lead, begins, is-mark, mark-passes}
+
+-- ---- tests passed on the way to a line
+
+-- one that must not hold
+kept : (b : Bool) {r : Found} {n τ e : ℕ} → cond b Malformed r ≡ Read n τ e → (b ≡ false) × (r ≡ Read n τ e)
+kept true h = absurd (let z : _≡_ {A = ℕ} 0 1 = cc in omega arith)
+kept false h = (refl, h)
+
+-- one that must hold
+passed : (b : Bool) {r : Found} {n τ e : ℕ} → cond b r Malformed ≡ Read n τ e → (b ≡ true) × (r ≡ Read n τ e)
+passed true h = (refl, h)
+passed false h = absurd (let z : _≡_ {A = ℕ} 0 1 = cc in omega arith)
+
+-- not 0
+positive : (n : ℕ) → eqb n 0 ≡ false → 0 < n
+positive zero e = absurd (eqb-false 0 0 e refl)
+positive (suc n) e = omega arith
+
+-- a time in range, and the rest of the line
+record Ranged (n τ e n₂ τ₂ e₂ : ℕ) : Type 0 where
+  pub number : n ≡ n₂
+  pub time : τ ≡ τ₂
+  pub end : e ≡ e₂
+  pub fits : τ₂ ≤ timeMost
+
+range-sound : (n τ e : ℕ) {n₂ τ₂ e₂ : ℕ} → inRange n τ e ≡ Read n₂ τ₂ e₂ → Ranged n τ e n₂ τ₂ e₂
+unfolding inRange
+range-sound n τ e {n₂} {τ₂} {e₂} h =
+    let p = passed (leb τ timeMost) h in
+    let q : Read n τ e ≡ Read n₂ τ₂ e₂ = p .1 in
+    let s : τ ≡ τ₂ = cc in
+    record { number = (cc); time = s; end = (cc); fits = omega (arith, leb-true τ timeMost (p .0)) }
+
+-- ---- decimals, a time and a line at the start of a text
+
+record FractionStands (number w at : ℕ) (t : List ℕ) (n τ end : ℕ) : Type 0 where
+  pub ds : List ℕ
+  pub rest : List ℕ
+  pub text : t ≡ ds ++ (lineFeed ∷ rest)
+  pub form : Digits ds
+  pub few : length ds ≤ 3
+  pub value : 1000 * w + thousandths ds ≡ τ
+  pub same : number ≡ n
+  pub ends : end ≡ at + length ds + 1
+  pub fits : τ ≤ timeMost
+
+fraction-sound : (number w at : ℕ) (t : List ℕ) {n τ e : ℕ} → fractionIn number w at t ≡ Read n τ e
+    → FractionStands number w at t n τ e
+unfolding fractionIn
+fraction-sound number w at t h =
+    let p = kept (outside 1 3 (digitCount t)) h in
+    let q = passed (eqb (octetAfter t) lineFeed) (p .1) in
+    let b = between 1 3 (digitCount t) (p .0) in
+    let g = begins t lineFeed (eqb-true _ _ (q .0)) (omega arith) in
+    let s = range-sound number _ _ (q .1) in
+    record {
+      ds = leading t;
+      rest = textAfter t;
+      text = g .text;
+      form = digits-lead t (omega arith);
+      few = rw (g .long) (b .1);
+      value = s .time;
+      same = s .number;
+      ends = sym (s .end) ∙ ap (λ (k : ℕ). at + k + 1) (sym (g .long));
+      fits = s .fits;
+    }
+
+record TimeStands (number at : ℕ) (t : List ℕ) (n τ end : ℕ) : Type 0 where
+  pub ts : List ℕ
+  pub rest : List ℕ
+  pub text : t ≡ ts ++ (lineFeed ∷ rest)
+  pub form : Time ts τ
+  pub same : number ≡ n
+  pub ends : end ≡ at + length ts + 1
+  pub fits : τ ≤ timeMost
+
+time-sound : (number at : ℕ) (t : List ℕ) {n τ e : ℕ} → timeIn number at t ≡ Read n τ e → TimeStands number at t n τ e
+unfolding timeIn
+time-sound number at t {n} {τ} {e} h =
+    let p = kept (eqb (digitCount t) 0) h in
+    go (digits-lead t (positive (digitCount t) (p .0))) (eqb (octetAfter t) lineFeed) refl (p .1)
+  where
+    -- a line feed follows the digits
+    plain : Digits (leading t) → octetAfter t ≡ lineFeed → Ranged number (1000 * leadingValue t) (at + digitCount t + 1) n τ e
+        → TimeStands number at t n τ e
+    plain d o s =
+        let g = begins t lineFeed o (omega arith) in
+        record {
+          ts = leading t;
+          rest = textAfter t;
+          text = g .text;
+          form = subst (λ (x : ℕ). Time (leading t) x) (s .time) (whole d);
+          same = s .number;
+          ends = sym (s .end) ∙ ap (λ (k : ℕ). at + k + 1) (sym (g .long));
+          fits = s .fits;
+        }
+
+    -- a mark and decimals do
+    marked : Digits (leading t) → Mark (octetAfter t)
+        → FractionStands number (leadingValue t) (at + digitCount t + 1) (textAfter t) n τ e
+        → TimeStands number at t n τ e
+    marked d m f =
+        let g = begins t (octetAfter t) refl (mark-passes m .some) in
+        let ts : List ℕ = leading t ++ (octetAfter t ∷ f .ds) in
+        let l : length (leading t ++ (octetAfter t ∷ f .ds)) ≡ digitCount t + suc (length (f .ds)) =
+        length-append (leading t) (octetAfter t ∷ f .ds) ∙ ap (λ (k : ℕ). k + suc (length (f .ds))) (g .long) in
+        record {
+          ts = leading t ++ (octetAfter t ∷ f .ds);
+          rest = f .rest;
+          text = g .text
+              ∙ ap (λ (x : List ℕ). leading t ++ (octetAfter t ∷ x)) (f .text)
+              ∙ sym (append-assoc (leading t) (octetAfter t ∷ f .ds) (lineFeed ∷ f .rest));
+          form = subst (λ (x : ℕ). Time (leading t ++ (octetAfter t ∷ f .ds)) x) (f .value) (parted d m (f .form) (f .few));
+          same = f .same;
+          ends = omega (arith, f .ends);
+          fits = f .fits;
+        }
+
+    go : Digits (leading t) → (b : Bool) → eqb (octetAfter t) lineFeed ≡ b
+        → cond b (inRange number (1000 * leadingValue t) (at + digitCount t + 1))
+        (cond (mark (octetAfter t)) (fractionIn number (leadingValue t) (at + digitCount t + 1) (textAfter t)) Malformed)
+        ≡ Read n τ e
+        → TimeStands number at t n τ e
+    go d true o h = plain d (eqb-true _ _ o) (range-sound number _ _ h)
+    go d false o h =
+        let p = passed (mark (octetAfter t)) h in
+        marked d (is-mark (octetAfter t) (p .0)) (fraction-sound number _ _ (textAfter t) (p .1))
+
+-- a line stands at the start of a text, at the place `at`, and ends before `end`
+pub record Stands (at : ℕ) (t : List ℕ) (n τ end : ℕ) : Type 0 where
+  pub text : List ℕ
+  pub rest : List ℕ
+  pub whole : t ≡ text ++ rest
+  pub form : Line text n τ
+  pub ends : end ≡ at + length text
+  pub number : n ≤ numberMost
+  pub time : τ ≤ timeMost
+
+pub sound : (at : ℕ) (t : List ℕ) {n τ e : ℕ} → lineIn at t ≡ Read n τ e → Stands at t n τ e
+unfolding lineIn
+sound at t {n} {τ} {e} h =
+    let p = kept (eqb (digitCount t) 0) h in
+    let q = kept (ltb numberMost (leadingValue t)) (p .1) in
+    let r = passed (eqb (octetAfter t) semicolon) (q .1) in
+    let g = begins t semicolon (eqb-true _ _ (r .0)) (omega arith) in
+    let s = time-sound (leadingValue t) (at + digitCount t + 1) (textAfter t) (r .1) in
+    let d = digits-lead t (positive (digitCount t) (p .0)) in
+    let l : length (leading t ++ (semicolon ∷ (s .ts ++ (lineFeed ∷ [])))) ≡ digitCount t + suc (length (s .ts) + 1) =
+    length-append (leading t) _
+    ∙ ap (λ (k : ℕ). k + suc (length (s .ts ++ (lineFeed ∷ [])))) (g .long)
+    ∙ ap (λ (k : ℕ). digitCount t + suc k) (length-append (s .ts) (lineFeed ∷ [])) in
+    record {
+      text = leading t ++ (semicolon ∷ (s .ts ++ (lineFeed ∷ [])));
+      rest = s .rest;
+      whole = g .text
+          ∙ ap (λ (x : List ℕ). leading t ++ (semicolon ∷ x)) (s .text ∙ sym (append-snoc (s .ts) lineFeed (s .rest)))
+          ∙ sym (append-assoc (leading t) (semicolon ∷ (s .ts ++ (lineFeed ∷ []))) (s .rest));
+      form = subst (λ (x : ℕ). Line (leading t ++ (semicolon ∷ (s .ts ++ (lineFeed ∷ [])))) x τ) (s .same) (line d (s .form));
+      ends = omega (arith, s .ends);
+      number = omega (arith, ltb-false numberMost (leadingValue t) (q .0), s .same);
+      time = s .fits;
+    }

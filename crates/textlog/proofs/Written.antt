@@ -1,0 +1,67 @@
+-- The written form: the length of a line, a line put in parts, and the log of a list of arrivals, one line more. Assumes nothing.
+use Prim.Native.Nat.{ℕ, zero, suc, _+_, _*_, _-_, _/_, _%_, _^_, _≤_, _<_}
+use native.Mathlib.Omega.{arith}
+use mathlib.Core.Path.{_≡_, refl, sym, ap, _∙_, subst}
+use mathlib.Core.List.{List, [], _∷_, _++_, append-assoc}
+use lib.ListN.{length, getD, take, drop, length-append, take-append-drop}
+use lib.Seq.{take-all, append-snoc}
+use Rattle.octets.specs.Memory.{over, put}
+use Rattle.octets.proofs.Memory.{put-next, put-over}
+use Rattle.decimal.specs.Decimal.{decimalOf}
+use Rattle.decimal.proofs.Laws.{at-most-20}
+use Rattle.rfc4737.specs.declared.Arrival.{Arrival}
+use Rattle.rfc4737.specs.Judge.{arrivalsOf}
+use Rattle.sample.specs.Format.{itemOctets}
+use Rattle.rfc4737.proofs.Pairs.{arrivals-getD, arrivals-length}
+use Rattle.sample.proofs.Items.{octets-append, octets-snoc}
+use Rattle.textlog.specs.Form.{lineOf, logOf}
+
+-- the length of a line
+pub line-long : (a : Arrival) → length (lineOf a) ≡ length (decimalOf (a .number)) + length (decimalOf (a .time / 1000)) + 6
+unfolding lineOf
+line-long a =
+    let t : List ℕ = 44 ∷ (48 + a .time % 1000 / 100) ∷ (48 + a .time % 1000 / 10 % 10) ∷ (48 + a .time % 1000 % 10) ∷ 10 ∷ [] in
+    omega (arith, length-append (decimalOf (a .number)) (59 ∷ (decimalOf (a .time / 1000) ++ t)), length-append (decimalOf (a .time / 1000)) t)
+
+-- a line put in four parts
+pub put-parts : (at first third : ℕ) (x y z old : List ℕ) {o₁ o₂ o₃ o₄ : List ℕ} → at + length (x ++ (59 ∷ (y ++ z))) ≤ length old
+    → first ≡ at + length x → third ≡ first + 1 + length y
+    → o₁ ≡ put at x old → o₂ ≡ put first (59 ∷ []) o₁ → o₃ ≡ put (first + 1) y o₂ → o₄ ≡ put third z o₃ → o₄ ≡ put at (x ++ (59 ∷ (y ++ z))) old
+put-parts at first third x y z old {o₁} {o₂} {o₃} room f t p q r s =
+    let n = length-append x (59 ∷ (y ++ z)) in
+    let m = length-append y z in
+    let l₁ = length-append x (59 ∷ []) in
+    let l₂ = length-append (x ++ (59 ∷ [])) y in
+    let e₂ : o₂ ≡ put at (x ++ (59 ∷ [])) old =
+    q ∙ ap (put first (59 ∷ [])) p ∙ put-next at first x (59 ∷ []) old (omega arith) (omega arith) in
+    let e₃ : o₃ ≡ put at ((x ++ (59 ∷ [])) ++ y) old =
+    r ∙ ap (put (first + 1) y) e₂ ∙ put-next at (first + 1) (x ++ (59 ∷ [])) y old (omega arith) (omega arith) in
+    s ∙ ap (put third z) e₃ ∙ put-next at third ((x ++ (59 ∷ [])) ++ y) z old (omega arith) (omega arith)
+    ∙ ap (λ (l : List ℕ). put at l old) (append-assoc (x ++ (59 ∷ [])) y z ∙ append-snoc x 59 (y ++ z))
+
+-- ---- the log of two lists, after i lines
+
+module _ (numbers times : List ℕ) (same : length times ≡ length numbers) (i : ℕ) where
+  -- at most the whole
+  pub log-part : length (logOf (take i (arrivalsOf numbers times))) ≤ length (logOf (arrivalsOf numbers times))
+  log-part =
+      let l = arrivalsOf numbers times in
+      let e : logOf (arrivalsOf numbers times) ≡ logOf (take i (arrivalsOf numbers times)) ++ logOf (drop i (arrivalsOf numbers times)) =
+      ap logOf (sym (take-append-drop i (arrivalsOf numbers times))) ∙ octets-append lineOf (take i (arrivalsOf numbers times)) (drop i (arrivalsOf numbers times)) in
+      omega (arith, ap length e, length-append (logOf (take i (arrivalsOf numbers times))) (logOf (drop i (arrivalsOf numbers times))))
+
+  -- one line more
+  pub log-next : i < length numbers
+      → logOf (take (i + 1) (arrivalsOf numbers times)) ≡ logOf (take i (arrivalsOf numbers times)) ++ lineOf (record { number = getD numbers i 0; time = getD times i 0 })
+  log-next h =
+      octets-snoc lineOf (arrivalsOf numbers times) i (record { number = 0; time = 0 }) (omega (arith, arrivals-length numbers times same))
+      ∙ ap (λ (a : Arrival). logOf (take i (arrivalsOf numbers times)) ++ lineOf a) (sym (arrivals-getD numbers times i (record { number = 0; time = 0 }) same h))
+
+  -- its length
+  pub long-next : i < length numbers
+      → length (logOf (take (i + 1) (arrivalsOf numbers times))) ≡ length (logOf (take i (arrivalsOf numbers times))) + length (lineOf (record { number = getD numbers i 0; time = getD times i 0 }))
+  long-next h = ap length (log-next h) ∙ length-append (logOf (take i (arrivalsOf numbers times))) (lineOf (record { number = getD numbers i 0; time = getD times i 0 }))
+
+  -- at the end
+  pub log-all : length numbers ≤ i → logOf (take i (arrivalsOf numbers times)) ≡ logOf (arrivalsOf numbers times)
+  log-all h = ap logOf (take-all i (arrivalsOf numbers times) (omega (arith, arrivals-length numbers times same)))

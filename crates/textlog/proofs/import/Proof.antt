@@ -1,0 +1,74 @@
+-- `textlog::import` meets its contract: the log is refused, a list is too short, or both are filled. Assumes nothing.
+use mathlib.Core.Path.{sym, _∙_}
+use borrow.Author.Needs.{needs}
+use denote.Ref.{now}
+use Rattle.textlog.proofs.Lines.{exact-line}
+use Rattle.textlog.proofs.RoundTrips.{exact-log}
+use Rattle.textlog.proofs.Accepted.{fit-log}
+use Rattle.textlog.proofs.Answers.{import-refused, import-short, fillable, import-filled}
+use Rattle.textlog.proofs.import.Statement.{statement}
+use Rattle.textlog.proofs.import.Tie as tie
+
+judge-log-requires : tie.Need-judge-log-requires
+judge-log-requires c κs = search needs
+
+returns : tie.Need-returns
+returns c =
+    let a = c .before .before .before .before .before .before .args in
+    let j = c .before .before .judge-log in (
+      import-refused (a .k) (now (a .log)) (now (a .numbers)) (now (a .times)) (j .result) (j .ensures) (c .if1 .taken),
+      ((exact-line, exact-log (a .k) (now (a .log))), fit-log (a .k) (now (a .log))),
+    )
+
+too-short-requires : tie.Need-too-short-requires
+too-short-requires c κs = search needs
+
+refused-requires : tie.Need-refused-requires
+refused-requires c κs = search needs
+
+returns-2 : tie.Need-returns-2
+returns-2 c =
+    let a = c .before .before .before .before .before .before .before .before .before .args in
+    let j = c .before .before .before .before .before .judge-log in
+    let short = sym (c .before .before .too-short .ensures) ∙ c .before .if2 .taken in (
+      import-short (a .k) (now (a .log)) (now (a .numbers)) (now (a .times)) (j .result) (j .ensures) (c .before .before .before .if1 .left) short (c .refused .ensures),
+      ((exact-line, exact-log (a .k) (now (a .log))), fit-log (a .k) (now (a .log))),
+    )
+
+fill-requires : tie.Need-fill-requires
+fill-requires c κs =
+    let a = c .before .before .before .before .before .before .before .before .before .before .args in
+    let j = c .before .before .before .before .before .before .judge-log in
+    let room = sym (c .before .before .before .too-short .ensures) ∙ c .before .before .if2 .left in
+    fillable (a .k) (now (a .log)) (now (a .numbers)) (now (a .times)) (j .result) (j .ensures) (c .before .before .before .before .if1 .left) room
+
+same-length : tie.Need-same-length
+same-length c = search needs
+
+same-length-2 : tie.Need-same-length-2
+same-length-2 c = search needs
+
+returns-3 : tie.Need-returns-3
+returns-3 c =
+    let a = c .before .before .before .before .before .before .before .before .before .before .before .before .before .before .before .args in
+    let j = c .before .before .before .before .before .before .before .before .before .before .before .judge-log in
+    let none = c .before .before .before .before .before .before .before .before .before .if1 .left in
+    let room = sym (c .before .before .before .before .before .before .before .before .too-short .ensures) ∙ c .before .before .before .before .before .before .before .if2 .left in
+    let f = c .before .before .before .before .fill .ensures in (
+      import-filled (a .k) (now (a .log)) (now (a .numbers)) (now (a .times)) (j .result) (j .ensures) none room (f .0) (f .1),
+      ((exact-line, exact-log (a .k) (now (a .log))), fit-log (a .k) (now (a .log))),
+    )
+
+pub import-spec : {M : Type 1} → statement M
+import-spec =
+    tie.close
+    (tie.spec
+    judge-log-requires
+    returns
+    too-short-requires
+    refused-requires
+    returns-2
+    fill-requires
+    same-length
+    same-length-2
+    returns-3)

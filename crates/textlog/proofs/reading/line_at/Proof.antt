@@ -1,0 +1,67 @@
+-- `textlog::reading::line_at` meets its contract: each `return` is a case of `lineIn`. Assumes nothing.
+use native.Mathlib.Omega.{arith}
+use mathlib.Core.Path.{sym, _∙_}
+use borrow.Author.Needs.{needs}
+use denote.Ref.{now}
+use Rattle.textlog.proofs.Places.{within-log, line-none, line-over, line-other, line-time}
+use Rattle.textlog.proofs.reading.line_at.Statement.{statement}
+use Rattle.textlog.proofs.reading.line_at.Tie as tie
+
+number-at-requires : tie.Need-number-at-requires
+number-at-requires c κs = search needs
+
+returns : tie.Need-returns
+returns c =
+    let a = c .before .before .before .args in
+    let r = c .before .number-at in
+    line-none (now (a .log)) (a .at) (r .result) (r .ensures .0) (c .if1 .taken)
+
+returns-2 : tie.Need-returns-2
+returns-2 c =
+    let a = c .before .before .before .before .args in
+    let r = c .before .before .number-at in
+    line-over (now (a .log)) (a .at) (r .result) (r .ensures .0) (c .before .if1 .left) (c .if2 .taken)
+
+octet-at-requires : tie.Need-octet-at-requires
+octet-at-requires c κs = search needs
+
+returns-3 : tie.Need-returns-3
+returns-3 c =
+    let a = c .before .before .before .before .before .before .args in
+    let r = c .before .before .before .before .number-at in
+    line-other (now (a .log)) (a .at) (r .result) (r .ensures .0) (c .before .before .before .if1 .left) (c .before .before .if2 .left)
+    (λ o. c .if3 .taken (c .before .octet-at .ensures ∙ o))
+
+add-time-at : tie.Need-add-time-at
+add-time-at c =
+    let a = c .before .before .before .before .before .before .args in
+    let r = c .before .before .before .before .number-at in
+    let b = within-log (now (a .log)) (a .at) (r .result) (r .ensures .0) 59 (sym (c .before .octet-at .ensures) ∙ c .if3 .left) (omega arith) in
+    omega arith
+
+cast-time-at : tie.Need-cast-time-at
+cast-time-at c = search needs
+
+time-at-requires : tie.Need-time-at-requires
+time-at-requires c κs = search needs
+
+returns-4 : tie.Need-returns-4
+returns-4 c =
+    let a = c .before .before .before .before .before .before .before .args in
+    let r = c .before .before .before .before .before .number-at in
+    line-time (now (a .log)) (a .at) (r .result) (r .ensures .0) (c .before .before .before .before .if1 .left)
+    (c .before .before .before .if2 .left) (sym (c .before .before .octet-at .ensures) ∙ c .before .if3 .left) (c .time-at .ensures)
+
+pub line-at-spec : {M : Type 1} → statement M
+line-at-spec =
+    tie.close
+    (tie.spec
+    number-at-requires
+    returns
+    returns-2
+    octet-at-requires
+    returns-3
+    add-time-at
+    cast-time-at
+    time-at-requires
+    returns-4)

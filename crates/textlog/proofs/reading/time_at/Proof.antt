@@ -1,0 +1,86 @@
+-- `textlog::reading::time_at` meets its contract: each `return` is a case of `timeIn`. Assumes nothing.
+use native.Mathlib.Omega.{arith}
+use mathlib.Core.Path.{sym, _∙_}
+use borrow.Author.Needs.{needs}
+use borrow.Author.Tests.{not-true, not-false}
+use denote.Ref.{now}
+use Rattle.textlog.proofs.Begun.{mark-present}
+use Rattle.textlog.proofs.Places.{within-log, time-none, time-ends, time-other, time-parted}
+use Rattle.textlog.proofs.reading.time_at.Statement.{statement}
+use Rattle.textlog.proofs.reading.time_at.Tie as tie
+
+number-at-requires : tie.Need-number-at-requires
+number-at-requires c κs = search needs
+
+returns : tie.Need-returns
+returns c =
+    let a = c .before .before .before .args in
+    let r = c .before .number-at in
+    time-none (now (a .log)) (a .at) (r .result) (r .ensures .0) (a .number) (c .if1 .taken)
+
+octet-at-requires : tie.Need-octet-at-requires
+octet-at-requires c κs = search needs
+
+add-in-range : tie.Need-add-in-range
+add-in-range c =
+    let a = c .before .before .before .before .before .args in
+    let r = c .before .before .before .number-at in
+    let b = within-log (now (a .log)) (a .at) (r .result) (r .ensures .0) 10 (sym (c .before .octet-at .ensures) ∙ c .if2 .taken) (omega arith) in
+    omega arith
+
+in-range-requires : tie.Need-in-range-requires
+in-range-requires c κs = search needs
+
+returns-2 : tie.Need-returns-2
+returns-2 c =
+    let a = c .before .before .before .before .before .before .args in
+    let r = c .before .before .before .before .number-at in
+    time-ends (now (a .log)) (a .at) (r .result) (r .ensures .0) (a .number) (c .before .before .before .if1 .left)
+    (sym (c .before .before .octet-at .ensures) ∙ c .before .if2 .taken) (c .in-range .ensures)
+
+is-mark-requires : tie.Need-is-mark-requires
+is-mark-requires c κs = search needs
+
+returns-3 : tie.Need-returns-3
+returns-3 c =
+    let a = c .before .before .before .before .before .before .before .args in
+    let r = c .before .before .before .before .before .number-at in
+    let o = c .before .before .before .octet-at .ensures in
+    time-other (now (a .log)) (a .at) (r .result) (r .ensures .0) (a .number) (c .before .before .before .before .if1 .left)
+    (λ h. c .before .before .if2 .left (o ∙ h)) (rw (← o) (sym (c .before .is-mark .ensures) ∙ not-true _ (c .if3 .taken)))
+
+add-fraction-at : tie.Need-add-fraction-at
+add-fraction-at c =
+    let a = c .before .before .before .before .before .before .before .args in
+    let r = c .before .before .before .before .before .number-at in
+    let o = c .before .before .before .octet-at .ensures in
+    let b = mark-present (now (a .log)) (r .result .end) (rw (← o) (sym (c .before .is-mark .ensures) ∙ not-false _ (c .if3 .left))) in
+    omega arith
+
+fraction-at-requires : tie.Need-fraction-at-requires
+fraction-at-requires c κs = search needs
+
+returns-4 : tie.Need-returns-4
+returns-4 c =
+    let a = c .before .before .before .before .before .before .before .before .args in
+    let r = c .before .before .before .before .before .before .number-at in
+    let o = c .before .before .before .before .octet-at .ensures in
+    time-parted (now (a .log)) (a .at) (r .result) (r .ensures .0) (a .number) (c .before .before .before .before .before .if1 .left)
+    (λ h. c .before .before .before .if2 .left (o ∙ h))
+    (rw (← o) (sym (c .before .before .is-mark .ensures) ∙ not-false _ (c .before .if3 .left))) (c .fraction-at .ensures)
+
+pub time-at-spec : {M : Type 1} → statement M
+time-at-spec =
+    tie.close
+    (tie.spec
+    number-at-requires
+    returns
+    octet-at-requires
+    add-in-range
+    in-range-requires
+    returns-2
+    is-mark-requires
+    returns-3
+    add-fraction-at
+    fraction-at-requires
+    returns-4)

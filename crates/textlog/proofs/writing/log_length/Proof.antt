@@ -1,0 +1,86 @@
+-- `textlog::writing::log_length` meets its contract. The loop's invariant: the sum is the length of the first i lines. The measure is the number of lines left. Assumes nothing.
+use Prim.Native.Nat.{ℕ, _+_, _-_, _*_, _/_, _%_, _^_, _≤_, _<_}
+use native.Mathlib.Omega.{arith}
+use mathlib.Core.List.{List, [], _∷_}
+use mathlib.Core.Path.{_≡_, refl, sym, ap, _∙_}
+use borrow.Author.Needs.{needs}
+use lib.ListN.{length, take, getD}
+use denote.Ref.{now}
+use Rattle.decimal.specs.Decimal.{decimalOf}
+use Rattle.decimal.proofs.Laws.{at-most-20}
+use Rattle.octets.specs.Memory.{over, put}
+use Rattle.octets.proofs.Memory.{put-over, over-length}
+use Rattle.rfc4737.specs.Judge.{arrivalsOf}
+use Rattle.sample.specs.Format.{itemOctets}
+use Rattle.textlog.specs.Form.{lineOf, logOf}
+use Rattle.textlog.proofs.Written.{line-long, put-parts, log-part, log-next, long-next, log-all}
+use Rattle.textlog.proofs.writing.log_length.Statement.{statement}
+use Rattle.textlog.proofs.writing.log_length.Tie as tie
+
+abbrev Inv-loop : tie.InvT-loop
+Inv-loop numbers times total₀ i₀ total i = (i ≤ length numbers) × (total ≡ length (logOf (take i (arrivalsOf numbers times)))) × (total ≤ 46 * i)
+
+abbrev μ-loop : tie.MeasureT-loop
+μ-loop numbers times total₀ i₀ total i = length numbers - i
+
+loop-holds : tie.Need-loop-holds Inv-loop μ-loop
+unfolding itemOctets
+loop-holds c = (search needs, refl, search needs)
+
+mul-line-length : tie.Need-mul-line-length Inv-loop μ-loop
+mul-line-length c = search needs
+
+shared-slice-read-line-length : tie.Need-shared-slice-read-line-length Inv-loop μ-loop
+shared-slice-read-line-length c = search needs
+
+mul-line-length-2 : tie.Need-mul-line-length-2 Inv-loop μ-loop
+mul-line-length-2 c = search needs
+
+shared-slice-read-line-length-2 : tie.Need-shared-slice-read-line-length-2 Inv-loop μ-loop
+shared-slice-read-line-length-2 c = search needs
+
+line-length-requires : tie.Need-line-length-requires Inv-loop μ-loop
+line-length-requires c κs = search needs
+
+add-total : tie.Need-add-total Inv-loop μ-loop
+add-total c =
+    let a = c .before .before .before .before .before .before .before .args in
+    omega (arith, c .before .before .before .before .loop .inv .2, c .before .before .before .before .before .before .before .pre .1, c .line-length .ensures .1)
+
+add-i : tie.Need-add-i Inv-loop μ-loop
+add-i c = search needs
+
+loop-less : tie.Need-loop-less Inv-loop μ-loop
+loop-less c = search needs
+
+loop-again : tie.Need-loop-again Inv-loop μ-loop
+loop-again c =
+    let a = c .before .before .before .before .before .before .before .args in
+    let l = c .before .before .before .before .loop in
+    let n = long-next (now (a .numbers)) (now (a .times)) (c .before .before .before .before .before .before .before .pre .0) (l .i) (c .before .before .before .loop-test .taken) in
+    (search needs, omega (arith, l .inv .1, c .line-length .ensures .0), omega (arith, l .inv .2, c .line-length .ensures .1))
+
+returns : tie.Need-returns Inv-loop μ-loop
+returns c =
+    let a = c .before .before .before .before .args in
+    let l = c .before .loop in
+    let e = log-all (now (a .numbers)) (now (a .times)) (c .before .before .before .before .pre .0) (l .i) (c .loop-test .left) in
+    (l .inv .1 ∙ ap length e, omega (arith, l .inv .2, l .inv .0, c .before .before .before .before .pre .1))
+
+pub log-length-spec : {M : Type 1} → statement M
+log-length-spec =
+    tie.close
+    (tie.spec
+    Inv-loop
+    μ-loop
+    loop-holds
+    mul-line-length
+    shared-slice-read-line-length
+    mul-line-length-2
+    shared-slice-read-line-length-2
+    line-length-requires
+    add-total
+    add-i
+    loop-less
+    loop-again
+    returns)

@@ -1,0 +1,110 @@
+-- `textlog::writing::put_lines` meets its contract. The loop's invariant: memory holds the first i lines, then what it held; `at` is their length. The measure is the number of lines left. Assumes nothing.
+use Prim.Native.Nat.{ℕ, _+_, _-_, _*_, _/_, _%_, _^_, _≤_, _<_}
+use native.Mathlib.Omega.{arith}
+use mathlib.Core.List.{List, [], _∷_}
+use mathlib.Core.Path.{_≡_, refl, sym, ap, _∙_}
+use borrow.Author.Needs.{needs}
+use lib.ListN.{length, take, getD}
+use denote.Ref.{now}
+use Rattle.decimal.specs.Decimal.{decimalOf}
+use Rattle.decimal.proofs.Laws.{at-most-20}
+use Rattle.octets.specs.Memory.{over, put}
+use Rattle.octets.proofs.Memory.{put-over, over-length}
+use Rattle.rfc4737.specs.Judge.{arrivalsOf}
+use Rattle.sample.specs.Format.{itemOctets}
+use Rattle.textlog.specs.Form.{lineOf, logOf}
+use Rattle.textlog.proofs.Written.{line-long, put-parts, log-part, log-next, long-next, log-all}
+use Rattle.textlog.proofs.writing.put_lines.Statement.{statement}
+use Rattle.textlog.proofs.writing.put_lines.Tie as tie
+
+abbrev Inv-loop : tie.InvT-loop
+Inv-loop numbers times out₀ at₀ i₀ out at i = (i ≤ length numbers) × (at ≡ length (logOf (take i (arrivalsOf numbers times)))) × (out ≡ over (logOf (take i (arrivalsOf numbers times))) out₀)
+
+abbrev μ-loop : tie.MeasureT-loop
+μ-loop numbers times out₀ at₀ i₀ out at i = length numbers - i
+
+-- the next line ends within the log
+room : (c : tie.In-loop Inv-loop μ-loop)
+    → c .before .loop .at + length (lineOf (record { number = getD (now (c .before .before .before .before .before .args .numbers)) (c .before .loop .i) 0; time = getD (now (c .before .before .before .before .before .args .times)) (c .before .loop .i) 0 }))
+    ≤ length (now (c .before .before .before .before .before .args .out))
+room c =
+    let a = c .before .before .before .before .before .args in
+    let p = c .before .before .before .before .before .pre in
+    let l = c .before .loop in
+    let n = long-next (now (a .numbers)) (now (a .times)) (p .0) (l .i) (c .loop-test .taken) in
+    let m = log-part (now (a .numbers)) (now (a .times)) (p .0) (l .i + 1) in
+    omega (arith, l .inv .1, p .1)
+
+-- memory keeps its length
+kept : (c : tie.At-loop Inv-loop μ-loop) → length (c .loop .out) ≡ length (now (c .before .before .before .before .args .out))
+kept c =
+    let a = c .before .before .before .before .args in
+    let p = c .before .before .before .before .pre in
+    let m = log-part (now (a .numbers)) (now (a .times)) (p .0) (c .loop .i) in
+    ap length (c .loop .inv .2) ∙ over-length (logOf (take (c .loop .i) (arrivalsOf (now (a .numbers)) (now (a .times))))) (now (a .out)) (omega (arith, p .1))
+
+loop-holds : tie.Need-loop-holds Inv-loop μ-loop
+unfolding itemOctets
+loop-holds c = (search needs, refl, refl)
+
+mul-put-line : tie.Need-mul-put-line Inv-loop μ-loop
+mul-put-line c = search needs
+
+shared-slice-read-put-line : tie.Need-shared-slice-read-put-line Inv-loop μ-loop
+shared-slice-read-put-line c = search needs
+
+mul-put-line-2 : tie.Need-mul-put-line-2 Inv-loop μ-loop
+mul-put-line-2 c = search needs
+
+shared-slice-read-put-line-2 : tie.Need-shared-slice-read-put-line-2 Inv-loop μ-loop
+shared-slice-read-put-line-2 c = search needs
+
+put-line-requires : tie.Need-put-line-requires Inv-loop μ-loop
+put-line-requires c κs =
+    let r = room (c .before .before .before) in
+    let k = kept (c .before .before .before .before) in
+    omega arith
+
+add-i : tie.Need-add-i Inv-loop μ-loop
+add-i c = search needs
+
+loop-less : tie.Need-loop-less Inv-loop μ-loop
+loop-less c = search needs
+
+loop-again : tie.Need-loop-again Inv-loop μ-loop
+loop-again c =
+    let a = c .before .before .before .before .before .before .before .before .before .before .before .args in
+    let p = c .before .before .before .before .before .before .before .before .before .before .before .pre in
+    let l = c .before .before .before .before .before .before .before .loop in
+    let t = c .before .before .before .before .before .before .loop-test .taken in
+    let x = lineOf (record { number = getD (now (a .numbers)) (l .i) 0; time = getD (now (a .times)) (l .i) 0 }) in
+    let n = long-next (now (a .numbers)) (now (a .times)) (p .0) (l .i) t in
+    let e = log-next (now (a .numbers)) (now (a .times)) (p .0) (l .i) t in
+    (search needs, omega (arith, c .before .before .put-line .ensures .0, l .inv .1), c .before .before .put-line .ensures .1 ∙ ap (put (l .at) x) (l .inv .2) ∙ put-over (l .at) (logOf (take (l .i) (arrivalsOf (now (a .numbers)) (now (a .times))))) x (now (a .out)) (sym (l .inv .1)) (room (c .before .before .before .before .before .before)) ∙ ap (λ (y : List ℕ). over y (now (a .out))) (sym e))
+
+same-length : tie.Need-same-length Inv-loop μ-loop
+same-length c = kept (c .before)
+
+returns : tie.Need-returns Inv-loop μ-loop
+returns c =
+    let a = c .before .before .before .before .before .args in
+    let l = c .before .loop in
+    l .inv .2 ∙ ap (λ (y : List ℕ). over y (now (a .out))) (log-all (now (a .numbers)) (now (a .times)) (c .before .before .before .before .before .pre .0) (l .i) (c .loop-test .left))
+
+pub put-lines-spec : {M : Type 1} → statement M
+put-lines-spec =
+    tie.close
+    (tie.spec
+    Inv-loop
+    μ-loop
+    loop-holds
+    mul-put-line
+    shared-slice-read-put-line
+    mul-put-line-2
+    shared-slice-read-put-line-2
+    put-line-requires
+    add-i
+    loop-less
+    loop-again
+    same-length
+    returns)

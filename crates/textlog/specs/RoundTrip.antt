@@ -1,0 +1,62 @@
+-- The statements that the calls' contracts carry: what is accepted is what has the form; imported arrivals are those of a fit
+-- sample; what is written reads back. Assumes nothing.
+use Prim.Native.Nat.{ℕ, _≤_, _<_, _^_}
+use mathlib.Core.List.{List, []}
+use mathlib.Core.Logic.{_↔_}
+use mathlib.Core.Path.{_≡_}
+use lib.Dec.{ltb}
+use lib.ListN.{length, take, replicate}
+use Rattle.octets.specs.Memory.{over}
+use Rattle.rfc4737.specs.declared.Arrival.{Arrival}
+use Rattle.rfc4737.specs.Judge.{numbersOf, timesOf, refusalOfLists}
+use Rattle.rfc4737.specs.Refusals.{inCase, outputShort}
+use Rattle.sample.specs.Format.{Sample, fileOf}
+use Rattle.sample.specs.Judge.{Fit}
+use Rattle.sample.specs.Decode.{decode, accepted}
+use Rattle.sample.specs.Calls.{WrittenTo as SampleWritten}
+use Rattle.sample.specs.declared.Written.{Written}
+use Rattle.textlog.specs.Form.{LineFits, Log}
+use Rattle.textlog.specs.Decode.{arrived, decodeLine, arrivalsIn, judgeLog}
+use Rattle.textlog.specs.Calls.{ImportedFrom, WrittenTo}
+use Rattle.textlog.specs.declared.Imported.{Imported}
+
+-- a line decodes exactly if it has the form and its values fit, and to the arrival that the form says
+abbrev pub ExactLine : Type 0
+ExactLine = (l : List ℕ) (a : Arrival) → (decodeLine l ≡ arrived a) ↔ LineFits l a
+
+-- a log is not refused exactly if it has the form of arrivals of which, with K, nothing is refused, and has these arrivals then
+abbrev pub ExactLog : ℕ → List ℕ → Type 0
+ExactLog k log =
+    (l : List Arrival)
+    → ((judgeLog k log .refusal ≡ 0) × (arrivalsIn log ≡ l)) ↔ (Log log l × (refusalOfLists k (numbersOf l) (timesOf l) ≡ 0))
+
+-- the sample of a log: no label, K payload sizes of one size, and the arrivals
+abbrev pub sampleFrom : (k size : ℕ) (log : List ℕ) → Sample
+sampleFrom k size log = record { label = []; sizes = replicate k size; arrivals = arrivalsIn log }
+
+-- a sample that the sample's writer refuses with nothing but 8, and whose written file decodes to it
+pub record Writable (s : Sample) : Type 0 where
+  pub fit : Fit s
+  pub refusal : (out out′ : List ℕ) (written : Written)
+      → SampleWritten (s .label) (s .sizes) (numbersOf (s .arrivals)) (timesOf (s .arrivals)) out written out′
+      → written .refusal ≡ inCase (ltb (length out) (length (fileOf s))) outputShort
+  pub decodes : (out out′ : List ℕ) (written : Written)
+      → SampleWritten (s .label) (s .sizes) (numbersOf (s .arrivals)) (timesOf (s .arrivals)) out written out′
+      → written .refusal ≡ 0 → decode (take (written .length) out′) ≡ accepted s
+
+-- the arrivals of a log that is not refused, with K payload sizes of any one size, are such a sample
+abbrev pub FitSample : ℕ → List ℕ → Type 0
+FitSample k log = (size : ℕ) → size < 2 ^ 16 → judgeLog k log .refusal ≡ 0 → Writable (sampleFrom k size log)
+
+-- arrivals that are written and imported again, into lists that are long enough, are the same arrivals
+abbrev pub ReadAgain : (k : ℕ) (numbers times : List ℕ) → Type 0
+ReadAgain k numbers times =
+    (out out′ numbers₀ times₀ numbers′ times′ : List ℕ) (written : Written) (read : Imported)
+    → WrittenTo k numbers times out written out′
+    → written .refusal ≡ 0
+    → length numbers ≤ length numbers₀
+    → length times ≤ length times₀
+    → ImportedFrom k (take (written .length) out′) numbers₀ times₀ read numbers′ times′
+    → (read ≡ record { refusal = 0; arrivals = length numbers; line = 0 })
+    × (numbers′ ≡ over numbers numbers₀)
+    × (times′ ≡ over times times₀)

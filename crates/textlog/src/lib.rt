@@ -1,0 +1,156 @@
+// Text logs from suppliers: imported into lent lists, and written. Every public call takes all input there is.
+ghost use mathlib.Core.Path.{_≡_};
+ghost use Rattle.octets.specs.Memory.{over};
+ghost use Rattle.rfc4737.specs.Judge.{numbersOf, timesOf};
+ghost use Rattle.textlog.specs.Decode.{lines, judgeLines, judgeLog, arrivalsIn};
+ghost use Rattle.textlog.specs.Calls.{listsShort, ImportedFrom, WrittenTo};
+ghost use Rattle.textlog.specs.RoundTrip.{ExactLine, ExactLog, FitSample, ReadAgain};
+ghost use Rattle.textlog.specs.Private.Filling.{Fillable};
+
+mod reading;
+mod writing;
+
+use reading::Found;
+use reading::line_at;
+use rfc4737::judge::ARRIVALS_MOST;
+use rfc4737::judge::SENT_MOST;
+use rfc4737::judge::judge_one;
+use rfc4737::judge::outside;
+use rfc4737::judge::refusal_of_lists;
+use rfc4737::refusal::LINE_MALFORMED;
+use rfc4737::refusal::MANY_ARRIVALS;
+use rfc4737::refusal::OUTPUT_SHORT;
+use rfc4737::refusal::SENT_OUTSIDE;
+use rfc4737::time::next_reference;
+use sample::Written;
+use writing::log_length;
+use writing::put_lines;
+
+// What was imported: the refusal (0 for none), the number of arrivals, 0 with a refusal, and the line of the log that is
+// refused, from 1, or 0 where no line is.
+#[repr(C)]
+pub struct Imported {
+    pub refusal: u32,
+    pub arrivals: u32,
+    pub line: u32,
+}
+
+// The answer that a refusal has, at a line or, for 0, at none.
+fn refused(refusal: u32, line: u32) -> Imported
+    ensures { λ r. ⌜ r ≡ record { refusal = refusal; arrivals = 0; line = line } ⌝ }
+{
+    Imported {
+        refusal,
+        arrivals: 0,
+        line,
+    }
+}
+
+// The lines of a log in turn.
+fn judge_lines(log: &[u8], k: u32) -> Imported
+    ensures { λ r. ⌜ r ≡ judgeLines k 0 0 (lines (now (log .entry))) ⌝ }
+{
+    let mut reference: u64 = 0;
+    let mut at = 0;
+    let mut count: u32 = 0;
+    while at < log.len() {
+        let Found::Read(number, time, end) = line_at(log, at) else {
+            return refused(LINE_MALFORMED, count + 1);
+        };
+        if ARRIVALS_MOST <= count as u64 {
+            return refused(MANY_ARRIVALS, count + 1);
+        }
+        let refusal = judge_one(k as u64, reference, number as u64, time);
+        if refusal != 0 {
+            return refused(refusal, count + 1);
+        }
+        reference = next_reference(reference, time);
+        at = end;
+        count += 1;
+    }
+    Imported {
+        refusal: 0,
+        arrivals: count,
+        line: 0,
+    }
+}
+
+// A whole log: K, then the lines.
+fn judge_log(log: &[u8], k: u32) -> Imported
+    ensures { λ r. ⌜ r ≡ judgeLog k (now (log .entry)) ⌝ }
+{
+    if outside(1, SENT_MOST, k as u64) {
+        return refused(SENT_OUTSIDE, 0);
+    }
+    judge_lines(log, k)
+}
+
+// Fills lists with the numbers and times of a log that is not refused.
+fn fill(log: &[u8], numbers: &mut [u32], times: &mut [u64])
+    requires { ⌜ Fillable (now log) (now numbers) (now times) ⌝ }
+    ensures { λ _. ⌜ (now (numbers .exit) ≡ over (numbersOf (arrivalsIn (now (log .entry)))) (now (numbers .entry)))
+        × (now (times .exit) ≡ over (timesOf (arrivalsIn (now (log .entry)))) (now (times .entry))) ⌝ }
+{
+    let mut at = 0;
+    let mut i = 0;
+    while at < log.len() {
+        let Found::Read(number, time, end) = line_at(log, at) else {
+            return;
+        };
+        numbers[i] = number;
+        times[i] = time;
+        at = end;
+        i += 1;
+    }
+}
+
+// Whether one of two lists, of so many places, is too short for so many arrivals.
+fn too_short(arrivals: u32, numbers: usize, times: usize) -> bool
+    ensures { λ r. ⌜ r ≡ listsShort arrivals numbers times ⌝ }
+{
+    if numbers < arrivals as usize {
+        return true;
+    }
+    times < arrivals as usize
+}
+
+// Imports the log of K sent packets: fills the lists of numbers and times from their start. With a refusal they stay as
+// they were.
+pub fn import(log: &[u8], k: u32, numbers: &mut [u32], times: &mut [u64]) -> Imported
+    ensures { λ r. ⌜ ImportedFrom k (now (log .entry)) (now (numbers .entry)) (now (times .entry)) r (now (numbers .exit)) (now (times .exit)) ⌝ }
+    ensures exact { λ _. ⌜ ExactLine × ExactLog k (now (log .entry)) ⌝ }
+    ensures fit { λ _. ⌜ FitSample k (now (log .entry)) ⌝ }
+{
+    let found = judge_log(log, k);
+    if found.refusal != 0 {
+        return found;
+    }
+    if too_short(found.arrivals, numbers.len(), times.len()) {
+        return refused(OUTPUT_SHORT, 0);
+    }
+    fill(log, numbers, times);
+    found
+}
+
+// Writes the log of arrivals of K sent packets from the start of `out`. With a refusal `out` stays as it was.
+pub fn write(k: u32, numbers: &[u32], times: &[u64], out: &mut [u8]) -> Written
+    ensures { λ r. ⌜ WrittenTo k (now (numbers .entry)) (now (times .entry)) (now (out .entry)) r (now (out .exit)) ⌝ }
+    ensures again { λ _. ⌜ ReadAgain k (now (numbers .entry)) (now (times .entry)) ⌝ }
+{
+    let refusal = refusal_of_lists(k as u64, numbers, times);
+    if refusal != 0 {
+        return Written { refusal, length: 0 };
+    }
+    let length = log_length(numbers, times);
+    if out.len() < length {
+        return Written {
+            refusal: OUTPUT_SHORT,
+            length: 0,
+        };
+    }
+    put_lines(numbers, times, out);
+    Written {
+        refusal: 0,
+        length: length as u32,
+    }
+}
