@@ -8,7 +8,7 @@ use borrow.Author.Tests.{ltb-false, lt-ltb, le-ltb}
 use lib.Dec.{ltb}
 use lib.ListN.{length}
 use Rattle.octets.specs.Memory.{over}
-use Rattle.rfc4737.specs.Judge.{numbersOf, timesOf, arrivalsOf, refusalOfLists}
+use Rattle.rfc4737.specs.Judge.{arrivalsMost, numbersOf, timesOf, arrivalsOf, refusalOfLists}
 use Rattle.rfc4737.specs.Refusals.{inCase, outputShort}
 use Rattle.rfc4737.proofs.Due.{or-false}
 use Rattle.sample.specs.Calls.{unlessRefused}
@@ -80,6 +80,20 @@ module _ (k : ℕ) (log numbers times : List ℕ) (y : Imported) (e : y ≡ judg
             filledNumbers = n ∙ ap (λ (x : ℕ). over (numbersOf (arrivalsUnless x (arrivalsIn log))) numbers) (sym z);
             filledTimes = t ∙ ap (λ (x : ℕ). over (timesOf (arrivalsUnless x (arrivalsIn log))) times) (sym z);
           }
+
+-- lists of 4,096 places suffice, so 8 is not given
+pub import-room : (k numbers times : ℕ) (log : List ℕ) → arrivalsMost ≤ numbers → arrivalsMost ≤ times
+    → importAnswer k numbers times log ≡ judgeLog k log
+unfolding importAnswer listsShort
+import-room k numbers times log n t = go (judgeLog k log .refusal) refl
+  where
+    go : (r : ℕ) → judgeLog k log .refusal ≡ r → shortLast numbers times r (judgeLog k log) ≡ judgeLog k log
+    go (suc r) e = refl
+    go zero e =
+        let a = accepted-log k log e in
+        let m : judgeLog k log .arrivals ≡ length (lines log) = ap (λ (x : Imported). x .arrivals) (a .answer) in
+        let few = a .inTurn .few in
+        rw (le-ltb numbers (judgeLog k log .arrivals) (omega arith), le-ltb times (judgeLog k log .arrivals) (omega arith))
 
 -- ---- the writer
 

@@ -5,9 +5,9 @@ mod Complete
 mod Lines
 mod Places
 mod Judging
-mod Filling
-mod Accepted
-mod Answers
+pub mod Filling
+pub mod Accepted
+pub mod Answers
 mod Written
 mod RoundTrips
 mod Cases

@@ -3,4 +3,5 @@ pub mod Form
 pub mod Decode
 pub mod Calls
 pub mod RoundTrip
+pub mod Cases
 pub mod Private

@@ -5,6 +5,7 @@ ghost use Rattle.rfc4737.specs.Judge.{numbersOf, timesOf};
 ghost use Rattle.textlog.specs.Decode.{lines, judgeLines, judgeLog, arrivalsIn};
 ghost use Rattle.textlog.specs.Calls.{listsShort, ImportedFrom, WrittenTo};
 ghost use Rattle.textlog.specs.RoundTrip.{ExactLine, ExactLog, FitSample, ReadAgain};
+ghost use Rattle.textlog.specs.Cases.{ReadAsGiven, WrittenAsGiven};
 ghost use Rattle.textlog.specs.Private.Filling.{Fillable};
 
 mod reading;
@@ -120,6 +121,7 @@ pub fn import(log: &[u8], k: u32, numbers: &mut [u32], times: &mut [u64]) -> Imp
     ensures { λ r. ⌜ ImportedFrom k (now (log .entry)) (now (numbers .entry)) (now (times .entry)) r (now (numbers .exit)) (now (times .exit)) ⌝ }
     ensures exact { λ _. ⌜ ExactLine × ExactLog k (now (log .entry)) ⌝ }
     ensures fit { λ _. ⌜ FitSample k (now (log .entry)) ⌝ }
+    ensures cases { λ _. ⌜ ReadAsGiven ⌝ }
 {
     let found = judge_log(log, k);
     if found.refusal != 0 {
@@ -136,6 +138,7 @@ pub fn import(log: &[u8], k: u32, numbers: &mut [u32], times: &mut [u64]) -> Imp
 pub fn write(k: u32, numbers: &[u32], times: &[u64], out: &mut [u8]) -> Written
     ensures { λ r. ⌜ WrittenTo k (now (numbers .entry)) (now (times .entry)) (now (out .entry)) r (now (out .exit)) ⌝ }
     ensures again { λ _. ⌜ ReadAgain k (now (numbers .entry)) (now (times .entry)) ⌝ }
+    ensures cases { λ _. ⌜ WrittenAsGiven ⌝ }
 {
     let refusal = refusal_of_lists(k as u64, numbers, times);
     if refusal != 0 {

@@ -1,13 +1,22 @@
 -- `textlog::import` meets its contract: the log is refused, a list is too short, or both are filled. Assumes nothing.
+use Prim.Native.Nat.{ℕ}
 use mathlib.Core.Path.{sym, _∙_}
+use mathlib.Core.List.{List}
 use borrow.Author.Needs.{needs}
 use denote.Ref.{now}
+use Rattle.textlog.specs.RoundTrip.{ExactLine, ExactLog, FitSample}
+use Rattle.textlog.specs.Cases.{ReadAsGiven}
 use Rattle.textlog.proofs.Lines.{exact-line}
 use Rattle.textlog.proofs.RoundTrips.{exact-log}
 use Rattle.textlog.proofs.Accepted.{fit-log}
+use Rattle.textlog.proofs.Cases.{read-as-given}
 use Rattle.textlog.proofs.Answers.{import-refused, import-short, fillable, import-filled}
 use Rattle.textlog.proofs.import.Statement.{statement}
 use Rattle.textlog.proofs.import.Tie as tie
+
+-- the theorems that the contract carries
+carried : (k : ℕ) (log : List ℕ) → (ExactLine × ExactLog k log) × (FitSample k log × ReadAsGiven)
+carried k log = ((exact-line, exact-log k log), (fit-log k log, read-as-given))
 
 judge-log-requires : tie.Need-judge-log-requires
 judge-log-requires c κs = search needs
@@ -17,7 +26,7 @@ returns c =
     let a = c .before .before .before .before .before .before .args in
     let j = c .before .before .judge-log in (
       import-refused (a .k) (now (a .log)) (now (a .numbers)) (now (a .times)) (j .result) (j .ensures) (c .if1 .taken),
-      ((exact-line, exact-log (a .k) (now (a .log))), fit-log (a .k) (now (a .log))),
+      carried (a .k) (now (a .log)),
     )
 
 too-short-requires : tie.Need-too-short-requires
@@ -32,7 +41,7 @@ returns-2 c =
     let j = c .before .before .before .before .before .judge-log in
     let short = sym (c .before .before .too-short .ensures) ∙ c .before .if2 .taken in (
       import-short (a .k) (now (a .log)) (now (a .numbers)) (now (a .times)) (j .result) (j .ensures) (c .before .before .before .if1 .left) short (c .refused .ensures),
-      ((exact-line, exact-log (a .k) (now (a .log))), fit-log (a .k) (now (a .log))),
+      carried (a .k) (now (a .log)),
     )
 
 fill-requires : tie.Need-fill-requires
@@ -56,7 +65,7 @@ returns-3 c =
     let room = sym (c .before .before .before .before .before .before .before .before .too-short .ensures) ∙ c .before .before .before .before .before .before .before .if2 .left in
     let f = c .before .before .before .before .fill .ensures in (
       import-filled (a .k) (now (a .log)) (now (a .numbers)) (now (a .times)) (j .result) (j .ensures) none room (f .0) (f .1),
-      ((exact-line, exact-log (a .k) (now (a .log))), fit-log (a .k) (now (a .log))),
+      carried (a .k) (now (a .log)),
     )
 
 pub import-spec : {M : Type 1} → statement M

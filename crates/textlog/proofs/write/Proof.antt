@@ -6,17 +6,19 @@ use denote.Ref.{now}
 use mir.Syntax.{w64}
 use Rattle.octets.proofs.Below.{below-fits}
 use Rattle.textlog.specs.RoundTrip.{ReadAgain}
+use Rattle.textlog.specs.Cases.{WrittenAsGiven}
+use Rattle.textlog.proofs.Cases.{written-as-given}
 use Rattle.rfc4737.proofs.Judged.{lists-fit}
 use Rattle.textlog.proofs.Answers.{write-refused, write-short, write-filled}
 use Rattle.textlog.proofs.RoundTrips.{read-again}
 use Rattle.textlog.proofs.write.Statement.{statement}
 use Rattle.textlog.proofs.write.Tie as tie
 
--- what was written reads back as the same arrivals
-again : (c : tie.After-slice-known) → ReadAgain (c .before .before .before .args .k) (now (c .before .before .before .args .numbers)) (now (c .before .before .before .args .times))
+-- what the contract carries: what was written reads back, and the written log of the cases
+again : (c : tie.After-slice-known) → ReadAgain (c .before .before .before .args .k) (now (c .before .before .before .args .numbers)) (now (c .before .before .before .args .times)) × WrittenAsGiven
 again c =
     let a = c .before .before .before .args in
-    read-again (a .k) (now (a .numbers)) (now (a .times)) (below-fits w64 (now (a .times)) (c .before .shared-slice-known2 .given))
+    (read-again (a .k) (now (a .numbers)) (now (a .times)) (below-fits w64 (now (a .times)) (c .before .shared-slice-known2 .given)), written-as-given)
 
 refusal-of-lists-requires : tie.Need-refusal-of-lists-requires
 refusal-of-lists-requires c κs = search needs

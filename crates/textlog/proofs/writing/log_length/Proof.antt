@@ -1,24 +1,21 @@
--- `textlog::writing::log_length` meets its contract. The loop's invariant: the sum is the length of the first i lines. The measure is the number of lines left. Assumes nothing.
-use Prim.Native.Nat.{ℕ, _+_, _-_, _*_, _/_, _%_, _^_, _≤_, _<_}
+-- `textlog::writing::log_length` meets its contract. The loop's invariant: the sum is the length of the first i lines, of at most 46
+-- octets each. The measure is the number of lines left. Assumes nothing.
+use Prim.Native.Nat.{_-_, _*_, _≤_}
 use native.Mathlib.Omega.{arith}
-use mathlib.Core.List.{List, [], _∷_}
-use mathlib.Core.Path.{_≡_, refl, sym, ap, _∙_}
+use mathlib.Core.Path.{_≡_, refl, ap, _∙_}
 use borrow.Author.Needs.{needs}
-use lib.ListN.{length, take, getD}
+use lib.ListN.{length, take}
 use denote.Ref.{now}
-use Rattle.decimal.specs.Decimal.{decimalOf}
-use Rattle.decimal.proofs.Laws.{at-most-20}
-use Rattle.octets.specs.Memory.{over, put}
-use Rattle.octets.proofs.Memory.{put-over, over-length}
 use Rattle.rfc4737.specs.Judge.{arrivalsOf}
 use Rattle.sample.specs.Format.{itemOctets}
-use Rattle.textlog.specs.Form.{lineOf, logOf}
-use Rattle.textlog.proofs.Written.{line-long, put-parts, log-part, log-next, long-next, log-all}
+use Rattle.textlog.specs.Form.{logOf}
+use Rattle.textlog.proofs.Written.{long-next, log-all}
 use Rattle.textlog.proofs.writing.log_length.Statement.{statement}
 use Rattle.textlog.proofs.writing.log_length.Tie as tie
 
 abbrev Inv-loop : tie.InvT-loop
-Inv-loop numbers times total₀ i₀ total i = (i ≤ length numbers) × (total ≡ length (logOf (take i (arrivalsOf numbers times)))) × (total ≤ 46 * i)
+Inv-loop numbers times total₀ i₀ total i =
+    (i ≤ length numbers) × (total ≡ length (logOf (take i (arrivalsOf numbers times)))) × (total ≤ 46 * i)
 
 abbrev μ-loop : tie.MeasureT-loop
 μ-loop numbers times total₀ i₀ total i = length numbers - i
@@ -44,7 +41,6 @@ line-length-requires c κs = search needs
 
 add-total : tie.Need-add-total Inv-loop μ-loop
 add-total c =
-    let a = c .before .before .before .before .before .before .before .args in
     omega (arith, c .before .before .before .before .loop .inv .2, c .before .before .before .before .before .before .before .pre .1, c .line-length .ensures .1)
 
 add-i : tie.Need-add-i Inv-loop μ-loop

@@ -1,18 +1,14 @@
 -- `textlog::writing::put_line` meets its contract: the line is put in four parts, one after the other. Assumes nothing.
-use Prim.Native.Nat.{ℕ, _+_, _-_, _*_, _/_, _%_, _^_, _≤_, _<_}
+use Prim.Native.Nat.{ℕ, _+_, _/_, _%_}
 use native.Mathlib.Omega.{arith}
 use mathlib.Core.List.{List, [], _∷_}
-use mathlib.Core.Path.{_≡_, refl, sym, ap, _∙_}
+use mathlib.Core.Path.{_≡_, ap}
 use borrow.Author.Needs.{needs}
-use lib.ListN.{length, take, getD}
 use denote.Ref.{now}
 use Rattle.decimal.specs.Decimal.{decimalOf}
-use Rattle.decimal.proofs.Laws.{at-most-20}
-use Rattle.octets.specs.Memory.{over, put}
-use Rattle.octets.proofs.Memory.{put-over, over-length}
-use Rattle.rfc4737.specs.Judge.{arrivalsOf}
-use Rattle.textlog.specs.Form.{lineOf, logOf}
-use Rattle.textlog.proofs.Written.{line-long, put-parts, log-part, log-next, long-next, log-all}
+use Rattle.octets.specs.Memory.{put}
+use Rattle.textlog.specs.Form.{lineOf}
+use Rattle.textlog.proofs.Written.{line-long, put-parts}
 use Rattle.textlog.proofs.writing.put_line.Statement.{statement}
 use Rattle.textlog.proofs.writing.put_line.Tie as tie
 
@@ -21,9 +17,9 @@ put-decimal-requires c κs = search needs
 
 add-first : tie.Need-add-first
 add-first c =
-    let a = c .before .before .before .before .before .args in
-    let l = line-long (record { number = a .number; time = a .time }) in
-    let p = c .before .before .before .before .before .pre in
+    let start = c .before .before .before .before .before in
+    let l = line-long (record { number = start .args .number; time = start .args .time }) in
+    let p = start .pre in
     let e = c .before .before .put-decimal .ensures .0 in
     omega arith
 
@@ -35,9 +31,9 @@ put-octets-requires c κs = search needs
 
 add-second : tie.Need-add-second
 add-second c =
-    let a = c .before .before .before .before .before .before .before .before .before .before .args in
-    let l = line-long (record { number = a .number; time = a .time }) in
-    let p = c .before .before .before .before .before .before .before .before .before .before .pre in
+    let start = c .before .before .before .before .before .before .before .before .before .before in
+    let l = line-long (record { number = start .args .number; time = start .args .time }) in
+    let p = start .pre in
     let e = c .before .before .before .before .before .before .before .put-decimal .ensures .0 in
     omega arith
 
@@ -46,9 +42,9 @@ put-decimal-requires-2 c κs = search needs
 
 add-third : tie.Need-add-third
 add-third c =
-    let a = c .before .before .before .before .before .before .before .before .before .before .before .before .before .before .args in
-    let l = line-long (record { number = a .number; time = a .time }) in
-    let p = c .before .before .before .before .before .before .before .before .before .before .before .before .before .before .pre in
+    let start = c .before .before .before .before .before .before .before .before .before .before .before .before .before .before in
+    let l = line-long (record { number = start .args .number; time = start .args .time }) in
+    let p = start .pre in
     let e = c .before .before .before .before .before .before .before .before .before .before .before .put-decimal .ensures .0 in
     let f = c .before .before .put-decimal2 .ensures .0 in
     omega arith
@@ -70,9 +66,9 @@ put-octets-requires-2 c κs = search needs
 
 add-result : tie.Need-add-result
 add-result c =
-    let a = c .before .before .before .before .before .before .before .before .before .before .before .before .before .before .before .before .before .before .before .before .before .before .args in
-    let l = line-long (record { number = a .number; time = a .time }) in
-    let p = c .before .before .before .before .before .before .before .before .before .before .before .before .before .before .before .before .before .before .before .before .before .before .pre in
+    let start = c .before .before .before .before .before .before .before .before .before .before .before .before .before .before .before .before .before .before .before .before .before .before in
+    let l = line-long (record { number = start .args .number; time = start .args .time }) in
+    let p = start .pre in
     let e = c .before .before .before .before .before .before .before .before .before .before .before .before .before .before .before .before .before .before .before .put-decimal .ensures .0 in
     let f = c .before .before .before .before .before .before .before .before .before .before .put-decimal2 .ensures .0 in
     omega arith
@@ -83,17 +79,25 @@ same-length c = search needs
 returns : tie.Need-returns
 unfolding lineOf
 returns c =
-    let a = c .before .before .before .before .before .before .before .before .before .before .before .before .before .before .before .before .before .before .before .before .before .before .args in
+    let start = c .before .before .before .before .before .before .before .before .before .before .before .before .before .before .before .before .before .before .before .before .before .before in
+    let a = start .args in
+    let p = start .pre in
     let l = line-long (record { number = a .number; time = a .time }) in
-    let p = c .before .before .before .before .before .before .before .before .before .before .before .before .before .before .before .before .before .before .before .before .before .before .pre in
-    let e = c .before .before .before .before .before .before .before .before .before .before .before .before .before .before .before .before .before .before .before .put-decimal .ensures in
-    let f = c .before .before .before .before .before .before .before .before .before .before .put-decimal2 .ensures in
-    let z : List ℕ = 44 ∷ (48 + a .time % 1000 / 100) ∷ (48 + a .time % 1000 / 10 % 10) ∷ (48 + a .time % 1000 % 10) ∷ 10 ∷ [] in
-    let d : c .before .before .put-octets2 .last .0 ≡ put (a .at + c .before .before .before .before .before .before .before .before .before .before .before .before .before .before .before .before .before .before .before .put-decimal .result + 1 + c .before .before .before .before .before .before .before .before .before .before .put-decimal2 .result) z (c .before .before .before .before .before .before .before .before .before .before .put-decimal2 .last .0) =
-    rw (← c .before .before .before .before .before .before .before .digit-of .ensures, ← c .before .before .before .before .before .before .digit-of2 .ensures, ← c .before .before .before .before .before .digit-of3 .ensures) (c .before .before .put-octets2 .ensures) in (
-      omega arith,
-      put-parts (a .at) (a .at + c .before .before .before .before .before .before .before .before .before .before .before .before .before .before .before .before .before .before .before .put-decimal .result) (a .at + c .before .before .before .before .before .before .before .before .before .before .before .before .before .before .before .before .before .before .before .put-decimal .result + 1 + c .before .before .before .before .before .before .before .before .before .before .put-decimal2 .result) (decimalOf (a .number)) (decimalOf (a .time / 1000)) z (now (a .out))
-          p (ap (λ (k : ℕ). a .at + k) (e .0)) (ap (λ (k : ℕ). a .at + c .before .before .before .before .before .before .before .before .before .before .before .before .before .before .before .before .before .before .before .put-decimal .result + 1 + k) (f .0)) (e .1) (c .before .before .before .before .before .before .before .before .before .before .before .before .before .before .put-octets .ensures) (f .1) d,
+    let number = c .before .before .before .before .before .before .before .before .before .before .before .before .before .before .before .before .before .before .before .put-decimal in
+    let mark = c .before .before .before .before .before .before .before .before .before .before .before .before .before .before .put-octets in
+    let whole = c .before .before .before .before .before .before .before .before .before .before .put-decimal2 in
+    let rest = c .before .before .put-octets2 in
+    let first = a .at + number .result in
+    let third = a .at + number .result + 1 + whole .result in
+    let z : List ℕ =
+    44 ∷ (48 + a .time % 1000 / 100) ∷ (48 + a .time % 1000 / 10 % 10) ∷ (48 + a .time % 1000 % 10) ∷ 10 ∷ [] in
+    let d : rest .last .0 ≡ put third z (whole .last .0) =
+    rw (← c .before .before .before .before .before .before .before .digit-of .ensures, ← c .before .before .before .before .before .before .digit-of2 .ensures, ← c .before .before .before .before .before .digit-of3 .ensures) (rest .ensures) in (
+      omega (arith, number .ensures .0, whole .ensures .0),
+      put-parts (a .at) first third (decimalOf (a .number)) (decimalOf (a .time / 1000)) z (now (a .out)) p
+          (ap (λ (k : ℕ). a .at + k) (number .ensures .0))
+          (ap (λ (k : ℕ). a .at + number .result + 1 + k) (whole .ensures .0))
+          (number .ensures .1) (mark .ensures) (whole .ensures .1) d,
     )
 
 pub put-line-spec : {M : Type 1} → statement M

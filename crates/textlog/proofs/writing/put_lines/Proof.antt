@@ -1,31 +1,34 @@
--- `textlog::writing::put_lines` meets its contract. The loop's invariant: memory holds the first i lines, then what it held; `at` is their length. The measure is the number of lines left. Assumes nothing.
-use Prim.Native.Nat.{ℕ, _+_, _-_, _*_, _/_, _%_, _^_, _≤_, _<_}
+-- `textlog::writing::put_lines` meets its contract. The loop's invariant: memory holds the first i lines, then what it held, and `at` is
+-- their length. The measure is the number of lines left. Assumes nothing.
+use Prim.Native.Nat.{ℕ, _+_, _-_, _≤_}
 use native.Mathlib.Omega.{arith}
-use mathlib.Core.List.{List, [], _∷_}
+use mathlib.Core.List.{List}
 use mathlib.Core.Path.{_≡_, refl, sym, ap, _∙_}
 use borrow.Author.Needs.{needs}
 use lib.ListN.{length, take, getD}
 use denote.Ref.{now}
-use Rattle.decimal.specs.Decimal.{decimalOf}
-use Rattle.decimal.proofs.Laws.{at-most-20}
 use Rattle.octets.specs.Memory.{over, put}
 use Rattle.octets.proofs.Memory.{put-over, over-length}
 use Rattle.rfc4737.specs.Judge.{arrivalsOf}
 use Rattle.sample.specs.Format.{itemOctets}
 use Rattle.textlog.specs.Form.{lineOf, logOf}
-use Rattle.textlog.proofs.Written.{line-long, put-parts, log-part, log-next, long-next, log-all}
+use Rattle.textlog.proofs.Written.{log-part, log-next, long-next, log-all}
 use Rattle.textlog.proofs.writing.put_lines.Statement.{statement}
 use Rattle.textlog.proofs.writing.put_lines.Tie as tie
 
 abbrev Inv-loop : tie.InvT-loop
-Inv-loop numbers times out₀ at₀ i₀ out at i = (i ≤ length numbers) × (at ≡ length (logOf (take i (arrivalsOf numbers times)))) × (out ≡ over (logOf (take i (arrivalsOf numbers times))) out₀)
+Inv-loop numbers times out₀ at₀ i₀ out at i =
+    (i ≤ length numbers)
+    × (at ≡ length (logOf (take i (arrivalsOf numbers times))))
+    × (out ≡ over (logOf (take i (arrivalsOf numbers times))) out₀)
 
 abbrev μ-loop : tie.MeasureT-loop
 μ-loop numbers times out₀ at₀ i₀ out at i = length numbers - i
 
 -- the next line ends within the log
 room : (c : tie.In-loop Inv-loop μ-loop)
-    → c .before .loop .at + length (lineOf (record { number = getD (now (c .before .before .before .before .before .args .numbers)) (c .before .loop .i) 0; time = getD (now (c .before .before .before .before .before .args .times)) (c .before .loop .i) 0 }))
+    → c .before .loop .at
+    + length (lineOf (record { number = getD (now (c .before .before .before .before .before .args .numbers)) (c .before .loop .i) 0; time = getD (now (c .before .before .before .before .before .args .times)) (c .before .loop .i) 0 }))
     ≤ length (now (c .before .before .before .before .before .args .out))
 room c =
     let a = c .before .before .before .before .before .args in
@@ -80,7 +83,16 @@ loop-again c =
     let x = lineOf (record { number = getD (now (a .numbers)) (l .i) 0; time = getD (now (a .times)) (l .i) 0 }) in
     let n = long-next (now (a .numbers)) (now (a .times)) (p .0) (l .i) t in
     let e = log-next (now (a .numbers)) (now (a .times)) (p .0) (l .i) t in
-    (search needs, omega (arith, c .before .before .put-line .ensures .0, l .inv .1), c .before .before .put-line .ensures .1 ∙ ap (put (l .at) x) (l .inv .2) ∙ put-over (l .at) (logOf (take (l .i) (arrivalsOf (now (a .numbers)) (now (a .times))))) x (now (a .out)) (sym (l .inv .1)) (room (c .before .before .before .before .before .before)) ∙ ap (λ (y : List ℕ). over y (now (a .out))) (sym e))
+    let written = logOf (take (l .i) (arrivalsOf (now (a .numbers)) (now (a .times)))) in
+    let line = c .before .before .put-line in
+    let fits = room (c .before .before .before .before .before .before) in (
+      search needs,
+      omega (arith, line .ensures .0, l .inv .1),
+      line .ensures .1
+          ∙ ap (put (l .at) x) (l .inv .2)
+          ∙ put-over (l .at) written x (now (a .out)) (sym (l .inv .1)) fits
+          ∙ ap (λ (y : List ℕ). over y (now (a .out))) (sym e),
+    )
 
 same-length : tie.Need-same-length Inv-loop μ-loop
 same-length c = kept (c .before)

@@ -1,0 +1,2 @@
+-- Laws of the sample file of a text log.
+mod Sampled
