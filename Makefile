@@ -1,7 +1,7 @@
 # The library for C: `make` proves it, builds target/libkrakobran.a and the example, and checks that C and Rust lay out
 # every struct alike. `make diff` compares the library with an independent implementation; `make time` measures both.
 # These need the Rattle kit, a C compiler and cargo; cargo fetches nothing. `make target/feed` does without cargo, and
-# `make test`, which runs the script krakobran-report, needs the kit alone.
+# `make test`, which runs the scripts krakobran-report and krakobran-import, needs the kit alone.
 
 CC ?= cc
 CFLAGS ?= -std=c11 -O2 -Wall -Wextra -Wpedantic
@@ -40,6 +40,7 @@ time: cargo target/libkrakobran.a
 
 test:
 	tests/report.sh
+	tests/import.sh
 
 # Says in one line that cargo is missing, before anything is built.
 cargo:

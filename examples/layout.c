@@ -21,6 +21,10 @@ int main(void) {
     SIZE(written);
     FIELD(written, refusal);
     FIELD(written, length);
+    SIZE(imported);
+    FIELD(imported, refusal);
+    FIELD(imported, arrivals);
+    FIELD(imported, line);
     SIZE(runs);
     FIELD(runs, closed);
     FIELD(runs, squares);

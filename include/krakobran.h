@@ -32,7 +32,8 @@ enum {
     KRAKOBRAN_ASKED_OUTSIDE = 9,   /* record outside 1 to A, or n outside 1 to 100 */
     KRAKOBRAN_STATE_UNFIT = 10,    /* receiver state unfit, or a reordered packet with no greater kept jump */
     KRAKOBRAN_STATE_FULL = 11,     /* receiver has accepted 4,096 arrivals */
-    KRAKOBRAN_LISTS_DIFFER = 12    /* the writer's lists of numbers and of times differ in length */
+    KRAKOBRAN_LISTS_DIFFER = 12,   /* the writer's lists of numbers and of times differ in length */
+    KRAKOBRAN_LINE_MALFORMED = 14  /* a line not of the form, or a value over the field's range */
 };
 
 /* Cases of an answer; the last is a receiver's only. A refused answer is in order, with zeros. */
@@ -97,6 +98,26 @@ krakobran_written krakobran_write(const uint8_t *label, size_t label_octets, con
  * turn with 6 before 7; KRAKOBRAN_NONE if none is. */
 uint32_t krakobran_refusal_of_lists(uint64_t sent, const uint32_t *numbers, size_t number_count, const uint64_t *times,
                                     size_t time_count);
+
+/* ---- text logs */
+
+/* What was imported: the number of arrivals, 0 with a refusal; and the line of the log that is refused, from 1, 0 where
+ * no line is. */
+typedef struct {
+    uint32_t refusal;
+    uint32_t arrivals;
+    uint32_t line;
+} krakobran_imported;
+
+/* Imports the text log of K sent packets into lists of sequence numbers and arrival times in microseconds, from their
+ * start. Each line is a number, a semicolon, milliseconds with at most three decimals after a comma or a point, and a
+ * line feed. Lists of KRAKOBRAN_ARRIVALS_MOST places suffice for any log. */
+krakobran_imported krakobran_import_text(const uint8_t *log, size_t octets, uint32_t sent, uint32_t *numbers,
+                                         size_t number_places, uint64_t *times, size_t time_places);
+
+/* Writes the text log of arrivals of K sent packets from the start of out: three decimals after a comma. */
+krakobran_written krakobran_write_text(uint32_t sent, const uint32_t *numbers, size_t number_count,
+                                       const uint64_t *times, size_t time_count, uint8_t *out, size_t room);
 
 /* ---- figures of a sample file */
 

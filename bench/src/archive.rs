@@ -9,6 +9,7 @@ use crate::reference::{
     Answer, Answered, Counts, Degree, DegreeCounts, Figures, Fresh, Gap, Ratios, Read, Receiver, RecordAnswer, Step,
     Stepped, Tally, Written,
 };
+use crate::text::Imported;
 
 const IN_ORDER: u32 = 0;
 const REORDERED: u32 = 1;
@@ -416,6 +417,7 @@ pub fn layout() {
         "layout" c::Layout: refusal label sent arrivals;
         "part" c::Part: start length;
         "written" c::Written: refusal length;
+        "imported" Imported: refusal arrivals line;
         "runs" c::Runs: closed squares current;
         "jumps" c::Jumps: kept dropped positions numbers times;
         "receiver" c::State: sent arrived duplicates inorder next last marks runs jumps;

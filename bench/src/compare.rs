@@ -19,7 +19,7 @@ pub struct Seen {
 }
 
 impl Seen {
-    fn call(&mut self, name: &'static str, refusal: u32) {
+    pub fn call(&mut self, name: &'static str, refusal: u32) {
         self.calls += 1;
         *self.refusals.entry((name, refusal)).or_default() += 1;
     }

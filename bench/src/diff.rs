@@ -3,6 +3,7 @@
 use crate::boundary::{Meter, Reference, LIBRARY, LIBRARY_NAME};
 use crate::compare::{self, Buffers, Seen};
 use crate::generate::{arrival_list, sample_case, state_case};
+use crate::text;
 
 /// How many generated inputs a run takes.
 pub struct Amounts {
@@ -36,9 +37,13 @@ pub fn all(left: &dyn Meter, right: &dyn Meter, seed: u64, amounts: &Amounts, se
 pub fn run(seed: u64, amounts: &Amounts) -> bool {
     println!("library: {LIBRARY_NAME}");
     let mut seen = Seen::default();
-    let found = all(&LIBRARY, &Reference, seed, amounts, &mut seen);
+    let found = all(&LIBRARY, &Reference, seed, amounts, &mut seen)
+        .and_then(|()| text::compare(seed, amounts.samples, &mut seen));
     print!("{}", seen.table());
-    println!("{} samples, {} receiver arrivals, {} calls compared", amounts.samples, seen.arrivals, seen.calls);
+    println!(
+        "{} samples and as many text logs, {} receiver arrivals, {} calls compared",
+        amounts.samples, seen.arrivals, seen.calls
+    );
     match found {
         Ok(()) => println!("0 differences"),
         Err(ref text) => println!("difference (left library, right reference): {text}"),

@@ -10,4 +10,5 @@ pub mod diff;
 pub mod generate;
 pub mod receiver;
 pub mod reference;
+pub mod text;
 pub mod time;

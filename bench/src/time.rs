@@ -5,6 +5,7 @@ use std::hint::black_box;
 use crate::boundary::{Meter, Reference, LIBRARY, LIBRARY_NAME};
 use crate::generate::{measured, Order};
 use crate::reference::*;
+use crate::text;
 
 const AMOUNTS: [usize; 3] = [256, 1024, 4096];
 const ORDERS: [Order; 3] = [Order::InOrder, Order::Shuffled, Order::Reversed];
@@ -31,9 +32,9 @@ fn now() -> f64 {
 }
 
 /// Calls something so many times.
-type Calls<'a> = Box<dyn FnMut(usize) + 'a>;
+pub type Calls<'a> = Box<dyn FnMut(usize) + 'a>;
 
-fn calls<'a, T>(mut call: impl FnMut() -> T + 'a) -> Calls<'a> {
+pub fn calls<'a, T>(mut call: impl FnMut() -> T + 'a) -> Calls<'a> {
     Box::new(move |times| {
         for _ in 0..times {
             black_box(call());
@@ -48,7 +49,7 @@ fn timed(calls: &mut Calls, times: usize) -> f64 {
 }
 
 /// Nanoseconds of one call of each, the least of all rounds. The rounds take turns, so that a busy machine meets all.
-fn measure<const N: usize>(mut columns: [Calls; N]) -> [f64; N] {
+pub fn measure<const N: usize>(mut columns: [Calls; N]) -> [f64; N] {
     let times = columns.each_mut().map(|calls| {
         timed(calls, 1);
         (ROUND / timed(calls, 3)).clamp(1.0, 1e6) as usize
@@ -104,6 +105,8 @@ pub fn run() {
             others(order, many);
         }
     }
+    println!();
+    text::time(&AMOUNTS);
     println!();
     println!(
         "{:22} {:>5} {:>9} {:>9} {:>6} {:>9} {:>6} {:>9} {:>9} {:>6}",

@@ -6,6 +6,7 @@
 mod figures;
 mod label;
 mod noted;
+mod text;
 
 use figures::AnswerFigures;
 use figures::DegreeFigures;

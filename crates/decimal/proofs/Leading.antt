@@ -1,6 +1,5 @@
 -- The digits that a text begins with: how many there are, a loop over them, and a number in decimal read back. Assumes nothing.
-use Prim.Native.Nat.{ℕ, zero, suc, _+_, _*_, _-_, _%_, _/_, _^_, _≤_, _<_, min}
-use native.Mathlib.Numerals.{add-one}
+use Prim.Native.Nat.{ℕ, suc, _+_, _*_, _-_, _%_, _/_, _≤_, _<_, min}
 use native.Mathlib.Nat.{add-zero}
 use native.Mathlib.Omega.{arith}
 use mathlib.Core.Bool.{Bool, true, false, _&&_, true≢false}
@@ -14,7 +13,6 @@ use Rattle.octets.specs.Memory.{part}
 use Rattle.octets.proofs.Memory.{part-snoc}
 use Rattle.decimal.specs.Decimal.{decimalOf, decimalValue}
 use Rattle.decimal.specs.Reading.{digit, digitCount, leadingValue, wordMost, numberAt, ReadsBack}
-use Rattle.decimal.specs.declared.reading.Number.{Number}
 use Rattle.decimal.proofs.Laws.{by-tens, one-digit, more-digits, value-more, reads-back, Digit}
 
 -- ---- one digit
@@ -107,8 +105,6 @@ module _ (os : List ℕ) (at value end : ℕ) (p : Passed os at value end) where
       → value′ ≡ min (value * 10 + (getD os end 0 - 48)) wordMost → Passed os at value′ (end + 1)
   passed-more value′ h d e =
       let b : at ≤ end = p .onward in
-      let last : ℕ = getD os end 0 - 48 in
-      let so : ℕ = decimalValue (part at (end - at) os) in
       let place : at + (end - at) ≡ end = omega arith in
       let long : end + 1 - at ≡ end - at + 1 = omega arith in
       let room : at + (end - at) < length os = omega arith in

@@ -1,5 +1,4 @@
 // A text log made into a sample file: no label, K payload sizes of one size, and the arrivals of the log.
-ghost use mathlib.Core.Path.{_≡_};
 ghost use Rattle.import_log.specs.Convert.{ConvertedTo};
 
 // The places of each list: as many as a sample may have packets, and arrivals.

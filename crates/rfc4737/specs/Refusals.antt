@@ -53,7 +53,7 @@ stateFull = 11
 abbrev pub listsDiffer : ℕ
 listsDiffer = 12
 
--- 14: a line of a text log is not of its form, or a value is over the field's range
+-- 14: a line not of the form, or a value over the field's range
 abbrev pub lineMalformed : ℕ
 lineMalformed = 14
 

@@ -4,7 +4,7 @@ use Prim.Native.Nat.{ℕ, zero, suc, _+_, _^_, _≤_, _<_}
 use native.Mathlib.Nat.{add-zero, zero-add}
 use native.Mathlib.Omega.{arith}
 use mathlib.Core.Path.{_≡_, refl, sym, ap, _∙_, subst}
-use mathlib.Core.List.{List, [], _∷_, _++_, map}
+use mathlib.Core.List.{List, [], _∷_, _++_}
 use borrow.Author.Tests.{leb-false}
 use lib.Dec.{leb, ltb}
 use lib.ListN.{length, getD, take, length-map, replicate, length-replicate}
@@ -14,7 +14,7 @@ use Rattle.octets.proofs.Below.{below-nil, below-cons}
 use Rattle.octets.proofs.Memory.{over-read}
 use Rattle.rfc4737.specs.declared.Arrival.{Arrival}
 use Rattle.rfc4737.specs.Judge.{sentMost, arrivalsMost, numbersOf, timesOf, arrivalsOf, judgeOne, judge, judgeSent, judgeArrivals, refusalOfLists}
-use Rattle.rfc4737.specs.Refusals.{outside, inCase, firstOf, manyArrivals, sentOutside, outputShort}
+use Rattle.rfc4737.specs.Refusals.{outside, inCase, manyArrivals, sentOutside, outputShort}
 use Rattle.rfc4737.specs.Times.{nextReference}
 use Rattle.rfc4737.proofs.Due.{first-none, first-next, first-one, case-none, not-outside, between}
 use Rattle.rfc4737.proofs.Judged.{fit-lists}
@@ -26,8 +26,8 @@ use Rattle.sample.specs.Calls.{refusalFrom, refusalInto, octetsInto, unlessRefu
 use Rattle.sample.specs.declared.Written.{Written}
 use Rattle.sample.proofs.Exact.{decode-file}
 use Rattle.sample.proofs.RoundTrips.{none-from}
-use Rattle.textlog.specs.Form.{LineFits, Log, none, after}
-use Rattle.textlog.specs.Decode.{Decoded, malformed, arrived, decodeLine, lines, arrivalOr0, arrivalsOfLines, arrivalsIn, judgeLine, unless, judgeLines, judgeLog}
+use Rattle.textlog.specs.Form.{Log, none, after}
+use Rattle.textlog.specs.Decode.{Decoded, malformed, arrived, decodeLine, lines, arrivalOr0, arrivalsOfLines, arrivalsIn, judgeLine, judgeLines, judgeLog}
 use Rattle.textlog.specs.RoundTrip.{sampleFrom, Writable, FitSample}
 use Rattle.textlog.specs.declared.Imported.{Imported}
 use Rattle.textlog.proofs.Lines.{decoded, joined, lines-joined}

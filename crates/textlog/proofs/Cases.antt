@@ -1,7 +1,5 @@
 -- The tables of lines and logs, and the written log, by computation. Assumes nothing.
-use Prim.Native.Nat.{ℕ}
-use mathlib.Core.Path.{_≡_, refl}
-use mathlib.Core.List.{List, map}
+use mathlib.Core.Path.{refl}
 use Rattle.decimal.specs.Decimal.{significant, decimalOf, decimalValue}
 use Rattle.decimal.specs.Reading.{digit, digitCount}
 use Rattle.rfc4737.specs.Judge.{judgeOne}
@@ -9,9 +7,8 @@ use Rattle.rfc4737.specs.Refusals.{outside}
 use Rattle.rfc4737.specs.Times.{tooEarly, nextReference}
 use Rattle.sample.specs.Format.{itemOctets}
 use Rattle.textlog.specs.Form.{lineOf}
-use Rattle.textlog.specs.Decode.{mark, inRange, fractionIn, timeIn, lineIn, Decoded, decodeLine, lines, judgeLines, judgeLog}
-use Rattle.textlog.specs.Cases.{lineTable, logTable, ReadAsGiven, WrittenAsGiven}
-use Rattle.textlog.specs.declared.Imported.{Imported}
+use Rattle.textlog.specs.Decode.{mark, inRange, fractionIn, timeIn, lineIn, decodeLine, lines, judgeLines, judgeLog}
+use Rattle.textlog.specs.Cases.{ReadAsGiven, WrittenAsGiven}
 
 pub read-as-given : ReadAsGiven
 unfolding digit mark digitCount inRange fractionIn timeIn lineIn decodeLine outside decimalValue lines judgeLines judgeLog judgeOne tooEarly nextReference

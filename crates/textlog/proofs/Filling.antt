@@ -7,7 +7,7 @@ use mathlib.Core.List.{List, [], _∷_, _++_, map}
 use lib.ListN.{length, getD, take, drop, length-drop, length-map, drop-of-length-le}
 use lib.Seq.{getD-drop, drop-drop}
 use Rattle.octets.specs.Memory.{over}
-use Rattle.octets.proofs.Memory.{fill-next, fill-length, fill-done}
+use Rattle.octets.proofs.Memory.{fill-length, fill-done}
 use Rattle.rfc4737.specs.declared.Arrival.{Arrival}
 use Rattle.rfc4737.specs.Judge.{numbersOf, timesOf}
 use Rattle.textlog.specs.Decode.{lineIn, Decoded, decodeLine, lines, arrivalOr0, arrivalsOfLines, arrivalsIn}

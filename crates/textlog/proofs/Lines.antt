@@ -16,7 +16,7 @@ use Rattle.textlog.specs.Decode.{lineIn, Decoded, malformed, arrived, re
 use Rattle.textlog.specs.RoundTrip.{ExactLine}
 use Rattle.textlog.specs.declared.reading.Found.{Found}
 use Rattle.textlog.specs.declared.reading.Found.the-variants.{Read, Malformed}
-use Rattle.textlog.proofs.Sound.{Stands, sound}
+use Rattle.textlog.proofs.Sound.{sound}
 use Rattle.textlog.proofs.Complete.{complete}
 
 -- ---- a line of the form is the first of the text that it begins

@@ -22,8 +22,8 @@ use Rattle.rfc4737.proofs.Judged.{judge-split, one-split, ListsFit, lists-fit}
 use Rattle.rfc4737.proofs.Pairs.{arrivals-length, numbers-back, times-back, arrivals-back}
 use Rattle.sample.specs.Format.{itemOctets}
 use Rattle.sample.specs.Calls.{unlessRefused}
-use Rattle.textlog.specs.Form.{semicolon, comma, lineFeed, numberMost, Digits, one, more, byComma, thousandths, threeDigits, Time, parted, Line, line, LineFits, Log, none, after, lineOf, logOf}
-use Rattle.textlog.specs.Decode.{Decoded, decodeLine, lines, arrivalOr0, arrivalsOfLines, arrivalsIn, unless, judgeLines, judgeLog}
+use Rattle.textlog.specs.Form.{semicolon, comma, lineFeed, numberMost, Digits, one, more, byComma, thousandths, threeDigits, Time, parted, Line, line, Log, none, after, lineOf, logOf}
+use Rattle.textlog.specs.Decode.{Decoded, lines, arrivalOr0, arrivalsOfLines, arrivalsIn, unless, judgeLines, judgeLog}
 use Rattle.textlog.specs.Calls.{listsShort, shortLast, importAnswer, arrivalsUnless, refusalInto, octetsInto}
 use Rattle.textlog.specs.RoundTrip.{ExactLog, ReadAgain}
 use Rattle.textlog.specs.declared.Imported.{Imported}

@@ -119,7 +119,6 @@ time-sound number at t {n} {τ} {e} h =
         → TimeStands number at t n τ e
     marked d m f =
         let g = begins t (octetAfter t) refl (mark-passes m .some) in
-        let ts : List ℕ = leading t ++ (octetAfter t ∷ f .ds) in
         let l : length (leading t ++ (octetAfter t ∷ f .ds)) ≡ digitCount t + suc (length (f .ds)) =
         length-append (leading t) (octetAfter t ∷ f .ds) ∙ ap (λ (k : ℕ). k + suc (length (f .ds))) (g .long) in
         record {

@@ -1,17 +1,15 @@
 -- The written form: the length of a line, a line put in parts, and the log of a list of arrivals, one line more. Assumes nothing.
-use Prim.Native.Nat.{ℕ, zero, suc, _+_, _*_, _-_, _/_, _%_, _^_, _≤_, _<_}
+use Prim.Native.Nat.{ℕ, _+_, _-_, _/_, _%_, _≤_, _<_}
 use native.Mathlib.Omega.{arith}
-use mathlib.Core.Path.{_≡_, refl, sym, ap, _∙_, subst}
+use mathlib.Core.Path.{_≡_, sym, ap, _∙_}
 use mathlib.Core.List.{List, [], _∷_, _++_, append-assoc}
 use lib.ListN.{length, getD, take, drop, length-append, take-append-drop}
 use lib.Seq.{take-all, append-snoc}
-use Rattle.octets.specs.Memory.{over, put}
-use Rattle.octets.proofs.Memory.{put-next, put-over}
+use Rattle.octets.specs.Memory.{put}
+use Rattle.octets.proofs.Memory.{put-next}
 use Rattle.decimal.specs.Decimal.{decimalOf}
-use Rattle.decimal.proofs.Laws.{at-most-20}
 use Rattle.rfc4737.specs.declared.Arrival.{Arrival}
 use Rattle.rfc4737.specs.Judge.{arrivalsOf}
-use Rattle.sample.specs.Format.{itemOctets}
 use Rattle.rfc4737.proofs.Pairs.{arrivals-getD, arrivals-length}
 use Rattle.sample.proofs.Items.{octets-append, octets-snoc}
 use Rattle.textlog.specs.Form.{lineOf, logOf}

@@ -1,5 +1,5 @@
 -- `textlog::judge_log` meets its contract. Assumes nothing.
-use mathlib.Core.Path.{sym, ap, _∙_}
+use mathlib.Core.Path.{sym, _∙_}
 use borrow.Author.Needs.{needs}
 use Rattle.textlog.specs.Decode.{judgeLog}
 use Rattle.textlog.proofs.judge_log.Statement.{statement}

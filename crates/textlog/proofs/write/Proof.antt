@@ -1,24 +1,27 @@
--- `textlog::write` meets its contract: a list is refused, the lent octets are too few, or the log is written. Assumes nothing.
+-- `textlog::write` meets its contract: the lists are refused, the lent octets are too few, or the log is written. Assumes nothing.
 use native.Mathlib.Omega.{arith}
 use mathlib.Core.Path.{sym, _∙_}
 use borrow.Author.Needs.{needs}
 use denote.Ref.{now}
 use mir.Syntax.{w64}
 use Rattle.octets.proofs.Below.{below-fits}
+use Rattle.rfc4737.proofs.Judged.{lists-fit}
 use Rattle.textlog.specs.RoundTrip.{ReadAgain}
 use Rattle.textlog.specs.Cases.{WrittenAsGiven}
-use Rattle.textlog.proofs.Cases.{written-as-given}
-use Rattle.rfc4737.proofs.Judged.{lists-fit}
 use Rattle.textlog.proofs.Answers.{write-refused, write-short, write-filled}
+use Rattle.textlog.proofs.Cases.{written-as-given}
 use Rattle.textlog.proofs.RoundTrips.{read-again}
 use Rattle.textlog.proofs.write.Statement.{statement}
 use Rattle.textlog.proofs.write.Tie as tie
 
--- what the contract carries: what was written reads back, and the written log of the cases
-again : (c : tie.After-slice-known) → ReadAgain (c .before .before .before .args .k) (now (c .before .before .before .args .numbers)) (now (c .before .before .before .args .times)) × WrittenAsGiven
-again c =
+-- the theorems that the contract carries
+carried : (c : tie.After-slice-known)
+    → ReadAgain (c .before .before .before .args .k) (now (c .before .before .before .args .numbers)) (now (c .before .before .before .args .times))
+    × WrittenAsGiven
+carried c =
     let a = c .before .before .before .args in
-    (read-again (a .k) (now (a .numbers)) (now (a .times)) (below-fits w64 (now (a .times)) (c .before .shared-slice-known2 .given)), written-as-given)
+    let fits = below-fits w64 (now (a .times)) (c .before .shared-slice-known2 .given) in
+    (read-again (a .k) (now (a .numbers)) (now (a .times)) fits, written-as-given)
 
 refusal-of-lists-requires : tie.Need-refusal-of-lists-requires
 refusal-of-lists-requires c κs = search needs
@@ -26,28 +29,32 @@ refusal-of-lists-requires c κs = search needs
 returns : tie.Need-returns
 returns c =
     let a = c .before .before .before .before .before .args in
-    (write-refused (a .k) (now (a .numbers)) (now (a .times)) (now (a .out)) (c .before .refusal-of-lists .result) (c .if1 .taken) (c .before .refusal-of-lists .ensures), again (c .before .before))
+    let r = c .before .refusal-of-lists in (
+      write-refused (a .k) (now (a .numbers)) (now (a .times)) (now (a .out)) (r .result) (c .if1 .taken) (r .ensures),
+      carried (c .before .before),
+    )
 
 log-length-requires : tie.Need-log-length-requires
 log-length-requires c κs =
     let a = c .before .before .before .before .before .args in
-    let z = sym (c .before .refusal-of-lists .ensures) ∙ c .if1 .left in
-    let f = lists-fit (a .k) (now (a .numbers)) (now (a .times)) z in
+    let none = sym (c .before .refusal-of-lists .ensures) ∙ c .if1 .left in
+    let f = lists-fit (a .k) (now (a .numbers)) (now (a .times)) none in
     (f .same, f .few)
 
 returns-2 : tie.Need-returns-2
 returns-2 c =
     let a = c .before .before .before .before .before .before .before .args in
-    let z = sym (c .before .before .before .refusal-of-lists .ensures) ∙ c .before .before .if1 .left in
-    let f = lists-fit (a .k) (now (a .numbers)) (now (a .times)) z in
-    let e = c .before .log-length .ensures .0 in
-    (write-short (a .k) (now (a .numbers)) (now (a .times)) (now (a .out)) z (omega (arith, c .if2 .taken)), again (c .before .before .before .before))
+    let none = sym (c .before .before .before .refusal-of-lists .ensures) ∙ c .before .before .if1 .left in
+    let e = c .before .log-length .ensures .0 in (
+      write-short (a .k) (now (a .numbers)) (now (a .times)) (now (a .out)) none (omega (arith, c .if2 .taken)),
+      carried (c .before .before .before .before),
+    )
 
 put-lines-requires : tie.Need-put-lines-requires
 put-lines-requires c κs =
     let a = c .before .before .before .before .before .before .before .before .args in
-    let z = sym (c .before .before .before .before .refusal-of-lists .ensures) ∙ c .before .before .before .if1 .left in
-    let f = lists-fit (a .k) (now (a .numbers)) (now (a .times)) z in
+    let none = sym (c .before .before .before .before .refusal-of-lists .ensures) ∙ c .before .before .before .if1 .left in
+    let f = lists-fit (a .k) (now (a .numbers)) (now (a .times)) none in
     let e = c .before .before .log-length .ensures .0 in
     (f .same, omega (arith, c .before .if2 .left))
 
@@ -60,10 +67,14 @@ same-length c = search needs
 returns-3 : tie.Need-returns-3
 returns-3 c =
     let a = c .before .before .before .before .before .before .before .before .before .before .before .args in
-    let z = sym (c .before .before .before .before .before .before .before .refusal-of-lists .ensures) ∙ c .before .before .before .before .before .before .if1 .left in
-    let f = lists-fit (a .k) (now (a .numbers)) (now (a .times)) z in
-    let e = c .before .before .before .before .before .log-length .ensures .0 in
-    (write-filled (a .k) (now (a .numbers)) (now (a .times)) (now (a .out)) z (c .before .before .before .before .before .log-length .result) e (omega (arith, c .before .before .before .before .if2 .left)) (c .before .before .put-lines .ensures), again (c .before .before .before .before .before .before .before .before))
+    let r = c .before .before .before .before .before .before .before .refusal-of-lists in
+    let none = sym (r .ensures) ∙ c .before .before .before .before .before .before .if1 .left in
+    let length = c .before .before .before .before .before .log-length in
+    let e = length .ensures .0 in
+    let room = c .before .before .before .before .if2 .left in (
+      write-filled (a .k) (now (a .numbers)) (now (a .times)) (now (a .out)) none (length .result) e (omega (arith, room)) (c .before .before .put-lines .ensures),
+      carried (c .before .before .before .before .before .before .before .before),
+    )
 
 pub write-spec : {M : Type 1} → statement M
 write-spec =

@@ -1,7 +1,6 @@
 -- `decimal::reading::number_at` meets its contract. The loop's invariant: the digits up to `end` are passed, and `value` is their
 -- number. The measure is what is left of the octets. Assumes nothing.
 use Prim.Native.Nat.{_-_}
-use native.Mathlib.Omega.{arith}
 use borrow.Author.Needs.{needs}
 use borrow.Author.Tests.{not-true, not-false}
 use mathlib.Core.Path.{sym, _∙_}

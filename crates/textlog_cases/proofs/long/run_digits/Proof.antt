@@ -7,7 +7,7 @@ use Rattle.textlog_cases.proofs.long.run_digits.Statement.{statement}
 use Rattle.textlog_cases.proofs.long.run_digits.Tie as tie
 
 slice-aggregate-import-first : tie.Need-slice-aggregate-import-first
-slice-aggregate-import-first c = sym (length-replicate {A = ℕ} 1000010 (c .before .args .digit))
+slice-aggregate-import-first c = sym (length-replicate {A = ℕ} 1000010 (c .before .before .before .before .args .digit))
 
 import-first-requires : tie.Need-import-first-requires
 import-first-requires c κs = search needs

@@ -1,0 +1,30 @@
+// Text logs for C.
+ghost use Rattle.textlog.specs.Calls.{ImportedFrom, WrittenTo};
+use sample::Written;
+use textlog::Imported;
+
+// Imports the text log of K sent packets into lists of numbers and times.
+#[no_mangle]
+pub extern "C" fn krakobran_import_text(
+    log: &[u8],
+    sent: u32,
+    numbers: &mut [u32],
+    times: &mut [u64],
+) -> Imported
+    ensures { λ r. ⌜ ImportedFrom sent (now (log .entry)) (now (numbers .entry)) (now (times .entry)) r (now (numbers .exit)) (now (times .exit)) ⌝ }
+{
+    textlog::import(log, sent, numbers, times)
+}
+
+// Writes the text log of arrivals of K sent packets.
+#[no_mangle]
+pub extern "C" fn krakobran_write_text(
+    sent: u32,
+    numbers: &[u32],
+    times: &[u64],
+    out: &mut [u8],
+) -> Written
+    ensures { λ r. ⌜ WrittenTo sent (now (numbers .entry)) (now (times .entry)) (now (out .entry)) r (now (out .exit)) ⌝ }
+{
+    textlog::write(sent, numbers, times, out)
+}

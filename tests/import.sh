@@ -1,0 +1,98 @@
+#!/usr/bin/env bash
+# Runs ./krakobran-import on accepted and refused logs, on what is no file and with bad arguments, and compares standard
+# output, standard error and the exit status with what is expected. A line for each case; status 1 if one fails.
+set -u
+
+root=$(cd -- "$(dirname -- "${BASH_SOURCE[0]}")/.." && pwd) || exit 2
+dir=$(mktemp -d) || exit 2
+trap 'rm -rf -- "$dir"' EXIT
+failed=0 run=0
+
+# NAME STATUS WORDS [ARGUMENT..]: runs the script on standard input, and holds its output to $dir/expected and its status to
+# STATUS. Standard error is empty where WORDS are, and else is one line that ends with them.
+try() {
+    local name=$1 status=$2 words=$3 wrong='' found
+    shift 3
+    "$root/krakobran-import" "$@" > "$dir/out" 2> "$dir/err"
+    found=$?
+    [ "$found" -eq "$status" ] || wrong+=", status $found and not $status"
+    cmp -s "$dir/out" "$dir/expected" || wrong+=", standard output: $(head -c 200 "$dir/out" | od -An -c | head -n 3)"
+    if [ -z "$words" ]; then
+        [ ! -s "$dir/err" ] || wrong+=", standard error: $(head -c 200 "$dir/err")"
+    else
+        [[ $(< "$dir/err") == krakobran-import:*"$words" ]] || wrong+=", standard error: $(head -c 200 "$dir/err")"
+        [ "$(wc -l < "$dir/err")" -eq 1 ] || wrong+=', not one line on standard error'
+    fi
+    run=$((run + 1))
+    if [ -n "$wrong" ]; then
+        failed=$((failed + 1))
+        printf 'FAILED %s%s\n' "$name" "$wrong"
+    else
+        printf 'passed %s\n' "$name"
+    fi
+}
+
+# The words of a refusal, from the definitions.
+words() {
+    sed -n "s/^-- $1: //p" "$root/crates/rfc4737/specs/Refusals.antt"
+}
+
+# NAME REFUSAL PLACE K: the log of standard input is refused at a line, if PLACE has one.
+refused() {
+    local words
+    words=$(words "$2")
+    : > "$dir/expected"
+    try "$1" 1 "$3${words:?no words}" "$4" 100
+}
+
+# Samples by their octets: the request's own log, and no arrivals.
+printf '\0\0\0\3\0\144\0\144\0\144\0\3' > "$dir/expected"
+for r in '\1 \021\224' '\2 \021\224' '\3 \257\310'; do
+    printf "\\0\\0\\0${r% *}\\0\\0\\0\\0\\0\\0${r#* }" >> "$dir/expected"
+done
+printf '1;4,5\n2;4.5\n3;45\n' > "$dir/log"
+try 'a log on standard input' 0 '' 3 100 < "$dir/log"
+try 'a log by its name' 0 '' 3 100 "$dir/log"
+try 'arguments with leading zeros' 0 '' 0003 0100 "$dir/log"
+printf '\0\0\0\1\377\377\0\0' > "$dir/expected"
+try 'an empty log, and the greatest size' 0 '' 1 65535 < /dev/null
+
+# The report of a log, in one line of shell.
+run=$((run + 1))
+if "$root/krakobran-import" 5 100 < <(printf '%d;0,%03d\n' 1 10 2 20 4 40 5 50 3 70) | "$root/krakobran-report" /dev/stdin |
+    cmp -s - "$root/crates/report/stdout"; then
+    echo 'passed the report of a log'
+else
+    failed=$((failed + 1))
+    echo 'FAILED the report of a log'
+fi
+
+# 4,096 lines and more.
+refused '4097 lines' 5 'line 4097: ' 4096 < <(printf '%d;1\n' {1..4096} 1)
+refused '4097 lines, the last malformed' 14 'line 4097: ' 4096 < <(printf '%s;1\n' {1..4096} x)
+
+# Refused logs.
+refused 'K of 0' 4 '' 0 < "$dir/log"
+refused 'K of 4097' 4 '' 4097 < "$dir/log"
+refused 'number K + 1' 6 'line 3: ' 2 < "$dir/log"
+refused 'a time that goes back' 7 'line 2: ' 2 < <(printf '1;5\n2;4,999\n')
+refused 'a carriage return' 14 'line 1: ' 2 < <(printf '1;5\r\n')
+refused 'no last line feed' 14 'line 2: ' 2 < <(printf '1;5\n2;6')
+refused 'octet 0' 14 'line 1: ' 2 < <(printf '\0')
+try 'over 262144 octets' 1 'the log has over 262144 octets' 1 100 < <(head -c 262145 /dev/zero)
+
+# What is no file, and bad usage.
+try 'a missing file' 1 'there is no such file' 1 100 "$dir/missing"
+try 'a directory' 1 'this is a directory' 1 100 "$dir"
+try 'no arguments' 2 'usage: krakobran-import K SIZE [LOG]'
+try 'one argument' 2 'usage: krakobran-import K SIZE [LOG]' 1
+try 'four arguments' 2 'usage: krakobran-import K SIZE [LOG]' 1 2 3 4
+try 'K that is no number' 2 'K is no number from 0 to 4294967295' 5x 100 < "$dir/log"
+try 'an empty K' 2 'K is no number from 0 to 4294967295' '' 100 < "$dir/log"
+try 'K with a sign' 2 'K is no number from 0 to 4294967295' -1 100 < "$dir/log"
+try 'K of 2^32 + 1' 2 'K is no number from 0 to 4294967295' 4294967297 100 < "$dir/log"
+try 'a size that is no number' 2 'the payload size is no number from 0 to 65535' 1 x < "$dir/log"
+try 'a size over 65535' 2 'the payload size is no number from 0 to 65535' 1 65536 < "$dir/log"
+
+printf '%d passed, %d failed\n' $((run - failed)) "$failed"
+[ "$failed" -eq 0 ]
