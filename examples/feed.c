@@ -54,9 +54,9 @@ int main(int argc, char **argv) {
         for (size_t i = 0; i < sizeof numbers / sizeof numbers[0]; i++)
             feed(&receiver, numbers[i], times[i]);
     }
-    printf("L %" PRIu32 ", duplicates %" PRIu32 ", in order %" PRIu32 "\n", receiver.arrived, receiver.duplicates,
-           receiver.inorder);
-    printf("closed runs %" PRIu32 ", sum of squares %" PRIu32 ", open run %" PRIu32 "\n", receiver.runs.closed,
-           receiver.runs.squares, receiver.runs.current);
+    printf("L %" PRIu32 ", duplicates %" PRIu32 ", in order %" PRIu32 "\n", receiver.stream.arrived,
+           receiver.stream.duplicates, receiver.stream.inorder);
+    printf("closed runs %" PRIu32 ", sum of squares %" PRIu32 ", open run %" PRIu32 "\n", receiver.stream.runs.closed,
+           receiver.stream.runs.squares, receiver.stream.runs.current);
     return 0;
 }

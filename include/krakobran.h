@@ -223,29 +223,34 @@ krakobran_written krakobran_listing(const uint8_t *file, size_t octets, uint8_t 
 
 /* ---- the receiver */
 
-/* The last jumps: how many are kept, the number of the last one dropped (0 for none), and position, number and time
- * of each kept one, the oldest first. */
-typedef struct {
-    uint32_t kept;
-    uint16_t dropped;
-    uint16_t positions[KRAKOBRAN_WINDOW];
-    uint16_t numbers[KRAKOBRAN_WINDOW];
-    uint64_t times[KRAKOBRAN_WINDOW];
-} krakobran_jumps;
-
-/* What a receiver holds: K, first arrivals (L), duplicates, in-order packets, the next expected number, the time of
- * the last accepted arrival, a bit for each packet that has arrived (packet s: bit (s - 1) % 64 of word
- * (s - 1) / 64), the runs and the last jumps. */
+/* The numbers that a step decides by: K, first arrivals (L), duplicates, in-order packets, the next expected number, how
+ * many jumps are kept, the time of the last accepted arrival, the runs, and the number of the last jump dropped (0 for
+ * none). */
 typedef struct {
     uint32_t sent;
     uint32_t arrived;
     uint32_t duplicates;
     uint32_t inorder;
     uint32_t next;
+    uint32_t kept;
     uint64_t last;
-    uint64_t marks[KRAKOBRAN_PACKETS / 64];
     krakobran_runs runs;
-    krakobran_jumps jumps;
+    uint16_t dropped;
+} krakobran_stream;
+
+/* Position, number and time of each kept jump, the oldest first; the places after them are unused. */
+typedef struct {
+    uint16_t positions[KRAKOBRAN_WINDOW];
+    uint16_t numbers[KRAKOBRAN_WINDOW];
+    uint64_t times[KRAKOBRAN_WINDOW];
+} krakobran_places;
+
+/* What a receiver holds: the numbers of its stream, a bit for each packet that has arrived (packet s: bit (s - 1) % 64 of
+ * word (s - 1) / 64), and the places of the kept jumps. */
+typedef struct {
+    krakobran_stream stream;
+    uint64_t marks[KRAKOBRAN_PACKETS / 64];
+    krakobran_places places;
 } krakobran_receiver;
 
 /* A receiver at its start; with a refusal one for a single packet. */

@@ -109,9 +109,21 @@ pub mod c {
 
     #[repr(C)]
     #[derive(Clone, Copy)]
-    pub struct Jumps {
+    pub struct Stream {
+        pub sent: u32,
+        pub arrived: u32,
+        pub duplicates: u32,
+        pub inorder: u32,
+        pub next: u32,
         pub kept: u32,
+        pub last: u64,
+        pub runs: Runs,
         pub dropped: u16,
+    }
+
+    #[repr(C)]
+    #[derive(Clone, Copy)]
+    pub struct Places {
         pub positions: [u16; Receiver::WINDOW],
         pub numbers: [u16; Receiver::WINDOW],
         pub times: [u64; Receiver::WINDOW],
@@ -120,15 +132,9 @@ pub mod c {
     #[repr(C)]
     #[derive(Clone, Copy)]
     pub struct State {
-        pub sent: u32,
-        pub arrived: u32,
-        pub duplicates: u32,
-        pub inorder: u32,
-        pub next: u32,
-        pub last: u64,
+        pub stream: Stream,
         pub marks: [u64; Receiver::PACKETS / 64],
-        pub runs: Runs,
-        pub jumps: Jumps,
+        pub places: Places,
     }
 
     #[repr(C)]
@@ -191,34 +197,33 @@ pub mod c {
 /// The archive's state of a receiver.
 fn to_archive(r: &Receiver) -> c::State {
     c::State {
-        sent: r.sent,
-        arrived: r.first_arrivals,
-        duplicates: r.duplicates,
-        inorder: r.in_order,
-        next: r.next_expected,
-        last: r.last_time,
-        marks: r.marks,
-        runs: c::Runs { closed: r.closed_runs, squares: r.squares, current: r.open_run },
-        jumps: c::Jumps {
+        stream: c::Stream {
+            sent: r.sent,
+            arrived: r.first_arrivals,
+            duplicates: r.duplicates,
+            inorder: r.in_order,
+            next: r.next_expected,
             kept: r.jumps.kept,
+            last: r.last_time,
+            runs: c::Runs { closed: r.closed_runs, squares: r.squares, current: r.open_run },
             dropped: r.jumps.dropped.try_into().expect("a dropped number of 16 bits"),
-            positions: r.jumps.positions,
-            numbers: r.jumps.numbers,
-            times: r.jumps.times,
         },
+        marks: r.marks,
+        places: c::Places { positions: r.jumps.positions, numbers: r.jumps.numbers, times: r.jumps.times },
     }
 }
 
 /// The receiver of an archive's state.
-fn from_archive(s: &c::State) -> Receiver {
+fn from_archive(state: &c::State) -> Receiver {
+    let (s, places) = (&state.stream, &state.places);
     Receiver {
-        marks: s.marks,
+        marks: state.marks,
         jumps: Jumps {
-            times: s.jumps.times,
-            positions: s.jumps.positions,
-            numbers: s.jumps.numbers,
-            kept: s.jumps.kept,
-            dropped: u32::from(s.jumps.dropped),
+            times: places.times,
+            positions: places.positions,
+            numbers: places.numbers,
+            kept: s.kept,
+            dropped: u32::from(s.dropped),
         },
         last_time: s.last,
         sent: s.sent,
@@ -387,7 +392,7 @@ impl Meter for Archive {
             black_box((s.refusal, s.noted));
             state = s.state;
         }
-        state.arrived
+        state.stream.arrived
     }
 
     fn feed_lent(&self, list: &[(u32, u64)]) -> u32 {
@@ -395,7 +400,7 @@ impl Meter for Archive {
         for &(number, time) in list {
             black_box(unsafe { c::krakobran_step_lent(&mut state, number, time) });
         }
-        state.arrived
+        state.stream.arrived
     }
 }
 
@@ -419,8 +424,9 @@ pub fn layout() {
         "written" c::Written: refusal length;
         "imported" Imported: refusal arrivals line;
         "runs" c::Runs: closed squares current;
-        "jumps" c::Jumps: kept dropped positions numbers times;
-        "receiver" c::State: sent arrived duplicates inorder next last marks runs jumps;
+        "stream" c::Stream: sent arrived duplicates inorder next kept last runs dropped;
+        "places" c::Places: positions numbers times;
+        "receiver" c::State: stream marks places;
         "started" c::Started: refusal state;
         "noted" c::Noted: kind jump extent late;
         "stepped" c::Stepped: refusal noted state;

@@ -4,9 +4,9 @@ use Prim.Native.Nat.{ℕ}
 use Rattle.receiver.specs.declared.Lateness.{Lateness}
 use Rattle.receiver.specs.declared.Noted.{Noted}
 use Rattle.receiver.specs.declared.Noted.the-variants.{Duplicate, InOrder, Exact, Beyond}
+use Rattle.receiver.specs.declared.Outcome.{Outcome}
 use Rattle.receiver.specs.declared.Stepped.{Stepped}
 use Rattle.receiver.specs.Numbering.{notedNumber}
-use Rattle.gateway.specs.declared.Said.{Said}
 use Rattle.capi.specs.declared.noted.NotedFigures.{NotedFigures}
 use Rattle.capi.specs.declared.noted.SaidAnswer.{SaidAnswer}
 use Rattle.capi.specs.declared.noted.StepAnswer.{StepAnswer}
@@ -25,8 +25,8 @@ notedFigures (Beyond l) = lateFigures (notedNumber (Beyond l)) l
 
 -- a step's answer: its refusal, what it notes, and its state
 abbrev pub stepAnswer : Stepped → StepAnswer
-stepAnswer s = record { refusal = s .refusal; noted = notedFigures (s .noted); state = s .state }
+stepAnswer s = record { refusal = s .outcome .refusal; noted = notedFigures (s .outcome .noted); state = s .state }
 
 -- the answer of a step by reference: its refusal and what it notes
-abbrev pub saidAnswer : Said → SaidAnswer
-saidAnswer s = record { refusal = s .refusal; noted = notedFigures (s .noted) }
+abbrev pub saidAnswer : Outcome → SaidAnswer
+saidAnswer o = record { refusal = o .refusal; noted = notedFigures (o .noted) }

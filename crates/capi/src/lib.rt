@@ -4,6 +4,7 @@
 // where a case does not have one. include/krakobran.h declares them for C.
 
 mod figures;
+pub mod held;
 mod label;
 mod noted;
 mod text;
@@ -16,6 +17,7 @@ use figures::answer_figures;
 use figures::degree_figures;
 use figures::gap_figures;
 use figures::ratios_figures;
+use held::held_step;
 use label::LabelPart;
 use label::label_part;
 use metrics::DegreeCounts;
@@ -37,7 +39,6 @@ ghost use Rattle.sample.specs.Calls.{ReadFrom, WrittenTo};
 ghost use Rattle.metrics.specs.Figures.{recordAnswer, recordGap, sampleCounts, sampleTally, degreeCounts, sampleDegree, sampleRatios};
 ghost use Rattle.metrics.specs.Report.{ListedTo};
 ghost use Rattle.receiver.specs.Step.{freshOf, stepOf};
-ghost use Rattle.gateway.specs.Said.{saidOf};
 ghost use Rattle.capi.specs.Figures.{answerFigures, gapFigures, degreeFigures, ratiosFigures};
 ghost use Rattle.capi.specs.Label.{labelPart};
 ghost use Rattle.capi.specs.Noted.{stepAnswer, saidAnswer};
@@ -178,14 +179,14 @@ pub extern "C" fn krakobran_fresh(sent: u32) -> Started
 pub extern "C" fn krakobran_step(state: Receiver, number: u32, time: u64) -> StepAnswer
     ensures { λ r. ⌜ r ≡ stepAnswer (stepOf state number time) ⌝ }
 {
-    step_answer(state.step(number, time))
+    step_answer(held_step(state, number, time))
 }
 
 // A step by reference: the answer to an arrival; the lent receiver holds the state after it.
 #[no_mangle]
 pub extern "C" fn krakobran_step_lent(state: &mut Receiver, number: u32, time: u64) -> SaidAnswer
-    ensures { λ r. ⌜ (r ≡ saidAnswer (saidOf (stepOf (now (state .entry)) number time)))
+    ensures { λ r. ⌜ (r ≡ saidAnswer (stepOf (now (state .entry)) number time .outcome))
         × (now (state .exit) ≡ stepOf (now (state .entry)) number time .state) ⌝ }
 {
-    said_answer(gateway::step_in_place(state, number, time))
+    said_answer(receiver::step_in_place(state, number, time))
 }

@@ -1,8 +1,8 @@
 // What a receiver says, as C has it: an enum is the number of its case beside the figures of all cases.
 
-use gateway::Said;
 use receiver::Lateness;
 use receiver::Noted;
+use receiver::Outcome;
 use receiver::Receiver;
 use receiver::Stepped;
 use receiver::numbering::BEYOND;
@@ -74,22 +74,23 @@ pub fn noted_figures(noted: Noted) -> NotedFigures
 pub fn step_answer(s: Stepped) -> StepAnswer
     ensures { λ r. ⌜ r ≡ stepAnswer s ⌝ }
 {
-    let noted = s.noted;
+    let said = s.outcome;
+    let noted = said.noted;
     let state = s.state;
     StepAnswer {
-        refusal: s.refusal,
+        refusal: said.refusal,
         noted: noted_figures(noted),
         state,
     }
 }
 
 // The answer of a step by reference.
-pub fn said_answer(said: Said) -> SaidAnswer
-    ensures { λ r. ⌜ r ≡ saidAnswer said ⌝ }
+pub fn said_answer(outcome: Outcome) -> SaidAnswer
+    ensures { λ r. ⌜ r ≡ saidAnswer outcome ⌝ }
 {
-    let noted = said.noted;
+    let noted = outcome.noted;
     SaidAnswer {
-        refusal: said.refusal,
+        refusal: outcome.refusal,
         noted: noted_figures(noted),
     }
 }

@@ -1,96 +1,86 @@
-// Feeds a list of arrivals to a receiver that is lent by reference and to one that is handed in by value. For each
-// arrival it writes what is said of it and what the receiver then holds, of the one and of the other.
+// Feeds a list of arrivals to a receiver that is lent by reference, to one that is handed in by value, and to one that is
+// stepped in place. For each arrival it writes what is said of it and what the receiver then holds, of each.
 mod print;
 
-use gateway::Said;
 use print::write_answer;
 use print::write_number;
 use print::write_word;
+use receiver::Outcome;
 use receiver::Receiver;
 use receiver::Stepped;
 ghost use mathlib.Core.Path.{_≡_};
 ghost use Rattle.receiver.specs.Step.{stepOf};
-ghost use Rattle.gateway_cases.specs.Fed.{fedOf};
-
-// What is said of an arrival, and the receiver after it.
-struct Fed {
-    said: Said,
-    state: Receiver,
-}
 
 // The two together.
-fn together(said: Said, state: Receiver) -> Fed
-    ensures { λ r. ⌜ r ≡ record { said = said; state = state } ⌝ }
+fn together(outcome: Outcome, state: Receiver) -> Stepped
+    ensures { λ r. ⌜ r ≡ record { outcome = outcome; state = state } ⌝ }
 {
-    Fed { said, state }
+    Stepped { outcome, state }
 }
 
 // An arrival fed by reference: the receiver is held in a local, which is lent to the gateway's step.
-fn by_reference(state: Receiver, number: u32, time: u64) -> Fed
-    ensures { λ r. ⌜ r ≡ fedOf (stepOf state number time) ⌝ }
+fn by_reference(state: Receiver, number: u32, time: u64) -> Stepped
+    ensures { λ r. ⌜ r ≡ stepOf state number time ⌝ }
 {
     let mut held = state;
-    let said = gateway::step(&mut held, number, time);
-    together(said, held)
-}
-
-// What a step by value says, and its state.
-fn fed_of(s: Stepped) -> Fed
-    ensures { λ r. ⌜ r ≡ fedOf s ⌝ }
-{
-    let noted = s.noted;
-    let state = s.state;
-    let said = Said {
-        refusal: s.refusal,
-        noted,
-    };
-    Fed { said, state }
+    let outcome = gateway::step(&mut held, number, time);
+    together(outcome, held)
 }
 
 // Writes a line: by which way, what is said, and some of what the receiver holds.
-fn write_fed(way: &[u8], f: Fed) {
-    let said = f.said;
-    let r = f.state;
-    let noted = said.noted;
+fn write_fed(way: &[u8], s: Stepped) {
+    let outcome = s.outcome;
+    let noted = outcome.noted;
+    let stream = s.state.stream;
     write_word(way);
-    write_answer(said.refusal, noted);
-    write_number(b"; L ", r.arrived as u64);
-    write_number(b" duplicates ", r.duplicates as u64);
-    write_number(b" in order ", r.inorder as u64);
-    write_number(b" NextExp ", r.next as u64);
-    write_number(b" last ", r.last);
-    write_number(b" jumps ", r.jumps.kept as u64);
+    write_answer(outcome.refusal, noted);
+    write_number(b"; L ", stream.arrived as u64);
+    write_number(b" duplicates ", stream.duplicates as u64);
+    write_number(b" in order ", stream.inorder as u64);
+    write_number(b" NextExp ", stream.next as u64);
+    write_number(b" last ", stream.last);
+    write_number(b" jumps ", stream.kept as u64);
     write_word(b"\n");
 }
 
-// The two receivers.
-struct Pair {
+// The three receivers.
+struct Three {
     lent: Receiver,
     value: Receiver,
+    place: Receiver,
 }
 
-// Feeds one arrival to both, and writes it and what comes of it.
-fn feed(p: Pair, number: u32, time: u64) -> Pair {
+// One receiver, three times.
+fn thrice(state: Receiver) -> Three {
+    Three {
+        lent: state,
+        value: state,
+        place: state,
+    }
+}
+
+// Feeds one arrival to each, and writes it and what comes of it.
+fn feed(p: Three, number: u32, time: u64) -> Three {
     let a = by_reference(p.lent, number, time);
-    let b = fed_of(p.value.step(number, time));
+    let b = p.value.step(number, time);
+    let c = capi::held::held_step(p.place, number, time);
     write_number(b"", number as u64);
     write_number(b" at ", time);
     write_word(b"\n");
     write_fed(b"  lent:  ", a);
     write_fed(b"  value: ", b);
+    write_fed(b"  place: ", c);
     let lent = a.state;
     let value = b.state;
-    Pair { lent, value }
+    let place = c.state;
+    Three { lent, value, place }
 }
 
 // Feeds the list of arrivals, K being 8.
 fn main() {
     let start = Receiver::fresh(8);
     let state = start.state;
-    let p = Pair {
-        lent: state,
-        value: state,
-    };
+    let p = thrice(state);
     // In order, the third with a jump over 3 and 4.
     let p = feed(p, 1, 10);
     let p = feed(p, 2, 20);
@@ -117,24 +107,15 @@ fn main() {
 // first arrivals than packets (10), and one in which a reordered packet finds no greater jump (10).
 fn refused_states(state: Receiver) {
     let mut full = state;
-    full.duplicates = 4096;
-    let p = Pair {
-        lent: full,
-        value: full,
-    };
+    full.stream.duplicates = 4096;
+    let p = thrice(full);
     feed(p, 1, 10);
     let mut unfit = state;
-    unfit.arrived = 9;
-    let p = Pair {
-        lent: unfit,
-        value: unfit,
-    };
+    unfit.stream.arrived = 9;
+    let p = thrice(unfit);
     feed(p, 1, 10);
     let mut late = state;
-    late.next = 3;
-    let p = Pair {
-        lent: late,
-        value: late,
-    };
+    late.stream.next = 3;
+    let p = thrice(late);
     feed(p, 1, 10);
 }

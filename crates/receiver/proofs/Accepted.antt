@@ -92,16 +92,23 @@ sound-more k account a h g =
           (all-append (λ (b : Arrival). b .time ≤ a .time) account (a ∷ []) before (omega arith, tt));
     }
 
+-- the empty account is so
+pub sound-none : (k : ℕ) → Sound k []
+sound-none k = record { numbered = tt; short = omega arith; steady = tt; until = tt }
+
+-- any arrival keeps it so
+pub sound-with : (k : ℕ) (account : List Arrival) (a : Arrival) → Sound k account → Sound k (accountWith k account a)
+unfolding accountWith
+sound-with k account a h = go (eqb (refusalIn k account a) 0) refl
+  where
+    go : (t : Bool) → eqb (refusalIn k account a) 0 ≡ t → Sound k (cond t (account ++ (a ∷ [])) account)
+    go true e = sound-more k account a h (accepted-arrival k account a (eqb-true _ _ e))
+    go false e = h
+
 -- every account is so
 pub account-sound : (k : ℕ) (fed : List Arrival) → Sound k (accountOf k fed)
-unfolding accountOf accountWith
-account-sound k =
-    snoc-ind (λ (fed : List Arrival). Sound k (accountOf k fed)) more
-    (record { numbered = tt; short = omega arith; steady = tt; until = tt })
+unfolding accountOf
+account-sound k = snoc-ind (λ (fed : List Arrival). Sound k (accountOf k fed)) more (sound-none k)
   where
-    one : (account : List Arrival) (a : Arrival) → Sound k account → (t : Bool) → eqb (refusalIn k account a) 0 ≡ t → Sound k (cond t (account ++ (a ∷ [])) account)
-    one account a h true e = sound-more k account a h (accepted-arrival k account a (eqb-true _ _ e))
-    one account a h false e = h
-
     more : (fed : List Arrival) (a : Arrival) → Sound k (accountOf k fed) → Sound k (accountOf k (fed ++ (a ∷ [])))
-    more fed a h = rw fold-more (one (accountOf k fed) a h (eqb (refusalIn k (accountOf k fed) a) 0) refl)
+    more fed a h = rw fold-more (sound-with k (accountOf k fed) a h)

@@ -1,9 +1,9 @@
--- The step from the state of an account says what the account says, and leads to the state of the account after the arrival:
--- one equation for each case of the answer. Assumes nothing.
+-- The step from the state of an account says what the account says, and leads to the state of the account after the arrival,
+-- for any split of its jumps into dropped and kept ones: one equation for each case of the answer. Assumes nothing.
 use Prim.Native.Nat.{ℕ, _+_, _-_, _≤_, _<_}
-use mathlib.Core.Path.{_≡_, refl, sym, ap, ap₂, _∙_}
+use mathlib.Core.Path.{_≡_, refl, sym, ap, _∙_}
 use mathlib.Core.Bool.{Bool, true, false, not, cond}
-use mathlib.Core.List.{List, [], _∷_, _++_, append-nil, head?}
+use mathlib.Core.List.{List, [], _∷_, _++_, append-nil, foldl}
 use mathlib.Core.Option.{Option, some}
 use native.Mathlib.Omega.{arith}
 use lib.Dec.{eqb, leb, ltb}
@@ -23,22 +23,23 @@ use Rattle.rfc4737.proofs.Folds.{next-more, answers-more, runs-more, answer-dup
 use Rattle.rfc4737.proofs.Jumps.{jumps-more}
 use Rattle.rfc4737.proofs.Packets.{OfPackets, all-firsts}
 use Rattle.rfc4737.specs.Times.{nextReference}
+use Rattle.receiver.specs.declared.Stream.{Stream}
 use Rattle.receiver.specs.declared.Receiver.{Receiver}
 use Rattle.receiver.specs.declared.Noted.{Noted}
 use Rattle.receiver.specs.declared.Noted.the-variants.{Duplicate, Exact, Beyond}
-use Rattle.receiver.specs.declared.Stepped.{Stepped}
-use Rattle.receiver.specs.Limits.{packets}
+use Rattle.receiver.specs.declared.Outcome.{Outcome}
+use Rattle.receiver.specs.Limits.{window, packets}
 use Rattle.receiver.specs.Marks.{markAt, withMark}
-use Rattle.receiver.specs.Kept.{keptOf, oldest, withJump}
-use Rattle.receiver.specs.Step.{refusalOf, duplicateState, duplicateStep, jumpsAfter, inOrderState, inOrderStep, latenessFrom, reorderedNoted, reorderedState, reorderedStep, firstStep, lookedAt, stepOf}
-use Rattle.receiver.specs.Account.{standsIn, refusalIn, accountWith, answerIn, answersIn, windowIn, isIn, inWindow, beyondFigures, inForm, outcomeIn}
-use Rattle.receiver.specs.Demand3.{fedTo}
+use Rattle.receiver.specs.Said.{refused, accepted}
+use Rattle.receiver.specs.Kept.{Held, withJump, heldAfter}
+use Rattle.receiver.specs.Step.{refusalOf, latenessFrom, reorderedOutcome, firstOutcome, lookedAt, outcomeOf, duplicateStream, inOrderStream, reorderedStream, inOrderState, reorderedState, notedState, stepWith}
+use Rattle.receiver.specs.Account.{standsIn, refusalIn, accountWith, answerIn, answersIn, isIn, inWindow, beyondFigures, inForm, outcomeIn}
 use Rattle.receiver.proofs.Window.{lastNumber}
-use Rattle.receiver.proofs.HeldJumps.{placesOf, places-of-more, places-hold}
-use Rattle.receiver.proofs.Marks.{marksOf, marks-more, marks-has}
+use Rattle.receiver.proofs.HeldJumps.{Holds}
+use Rattle.receiver.proofs.Marks.{marksOf, marks-more, marked-is-arrived}
 use Rattle.receiver.proofs.Accepted.{last-time-more, goes-back, Accepted, accepted-arrival, Sound}
-use Rattle.receiver.proofs.Late.{droppedIn, WindowSearch, search-late}
-use Rattle.receiver.proofs.State.{stateOf}
+use Rattle.receiver.proofs.Late.{Split, WindowSearch, search-late}
+use Rattle.receiver.proofs.State.{stateWith}
 use Rattle.receiver.proofs.Fitness.{accepted-count, state-fit}
 
 -- ---- one arrival more, over the account
@@ -76,7 +77,7 @@ module _ (account : List Arrival) (a : Arrival) where
   marks-first : has (a .number) account ≡ false → withMark (marksOf (firsts account)) (a .number) ≡ marksOf (firsts (account ++ (a ∷ [])))
   marks-first e = sym (ap marksOf (firsts-first e) ∙ marks-more (firsts account) a)
 
--- ---- the places under one first arrival more
+-- ---- the jumps under one arrival more
 
 -- an in-order arrival is a jump if its jump size is not 0
 jump-in-order : (fs : List Arrival) (a : Arrival) → nextExp fs ≤ a .number
@@ -84,68 +85,56 @@ jump-in-order : (fs : List Arrival) (a : Arrival) → nextExp fs ≤ a .number
 unfolding jumpAfter isJump isInOrder jumpSize
 jump-in-order fs a h = rw (le-leb _ _ h)
 
--- the kept jumps under an in-order arrival
-places-in-order : (fs : List Arrival) (a : Arrival) → nextExp fs ≤ a .number
-    → jumpsAfter (placesOf (jumps fs)) (a .number - nextExp fs) (placeAfter fs a) ≡ placesOf (jumps (fs ++ (a ∷ [])))
-unfolding jumpsAfter
-places-in-order fs a h = rw (jumps-more, jump-in-order fs a h) (go (eqb (a .number - nextExp fs) 0))
+-- what is held after an in-order arrival
+held-in-order : (room : Bool) (h : Held) (fs : List Arrival) (a : Arrival) → nextExp fs ≤ a .number
+    → heldAfter room h (a .number - nextExp fs) (placeAfter fs a) ≡ foldl (withJump room) h (jumpAfter fs a)
+unfolding heldAfter
+held-in-order room h fs a g = rw (jump-in-order fs a g) (go (eqb (a .number - nextExp fs) 0))
   where
-    go : (t : Bool) → cond t (placesOf (jumps fs)) (withJump (placesOf (jumps fs)) (placeAfter fs a)) ≡ placesOf (jumps fs ++ cond (not t) (placeAfter fs a ∷ []) [])
-    go true = rw append-nil
-    go false = sym (places-of-more (jumps fs) (placeAfter fs a))
+    go : (t : Bool) → cond t h (withJump room h (placeAfter fs a)) ≡ foldl (withJump room) h (cond (not t) (placeAfter fs a ∷ []) [])
+    go true = refl
+    go false = refl
 
 -- a reordered arrival is no jump
-jumps-reordered : (fs : List Arrival) (a : Arrival) → a .number < nextExp fs → jumps (fs ++ (a ∷ [])) ≡ jumps fs
+no-jump : (fs : List Arrival) (a : Arrival) → a .number < nextExp fs → jumpAfter fs a ≡ []
 unfolding jumpAfter isJump isInOrder
-jumps-reordered fs a h = rw (jumps-more, lt-leb _ _ h, append-nil)
+no-jump fs a h = rw (lt-leb _ _ h)
 
--- ---- the three answers
+-- the jump that an arrival is, if it is accepted and is one
+unfoldable pub jumpIn : ℕ → List Arrival → Arrival → List Placed
+jumpIn k account a =
+    cond (eqb (refusalIn k account a) 0) (cond (has (a .number) account) [] (jumpAfter (firsts account) a)) []
 
--- states are equal by their fields
-state-path : (r s : Receiver)
-    → r .sent ≡ s .sent
-    → r .arrived ≡ s .arrived
-    → r .duplicates ≡ s .duplicates
-    → r .inorder ≡ s .inorder
-    → r .next ≡ s .next
-    → r .last ≡ s .last
-    → r .marks ≡ s .marks
-    → r .runs ≡ s .runs
-    → r .jumps ≡ s .jumps
-    → r ≡ s
-state-path r s e1 e2 e3 e4 e5 e6 e7 e8 e9 =
-    λ i. record { sent = e1 i; arrived = e2 i; duplicates = e3 i; inorder = e4 i; next = e5 i; last = e6 i; marks = e7 i; runs = e8 i; jumps = e9 i }
+-- there is no new jump or one
+pub jump-cases : (P : List Placed → Type 0) → P [] → ((p : Placed) → P (p ∷ [])) → (k : ℕ) (account : List Arrival) (a : Arrival) → P (jumpIn k account a)
+unfolding jumpIn jumpAfter
+jump-cases P none one k account a = go (eqb (refusalIn k account a) 0) (has (a .number) account) (isJump (firsts account) (a .number))
+  where
+    go : (t u v : Bool) → P (cond t (cond u [] (cond v (placeAfter (firsts account) a ∷ []) [])) [])
+    go false u v = none
+    go true true v = none
+    go true false false = none
+    go true false true = one (placeAfter (firsts account) a)
 
--- a step that is no refusal, by what is noted and the state
-stepped-path : (m n : Noted) (r s : Receiver) → m ≡ n → r ≡ s
-    → _≡_ {A = Stepped} (record { refusal = 0; noted = m; state = r }) (record { refusal = 0; noted = n; state = s })
-stepped-path m n r s e f = λ i. record { refusal = 0; noted = e i; state = f i }
+-- the account's jumps under one arrival more
+pub jumps-with : (k : ℕ) (account : List Arrival) (a : Arrival)
+    → jumps (firsts (accountWith k account a)) ≡ jumps (firsts account) ++ jumpIn k account a
+unfolding jumpIn accountWith
+jumps-with k account a = go (eqb (refusalIn k account a) 0) (has (a .number) account) refl
+  where
+    go : (t u : Bool) → has (a .number) account ≡ u
+        → jumps (firsts (cond t (account ++ (a ∷ [])) account)) ≡ jumps (firsts account) ++ cond t (cond u [] (jumpAfter (firsts account) a)) []
+    go false u e = sym (append-nil _)
+    go true true e = ap jumps (firsts-duplicate account a e) ∙ sym (append-nil _)
+    go true false e = ap jumps (firsts-first account a e) ∙ jumps-more (firsts account) a
 
--- what is said of an arrival that is added, and the state of the account with it
-abbrev pub added : ℕ → List Arrival → Arrival → Stepped
-added k account a = record { refusal = 0; noted = inForm account a (answerIn account a); state = stateOf k (account ++ (a ∷ [])) }
-
--- the kept places hold the window
-kept-window : (account : List Arrival) → keptOf (placesOf (jumps (firsts account))) ≡ windowIn account
-unfolding windowIn
-kept-window account = places-hold (jumps (firsts account)) .kept
-
--- and the number of the last jump before it
-dropped-last : (account : List Arrival) → placesOf (jumps (firsts account)) .dropped ≡ lastNumber (droppedIn account)
-unfolding droppedIn
-dropped-last account = places-hold (jumps (firsts account)) .dropped
-
--- the oldest of some jumps is the first of them
-oldest-head : (l : List Placed) → oldest l ≡ head? l
-unfolding oldest
-oldest-head [] = refl
-oldest-head (p ∷ l) = refl
+-- ---- what is said
 
 -- a reordered packet in the receiver's forms, exact or not, d being its discontinuity
-lateForm : List Arrival → Arrival → Bool → Option Placed → Noted
-lateForm account a t d =
+lateForm : List Placed → List Arrival → Arrival → Bool → Option Placed → Noted
+lateForm ws account a t d =
     cond t (Exact (latenessFrom (length (firsts account) + 1) (a .time) d))
-    (Beyond (beyondFigures account a))
+    (Beyond (beyondFigures ws account a))
 
 -- the answer of a reordered packet
 pub answer-late : (account : List Arrival) (a : Arrival) → has (a .number) account ≡ false → a .number < nextExp (firsts account)
@@ -153,158 +142,257 @@ pub answer-late : (account : List Arrival) (a : Arrival) → has (a .number) acc
 unfolding answerIn
 answer-late account a e h = answer-first (λ _. 0) account a e ∙ first-reordered (λ _. 0) (firsts account) a h
 
--- its form over the account
-form-late : (account : List Arrival) (a : Arrival) (d : Option Placed)
-    → inForm account a (reorderedAnswer (λ _. 0) (firsts account) a d) ≡ lateForm account a (inWindow account (a .number)) d
+-- the answer of an in-order packet
+answer-in-order : (account : List Arrival) (a : Arrival) → has (a .number) account ≡ false → nextExp (firsts account) ≤ a .number
+    → answerIn account a ≡ inOrderAnswer (firsts account) a
+unfolding answerIn
+answer-in-order account a e h = answer-first (λ _. 0) account a e ∙ first-in-order (λ _. 0) (firsts account) a h
+
+-- the answer of a duplicate
+answer-again : (account : List Arrival) (a : Arrival) → has (a .number) account ≡ true
+    → answerIn account a ≡ answer.Duplicate (record { first = firstRecord (a .number) account })
+unfolding answerIn
+answer-again account a e = answer-duplicate (λ _. 0) account a e
+
+-- the form of a reordered packet over the account
+form-late : (ws : List Placed) (account : List Arrival) (a : Arrival) (d : Option Placed)
+    → inForm ws account a (reorderedAnswer (λ _. 0) (firsts account) a d) ≡ lateForm ws account a (inWindow ws account (a .number)) d
 unfolding inForm reorderedAnswer latenessFrom lateForm
-form-late account a d = refl
-
--- what the receiver notes
-noted-late : (k : ℕ) (account : List Arrival) (a : Arrival) (d : Option Placed) (t : Bool)
-    → ltb (a .number) (lastNumber (droppedIn account)) ≡ not t
-    → reorderedNoted (stateOf k account) (a .number) (a .time) d ≡ lateForm account a t d
-unfolding reorderedNoted stateOf lateForm latenessFrom beyondFigures
-noted-late k account a d t e =
-    ap₂ noted (ap oldest (kept-window account) ∙ oldest-head (windowIn account)) (ap (ltb (a .number)) (dropped-last account) ∙ e) ∙ turned t
-  where
-    noted : Option Placed → Bool → Noted
-    noted o b =
-        cond b (Beyond (latenessFrom (length (firsts account) + 1) (a .time) o))
-        (Exact (latenessFrom (length (firsts account) + 1) (a .time) d))
-
-    turned : (t : Bool) → noted (head? (windowIn account)) (not t) ≡ lateForm account a t d
-    turned true = refl
-    turned false = refl
+form-late ws account a d = refl
 
 -- whether the discontinuity is in the window, by its position
-pub search-window : (account : List Arrival) (a : Arrival) (s : WindowSearch account (a .number))
-    → inWindow account (a .number) ≡ standsIn (s .at .position) (windowIn account)
+pub search-window : (account : List Arrival) (ds ws : List Placed) (a : Arrival) (s : WindowSearch account ds ws (a .number))
+    → inWindow ws account (a .number) ≡ standsIn (s .at .position) ws
 unfolding inWindow isIn
-search-window account a s = rw (s .is)
+search-window account ds ws a s = rw (s .is)
 
-module _ (k : ℕ) (account : List Arrival) (a : Arrival) where
-  -- a duplicate
-  duplicate-agrees : has (a .number) account ≡ true → duplicateStep (stateOf k account) (a .time) ≡ added k account a
-  unfolding duplicateStep duplicateState nextReference stateOf inForm answerIn runsAfter
-  duplicate-agrees e =
-      let ans : answerIn account a ≡ answer.Duplicate (record { first = firstRecord (a .number) account }) = answer-duplicate (λ _. 0) account a e in
+-- what the rule says of a reordered packet, over kept jumps and the last dropped number
+module _ (k : ℕ) (account : List Arrival) (a : Arrival) (ds ws : List Placed) (sp : Split account ds ws) where
+  -- exact or not, d being the oldest kept jump of a greater number
+  said-late : (d : Placed) (t : Bool) → ltb (a .number) (lastNumber ds) ≡ not t
+      → reorderedOutcome ws (lastNumber ds) (length (firsts account) + 1) (a .number) (a .time) (some d) ≡ accepted (lateForm ws account a t (some d))
+  unfolding reorderedOutcome lateForm latenessFrom beyondFigures
+  said-late d true e = rw e
+  said-late d false e = rw e
+
+  -- it is what the account says
+  late-agrees : Sound k account → OfPackets k a → has (a .number) account ≡ false → a .number < nextExp (firsts account)
+      → reorderedOutcome ws (lastNumber ds) (length (firsts account) + 1) (a .number) (a .time) (firstAbove (a .number) ws)
+      ≡ accepted (inForm ws account a (answerIn account a))
+  unfolding lateForm
+  late-agrees h n e g = go (ltb (a .number) (lastNumber ds)) refl
+    where
+      search : WindowSearch account ds ws (a .number)
+      search = search-late account ds ws sp (h .steady) (a .number) (n .low) e g
+
+      formed : inForm ws account a (answerIn account a) ≡ lateForm ws account a (inWindow ws account (a .number)) (discontinuity (firsts account) (a .number))
+      formed = ap (inForm ws account a) (answer-late account a e g) ∙ form-late ws account a (discontinuity (firsts account) (a .number))
+
+      said : (d : Placed) (t : Bool) → ltb (a .number) (lastNumber ds) ≡ not t → firstAbove (a .number) ws ≡ some d
+          → lateForm ws account a t (some d) ≡ inForm ws account a (answerIn account a)
+          → reorderedOutcome ws (lastNumber ds) (length (firsts account) + 1) (a .number) (a .time) (firstAbove (a .number) ws)
+          ≡ accepted (inForm ws account a (answerIn account a))
+      said d t l f q =
+          ap (reorderedOutcome ws (lastNumber ds) (length (firsts account) + 1) (a .number) (a .time)) f
+          ∙ said-late d t l ∙ ap accepted q
+
+      go : (t : Bool) → ltb (a .number) (lastNumber ds) ≡ t
+          → reorderedOutcome ws (lastNumber ds) (length (firsts account) + 1) (a .number) (a .time) (firstAbove (a .number) ws)
+          ≡ accepted (inForm ws account a (answerIn account a))
+      go true t =
+          let d = search .dropped (ltb-true _ _ t) in
+          said (search .oldest) false t (d .oldest) (sym (rw (search-window account ds ws a search, d .apart) at formed))
+      go false t =
+          let d = search .kept (ltb-false _ _ t) in
+          said (search .at) true t (d .is) (sym (rw (search-window account ds ws a search, d .among, search .is) at formed))
+
+-- ---- the state after it
+
+-- streams are equal by their numbers
+stream-path : (r s : Stream)
+    → r .sent ≡ s .sent
+    → r .arrived ≡ s .arrived
+    → r .duplicates ≡ s .duplicates
+    → r .inorder ≡ s .inorder
+    → r .next ≡ s .next
+    → r .last ≡ s .last
+    → r .runs ≡ s .runs
+    → r .kept ≡ s .kept
+    → r .dropped ≡ s .dropped
+    → r ≡ s
+stream-path r s e1 e2 e3 e4 e5 e6 e7 e8 e9 =
+    λ i. record { sent = e1 i; arrived = e2 i; duplicates = e3 i; inorder = e4 i; next = e5 i; kept = e8 i; last = e6 i; runs = e7 i; dropped = e9 i }
+
+-- states are equal by their parts
+state-path : (r s : Receiver) → r .stream ≡ s .stream → r .marks ≡ s .marks → r .places ≡ s .places → r ≡ s
+state-path r s e m p = λ i. record { stream = e i; marks = m i; places = p i }
+
+module _ (room : Bool) (h : Held) (k : ℕ) (account : List Arrival) (a : Arrival) where
+  -- after a duplicate
+  duplicate-state : has (a .number) account ≡ true
+      → notedState room (stateWith k account h) (a .number) (a .time) Duplicate ≡ stateWith k (account ++ (a ∷ [])) h
+  unfolding notedState duplicateStream nextReference stateWith runsAfter
+  duplicate-state e =
+      let ans = answer-again account a e in
       let fs = sym (firsts-duplicate account a e) in
-      stepped-path _ _ _ _ (sym (ap (inForm account a) ans))
-      (state-path _ _ refl (ap length fs)
+      state-path _ _
+      (stream-path _ _ refl (ap length fs)
       (sym (rw ans at (countIn-more account a isDuplicate)))
       (sym (rw ans at (countIn-more account a isInOrderAnswer)))
       (ap nextExp fs)
       (sym (last-time-more account a))
-      (ap marksOf fs)
       (sym (rw ans at (runsIn-more account a)))
-      (ap (λ (l : List Arrival). placesOf (jumps l)) fs))
+      refl refl)
+      (ap marksOf fs) refl
 
-  -- in order
-  in-order-agrees : has (a .number) account ≡ false → nextExp (firsts account) ≤ a .number
-      → inOrderStep (stateOf k account) (a .number) (a .time) ≡ added k account a
-  unfolding inOrderStep inOrderState nextReference stateOf inForm answerIn inOrderAnswer jumpSize runsAfter
-  in-order-agrees e h =
-      let ans : answerIn account a ≡ inOrderAnswer (firsts account) a =
-      answer-first (λ _. 0) account a e ∙ first-in-order (λ _. 0) (firsts account) a h in
-      let fs = firsts-first account a e in
-      stepped-path _ _ _ _ (sym (ap (inForm account a) ans))
-      (state-path _ _ refl
+  -- after an in-order arrival
+  in-order-state : has (a .number) account ≡ false → nextExp (firsts account) ≤ a .number
+      → inOrderState room (stateWith k account h) (a .number - nextExp (firsts account)) (a .number) (a .time)
+      ≡ stateWith k (account ++ (a ∷ [])) (foldl (withJump room) h (jumpAfter (firsts account) a))
+  unfolding inOrderState inOrderStream nextReference stateWith inOrderAnswer runsAfter
+  in-order-state e g =
+      let ans = answer-in-order account a e g in
+      let held = held-in-order room h (firsts account) a g in
+      state-path _ _
+      (stream-path _ _ refl
       (length-first account a e)
       (sym (rw ans at (countIn-more account a isDuplicate)))
       (sym (rw ans at (countIn-more account a isInOrderAnswer)))
       (next-first account a e)
       (sym (last-time-more account a))
-      (marks-first account a e)
       (sym (rw ans at (runsIn-more account a)))
-      (places-in-order (firsts account) a h ∙ sym (ap (λ (l : List Arrival). placesOf (jumps l)) fs)))
+      (ap (λ (h : Held). h .kept) held)
+      (ap (λ (h : Held). h .dropped) held))
+      (marks-first account a e)
+      (ap (λ (h : Held). h .places) held)
 
-  -- the state after a reordered packet
-  reordered-state : has (a .number) account ≡ false → a .number < nextExp (firsts account)
-      → reorderedState (stateOf k account) (a .number) (a .time) ≡ stateOf k (account ++ (a ∷ []))
-  unfolding reorderedState nextReference stateOf reorderedAnswer runsAfter
-  reordered-state e h =
-      let ans = answer-late account a e h in
-      let fs = firsts-first account a e in
-      state-path _ _ refl
+  -- after a reordered packet
+  late-state : has (a .number) account ≡ false → a .number < nextExp (firsts account)
+      → reorderedState (stateWith k account h) (a .number) (a .time) ≡ stateWith k (account ++ (a ∷ [])) h
+  unfolding reorderedStream nextReference stateWith reorderedAnswer runsAfter
+  late-state e g =
+      let ans = answer-late account a e g in
+      state-path _ _
+      (stream-path _ _ refl
       (length-first account a e)
       (sym (rw ans at (countIn-more account a isDuplicate)))
       (sym (rw ans at (countIn-more account a isInOrderAnswer)))
       (next-first account a e)
       (sym (last-time-more account a))
-      (marks-first account a e)
       (sym (rw ans at (runsIn-more account a)))
-      (sym (ap (λ (l : List Arrival). placesOf (jumps l)) fs ∙ ap placesOf (jumps-reordered (firsts account) a h)))
-
-  -- a reordered packet
-  reordered-agrees : Sound k account → OfPackets k a → has (a .number) account ≡ false → a .number < nextExp (firsts account)
-      → reorderedStep (stateOf k account) (a .number) (a .time) (firstAbove (a .number) (keptOf (placesOf (jumps (firsts account))))) ≡ added k account a
-  unfolding reorderedStep lateForm
-  reordered-agrees h n e g = go (ltb (a .number) (lastNumber (droppedIn account))) refl
-    where
-      search : WindowSearch account (a .number)
-      search = search-late account (h .steady) (a .number) (n .low) e g
-
-      formed : inForm account a (answerIn account a) ≡ lateForm account a (inWindow account (a .number)) (discontinuity (firsts account) (a .number))
-      formed = ap (inForm account a) (answer-late account a e g) ∙ form-late account a (discontinuity (firsts account) (a .number))
-
-      said : (d : Placed) (t : Bool) → ltb (a .number) (lastNumber (droppedIn account)) ≡ not t
-          → firstAbove (a .number) (keptOf (placesOf (jumps (firsts account)))) ≡ some d
-          → lateForm account a t (some d) ≡ inForm account a (answerIn account a)
-          → reorderedStep (stateOf k account) (a .number) (a .time) (firstAbove (a .number) (keptOf (placesOf (jumps (firsts account))))) ≡ added k account a
-      said d t l f q =
-          rw f (stepped-path _ _ _ _ (noted-late k account a (some d) t l ∙ q) (reordered-state e g))
-
-      go : (t : Bool) → ltb (a .number) (lastNumber (droppedIn account)) ≡ t
-          → reorderedStep (stateOf k account) (a .number) (a .time) (firstAbove (a .number) (keptOf (placesOf (jumps (firsts account))))) ≡ added k account a
-      go true t =
-          let d = search .dropped (ltb-true _ _ t) in
-          said (search .oldest) false t (rw kept-window (d .oldest))
-          (sym (rw (search-window account a search, d .apart) at formed))
-      go false t =
-          let d = search .kept (ltb-false _ _ t) in
-          said (search .at) true t (rw kept-window (d .is))
-          (sym (rw (search-window account a search, d .among, search .is) at formed))
+      refl refl)
+      (marks-first account a e) refl
 
 -- ---- any arrival
 
-module _ (k : ℕ) (low : 1 ≤ k) (high : k ≤ packets) (account : List Arrival) (a : Arrival) (h : Sound k account) where
+module _ (k : ℕ) (low : 1 ≤ k) (high : k ≤ packets) (account : List Arrival) (a : Arrival) (sound : Sound k account)
+    (ds ws : List Placed) (sp : Split account ds ws) (h : Held) (o : Holds ds ws h) (few : length ws ≤ window) (room : Bool) where
   -- the refusals agree
-  refusal-agrees : refusalOf (stateOf k account) (a .number) (a .time) ≡ refusalIn k account a
-  unfolding refusalOf refusalIn stateOf
-  refusal-agrees = rw (state-fit k low high account h, accepted-count, goes-back)
+  refusal-agrees : refusalOf (stateWith k account h) (a .number) (a .time) ≡ refusalIn k account a
+  unfolding refusalOf refusalIn stateWith
+  refusal-agrees = rw (state-fit k low high account sound ds ws sp h o few, accepted-count, goes-back)
 
   -- so do the marks and the arrivals
   mark-agrees : OfPackets k a → markAt (marksOf (firsts account)) (a .number) ≡ has (a .number) account
   mark-agrees n =
-      marks-has (firsts account)
-      (all-firsts _ account (all-weaken (λ (b : Arrival) (w : OfPackets k b). record { low = w .low; high = omega arith }) account (h .numbered))) (a .number) (n .low)
+      marked-is-arrived (firsts account)
+      (all-firsts _ account (all-weaken (λ (b : Arrival) (w : OfPackets k b). record { low = w .low; high = omega arith }) account (sound .numbered))) (a .number) (n .low)
       ∙ has-firsts (a .number) account
 
-  -- an arrival that is not refused
-  added-agrees : Accepted k account a → lookedAt (stateOf k account) (a .number) (a .time) ≡ added k account a
-  unfolding lookedAt firstStep stateOf
-  added-agrees n = go (has (a .number) account) refl
+  -- the state before, and what the account notes of an arrival that is added
+  abbrev before : Receiver
+  before = stateWith k account h
+
+  abbrev noted : Noted
+  noted = inForm ws account a (answerIn account a)
+
+  -- an arrival that is not refused is noted so
+  looked-agrees : Accepted k account a → lookedAt before (a .number) (a .time) ≡ accepted noted
+  unfolding lookedAt firstOutcome stateWith inForm inOrderAnswer jumpSize
+  looked-agrees n = go (has (a .number) account) refl
     where
-      looked : Bool → Stepped
-      looked t = cond t (duplicateStep (stateOf k account) (a .time)) (firstStep (stateOf k account) (a .number) (a .time))
+      looked : Bool → Outcome
+      looked t = cond t (accepted Duplicate) (firstOutcome before (a .number) (a .time))
 
       order : (t : Bool) → leb (nextExp (firsts account)) (a .number) ≡ t → has (a .number) account ≡ false
-          → firstStep (stateOf k account) (a .number) (a .time) ≡ added k account a
-      order true t e = rw t (in-order-agrees k account a e (leb-true _ _ t))
-      order false t e = rw t (reordered-agrees k account a h (n .numbered) e (leb-false _ _ t))
+          → firstOutcome before (a .number) (a .time) ≡ accepted noted
+      order true t e = rw t (sym (ap (λ (b : Answer). accepted (inForm ws account a b)) (answer-in-order account a e (leb-true _ _ t))))
+      order false t e =
+          rw (t, o .kept, o .dropped) (late-agrees k account a ds ws sp sound (n .numbered) e (leb-false _ _ t))
 
-      go : (t : Bool) → has (a .number) account ≡ t → lookedAt (stateOf k account) (a .number) (a .time) ≡ added k account a
-      go true e = ap looked (mark-agrees (n .numbered) ∙ e) ∙ duplicate-agrees k account a e
+      go : (t : Bool) → has (a .number) account ≡ t → lookedAt before (a .number) (a .time) ≡ accepted noted
+      go true e =
+          ap looked (mark-agrees (n .numbered) ∙ e) ∙ sym (ap (λ (b : Answer). accepted (inForm ws account a b)) (answer-again account a e))
       go false e = ap looked (mark-agrees (n .numbered) ∙ e) ∙ order (leb (nextExp (firsts account)) (a .number)) refl e
 
-  -- the step
-  pub step-agrees : fedTo (stateOf k account) a
-      ≡ record { refusal = outcomeIn k account a .refusal; noted = outcomeIn k account a .noted; state = stateOf k (accountWith k account a) }
-  unfolding stepOf outcomeIn accountWith
-  step-agrees = go (eqb (refusalIn k account a) 0) refl
+  -- what is noted of a reordered packet makes one state
+  late-noted : (t : Bool) (d : Option Placed) → notedState room before (a .number) (a .time) (lateForm ws account a t d) ≡ reorderedState before (a .number) (a .time)
+  unfolding notedState lateForm
+  late-noted true d = refl
+  late-noted false d = refl
+
+  -- the state after an answer
+  abbrev after : Answer → Receiver
+  after b = notedState room before (a .number) (a .time) (inForm ws account a b)
+
+  -- of a first arrival
+  first-agrees : has (a .number) account ≡ false
+      → after (answerIn account a) ≡ stateWith k (account ++ (a ∷ [])) (foldl (withJump room) h (jumpAfter (firsts account) a))
+  unfolding notedState inForm inOrderAnswer jumpSize
+  first-agrees e = order (leb (nextExp (firsts account)) (a .number)) refl
+    where
+      order : (t : Bool) → leb (nextExp (firsts account)) (a .number) ≡ t
+          → after (answerIn account a) ≡ stateWith k (account ++ (a ∷ [])) (foldl (withJump room) h (jumpAfter (firsts account) a))
+      order true t = ap after (answer-in-order account a e (leb-true _ _ t)) ∙ in-order-state room h k account a e (leb-true _ _ t)
+      order false t =
+          ap after (answer-late account a e (leb-false _ _ t))
+          ∙ ap (notedState room before (a .number) (a .time)) (form-late ws account a (discontinuity (firsts account) (a .number)))
+          ∙ late-noted (inWindow ws account (a .number)) (discontinuity (firsts account) (a .number))
+          ∙ late-state room h k account a e (leb-false _ _ t)
+          ∙ ap (λ (js : List Placed). stateWith k (account ++ (a ∷ [])) (foldl (withJump room) h js)) (sym (no-jump (firsts account) a (leb-false _ _ t)))
+
+  -- of any arrival
+  noted-agrees : after (answerIn account a)
+      ≡ stateWith k (account ++ (a ∷ [])) (foldl (withJump room) h (cond (has (a .number) account) [] (jumpAfter (firsts account) a)))
+  unfolding inForm
+  noted-agrees = go (has (a .number) account) refl
+    where
+      go : (t : Bool) → has (a .number) account ≡ t → after (answerIn account a)
+          ≡ stateWith k (account ++ (a ∷ [])) (foldl (withJump room) h (cond t [] (jumpAfter (firsts account) a)))
+      go true e = ap after (answer-again account a e) ∙ duplicate-state room h k account a e
+      go false e = first-agrees e
+
+  -- what is said
+  outcome-agrees : outcomeOf before (a .number) (a .time) ≡ outcomeIn ws k account a
+  unfolding outcomeOf outcomeIn
+  outcome-agrees = go (eqb (refusalIn k account a) 0) refl
+    where
+      go : (t : Bool) → eqb (refusalIn k account a) 0 ≡ t → outcomeOf before (a .number) (a .time) ≡ outcomeIn ws k account a
+      go true t = rw (refusal-agrees, t) (looked-agrees (accepted-arrival k account a (eqb-true _ _ t)))
+      go false t = rw (refusal-agrees, t)
+
+  -- the state after what is said
+  state-agrees : cond (eqb (outcomeIn ws k account a .refusal) 0) (notedState room before (a .number) (a .time) (outcomeIn ws k account a .noted)) before
+      ≡ stateWith k (accountWith k account a) (foldl (withJump room) h (jumpIn k account a))
+  unfolding outcomeIn accountWith jumpIn
+  state-agrees = go (eqb (refusalIn k account a) 0) refl
     where
       go : (t : Bool) → eqb (refusalIn k account a) 0 ≡ t
-          → fedTo (stateOf k account) a
-          ≡ record { refusal = outcomeIn k account a .refusal; noted = outcomeIn k account a .noted; state = stateOf k (accountWith k account a) }
-      go true t = rw (refusal-agrees, t) (added-agrees (accepted-arrival k account a (eqb-true _ _ t)))
-      go false t = rw (refusal-agrees, t)
+          → cond (eqb (outcomeIn ws k account a .refusal) 0) (notedState room before (a .number) (a .time) (outcomeIn ws k account a .noted)) before
+          ≡ stateWith k (accountWith k account a) (foldl (withJump room) h (jumpIn k account a))
+      go true t = rw t noted-agrees
+      go false t = simp t
+
+  -- the step
+  pub step-agrees : stepWith room before (a .number) (a .time)
+      ≡ record {
+        outcome = outcomeIn ws k account a;
+        state = stateWith k (accountWith k account a) (foldl (withJump room) h (jumpIn k account a));
+      }
+  unfolding stepWith
+  step-agrees =
+      ap (λ (o : Outcome). record {
+        outcome = o;
+        state = cond (eqb (o .refusal) 0) (notedState room before (a .number) (a .time) (o .noted)) before;
+      }) outcome-agrees
+      ∙ ap (λ (s : Receiver). record { outcome = outcomeIn ws k account a; state = s }) state-agrees

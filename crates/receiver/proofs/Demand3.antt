@@ -1,20 +1,20 @@
 -- Demand 3 holds: by one induction over the list fed the state is that of the account, so that each step agrees with it.
 -- Assumes nothing.
 use Prim.Native.Nat.{ℕ, _+_, _-_, _≤_, _<_}
-use mathlib.Core.Path.{_≡_, refl, sym, ap, _∙_}
+use mathlib.Core.Path.{_≡_, refl, sym, ap, subst, _∙_}
 use mathlib.Core.Bool.{Bool, true, false, not, cond, true≢false}
-use mathlib.Core.List.{List, [], _∷_, _++_, head?}
+use mathlib.Core.List.{List, [], _∷_, _++_, append-nil, foldl, flatten, head?}
 use mathlib.Core.Option.{some}
 use native.Mathlib.Omega.{arith}
 use lib.Dec.{eqb, ltb, leb}
-use lib.ListN.{length}
+use lib.ListN.{length, length-drop}
 use borrow.Author.Tests.{ltb-true, ltb-false, leb-true, leb-false, le-leb}
 use Rattle.rfc4737.specs.declared.Arrival.{Arrival}
 use Rattle.rfc4737.specs.declared.ReorderedFigures.{ReorderedFigures}
 use Rattle.rfc4737.specs.declared.Answer.{Answer}
 use Rattle.rfc4737.specs.declared.Answer.the-variants as answer
-use Rattle.rfc4737.specs.Arrivals.{has, firsts, count}
-use Rattle.rfc4737.specs.Order.{Placed, nextExp}
+use Rattle.rfc4737.specs.Arrivals.{has, firsts, each, eachAfter, count}
+use Rattle.rfc4737.specs.Order.{Placed, nextExp, jumps}
 use Rattle.rfc4737.specs.Extent.{discontinuity, extentFrom, lateFrom}
 use Rattle.rfc4737.specs.Times.{elapsed}
 use Rattle.rfc4737.specs.Answer.{reorderedAnswer, inOrderAnswer}
@@ -25,20 +25,23 @@ use Rattle.rfc4737.proofs.Arrivals.{fold-more, count-each}
 use Rattle.rfc4737.proofs.Folds.{answer-duplicate, answer-first, first-in-order, in-order-or-reordered}
 use Rattle.rfc4737.proofs.Jumps.{NotLater}
 use Rattle.receiver.specs.declared.Receiver.{Receiver}
-use Rattle.receiver.specs.declared.Noted.the-variants.{InOrder}
+use Rattle.receiver.specs.declared.Outcome.{Outcome}
 use Rattle.receiver.specs.declared.Stepped.{Stepped}
 use Rattle.receiver.specs.declared.Started.{Started}
-use Rattle.receiver.specs.Limits.{packets}
-use Rattle.receiver.specs.Step.{madeFor, freshOf}
-use Rattle.receiver.specs.Account.{lastIn, goesBack, refusalIn, accountWith, accountOf, answerIn, answersIn, inWindow, beyondFigures, inForm, Outcome, outcomeIn, accountOutcomes}
+use Rattle.receiver.specs.Limits.{window, packets}
+use Rattle.receiver.specs.Said.{refused, accepted}
+use Rattle.receiver.specs.Kept.{Held, hasRoom, withJump}
+use Rattle.receiver.specs.Step.{freshStream, madeFor, freshOf}
+use Rattle.receiver.specs.Account.{lastIn, goesBack, refusalIn, accountWith, accountOf, answerIn, answersIn, windowIn, inWindow, beyondFigures, inForm, outcomeIn, accountOutcomes}
 use Rattle.receiver.specs.Demand3.{fedTo, stateAfter, outcomeAfter, receiverOutcomes, Answered, Demand3}
 use Rattle.receiver.proofs.Window.{lastNumber}
 use Rattle.receiver.proofs.Fits.{within-true}
-use Rattle.receiver.proofs.Accepted.{accepted-arrival, account-sound}
-use Rattle.receiver.proofs.Late.{droppedIn, WindowSearch, search-late}
-use Rattle.receiver.proofs.State.{stateOf, state-fresh}
+use Rattle.receiver.proofs.Accepted.{Sound, accepted-arrival, account-sound}
+use Rattle.receiver.proofs.Late.{droppedIn, Split, split-window, WindowSearch, search-late}
+use Rattle.receiver.proofs.State.{stateWith, state-fresh}
 use Rattle.receiver.proofs.Fitness.{arrived-in, accepted-count}
-use Rattle.receiver.proofs.Agrees.{answer-late, search-window, step-agrees}
+use Rattle.receiver.proofs.Agrees.{answer-late, search-window, jumpIn, jump-cases, jumps-with, step-agrees}
+use Rattle.receiver.proofs.HeldJumps.{heldFrom, held-more, Holds, held-last}
 
 -- no refusal over the account is 10
 refusal-fit : (k : ℕ) (account : List Arrival) (a : Arrival) → eqb (refusalIn k account a) stateUnfit ≡ false
@@ -52,24 +55,22 @@ refusal-fit k account a = go (eqb (length account) packets) (within 1 k (a .numb
     go false true false = refl
 
 -- the account never says 10
-outcome-fit : (k : ℕ) (account : List Arrival) (a : Arrival) → eqb (outcomeIn k account a .refusal) stateUnfit ≡ false
+pub outcome-fit : (ws : List Placed) (k : ℕ) (account : List Arrival) (a : Arrival) → eqb (outcomeIn ws k account a .refusal) stateUnfit ≡ false
 unfolding outcomeIn
-outcome-fit k account a = go (eqb (refusalIn k account a) 0)
+outcome-fit ws k account a = go (eqb (refusalIn k account a) 0)
   where
     go : (t : Bool)
         → eqb
-        (cond {A = Outcome} t (record { refusal = 0; noted = inForm account a (answerIn account a) })
-        (record { refusal = refusalIn k account a; noted = InOrder 0 })
-        .refusal)
+        (cond {A = Outcome} t (accepted (inForm ws account a (answerIn account a))) (refused (refusalIn k account a)) .refusal)
         stateUnfit
         ≡ false
     go true = refl
     go false = refusal-fit k account a
 
 -- what the account says of an arrival that is added
-outcome-added : (k : ℕ) (account : List Arrival) (a : Arrival) → refusalIn k account a ≡ 0 → outcomeIn k account a .noted ≡ inForm account a (answerIn account a)
+outcome-added : (ws : List Placed) (k : ℕ) (account : List Arrival) (a : Arrival) → refusalIn k account a ≡ 0 → outcomeIn ws k account a .noted ≡ inForm ws account a (answerIn account a)
 unfolding outcomeIn
-outcome-added k account a e = rw e
+outcome-added ws k account a e = rw e
 
 -- ---- a reordered packet over the account
 
@@ -111,22 +112,22 @@ module _ (account : List Arrival) (a : Arrival) (d : ReorderedFigures) (q : answ
       (ap (λ (f : ReorderedFigures). f .extent) s, ap (λ (f : ReorderedFigures). f .late) s)
 
   -- beyond the window its true extent is above the figure, and its true late time not below it
-  late-above : Ordered NotLater account → 1 ≤ a .number → inWindow account (a .number) ≡ false
-      → (beyondFigures account a .extent < d .extent) × (beyondFigures account a .late ≤ d .late)
+  late-above : (ds ws : List Placed) → Split account ds ws → Ordered NotLater account → 1 ≤ a .number → inWindow ws account (a .number) ≡ false
+      → (beyondFigures ws account a .extent < d .extent) × (beyondFigures ws account a .late ≤ d .late)
   unfolding beyondFigures extentFrom lateFrom elapsed
-  late-above steady low w = go (ltb (a .number) (lastNumber (droppedIn account))) refl
+  late-above ds ws sp steady low w = go (ltb (a .number) (lastNumber ds)) refl
     where
-      search : WindowSearch account (a .number)
-      search = search-late account steady (a .number) low late-new late-low
+      search : WindowSearch account ds ws (a .number)
+      search = search-late account ds ws sp steady (a .number) low late-new late-low
 
-      go : (t : Bool) → ltb (a .number) (lastNumber (droppedIn account)) ≡ t
-          → (beyondFigures account a .extent < d .extent) × (beyondFigures account a .late ≤ d .late)
+      go : (t : Bool) → ltb (a .number) (lastNumber ds) ≡ t
+          → (beyondFigures ws account a .extent < d .extent) × (beyondFigures ws account a .late ≤ d .late)
       go true t =
           let k = search .dropped (ltb-true _ _ t) in
           let f = late-figures (search .at) (search .is) in
-          let x : beyondFigures account a .extent ≡ length (firsts account) + 1 - search .oldest .position =
+          let x : beyondFigures ws account a .extent ≡ length (firsts account) + 1 - search .oldest .position =
           ap (λ (ws : List Placed). extentFrom (length (firsts account) + 1) (head? ws)) (search .window) in
-          let l : beyondFigures account a .late ≡ a .time - search .oldest .time =
+          let l : beyondFigures ws account a .late ≡ a .time - search .oldest .time =
           ap (λ (ws : List Placed). lateFrom (a .time) (head? ws)) (search .window) in
           let i : search .at .position < search .oldest .position = k .position in
           let j : search .at .time ≤ search .oldest .time = k .time in
@@ -134,82 +135,124 @@ module _ (account : List Arrival) (a : Arrival) (d : ReorderedFigures) (q : answ
           (omega arith, omega arith)
       go false t =
           let k = search .kept (ltb-false _ _ t) in
-          absurd (true≢false (sym (k .among) ∙ sym (search-window account a search) ∙ w))
+          absurd (true≢false (sym (k .among) ∙ sym (search-window account ds ws a search) ∙ w))
+
+-- how a reordered packet that is added is answered, over any split of the jumps
+pub late-answered : (k : ℕ) (account : List Arrival) → Sound k account → (ds ws : List Placed) → Split account ds ws
+    → (a : Arrival) → refusalIn k account a ≡ 0 → (d : ReorderedFigures) → answerIn account a ≡ answer.Reordered d
+    → Answered ws account a d (outcomeIn ws k account a .noted)
+unfolding inForm
+late-answered k account h ds ws sp a e d q =
+    let noted : outcomeIn ws k account a .noted ≡ inForm ws account a (answer.Reordered d) =
+    outcome-added ws k account a e ∙ ap (inForm ws account a) q in
+    let n = accepted-arrival k account a e in
+    record {
+      exact = λ w. rw w at noted;
+      beyond = λ w. rw w at noted;
+      above = λ w. late-above account a d q ds ws sp (h .steady) (n .numbered .low) w;
+    }
+
+-- ---- the receiver's own rule
+
+-- what it holds of the jumps of an account
+abbrev heldIn : List Arrival → Held
+heldIn account = heldFrom (jumps (firsts account))
+
+-- and of the account
+unfoldable stateOf : ℕ → List Arrival → Receiver
+stateOf k account = stateWith k account (heldIn account)
+
+-- the window is kept
+holds-window : (account : List Arrival) → Holds (droppedIn account) (windowIn account) (heldIn account)
+unfolding droppedIn windowIn
+holds-window account = held-last (jumps (firsts account))
+
+-- which has at most 64 jumps
+window-few : (account : List Arrival) → length (windowIn account) ≤ window
+unfolding windowIn
+window-few account = simp length-drop (omega arith)
+
+-- what is held under one arrival more
+held-with : (k : ℕ) (account : List Arrival) (a : Arrival)
+    → foldl (withJump (hasRoom (heldIn account))) (heldIn account) (jumpIn k account a) ≡ heldIn (accountWith k account a)
+held-with k account a =
+    jump-cases (λ (l : List Placed). foldl (withJump (hasRoom (heldIn account))) (heldIn account) l ≡ heldFrom (jumps (firsts account) ++ l))
+    (rw append-nil) (λ p. sym (held-more (jumps (firsts account)) p)) k account a
+    ∙ sym (ap heldFrom (jumps-with k account a))
 
 module _ (k : ℕ) (low : 1 ≤ k) (high : k ≤ packets) where
+  -- the step from the state of an account
+  step-of : (account : List Arrival) (a : Arrival) → Sound k account
+      → fedTo (stateOf k account) a
+      ≡ record { outcome = outcomeIn (windowIn account) k account a; state = stateOf k (accountWith k account a) }
+  unfolding stateOf stateWith
+  step-of account a h =
+      step-agrees k low high account a h (droppedIn account) (windowIn account) (split-window account)
+      (heldIn account) (holds-window account) (window-few account) (hasRoom (heldIn account))
+      ∙ ap (λ (h : Held). record { outcome = outcomeIn (windowIn account) k account a; state = stateWith k (accountWith k account a) h })
+      (held-with k account a)
+
   -- fresh, it is made for K
-  fresh-state : freshOf k .state ≡ madeFor k
-  unfolding freshOf
-  fresh-state = rw (le-leb _ _ low, le-leb _ _ high)
+  fresh-state : freshOf k .state ≡ stateOf k []
+  unfolding freshOf stateOf heldFrom firsts jumps flatten each eachAfter
+  fresh-state = rw (le-leb _ _ low, le-leb _ _ high) (state-fresh k)
 
   -- after any list the state is that of the account
   state-after : (fed : List Arrival) → stateAfter k fed ≡ stateOf k (accountOf k fed)
   unfolding stateAfter accountOf
-  state-after = snoc-ind (λ (fed : List Arrival). stateAfter k fed ≡ stateOf k (accountOf k fed)) more (fresh-state ∙ sym (state-fresh k))
+  state-after = snoc-ind (λ (fed : List Arrival). stateAfter k fed ≡ stateOf k (accountOf k fed)) more fresh-state
     where
       more : (fed : List Arrival) (a : Arrival) → stateAfter k fed ≡ stateOf k (accountOf k fed)
           → stateAfter k (fed ++ (a ∷ [])) ≡ stateOf k (accountOf k (fed ++ (a ∷ [])))
       more fed a e =
           fold-more _ _ fed a
           ∙ ap (λ (r : Receiver). fedTo r a .state) e
-          ∙ ap (λ (s : Stepped). s .state) (step-agrees k low high (accountOf k fed) a (account-sound k fed))
+          ∙ ap (λ (s : Stepped). s .state) (step-of (accountOf k fed) a (account-sound k fed))
           ∙ ap (stateOf k) (sym (fold-more (accountWith k) [] fed a))
 
   -- so each arrival is answered as the account says
-  outcome-after : (earlier : List Arrival) (a : Arrival) → outcomeAfter k earlier a ≡ outcomeIn k (accountOf k earlier) a
+  outcome-after : (earlier : List Arrival) (a : Arrival) → outcomeAfter k earlier a ≡ outcomeIn (windowIn (accountOf k earlier)) k (accountOf k earlier) a
   unfolding outcomeAfter
   outcome-after earlier a =
-      ap (λ (r : Receiver). record { refusal = fedTo r a .refusal; noted = fedTo r a .noted }) (state-after earlier)
-      ∙ ap (λ (s : Stepped). record { refusal = s .refusal; noted = s .noted }) (step-agrees k low high (accountOf k earlier) a (account-sound k earlier))
-
-  -- how a reordered packet is answered
-  late-answered : (earlier : List Arrival) (a : Arrival) → refusalIn k (accountOf k earlier) a ≡ 0
-      → (d : ReorderedFigures) → answerIn (accountOf k earlier) a ≡ answer.Reordered d → Answered k earlier a d
-  unfolding inForm
-  late-answered earlier a e d q =
-      let noted : outcomeAfter k earlier a .noted ≡ inForm (accountOf k earlier) a (answer.Reordered d) =
-      ap (λ (s : Outcome). s .noted) (outcome-after earlier a) ∙ outcome-added k (accountOf k earlier) a e ∙ ap (inForm (accountOf k earlier) a) q in
-      let n = accepted-arrival k (accountOf k earlier) a e in
-      record {
-        exact = λ w. rw w at noted;
-        beyond = λ w. rw w at noted;
-        above = λ w. late-above (accountOf k earlier) a d q (account-sound k earlier .steady) (n .numbered .low) w;
-      }
+      ap (λ (r : Receiver). fedTo r a .outcome) (state-after earlier)
+      ∙ ap (λ (s : Stepped). s .outcome) (step-of (accountOf k earlier) a (account-sound k earlier))
 
   -- demand 3
   pub demand3 : (fed : List Arrival) → Demand3 k fed
-  unfolding receiverOutcomes accountOutcomes stateOf counts
+  unfolding receiverOutcomes accountOutcomes stateOf stateWith counts
   demand3 fed =
       let account = accountOf k fed in
       let s = state-after fed in
-      let arrived-eq : stateAfter k fed .arrived ≡ arrived (answersIn account) = ap (λ (r : Receiver). r .arrived) s ∙ sym (arrived-in account) in
-      let duplicates-eq : stateAfter k fed .duplicates ≡ count isDuplicate (answersIn account) = ap (λ (r : Receiver). r .duplicates) s in
-      let inorder-eq : stateAfter k fed .inorder ≡ count isInOrderAnswer (answersIn account) = ap (λ (r : Receiver). r .inorder) s in
+      let arrived-eq : stateAfter k fed .stream .arrived ≡ arrived (answersIn account) = ap (λ (r : Receiver). r .stream .arrived) s ∙ sym (arrived-in account) in
+      let duplicates-eq : stateAfter k fed .stream .duplicates ≡ count isDuplicate (answersIn account) = ap (λ (r : Receiver). r .stream .duplicates) s in
+      let inorder-eq : stateAfter k fed .stream .inorder ≡ count isInOrderAnswer (answersIn account) = ap (λ (r : Receiver). r .stream .inorder) s in
       let reordered-eq = in-order-or-reordered (answersIn account) in
       let accepted-eq = accepted-count account in
       let first-eq = arrived-in account in
       record {
-        outcomes = each-same (outcomeAfter k) (λ earlier a. outcomeIn k (accountOf k earlier) a) outcome-after fed;
+        outcomes = each-same (outcomeAfter k) (λ earlier a. outcomeIn (windowIn (accountOf k earlier)) k (accountOf k earlier) a) outcome-after fed;
         fit =
             count-each (λ (s : Outcome). eqb (s .refusal) stateUnfit) (outcomeAfter k)
-            (λ earlier a. rw outcome-after (outcome-fit k (accountOf k earlier) a)) fed;
-        reordered = λ earlier a later split e d q. late-answered earlier a e d q;
+            (λ earlier a. rw outcome-after (outcome-fit (windowIn (accountOf k earlier)) k (accountOf k earlier) a)) fed;
+        reordered = λ earlier a later split e d q.
+            subst (Answered (windowIn (accountOf k earlier)) (accountOf k earlier) a d) (ap (λ (s : Outcome). s .noted) (sym (outcome-after earlier a)))
+            (late-answered k (accountOf k earlier) (account-sound k earlier) (droppedIn (accountOf k earlier)) (windowIn (accountOf k earlier)) (split-window (accountOf k earlier)) a e d q);
         arrived = arrived-eq;
         duplicates = duplicates-eq;
         inorder = inorder-eq;
-        runs = ap (λ (r : Receiver). r .runs) s;
+        runs = ap (λ (r : Receiver). r .stream .runs) s;
         sum = omega arith;
       }
 
 -- as `fresh` carries it: of the receiver that it hands back, which is always made for 1 to 4,096 packets
-pub demand3-fresh : (k : ℕ) (fed : List Arrival) → Demand3 (freshOf k .state .sent) fed
-unfolding freshOf madeFor
+pub demand3-fresh : (k : ℕ) (fed : List Arrival) → Demand3 (freshOf k .state .stream .sent) fed
+unfolding freshOf madeFor freshStream
 demand3-fresh k = go (within 1 packets k) refl
   where
     go : (t : Bool) → within 1 packets k ≡ t
         → (fed : List Arrival)
         → Demand3
-        (cond {A = Started} t (record { refusal = 0; state = madeFor k }) (record { refusal = sentOutside; state = madeFor 1 }) .state .sent)
+        (cond {A = Started} t (record { refusal = 0; state = madeFor k }) (record { refusal = sentOutside; state = madeFor 1 }) .state .stream .sent)
         fed
     go true w = let h = within-true 1 packets k w in demand3 k (h .0) (h .1)
     go false w = demand3 1 (omega arith) (omega arith)

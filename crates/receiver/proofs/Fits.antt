@@ -6,12 +6,12 @@ use mathlib.Core.Path.{_≡_, refl, sym}
 use lib.Dec.{leb}
 use borrow.Author.Tests.{leb-true, le-leb}
 use Rattle.rfc4737.specs.Order.{Placed}
-use Rattle.rfc4737.specs.declared.Runs.{Runs}
 use Rattle.rfc4737.specs.Refusals.{within}
-use Rattle.receiver.specs.declared.Jumps.{Jumps}
+use Rattle.receiver.specs.declared.Stream.{Stream}
+use Rattle.receiver.specs.declared.Places.{Places}
 use Rattle.receiver.specs.Limits.{packets}
-use Rattle.receiver.specs.Fit.{every, fieldsFit, jumpFit, placesFit}
-use Rattle.receiver.specs.Private.Facts.{FieldsFit, JumpFit, PlacesFit}
+use Rattle.receiver.specs.Fit.{every, streamFit, jumpFit, placesFit}
+use Rattle.receiver.specs.Private.Facts.{StreamFit, JumpFit, PlacesFit}
 
 -- two tests that hold
 pub both : {a b : Bool} → a ≡ true → b ≡ true → (a && b) ≡ true
@@ -33,15 +33,11 @@ within-true low high x e =
     let h : (leb low x ≡ true) × (leb x high ≡ true) = and-true (leb low x) (leb x high) e in
     (leb-true low x (h .0), leb-true x high (h .1))
 
-module _ (sent arrived duplicates inorder next : ℕ) (runs : Runs) where
-  -- what fit fields say
-  abbrev Facts : Type 0
-  Facts = FieldsFit sent arrived duplicates inorder next runs
-
-  -- fields that pass the test
-  pub fields-facts : fieldsFit sent arrived duplicates inorder next runs ≡ true → Facts
-  unfolding fieldsFit
-  fields-facts e =
+module _ (s : Stream) where
+  -- numbers that pass the test
+  pub stream-facts : streamFit s ≡ true → StreamFit s
+  unfolding streamFit
+  stream-facts e =
       let a = every-true _ _ e in
       let b = every-true _ _ (a .1) in
       let d = every-true _ _ (b .1) in
@@ -50,8 +46,8 @@ module _ (sent arrived duplicates inorder next : ℕ) (runs : Runs) where
       let h = every-true _ _ (g .1) in
       let i = every-true _ _ (h .1) in
       let j = every-true _ _ (i .1) in
-      let k = within-true 1 packets sent (a .0) in
-      let n = within-true 1 (sent + 1) next (j .0) in
+      let k = within-true 1 packets (s .sent) (a .0) in
+      let n = within-true 1 (s .sent + 1) (s .next) (j .0) in
       record {
         sent-low = k .0;
         sent-high = k .1;
@@ -65,10 +61,10 @@ module _ (sent arrived duplicates inorder next : ℕ) (runs : Runs) where
         next-high = n .1;
       }
 
-  -- fit fields pass the test
-  pub fields-pass : Facts → fieldsFit sent arrived duplicates inorder next runs ≡ true
-  unfolding fieldsFit every
-  fields-pass f =
+  -- fit numbers pass the test
+  pub stream-pass : StreamFit s → streamFit s ≡ true
+  unfolding streamFit every
+  stream-pass f =
       both (both (le-leb _ _ (f .sent-low)) (le-leb _ _ (f .sent-high)))
       (both (le-leb _ _ (f .arrived-high))
       (both (le-leb _ _ (f .accepted-high))
@@ -77,24 +73,24 @@ module _ (sent arrived duplicates inorder next : ℕ) (runs : Runs) where
       (both (le-leb _ _ (f .closed-high))
       (both (le-leb _ _ (f .squares-high)) (both (both (le-leb _ _ (f .next-low)) (le-leb _ _ (f .next-high))) refl)))))))
 
-  -- fields that are not fit fail the test
-  pub fields-false : (Facts → ⊥) → false ≡ fieldsFit sent arrived duplicates inorder next runs
-  fields-false h = go (fieldsFit sent arrived duplicates inorder next runs) refl
+  -- numbers that are not fit fail the test
+  pub stream-false : (StreamFit s → ⊥) → false ≡ streamFit s
+  stream-false h = go (streamFit s) refl
     where
-      go : (t : Bool) → fieldsFit sent arrived duplicates inorder next runs ≡ t → false ≡ fieldsFit sent arrived duplicates inorder next runs
-      go true e = absurd (h (fields-facts e))
+      go : (t : Bool) → streamFit s ≡ t → false ≡ streamFit s
+      go true e = absurd (h (stream-facts e))
       go false e = sym e
 
-module _ (sent arrived last : ℕ) (p : Placed) where
+module _ (s : Stream) (p : Placed) where
   -- what a fit jump says
-  pub jump-facts : jumpFit sent arrived last p ≡ true → JumpFit sent arrived last p
+  pub jump-facts : jumpFit s p ≡ true → JumpFit s p
   unfolding jumpFit
   jump-facts e =
       let a = every-true _ _ e in
       let b = every-true _ _ (a .1) in
       let d = every-true _ _ (b .1) in
-      let k = within-true 1 arrived (p .position) (a .0) in
-      let n = within-true 1 sent (p .number) (b .0) in
+      let k = within-true 1 (s .arrived) (p .position) (a .0) in
+      let n = within-true 1 (s .sent) (p .number) (b .0) in
       record {
         position-low = k .0;
         position-high = k .1;
@@ -104,23 +100,23 @@ module _ (sent arrived last : ℕ) (p : Placed) where
       }
 
   -- a fit kept jump passes the test
-  pub jump-passes : JumpFit sent arrived last p → jumpFit sent arrived last p ≡ true
+  pub jump-passes : JumpFit s p → jumpFit s p ≡ true
   unfolding jumpFit every
   jump-passes f =
       both (both (le-leb _ _ (f .position-low)) (le-leb _ _ (f .position-high)))
       (both (both (le-leb _ _ (f .number-low)) (le-leb _ _ (f .number-high))) (both (le-leb _ _ (f .time-high)) refl))
 
   -- a jump that is not fit fails the test
-  pub jump-false : (JumpFit sent arrived last p → ⊥) → false ≡ jumpFit sent arrived last p
-  jump-false h = go (jumpFit sent arrived last p) refl
+  pub jump-false : (JumpFit s p → ⊥) → false ≡ jumpFit s p
+  jump-false h = go (jumpFit s p) refl
     where
-      go : (t : Bool) → jumpFit sent arrived last p ≡ t → false ≡ jumpFit sent arrived last p
+      go : (t : Bool) → jumpFit s p ≡ t → false ≡ jumpFit s p
       go true e = absurd (h (jump-facts e))
       go false e = sym e
 
-module _ (sent arrived last : ℕ) (j : Jumps) where
+module _ (s : Stream) (places : Places) where
   -- what fit places say
-  pub places-facts : placesFit sent arrived last j ≡ true → PlacesFit sent arrived last j
+  pub places-facts : placesFit s places ≡ true → PlacesFit s places
   unfolding placesFit
   places-facts e =
       let a = every-true _ _ e in
@@ -129,14 +125,14 @@ module _ (sent arrived last : ℕ) (j : Jumps) where
       record { kept-high = leb-true _ _ (a .0); jumps-fit = b .0; dropped-high = leb-true _ _ (d .0) }
 
   -- fit places pass the test
-  pub places-pass : PlacesFit sent arrived last j → placesFit sent arrived last j ≡ true
+  pub places-pass : PlacesFit s places → placesFit s places ≡ true
   unfolding placesFit every
   places-pass f = both (le-leb _ _ (f .kept-high)) (both (f .jumps-fit) (both (le-leb _ _ (f .dropped-high)) refl))
 
   -- places that are not fit fail the test
-  pub places-false : (PlacesFit sent arrived last j → ⊥) → false ≡ placesFit sent arrived last j
-  places-false h = go (placesFit sent arrived last j) refl
+  pub places-false : (PlacesFit s places → ⊥) → false ≡ placesFit s places
+  places-false h = go (placesFit s places) refl
     where
-      go : (t : Bool) → placesFit sent arrived last j ≡ t → false ≡ placesFit sent arrived last j
+      go : (t : Bool) → placesFit s places ≡ t → false ≡ placesFit s places
       go true e = absurd (h (places-facts e))
       go false e = sym e

@@ -1,240 +1,283 @@
--- The places of the kept jumps hold the list of the jumps kept: after any jumps, one after the other, the last 64 of them or
--- all if fewer, and the number of the last one dropped. Assumes nothing.
+-- What is held of the jumps: the places hold the list of those kept, and the dropped number is that of the last of those
+-- dropped; under a new jump, for which there is room or not. Assumes nothing.
 use Prim.Native.Nat.{ℕ, zero, suc, _+_, _-_, _≤_, _<_}
 use mathlib.Core.Path.{_≡_, refl, sym, ap, ap₂, _∙_}
 use mathlib.Core.Logic.{_≢_}
-use mathlib.Core.Bool.{Bool, true, false, cond}
+use mathlib.Core.Bool.{Bool, true, false}
 use mathlib.Core.List.{List, [], _∷_, _++_, foldl}
 use native.Mathlib.Nat.{add-zero, zero-add, add-suc, suc-add}
 use native.Mathlib.Numerals.{add-one}
 use native.Mathlib.Omega.{arith}
 use lib.Dec.{ltb}
 use lib.ListN.{length, getD, take, drop, replicate, length-append, length-drop, length-set, List·getD-append}
-use lib.Seq.{getD-set-same, getD-set-other, getD-drop, getD-at, drop-drop, drop-append-le, take-append-le, take-suc}
+use lib.Seq.{getD-set-same, getD-set-other, getD-take, getD-drop, getD-at, length-take-le, drop-append-le, take-append-le, take-suc, drop-cons}
 use borrow.Author.Tests.{ltb-true, ltb-false}
 use Rattle.rfc4737.specs.Order.{Placed}
 use Rattle.rfc4737.proofs.Lists.{snoc-ind}
 use Rattle.rfc4737.proofs.Arrivals.{fold-more}
-use Rattle.receiver.specs.declared.Jumps.{Jumps}
+use Rattle.receiver.specs.declared.Places.{Places}
 use Rattle.receiver.specs.Limits.{window}
-use Rattle.receiver.specs.Kept.{placeAt, placesFrom, keptOf, appended, shifted, withJump}
+use Rattle.receiver.specs.Kept.{placeAt, placesFrom, Held, keptOf, pushed, withJump, hasRoom}
 use Rattle.receiver.proofs.Window.{lastNumber, last-more}
 
 -- as many jumps as places
-pub length-places : (j : Jumps) (at n : ℕ) → length (placesFrom j at n) ≡ n
+pub length-places : (l : Places) (at n : ℕ) → length (placesFrom l at n) ≡ n
 unfolding placesFrom
-length-places j at zero = refl
-length-places j at (suc n) = ap suc (length-places j (suc at) n)
+length-places l at zero = refl
+length-places l at (suc n) = ap suc (length-places l (suc at) n)
 
 -- the places from one on hold what those from another on hold, if each holds what the other does
-places-same : (i j : Jumps) (at to n : ℕ) → ((k : ℕ) → k < n → placeAt i (at + k) ≡ placeAt j (to + k)) → placesFrom i at n ≡ placesFrom j to n
+pub places-same : (l m : Places) (at to n : ℕ) → ((k : ℕ) → k < n → placeAt l (at + k) ≡ placeAt m (to + k)) → placesFrom l at n ≡ placesFrom m to n
 unfolding placesFrom
-places-same i j at to zero h = refl
-places-same i j at to (suc n) h =
-    let e : placeAt i at ≡ placeAt j to = simp add-zero at (h 0 (omega arith)) in
-    ap₂ {C = List Placed} _∷_ e (places-same i j (suc at) (suc to) n (λ k l. simp (suc-add, ← add-suc) (h (suc k) (omega arith))))
+places-same l m at to zero h = refl
+places-same l m at to (suc n) h =
+    let e : placeAt l at ≡ placeAt m to = simp add-zero at (h 0 (omega arith)) in
+    ap₂ {C = List Placed} _∷_ e (places-same l m (suc at) (suc to) n (λ k g. simp (suc-add, ← add-suc) (h (suc k) (omega arith))))
 
 -- one place more
-places-more : (j : Jumps) (at n : ℕ) → placesFrom j at (suc n) ≡ placesFrom j at n ++ (placeAt j (at + n) ∷ [])
+places-more : (l : Places) (at n : ℕ) → placesFrom l at (suc n) ≡ placesFrom l at n ++ (placeAt l (at + n) ∷ [])
 unfolding placesFrom
-places-more j at zero = rw add-zero
-places-more j at (suc n) =
+places-more l at zero = rw add-zero
+places-more l at (suc n) =
     let e : suc at + n ≡ at + suc n = omega arith in
-    let k : placesFrom j (suc at) (suc n) ≡ placesFrom j (suc at) n ++ (placeAt j (at + suc n) ∷ []) = rw e at (places-more j (suc at) n) in
-    ap {B = List Placed} (λ l. placeAt j at ∷ l) k
+    let k : placesFrom l (suc at) (suc n) ≡ placesFrom l (suc at) n ++ (placeAt l (at + suc n) ∷ []) = rw e at (places-more l (suc at) n) in
+    ap {B = List Placed} (λ t. placeAt l at ∷ t) k
 
 -- a jump, by its fields
-placed-path : (p q : Placed) → p .position ≡ q .position → p .number ≡ q .number → p .time ≡ q .time → p ≡ q
+pub placed-path : (p q : Placed) → p .position ≡ q .position → p .number ≡ q .number → p .time ≡ q .time → p ≡ q
 placed-path p q e f g = λ i. record { position = e i; number = f i; time = g i }
 
--- one place more is kept with a new jump
-appended-places : (j : Jumps) (p : Placed) → keptOf (appended j p) ≡ placesFrom (appended j p) 0 (suc (j .kept))
-unfolding keptOf appended
-appended-places j p = ap (placesFrom (appended j p) 0) (add-one (j .kept))
+-- ---- with room: the new jump stands after the kept ones
+
+-- one place more is kept
+appended-places : (h : Held) (p : Placed) → keptOf (withJump true h p) ≡ placesFrom (withJump true h p .places) 0 (suc (h .kept))
+unfolding keptOf withJump
+appended-places h p = ap (placesFrom (withJump true h p .places) 0) (add-one (h .kept))
 
 -- the kept jumps with a new one after them
-pub kept-appended : (j : Jumps) (p : Placed)
-    → j .kept < length (j .positions)
-    → j .kept < length (j .numbers)
-    → j .kept < length (j .times)
-    → keptOf (appended j p) ≡ keptOf j ++ (p ∷ [])
-unfolding keptOf placeAt appended
-kept-appended j p a b c =
-    appended-places j p ∙ places-more (appended j p) 0 (j .kept)
-    ∙ ap₂ {C = List Placed} (λ l q. l ++ (q ∷ [])) (places-same (appended j p) j 0 0 (j .kept) before) last
+kept-appended : (h : Held) (p : Placed)
+    → h .kept < length (h .places .positions)
+    → h .kept < length (h .places .numbers)
+    → h .kept < length (h .places .times)
+    → keptOf (withJump true h p) ≡ keptOf h ++ (p ∷ [])
+unfolding keptOf placeAt withJump pushed
+kept-appended h p a b c =
+    appended-places h p ∙ places-more (withJump true h p .places) 0 (h .kept)
+    ∙ ap₂ {C = List Placed} (λ l q. l ++ (q ∷ [])) (places-same (withJump true h p .places) (h .places) 0 0 (h .kept) before) last
   where
-    before : (k : ℕ) → k < j .kept → placeAt (appended j p) (0 + k) ≡ placeAt j (0 + k)
-    before k h =
-        let n : 0 + k ≢ j .kept = omega arith in
+    before : (k : ℕ) → k < h .kept → placeAt (withJump true h p .places) (0 + k) ≡ placeAt (h .places) (0 + k)
+    before k g =
+        let n : 0 + k ≢ h .kept = omega arith in
         placed-path _ _
-        (getD-set-other (j .positions) (j .kept) (0 + k) (p .position) 0 n)
-        (getD-set-other (j .numbers) (j .kept) (0 + k) (p .number) 0 n)
-        (getD-set-other (j .times) (j .kept) (0 + k) (p .time) 0 n)
+        (getD-set-other (h .places .positions) (h .kept) (0 + k) (p .position) 0 n)
+        (getD-set-other (h .places .numbers) (h .kept) (0 + k) (p .number) 0 n)
+        (getD-set-other (h .places .times) (h .kept) (0 + k) (p .time) 0 n)
 
-    last : placeAt (appended j p) (0 + j .kept) ≡ p
+    last : placeAt (withJump true h p .places) (0 + h .kept) ≡ p
     last =
         rw zero-add
         (placed-path _ _
-        (getD-set-same (j .positions) (j .kept) (p .position) 0 a)
-        (getD-set-same (j .numbers) (j .kept) (p .number) 0 b)
-        (getD-set-same (j .times) (j .kept) (p .time) 0 c))
+        (getD-set-same (h .places .positions) (h .kept) (p .position) 0 a)
+        (getD-set-same (h .places .numbers) (h .kept) (p .number) 0 b)
+        (getD-set-same (h .places .times) (h .kept) (p .time) 0 c))
 
--- a list moved one place, with a new last element
-module _ (xs : List ℕ) (x n : ℕ) (long : length xs ≡ suc n) where
-  -- it is as long as before
-  moved-long : length (drop 1 xs ++ (x ∷ [])) ≡ suc n
-  moved-long = simp (length-append, length-drop) (omega arith)
+-- ---- without room: the kept ones move one place
+
+-- values of which the first n + 1 move one place, with a new one after them
+module _ (xs : List ℕ) (x n : ℕ) (long : n < length xs) where
+  -- those that move
+  part-long : length (drop 1 (take (suc n) xs)) ≡ n
+  part-long = length-drop 1 (take (suc n) xs) ∙ ap (λ (m : ℕ). m - 1) (length-take-le (suc n) xs (omega arith)) ∙ omega arith
+
+  -- they are as many as before
+  moved-long : length (pushed false (suc n) xs x) ≡ length xs
+  unfolding pushed
+  moved-long =
+      let a : length (drop (suc n) xs) ≡ length xs - suc n = length-drop (suc n) xs in
+      let b : length (pushed false (suc n) xs x) ≡ length (drop 1 (take (suc n) xs)) + suc (length (drop (suc n) xs)) =
+      length-append (drop 1 (take (suc n) xs)) (x ∷ drop (suc n) xs) in
+      let c : length (drop 1 (take (suc n) xs)) ≡ n = part-long in
+      omega arith
 
   -- each place holds what the next one held
-  moved : (k : ℕ) → k < n → getD (drop 1 xs ++ (x ∷ [])) (0 + k) 0 ≡ getD xs (1 + k) 0
+  moved : (k : ℕ) → k < n → getD (pushed false (suc n) xs x) (0 + k) 0 ≡ getD xs (1 + k) 0
+  unfolding pushed
   moved k h =
-      let l : 0 + k < length (drop 1 xs) = simp length-drop (omega arith) in
+      let l : 0 + k < length (drop 1 (take (suc n) xs)) = rw part-long (omega arith) in
+      let m : 1 + (0 + k) < suc n = omega arith in
       let e : 1 + (0 + k) ≡ 1 + k = omega arith in
-      List·getD-append (drop 1 xs) (x ∷ []) 0 (0 + k) l ∙ getD-drop 1 xs (0 + k) 0 ∙ ap (λ (m : ℕ). getD xs m 0) e
+      List·getD-append (drop 1 (take (suc n) xs)) (x ∷ drop (suc n) xs) 0 (0 + k) l
+      ∙ getD-drop 1 (take (suc n) xs) (0 + k) 0
+      ∙ getD-take (suc n) xs (1 + (0 + k)) 0 m
+      ∙ ap (λ (m : ℕ). getD xs m 0) e
 
-  -- and the last one the new element
-  moved-last : getD (drop 1 xs ++ (x ∷ [])) n 0 ≡ x
-  moved-last = getD-at (drop 1 xs) x [] 0 n (simp length-drop (omega arith))
+  -- the one after them the new value
+  moved-last : getD (pushed false (suc n) xs x) n 0 ≡ x
+  unfolding pushed
+  moved-last = getD-at (drop 1 (take (suc n) xs)) x (drop (suc n) xs) 0 n part-long
 
--- as many places are kept after a move as before
-shifted-places : (j : Jumps) (p : Placed) (n : ℕ) → j .kept ≡ suc n → keptOf (shifted j p) ≡ placesFrom (shifted j p) 0 (suc n)
-unfolding keptOf shifted
-shifted-places j p n e = ap (placesFrom (shifted j p) 0) e
+-- as many places are kept as before
+shifted-places : (h : Held) (p : Placed) (n : ℕ) → h .kept ≡ suc n → keptOf (withJump false h p) ≡ placesFrom (withJump false h p .places) 0 (suc n)
+unfolding keptOf withJump
+shifted-places h p n e = ap (placesFrom (withJump false h p .places) 0) e
 
 -- the kept jumps but the oldest
-later-places : (j : Jumps) (n : ℕ) → j .kept ≡ suc n → drop 1 (keptOf j) ≡ placesFrom j 1 n
+later-places : (h : Held) (n : ℕ) → h .kept ≡ suc n → drop 1 (keptOf h) ≡ placesFrom (h .places) 1 n
 unfolding keptOf placesFrom
-later-places j n e = ap (λ (m : ℕ). drop 1 (placesFrom j 0 m)) e
+later-places h n e = ap (λ (m : ℕ). drop 1 (placesFrom (h .places) 0 m)) e
 
--- the oldest kept jump stands in the first place
-first-place : (j : Jumps) (n : ℕ) (q : Placed) → j .kept ≡ suc n → getD (keptOf j) 0 q ≡ placeAt j 0
+-- the oldest stands in the first place
+first-place : (h : Held) (n : ℕ) (q : Placed) → h .kept ≡ suc n → getD (keptOf h) 0 q ≡ placeAt (h .places) 0
 unfolding keptOf placesFrom
-first-place j n q e = ap (λ (m : ℕ). getD (placesFrom j 0 m) 0 q) e
+first-place h n q e = ap (λ (m : ℕ). getD (placesFrom (h .places) 0 m) 0 q) e
 
--- the kept jumps where all places are taken, with a new one: the oldest is dropped
-pub kept-shifted : (j : Jumps) (p : Placed) (n : ℕ)
-    → j .kept ≡ suc n
-    → length (j .positions) ≡ suc n
-    → length (j .numbers) ≡ suc n
-    → length (j .times) ≡ suc n
-    → keptOf (shifted j p) ≡ drop 1 (keptOf j) ++ (p ∷ [])
-unfolding placeAt shifted
-kept-shifted j p n e a b c =
-    shifted-places j p n e ∙ places-more (shifted j p) 0 n
-    ∙ ap₂ {C = List Placed} (λ l q. l ++ (q ∷ [])) (places-same (shifted j p) j 0 1 n before) last
-    ∙ ap {B = List Placed} (λ l. l ++ (p ∷ [])) (sym (later-places j n e))
+-- the kept jumps but the oldest, with a new one after them
+kept-shifted : (h : Held) (p : Placed) (n : ℕ)
+    → h .kept ≡ suc n
+    → n < length (h .places .positions)
+    → n < length (h .places .numbers)
+    → n < length (h .places .times)
+    → keptOf (withJump false h p) ≡ drop 1 (keptOf h) ++ (p ∷ [])
+unfolding placeAt withJump
+kept-shifted h p n e a b c =
+    shifted-places h p n e ∙ places-more (withJump false h p .places) 0 n
+    ∙ ap₂ {C = List Placed} (λ l q. l ++ (q ∷ [])) (places-same (withJump false h p .places) (h .places) 0 1 n before) last
+    ∙ ap {B = List Placed} (λ l. l ++ (p ∷ [])) (sym (later-places h n e))
   where
-    before : (k : ℕ) → k < n → placeAt (shifted j p) (0 + k) ≡ placeAt j (1 + k)
-    before k h =
-        placed-path _ _
-        (moved (j .positions) (p .position) n a k h)
-        (moved (j .numbers) (p .number) n b k h)
-        (moved (j .times) (p .time) n c k h)
-
-    last : placeAt (shifted j p) (0 + n) ≡ p
-    last =
-        rw zero-add
+    before : (k : ℕ) → k < n → placeAt (withJump false h p .places) (0 + k) ≡ placeAt (h .places) (1 + k)
+    before k g =
+        rw e
         (placed-path _ _
-        (moved-last (j .positions) (p .position) n a)
-        (moved-last (j .numbers) (p .number) n b)
-        (moved-last (j .times) (p .time) n c))
+        (moved (h .places .positions) (p .position) n a k g)
+        (moved (h .places .numbers) (p .number) n b k g)
+        (moved (h .places .times) (p .time) n c k g))
 
--- the places hold the last of some jumps, as many as there are places or all if fewer, and the number of the one before
-pub record Holds (js : List Placed) (j : Jumps) : Type 0 where
-  pub positions-long : length (j .positions) ≡ window
-  pub numbers-long : length (j .numbers) ≡ window
-  pub times-long : length (j .times) ≡ window
-  pub kept : keptOf j ≡ drop (length js - window) js
-  pub dropped : j .dropped ≡ lastNumber (take (length js - window) js)
+    last : placeAt (withJump false h p .places) (0 + n) ≡ p
+    last =
+        rw (zero-add, e)
+        (placed-path _ _
+        (moved-last (h .places .positions) (p .position) n a)
+        (moved-last (h .places .numbers) (p .number) n b)
+        (moved-last (h .places .times) (p .time) n c))
+
+-- ---- what is held, for any split of the jumps
+
+-- the places are as many as an array of them has
+pub record Long (l : Places) : Type 0 where
+  pub positions : length (l .positions) ≡ window
+  pub numbers : length (l .numbers) ≡ window
+  pub times : length (l .times) ≡ window
+
+-- of some jumps, those dropped and then those kept, this is held
+pub record Holds (ds ws : List Placed) (h : Held) : Type 0 where
+  pub long : Long (h .places)
+  pub kept : keptOf h ≡ ws
+  pub dropped : h .dropped ≡ lastNumber ds
 
 -- how many are kept
-pub holds-count : (js : List Placed) (j : Jumps) → Holds js j → j .kept ≡ length js - (length js - window)
+pub holds-count : (ds ws : List Placed) (h : Held) → Holds ds ws h → h .kept ≡ length ws
 unfolding keptOf
-holds-count js j h = sym (length-places j 0 (j .kept)) ∙ ap length (h .kept) ∙ length-drop (length js - window) js
+holds-count ds ws h o = sym (length-places (h .places) 0 (h .kept)) ∙ ap length (o .kept)
 
--- under one jump more, which goes after the kept ones
-holds-appended : (js : List Placed) (j : Jumps) (p : Placed) → Holds js j → j .kept < window → Holds (js ++ (p ∷ [])) (appended j p)
-unfolding appended lastNumber
-holds-appended js j p h lt =
-    let c : j .kept ≡ length js - (length js - window) = holds-count js j h in
-    let z : length js - window ≡ 0 = omega arith in
-    let l : length (js ++ (p ∷ [])) ≡ length js + 1 = length-append js (p ∷ []) in
-    let y : length (js ++ (p ∷ [])) - window ≡ 0 = omega arith in
-    let a : j .kept < length (j .positions) = omega (arith, h .positions-long) in
-    let b : j .kept < length (j .numbers) = omega (arith, h .numbers-long) in
-    let d : j .kept < length (j .times) = omega (arith, h .times-long) in
+-- under one jump more, for which there is room
+pub holds-appended : (ds ws : List Placed) (h : Held) (p : Placed) → Holds ds ws h → length ws < window → Holds ds (ws ++ (p ∷ [])) (withJump true h p)
+unfolding withJump pushed
+holds-appended ds ws h p o lt =
+    let n : h .kept ≡ length ws = holds-count ds ws h o in
+    let a : h .kept < length (h .places .positions) = omega (arith, o .long .positions) in
+    let b : h .kept < length (h .places .numbers) = omega (arith, o .long .numbers) in
+    let c : h .kept < length (h .places .times) = omega (arith, o .long .times) in
     record {
-      positions-long = simp length-set (h .positions-long);
-      numbers-long = simp length-set (h .numbers-long);
-      times-long = simp length-set (h .times-long);
-      kept = rw y (kept-appended j p a b d ∙ ap {B = List Placed} (λ l. l ++ (p ∷ [])) (rw z at (h .kept)));
-      dropped = rw y (rw z at (h .dropped));
+      long = record {
+        positions = simp length-set (o .long .positions);
+        numbers = simp length-set (o .long .numbers);
+        times = simp length-set (o .long .times);
+      };
+      kept = kept-appended h p a b c ∙ ap {B = List Placed} (λ l. l ++ (p ∷ [])) (o .kept);
+      dropped = o .dropped;
     }
 
--- under one jump more, where all places are taken
-holds-shifted : (js : List Placed) (j : Jumps) (p : Placed) → Holds js j → window ≤ j .kept → Holds (js ++ (p ∷ [])) (shifted j p)
-unfolding shifted placeAt
-holds-shifted js j p h ge =
-    let c : j .kept ≡ length js - (length js - window) = holds-count js j h in
-    let full : j .kept ≡ suc 63 = omega arith in
-    let l : length (js ++ (p ∷ [])) ≡ length js + 1 = length-append js (p ∷ []) in
-    let y : length (js ++ (p ∷ [])) - window ≡ suc (length js - window) = omega arith in
-    let lt : length js - window < length js = omega arith in
-    let next : drop 1 (drop (length js - window) js) ≡ drop (suc (length js - window)) js =
-    drop-drop 1 (length js - window) js ∙ ap (λ (m : ℕ). drop m js) (add-one (length js - window)) in
-    let oldest : getD (keptOf j) 0 p ≡ getD js (length js - window) p =
-    ap (λ (l : List Placed). getD l 0 p) (h .kept) ∙ getD-drop (length js - window) js 0 p
-    ∙ ap (λ (m : ℕ). getD js m p) (add-zero (length js - window)) in
+-- under one jump more, for which there is none: the oldest is dropped
+pub holds-shifted : (ds : List Placed) (q : Placed) (ws : List Placed) (h : Held) (p : Placed) → Holds ds (q ∷ ws) h → length (q ∷ ws) ≤ window
+    → Holds (ds ++ (q ∷ [])) (ws ++ (p ∷ [])) (withJump false h p)
+unfolding withJump placeAt
+holds-shifted ds q ws h p o le =
+    let n : h .kept ≡ suc (length ws) = holds-count ds (q ∷ ws) h o in
+    let a : length ws < length (h .places .positions) = omega (arith, o .long .positions) in
+    let b : length ws < length (h .places .numbers) = omega (arith, o .long .numbers) in
+    let c : length ws < length (h .places .times) = omega (arith, o .long .times) in
+    let oldest : placeAt (h .places) 0 ≡ q = sym (first-place h (length ws) p n) ∙ ap (λ (l : List Placed). getD l 0 p) (o .kept) in
     record {
-      positions-long = moved-long (j .positions) (p .position) 63 (h .positions-long);
-      numbers-long = moved-long (j .numbers) (p .number) 63 (h .numbers-long);
-      times-long = moved-long (j .times) (p .time) 63 (h .times-long);
-      kept =
-          rw y
-          (kept-shifted j p 63 full (h .positions-long) (h .numbers-long) (h .times-long)
-          ∙ ap {B = List Placed} (λ l. drop 1 l ++ (p ∷ [])) (h .kept)
-          ∙ ap {B = List Placed} (λ l. l ++ (p ∷ [])) next
-          ∙ sym (drop-append-le (suc (length js - window)) js (p ∷ []) lt));
-      dropped =
-          rw (y, take-append-le (suc (length js - window)) js (p ∷ []) lt, take-suc js (length js - window) p lt, last-more)
-          (ap (λ (q : Placed). q .number) (sym (first-place j 63 p full) ∙ oldest));
+      long = record {
+        positions = rw n (moved-long (h .places .positions) (p .position) (length ws) a ∙ o .long .positions);
+        numbers = rw n (moved-long (h .places .numbers) (p .number) (length ws) b ∙ o .long .numbers);
+        times = rw n (moved-long (h .places .times) (p .time) (length ws) c ∙ o .long .times);
+      };
+      kept = kept-shifted h p (length ws) n a b c ∙ ap {B = List Placed} (λ l. drop 1 l ++ (p ∷ [])) (o .kept);
+      dropped = rw last-more (ap (λ (q : Placed). q .number) oldest);
     }
 
--- under one jump more
-holds-more : (js : List Placed) (j : Jumps) (p : Placed) → Holds js j → Holds (js ++ (p ∷ [])) (withJump j p)
-unfolding withJump
-holds-more js j p h = go (ltb (j .kept) window) refl
-  where
-    go : (t : Bool) → ltb (j .kept) window ≡ t → Holds (js ++ (p ∷ [])) (cond t (appended j p) (shifted j p))
-    go true e = holds-appended js j p h (ltb-true _ _ e)
-    go false e = holds-shifted js j p h (ltb-false _ _ e)
+-- ---- the receiver's own rule: the last 64
 
--- no jump in any place
-unfoldable pub noJumps : Jumps
-noJumps =
+-- at first nothing is held
+unfoldable pub noneHeld : Held
+noneHeld =
     record {
       kept = 0;
       dropped = 0;
-      positions = replicate window 0;
-      numbers = replicate window 0;
-      times = replicate window 0;
+      places = record { positions = replicate window 0; numbers = replicate window 0; times = replicate window 0 };
     }
 
--- the places after some jumps, one after the other
-unfoldable pub placesOf : List Placed → Jumps
-placesOf js = foldl withJump noJumps js
+-- what is held after some jumps, one after the other
+unfoldable pub heldFrom : List Placed → Held
+heldFrom js = foldl (λ (h : Held) (p : Placed). withJump (hasRoom h) h p) noneHeld js
 
 -- under one jump more
-pub places-of-more : (js : List Placed) (p : Placed) → placesOf (js ++ (p ∷ [])) ≡ withJump (placesOf js) p
-unfolding placesOf
-places-of-more js p = fold-more withJump noJumps js p
+pub held-more : (js : List Placed) (p : Placed) → heldFrom (js ++ (p ∷ [])) ≡ withJump (hasRoom (heldFrom js)) (heldFrom js) p
+unfolding heldFrom
+held-more js p = fold-more (λ (h : Held) (p : Placed). withJump (hasRoom h) h p) noneHeld js p
 
--- they hold the last of the jumps
-pub places-hold : (js : List Placed) → Holds js (placesOf js)
-unfolding placesOf noJumps keptOf placesFrom lastNumber
-places-hold =
-    snoc-ind (λ (js : List Placed). Holds js (placesOf js)) more
-    (record { positions-long = refl; numbers-long = refl; times-long = refl; kept = refl; dropped = refl })
+-- of these the last are kept
+abbrev HoldsLast : List Placed → Held → Type 0
+HoldsLast js h = Holds (take (length js - window) js) (drop (length js - window) js) h
+
+holds-more : (js : List Placed) (h : Held) (p : Placed) → HoldsLast js h → HoldsLast (js ++ (p ∷ [])) (withJump (hasRoom h) h p)
+holds-more js h p o = go (ltb (h .kept) window) refl
   where
-    more : (js : List Placed) (p : Placed) → Holds js (placesOf js) → Holds (js ++ (p ∷ [])) (placesOf (js ++ (p ∷ [])))
-    more js p h = rw places-of-more (holds-more js (placesOf js) p h)
+    c : h .kept ≡ length js - (length js - window)
+    c = holds-count (take (length js - window) js) (drop (length js - window) js) h o ∙ length-drop (length js - window) js
+
+    l : length (js ++ (p ∷ [])) ≡ length js + 1
+    l = length-append js (p ∷ [])
+
+    go : (t : Bool) → ltb (h .kept) window ≡ t → HoldsLast (js ++ (p ∷ [])) (withJump t h p)
+    go true e =
+        let lt : h .kept < window = ltb-true _ _ e in
+        let q : h .kept ≡ length js - (length js - window) = c in
+        let m : length (js ++ (p ∷ [])) ≡ length js + 1 = l in
+        let z : length js - window ≡ 0 = omega arith in
+        let y : length (js ++ (p ∷ [])) - window ≡ 0 = omega arith in
+        let k : Holds [] js h = rw z at o in
+        rw y (holds-appended [] js h p k (omega arith))
+    go false e =
+        let ge : window ≤ h .kept = ltb-false _ _ e in
+        let q : h .kept ≡ length js - (length js - window) = c in
+        let m : length (js ++ (p ∷ [])) ≡ length js + 1 = l in
+        let n : ℕ = length js - window in
+        let lt : n < length js = omega arith in
+        let y : length (js ++ (p ∷ [])) - window ≡ suc n = omega arith in
+        let f : drop n js ≡ getD js n p ∷ drop (suc n) js = drop-cons js n p lt in
+        let k : Holds (take n js) (getD js n p ∷ drop (suc n) js) h = rw f at o in
+        let s : length (drop (suc n) js) ≡ length js - suc n = length-drop (suc n) js in
+        rw (y, take-append-le (suc n) js (p ∷ []) lt, take-suc js n p lt, drop-append-le (suc n) js (p ∷ []) lt)
+        (holds-shifted (take n js) (getD js n p) (drop (suc n) js) h p k (omega arith))
+
+-- so it is after any jumps
+pub held-last : (js : List Placed) → HoldsLast js (heldFrom js)
+unfolding heldFrom noneHeld keptOf placesFrom lastNumber
+held-last =
+    snoc-ind (λ (js : List Placed). HoldsLast js (heldFrom js)) more
+    (record { long = record { positions = refl; numbers = refl; times = refl }; kept = refl; dropped = refl })
+  where
+    more : (js : List Placed) (p : Placed) → HoldsLast js (heldFrom js) → HoldsLast (js ++ (p ∷ [])) (heldFrom (js ++ (p ∷ [])))
+    more js p o = rw held-more (holds-more js (heldFrom js) p o)

@@ -17,7 +17,7 @@ use Rattle.rfc4737.proofs.Jumps.{NotLater, NotLaterJump, Rises, Within, Discont
 use Rattle.rfc4737.proofs.Packets.{ordered-firsts}
 use Rattle.receiver.specs.Limits.{window}
 use Rattle.receiver.specs.Account.{windowIn}
-use Rattle.receiver.proofs.Window.{lastNumber, IsDropped, IsKept, window-dropped, window-kept}
+use Rattle.receiver.proofs.Window.{lastNumber, IsDropped, IsKept, discontinuity-before-window, discontinuity-in-window}
 
 -- the account's jumps before the window
 unfoldable pub droppedIn : List Arrival → List Placed
@@ -33,45 +33,51 @@ member-length : {p : Placed} {l : List Placed} → List·Memᴰ p l → 1 ≤ le
 member-length (List·Memᴰ.List·Memᴰ·head e) = omega arith
 member-length (List·Memᴰ.List·Memᴰ·tail m) = omega arith
 
--- where there is a jump the window is not empty
-window-some : (account : List Arrival) → 1 ≤ length (jumps (firsts account)) → 1 ≤ length (windowIn account)
+-- the jumps of an account as those dropped and those kept, of which there is one where there is a jump
+pub record Split (account : List Arrival) (ds ws : List Placed) : Type 0 where
+  pub parts : ds ++ ws ≡ jumps (firsts account)
+  pub some : 1 ≤ length (jumps (firsts account)) → 1 ≤ length ws
+
+-- so they are split by the window
+pub split-window : (account : List Arrival) → Split account (droppedIn account) (windowIn account)
 unfolding windowIn
-window-some account h = simp length-drop (omega arith)
+split-window account = record { parts = split account; some = λ h. simp length-drop (omega arith) }
 
 -- the discontinuity of a packet s, the window's oldest jump, and what the search in the window finds
-pub record WindowSearch (account : List Arrival) (s : ℕ) : Type 0 where
+pub record WindowSearch (account : List Arrival) (ds ws : List Placed) (s : ℕ) : Type 0 where
   pub at : Placed
   pub is : discontinuity (firsts account) s ≡ some at
   pub oldest : Placed
   pub later : List Placed
-  pub window : windowIn account ≡ oldest ∷ later
+  pub window : ws ≡ oldest ∷ later
   pub high : oldest .position ≤ length (firsts account)
-  pub dropped : s < lastNumber (droppedIn account) → IsDropped s (windowIn account) oldest at
-  pub kept : lastNumber (droppedIn account) ≤ s → IsKept s (windowIn account) at
+  pub dropped : s < lastNumber ds → IsDropped s ws oldest at
+  pub kept : lastNumber ds ≤ s → IsKept s ws at
 
 -- of a reordered packet, where times do not fall
-pub search-late : (account : List Arrival)
+pub search-late : (account : List Arrival) (ds ws : List Placed)
+    → Split account ds ws
     → Ordered NotLater account
     → (s : ℕ)
     → 1 ≤ s
     → has s account ≡ false
     → s < nextExp (firsts account)
-    → WindowSearch account s
+    → WindowSearch account ds ws s
 unfolding isInOrder
-search-late account steady s low new late = go (windowIn account) refl
+search-late account ds ws sp steady s low new late = go ws refl
   where
     found : DiscontinuityJump s (firsts account)
     found = reordered-discontinuity s low (firsts account) (has-firsts s account ∙ new) (lt-leb (nextExp (firsts account)) s late)
 
-    go : (ws : List Placed) → windowIn account ≡ ws → WindowSearch account s
-    go [] e = absurd (omega (arith, window-some account (member-length (found .jump)), ap length e))
+    go : (vs : List Placed) → ws ≡ vs → WindowSearch account ds ws s
+    go [] e = absurd (omega (arith, sp .some (member-length (found .jump)), ap length e))
     go (o ∷ later) e =
-        let parts : jumps (firsts account) ≡ droppedIn account ++ (o ∷ later) =
-        sym (split account) ∙ ap (λ (l : List Placed). droppedIn account ++ l) e in
+        let parts : jumps (firsts account) ≡ ds ++ (o ∷ later) =
+        sym (sp .parts) ∙ ap (λ (l : List Placed). ds ++ l) e in
         let rise = subst (Ordered Rises) parts (jumps-rise (firsts account)) in
         let times = subst (Ordered NotLaterJump) parts (jumps-times (firsts account) (ordered-firsts NotLater account steady)) in
         let first = rw parts at (found .first) in
-        let inside = all-right (Within (firsts account)) (droppedIn account) (o ∷ later) (subst (All (Within (firsts account))) parts (jumps-within (firsts account))) in
+        let inside = all-right (Within (firsts account)) ds (o ∷ later) (subst (All (Within (firsts account))) parts (jumps-within (firsts account))) in
         record {
           at = found .at;
           is = found .is;
@@ -79,6 +85,6 @@ search-late account steady s low new late = go (windowIn account) refl
           later = later;
           window = e;
           high = inside .0 .position-high;
-          dropped = λ h. rw e (window-dropped s (droppedIn account) o later rise times (found .at) first h);
-          kept = λ h. rw e (window-kept s (droppedIn account) o later rise times (found .at) first h);
+          dropped = λ h. rw e (discontinuity-before-window s ds o later rise times (found .at) first h);
+          kept = λ h. rw e (discontinuity-in-window s ds o later rise times (found .at) first h);
         }

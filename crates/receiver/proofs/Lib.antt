@@ -1,9 +1,7 @@
 -- Laws behind the receiver's step and demand 3. Assumes nothing.
 pub mod Fits
-pub mod Places
+pub mod Search
 pub mod Passes
-pub mod Jumped
-pub mod Refused
 pub mod Shift
 pub mod Squares
 pub mod Steps
@@ -18,3 +16,5 @@ pub mod Fitness
 pub mod Agrees
 pub mod Demand3
 pub mod WindowCases
+pub mod FieldLent
+pub mod Returned

@@ -115,9 +115,9 @@ length-marks = snoc-ind (λ (fs : List Arrival). length (marksOf fs) ≡ 64) mor
     more fs a e = rw marks-more (simp length-set e)
 
 -- a packet is marked exactly if it is among the arrivals
-pub marks-has : (fs : List Arrival) → All (OfPackets 4096) fs → (s : ℕ) → 1 ≤ s → markAt (marksOf fs) s ≡ has s fs
+pub marked-is-arrived : (fs : List Arrival) → All (OfPackets 4096) fs → (s : ℕ) → 1 ≤ s → markAt (marksOf fs) s ≡ has s fs
 unfolding marksOf has
-marks-has = snoc-ind (λ (fs : List Arrival). All (OfPackets 4096) fs → (s : ℕ) → 1 ≤ s → markAt (marksOf fs) s ≡ has s fs) more (λ h s l. marked-none s)
+marked-is-arrived = snoc-ind (λ (fs : List Arrival). All (OfPackets 4096) fs → (s : ℕ) → 1 ≤ s → markAt (marksOf fs) s ≡ has s fs) more (λ h s l. marked-none s)
   where
     more : (fs : List Arrival) (a : Arrival)
         → (All (OfPackets 4096) fs → (s : ℕ) → 1 ≤ s → markAt (marksOf fs) s ≡ has s fs)

@@ -11,14 +11,15 @@ use lib.ListN.{getD}
 use borrow.Author.Tests.{le-leb, leb-true, ltb-true, ltb-false}
 use Rattle.rfc4737.specs.Order.{Placed}
 use Rattle.rfc4737.specs.Refusals.{within}
-use Rattle.receiver.specs.declared.Jumps.{Jumps}
+use Rattle.receiver.specs.declared.Stream.{Stream}
+use Rattle.receiver.specs.declared.Places.{Places}
 use Rattle.receiver.specs.Limits.{window}
 use Rattle.receiver.specs.Fit.{every, jumpFit, placesFit}
 use Rattle.receiver.specs.Private.Facts.{JumpFit}
 use Rattle.receiver.specs.Kept.{placeAt, placesFrom, keptOf}
 use Rattle.receiver.specs.Private.Decision.{firstPass, upTo}
 use Rattle.receiver.proofs.Fits.{both, and-true, within-true, jump-facts, jump-passes, places-pass, places-false}
-use Rattle.receiver.proofs.Places.{all-at}
+use Rattle.receiver.proofs.Search.{all-at}
 
 module _ (t : ℕ → Bool) (l : List ℕ) where
   -- before the first value all have passed
@@ -57,35 +58,35 @@ module _ (t : ℕ → Bool) (l : List ℕ) where
   pass-all (suc n) p = both (pass-all n (λ k h. p k (omega arith))) (p n (omega arith))
 
 -- if each place passes a test, all do
-all-pass : (j : Jumps) (f : Placed → Bool) (n at : ℕ) → ((k : ℕ) → k < n → f (placeAt j (at + k)) ≡ true)
-    → every (map f (placesFrom j at n)) ≡ true
+all-pass : (places : Places) (f : Placed → Bool) (n at : ℕ) → ((k : ℕ) → k < n → f (placeAt places (at + k)) ≡ true)
+    → every (map f (placesFrom places at n)) ≡ true
 unfolding every placesFrom
-all-pass j f zero at p = refl
-all-pass j f (suc n) at p =
+all-pass places f zero at p = refl
+all-pass places f (suc n) at p =
     let e : at + 0 ≡ at = omega arith in
     both (rw e at (p 0 (omega arith)))
-    (all-pass j f n (suc at) (λ k h. let q : at + suc k ≡ suc at + k = omega arith in rw q at (p (suc k) (omega arith))))
+    (all-pass places f n (suc at) (λ k h. let q : at + suc k ≡ suc at + k = omega arith in rw q at (p (suc k) (omega arith))))
 
 -- no test both holds and fails
 clash : {b : Bool} → b ≡ true → b ≡ false → ⊥
 clash e f = let z : _≡_ {A = ℕ} 0 1 = cc in omega arith
 
-module _ (sent arrived last : ℕ) (j : Jumps) where
+module _ (s : Stream) (places : Places) where
   -- how many places are kept
   abbrev n : ℕ
-  n = j .kept
+  n = s .kept
 
   -- each of n fit places is fit
-  each-fit : every (map (jumpFit sent arrived last) (placesFrom j 0 n)) ≡ true → (k : ℕ) → k < n
-      → JumpFit sent arrived last (placeAt j k)
+  each-fit : every (map (jumpFit s) (placesFrom places 0 n)) ≡ true → (k : ℕ) → k < n
+      → JumpFit s (placeAt places k)
   each-fit e k h =
       let q : 0 + k ≡ k = omega arith in
-      jump-facts sent arrived last (placeAt j k) (rw q at (all-at j (jumpFit sent arrived last) n 0 k e h))
+      jump-facts s (placeAt places k) (rw q at (all-at places (jumpFit s) n 0 k e h))
 
   -- the positions, numbers and times of n fit places pass, each by itself
-  pub fit-apart : every (map (jumpFit sent arrived last) (placesFrom j 0 n)) ≡ true
-      → (firstPass (within 1 arrived) (j .positions) n ≡ true)
-      × ((firstPass (within 1 sent) (j .numbers) n ≡ true) × (firstPass (upTo last) (j .times) n ≡ true))
+  pub fit-apart : every (map (jumpFit s) (placesFrom places 0 n)) ≡ true
+      → (firstPass (within 1 (s .arrived)) (places .positions) n ≡ true)
+      × ((firstPass (within 1 (s .sent)) (places .numbers) n ≡ true) × (firstPass (upTo (s .last)) (places .times) n ≡ true))
   unfolding placeAt
   fit-apart e = (
     pass-all _ _ n (λ k h. both (le-leb _ _ (each-fit e k h .position-low)) (le-leb _ _ (each-fit e k h .position-high))),
@@ -96,12 +97,12 @@ module _ (sent arrived last : ℕ) (j : Jumps) where
   )
 
   -- if they do, the places are fit
-  pub fit-joined : firstPass (within 1 arrived) (j .positions) n ≡ true → firstPass (within 1 sent) (j .numbers) n ≡ true
-      → firstPass (upTo last) (j .times) n ≡ true → every (map (jumpFit sent arrived last) (placesFrom j 0 n)) ≡ true
+  pub fit-joined : firstPass (within 1 (s .arrived)) (places .positions) n ≡ true → firstPass (within 1 (s .sent)) (places .numbers) n ≡ true
+      → firstPass (upTo (s .last)) (places .times) n ≡ true → every (map (jumpFit s) (placesFrom places 0 n)) ≡ true
   unfolding placeAt
   fit-joined a b d =
-      all-pass j (jumpFit sent arrived last) n 0
-      (λ k h. let q : 0 + k ≡ k = omega arith in rw q (jump-passes sent arrived last (placeAt j k) (record {
+      all-pass places (jumpFit s) n 0
+      (λ k h. let q : 0 + k ≡ k = omega arith in rw q (jump-passes s (placeAt places k) (record {
         position-low = within-true _ _ _ (pass-at _ _ n k a h) .0;
         position-high = within-true _ _ _ (pass-at _ _ n k a h) .1;
         number-low = within-true _ _ _ (pass-at _ _ n k b h) .0;
@@ -110,20 +111,20 @@ module _ (sent arrived last : ℕ) (j : Jumps) where
       })))
 
   -- places with a position that fails are not fit
-  pub positions-unfit : firstPass (within 1 arrived) (j .positions) n ≡ false → false ≡ placesFit sent arrived last j
+  pub positions-unfit : firstPass (within 1 (s .arrived)) (places .positions) n ≡ false → false ≡ placesFit s places
   unfolding keptOf
-  positions-unfit e = places-false _ _ _ _ (λ h. clash (fit-apart (h .jumps-fit) .0) e)
+  positions-unfit e = places-false _ _ (λ h. clash (fit-apart (h .jumps-fit) .0) e)
 
   -- nor are those with a number that fails
-  pub numbers-unfit : firstPass (within 1 sent) (j .numbers) n ≡ false → false ≡ placesFit sent arrived last j
+  pub numbers-unfit : firstPass (within 1 (s .sent)) (places .numbers) n ≡ false → false ≡ placesFit s places
   unfolding keptOf
-  numbers-unfit e = places-false _ _ _ _ (λ h. clash (fit-apart (h .jumps-fit) .1 .0) e)
+  numbers-unfit e = places-false _ _ (λ h. clash (fit-apart (h .jumps-fit) .1 .0) e)
 
   -- where all else is fit, the times decide
-  pub times-decide : j .kept ≤ window → j .dropped ≤ sent → firstPass (within 1 arrived) (j .positions) n ≡ true
-      → firstPass (within 1 sent) (j .numbers) n ≡ true → (b : Bool) → b ≡ firstPass (upTo last) (j .times) n
-      → b ≡ placesFit sent arrived last j
+  pub times-decide : s .kept ≤ window → s .dropped ≤ s .sent → firstPass (within 1 (s .arrived)) (places .positions) n ≡ true
+      → firstPass (within 1 (s .sent)) (places .numbers) n ≡ true → (b : Bool) → b ≡ firstPass (upTo (s .last)) (places .times) n
+      → b ≡ placesFit s places
   unfolding keptOf
   times-decide k d a m true e =
-      sym (places-pass _ _ _ _ (record { kept-high = k; jumps-fit = fit-joined a m (sym e); dropped-high = d }))
-  times-decide k d a m false e = places-false _ _ _ _ (λ h. clash (fit-apart (h .jumps-fit) .1 .1) (sym e))
+      sym (places-pass _ _ (record { kept-high = k; jumps-fit = fit-joined a m (sym e); dropped-high = d }))
+  times-decide k d a m false e = places-false _ _ (λ h. clash (fit-apart (h .jumps-fit) .1 .1) (sym e))

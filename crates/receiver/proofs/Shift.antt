@@ -1,11 +1,14 @@
 -- Places that move by one, from the first on: after i of them the list is `moved i`. Assumes nothing.
 use Prim.Native.Nat.{ℕ, suc, _+_, _-_, _<_, _≤_}
-use mathlib.Core.List.{List, [], _∷_, _++_}
+use mathlib.Core.List.{List, _∷_, _++_}
 use mathlib.Core.Path.{_≡_, sym, ap, _∙_}
 use native.Mathlib.Numerals.{add-one}
 use native.Mathlib.Omega.{arith}
 use lib.ListN.{length, take, drop, getD, set, length-drop}
-use lib.Seq.{take-all, take-suc, drop-cons, drop-length, length-take-le, set-at, getD-append-add, getD-drop, append-snoc}
+use lib.Dec.{ltb}
+use lib.Seq.{take-all, take-suc, drop-cons, length-take-le, set-at, getD-append-add, getD-drop, append-snoc}
+use Rattle.receiver.specs.Limits.{window}
+use Rattle.receiver.specs.Kept.{pushed}
 
 -- the first i places hold what stood after each
 abbrev pub moved : ℕ → List ℕ → List ℕ
@@ -27,8 +30,8 @@ module _ (l : List ℕ) (n : ℕ) (size : length l ≡ n + 1) where
       ∙ sym (getD-drop 1 l i 0)
 
   -- one place more has moved
-  pub moved-next : (i : ℕ) → i < n → set (moved i l) i (getD (moved i l) (i + 1) 0) ≡ moved (i + 1) l
-  moved-next i h =
+  one-more : (i : ℕ) → i < n → set (moved i l) i (getD (moved i l) (i + 1) 0) ≡ moved (i + 1) l
+  one-more i h =
       let long : i < length l = simp size (omega arith) in
       let rest : i < length (drop 1 l) = simp (length-drop, size) (omega arith) in
       ap (λ (t : List ℕ). set (take i (drop 1 l) ++ t) i (getD (moved i l) (i + 1) 0)) (drop-cons l i 0 long)
@@ -38,13 +41,23 @@ module _ (l : List ℕ) (n : ℕ) (size : length l ≡ n + 1) where
       ∙ ap (λ (t : List ℕ). t ++ drop (suc i) l) (sym (take-suc (drop 1 l) i 0 rest))
       ∙ ap (λ (k : ℕ). moved k l) (sym (add-one i))
 
+  pub moved-next : (i : ℕ) (t : List ℕ) → i < n → t ≡ moved i l → set t i (getD t (i + 1) 0) ≡ moved (i + 1) l
+  moved-next i t h e = ap (λ (t : List ℕ). set t i (getD t (i + 1) 0)) e ∙ one-more i h
+
   -- all have moved, and the last place is new
-  pub moved-last : (v : ℕ) → set (moved n l) n v ≡ drop 1 l ++ (v ∷ [])
+  moved-last : (v : ℕ) → set (moved n l) n v ≡ drop 1 (take (n + 1) l) ++ (v ∷ drop (n + 1) l)
   moved-last v =
       let long : n < length l = simp size (omega arith) in
       let rest : length (drop 1 l) ≤ n = simp (length-drop, size) (omega arith) in
-      let last : drop (suc n) l ≡ [] = ap (λ (k : ℕ). drop k l) (sym (size ∙ add-one n)) ∙ drop-length l in
+      let all : length l ≤ n + 1 = omega (arith, size) in
       ap (λ (t : List ℕ). set (take n (drop 1 l) ++ t) n v) (drop-cons l n 0 long)
       ∙ set-at (take n (drop 1 l)) (getD l n 0) (drop (suc n) l) v n (head-length n (omega arith))
-      ∙ ap (λ (t : List ℕ). take n (drop 1 l) ++ v ∷ t) last
-      ∙ ap (λ (t : List ℕ). t ++ (v ∷ [])) (take-all n (drop 1 l) rest)
+      ∙ ap (λ (t : List ℕ). t ++ (v ∷ drop (suc n) l)) (take-all n (drop 1 l) rest)
+      ∙ ap (λ (t : List ℕ). drop 1 t ++ (v ∷ drop (suc n) l)) (sym (take-all (n + 1) l all))
+      ∙ ap (λ (k : ℕ). drop 1 (take (n + 1) l) ++ (v ∷ drop k l)) (sym (add-one n))
+
+-- of 64 places all have moved, and the last one is new
+pub pushed-last : (l : List ℕ) → length l ≡ window → (kept : ℕ) → kept ≡ 64 → (i : ℕ) (t : List ℕ) → i ≡ 63 → t ≡ moved i l → (v : ℕ)
+    → set t 63 v ≡ pushed (ltb kept window) kept l v
+unfolding pushed
+pushed-last l size kept k i t a e v = rw (k, e, a) (moved-last l 63 size v)

@@ -108,16 +108,16 @@ module _ (s : ℕ) (dropped : List Placed) (o : Placed) (later : List Placed)
       }
 
   -- the packet's number is below that of the last dropped jump
-  pub window-dropped : s < lastNumber dropped → IsDropped s (o ∷ later) o d
-  window-dropped h = go (firstAbove s dropped) refl
+  pub discontinuity-before-window : s < lastNumber dropped → IsDropped s (o ∷ later) o d
+  discontinuity-before-window h = go (firstAbove s dropped) refl
     where
       go : (r : Option Placed) → firstAbove s dropped ≡ r → IsDropped s (o ∷ later) o d
       go none e = let k : lastNumber dropped ≤ s = last-not-above s dropped e in absurd (omega arith)
       go (some p) e = from-dropped p e
 
   -- it is not
-  pub window-kept : lastNumber dropped ≤ s → IsKept s (o ∷ later) d
-  window-kept h =
+  pub discontinuity-in-window : lastNumber dropped ≤ s → IsKept s (o ∷ later) d
+  discontinuity-in-window h =
       let low = last-highest dropped (ordered-left Rises dropped (o ∷ later) rise) in
       let below : All (λ (p : Placed). p .number ≤ s) dropped = all-weaken (λ (p : Placed) (k : p .number ≤ lastNumber dropped). omega arith) dropped low in
       let e : firstAbove s (o ∷ later) ≡ some d = sym (rw (firstAbove-none s dropped below) at (firstAbove-append s dropped (o ∷ later))) ∙ found in

@@ -19,7 +19,9 @@ use Rattle.rfc4737.specs.Refusals.{within, numberOutside, timeBack, stateFull}
 use Rattle.receiver.specs.declared.Lateness.{Lateness}
 use Rattle.receiver.specs.declared.Noted.{Noted}
 use Rattle.receiver.specs.declared.Noted.the-variants.{Duplicate, InOrder, Exact, Beyond}
+use Rattle.receiver.specs.declared.Outcome.{Outcome}
 use Rattle.receiver.specs.Limits.{window, packets}
+use Rattle.receiver.specs.Said.{refused, accepted}
 
 -- the last arrival of the account, if there is one
 unfoldable pub lastIn : List Arrival → Option Arrival
@@ -68,42 +70,38 @@ unfoldable pub isIn : Option Placed → List Placed → Bool
 isIn none qs = false
 isIn (some d) qs = standsIn (d .position) qs
 
--- whether the discontinuity of a packet is in the window
-unfoldable pub inWindow : List Arrival → ℕ → Bool
-inWindow account s = isIn (discontinuity (firsts account) s) (windowIn account)
+-- whether the discontinuity of a packet is in a window
+unfoldable pub inWindow : List Placed → List Arrival → ℕ → Bool
+inWindow kept account s = isIn (discontinuity (firsts account) s) kept
 
 -- the true extent and late time of a reordered packet
 abbrev pub trueFigures : ReorderedFigures → Lateness
 trueFigures d = record { extent = d .extent; late = d .late }
 
--- the figures beyond the window: L, this arrival counted, less the position of the window's oldest jump, and this arrival's
+-- the figures beyond a window: L, this arrival counted, less the position of the window's oldest jump, and this arrival's
 -- time less that jump's
-unfoldable pub beyondFigures : List Arrival → Arrival → Lateness
-beyondFigures account a =
+unfoldable pub beyondFigures : List Placed → List Arrival → Arrival → Lateness
+beyondFigures kept account a =
     record {
-      extent = extentFrom (length (firsts account) + 1) (head? (windowIn account));
-      late = lateFrom (a .time) (head? (windowIn account));
+      extent = extentFrom (length (firsts account) + 1) (head? kept);
+      late = lateFrom (a .time) (head? kept);
     }
 
 -- an answer in the receiver's forms and with their fields only. A reordered packet is exact exactly if its discontinuity is
--- in the window; otherwise it is beyond it
-unfoldable pub inForm : List Arrival → Arrival → Answer → Noted
-inForm account a (answer.Duplicate d) = Duplicate
-inForm account a (answer.InOrder d) = InOrder (d .jump)
-inForm account a (answer.Reordered d) =
-    cond (inWindow account (a .number)) (Exact (trueFigures d)) (Beyond (beyondFigures account a))
+-- in the window, which is given; otherwise it is beyond it
+unfoldable pub inForm : List Placed → List Arrival → Arrival → Answer → Noted
+inForm kept account a (answer.Duplicate d) = Duplicate
+inForm kept account a (answer.InOrder d) = InOrder (d .jump)
+inForm kept account a (answer.Reordered d) =
+    cond (inWindow kept account (a .number)) (Exact (trueFigures d)) (Beyond (beyondFigures kept account a))
 
--- what is said of an arrival: the refusal, 0 for none, and what is noted
-pub record Outcome : Type 0 where
-  pub refusal : ℕ
-  pub noted : Noted
-
--- what the account says of an arrival; with a refusal, "in order" with 0
-unfoldable pub outcomeIn : ℕ → List Arrival → Arrival → Outcome
-outcomeIn k account a =
-    cond (eqb (refusalIn k account a) 0) (record { refusal = 0; noted = inForm account a (answerIn account a) })
-    (record { refusal = refusalIn k account a; noted = InOrder 0 })
+-- what the account says of an arrival over a window; with a refusal, "in order" with 0
+unfoldable pub outcomeIn : List Placed → ℕ → List Arrival → Arrival → Outcome
+outcomeIn kept k account a =
+    cond (eqb (refusalIn k account a) 0) (accepted (inForm kept account a (answerIn account a)))
+    (refused (refusalIn k account a))
 
 -- what the account says of each arrival fed, after those fed before it
 unfoldable pub accountOutcomes : ℕ → List Arrival → List Outcome
-accountOutcomes k fed = each (λ (earlier : List Arrival) (a : Arrival). outcomeIn k (accountOf k earlier) a) fed
+accountOutcomes k fed =
+    each (λ (earlier : List Arrival) (a : Arrival). outcomeIn (windowIn (accountOf k earlier)) k (accountOf k earlier) a) fed

@@ -11,13 +11,16 @@ use Rattle.rfc4737.specs.declared.ReorderedFigures.{ReorderedFigures}
 use Rattle.rfc4737.specs.declared.Answer.the-variants as answer
 use Rattle.rfc4737.specs.declared.Counts.{Counts}
 use Rattle.rfc4737.specs.Arrivals.{each, count}
+use Rattle.rfc4737.specs.Order.{Placed}
 use Rattle.rfc4737.specs.Runs.{counts}
 use Rattle.rfc4737.specs.Refusals.{stateUnfit}
 use Rattle.receiver.specs.declared.Receiver.{Receiver}
 use Rattle.receiver.specs.declared.Stepped.{Stepped}
+use Rattle.receiver.specs.declared.Noted.{Noted}
+use Rattle.receiver.specs.declared.Outcome.{Outcome}
 use Rattle.receiver.specs.declared.Noted.the-variants.{Exact, Beyond}
 use Rattle.receiver.specs.Step.{freshOf, stepOf}
-use Rattle.receiver.specs.Account.{refusalIn, accountOf, answerIn, answersIn, inWindow, trueFigures, beyondFigures, Outcome, accountOutcomes}
+use Rattle.receiver.specs.Account.{refusalIn, accountOf, answerIn, answersIn, windowIn, inWindow, trueFigures, beyondFigures, accountOutcomes}
 
 -- the step with an arrival
 abbrev pub fedTo : Receiver → Arrival → Stepped
@@ -29,22 +32,21 @@ stateAfter k fed = foldl (λ (r : Receiver) (a : Arrival). fedTo r a .state) (fr
 
 -- what the receiver says of an arrival, after those fed before it
 unfoldable pub outcomeAfter : ℕ → List Arrival → Arrival → Outcome
-outcomeAfter k earlier a = let s = fedTo (stateAfter k earlier) a in record { refusal = s .refusal; noted = s .noted }
+outcomeAfter k earlier a = fedTo (stateAfter k earlier) a .outcome
 
 -- what the receiver says of each arrival fed
 unfoldable pub receiverOutcomes : ℕ → List Arrival → List Outcome
 receiverOutcomes k fed = each (outcomeAfter k) fed
 
--- how a reordered packet a is answered, fed after the arrivals before it; d has its figures over the account
-pub record Answered (k : ℕ) (earlier : List Arrival) (a : Arrival) (d : ReorderedFigures) : Type 0 where
+-- how a reordered packet a is answered over a window and an account: so it is noted, and d has its true figures
+pub record Answered (kept : List Placed) (account : List Arrival) (a : Arrival) (d : ReorderedFigures) (noted : Noted) : Type 0 where
   -- its discontinuity is in the window: exact, with the true figures
-  pub exact : inWindow (accountOf k earlier) (a .number) ≡ true → outcomeAfter k earlier a .noted ≡ Exact (trueFigures d)
+  pub exact : inWindow kept account (a .number) ≡ true → noted ≡ Exact (trueFigures d)
   -- it is not: beyond the window,
-  pub beyond : inWindow (accountOf k earlier) (a .number) ≡ false
-      → outcomeAfter k earlier a .noted ≡ Beyond (beyondFigures (accountOf k earlier) a)
+  pub beyond : inWindow kept account (a .number) ≡ false → noted ≡ Beyond (beyondFigures kept account a)
   -- with the true extent above the figure and the true late time not below it
-  pub above : inWindow (accountOf k earlier) (a .number) ≡ false
-      → (beyondFigures (accountOf k earlier) a .extent < d .extent) × (beyondFigures (accountOf k earlier) a .late ≤ d .late)
+  pub above : inWindow kept account (a .number) ≡ false
+      → (beyondFigures kept account a .extent < d .extent) × (beyondFigures kept account a .late ≤ d .late)
 
 -- the counts of the account
 abbrev pub countsIn : ℕ → List Arrival → Counts
@@ -62,11 +64,11 @@ pub record Demand3 (k : ℕ) (fed : List Arrival) : Type 0 where
       → refusalIn k (accountOf k earlier) a ≡ 0
       → (d : ReorderedFigures)
       → answerIn (accountOf k earlier) a ≡ answer.Reordered d
-      → Answered k earlier a d
+      → Answered (windowIn (accountOf k earlier)) (accountOf k earlier) a d (outcomeAfter k earlier a .noted)
   -- after the list L, duplicates, in-order count, and open run, closed runs and squares are the account's
-  pub arrived : stateAfter k fed .arrived ≡ countsIn k fed .arrived
-  pub duplicates : stateAfter k fed .duplicates ≡ countsIn k fed .duplicates
-  pub inorder : stateAfter k fed .inorder ≡ countsIn k fed .inorder
-  pub runs : stateAfter k fed .runs ≡ countsIn k fed .runs
+  pub arrived : stateAfter k fed .stream .arrived ≡ countsIn k fed .arrived
+  pub duplicates : stateAfter k fed .stream .duplicates ≡ countsIn k fed .duplicates
+  pub inorder : stateAfter k fed .stream .inorder ≡ countsIn k fed .inorder
+  pub runs : stateAfter k fed .stream .runs ≡ countsIn k fed .runs
   -- duplicates, in-order and reordered packets are together the accepted arrivals
-  pub sum : stateAfter k fed .duplicates + stateAfter k fed .inorder + countsIn k fed .reordered ≡ length (accountOf k fed)
+  pub sum : stateAfter k fed .stream .duplicates + stateAfter k fed .stream .inorder + countsIn k fed .reordered ≡ length (accountOf k fed)

@@ -1,55 +1,65 @@
--- The kept jumps: those that stand in the places, and the places under a new one. Assumes nothing.
+-- The kept jumps: those that stand in the places, and what is held of them under a new one. Assumes nothing.
 use Prim.Native.Nat.{ℕ, zero, suc, _+_}
-use mathlib.Core.Bool.{cond}
+use mathlib.Core.Bool.{Bool, cond}
 use mathlib.Core.List.{List, [], _∷_, _++_}
-use mathlib.Core.Option.{Option, none, some}
-use lib.Dec.{ltb}
-use lib.ListN.{getD, set, drop}
+use lib.Dec.{eqb, ltb}
+use lib.ListN.{getD, set, take, drop}
 use Rattle.rfc4737.specs.Order.{Placed}
-use Rattle.receiver.specs.declared.Jumps.{Jumps}
+use Rattle.receiver.specs.declared.Stream.{Stream}
+use Rattle.receiver.specs.declared.Places.{Places}
 use Rattle.receiver.specs.Limits.{window}
 
 -- the jump that stands in a place
-unfoldable pub placeAt : Jumps → ℕ → Placed
-placeAt j at =
-    record { position = getD (j .positions) at 0; number = getD (j .numbers) at 0; time = getD (j .times) at 0 }
+unfoldable pub placeAt : Places → ℕ → Placed
+placeAt places at =
+    record {
+      position = getD (places .positions) at 0;
+      number = getD (places .numbers) at 0;
+      time = getD (places .times) at 0;
+    }
 
 -- the jumps of n places, from a place on
-unfoldable pub placesFrom : Jumps → ℕ → ℕ → List Placed
-placesFrom j at zero = []
-placesFrom j at (suc n) = placeAt j at ∷ placesFrom j (suc at) n
+unfoldable pub placesFrom : Places → ℕ → ℕ → List Placed
+placesFrom places at zero = []
+placesFrom places at (suc n) = placeAt places at ∷ placesFrom places (suc at) n
+
+-- what is held of the jumps: how many are kept, the number of the last one dropped, and the places
+pub record Held : Type 0 where
+  pub kept : ℕ
+  pub dropped : ℕ
+  pub places : Places
+
+-- what a stream holds of its jumps in some places
+abbrev pub heldOf : Stream → Places → Held
+heldOf s places = record { kept = s .kept; dropped = s .dropped; places = places }
 
 -- the kept jumps, the oldest first
-unfoldable pub keptOf : Jumps → List Placed
-keptOf j = placesFrom j 0 (j .kept)
+unfoldable pub keptOf : Held → List Placed
+keptOf h = placesFrom (h .places) 0 (h .kept)
 
--- the oldest of some jumps, if there is one
-unfoldable pub oldest : List Placed → Option Placed
-oldest [] = none
-oldest (p ∷ ps) = some p
+-- values under a new one: it stands after the n kept ones; where there is no room for it, these move one place
+unfoldable pub pushed : Bool → ℕ → List ℕ → ℕ → List ℕ
+pushed room n l v = cond room (set l n v) (drop 1 (take n l) ++ (v ∷ drop n l))
 
--- a new jump p after the kept ones; the other places are not written
-unfoldable pub appended : Jumps → Placed → Jumps
-appended j p =
+-- what is held under a new jump p: it goes after the kept ones; where there is no room for it, the oldest is dropped and the
+-- others move one place. The other places are not written
+unfoldable pub withJump : Bool → Held → Placed → Held
+withJump room h p =
     record {
-      kept = j .kept + 1;
-      dropped = j .dropped;
-      positions = set (j .positions) (j .kept) (p .position);
-      numbers = set (j .numbers) (j .kept) (p .number);
-      times = set (j .times) (j .kept) (p .time);
+      kept = cond room (h .kept + 1) (h .kept);
+      dropped = cond room (h .dropped) (getD (h .places .numbers) 0 0);
+      places =
+          record {
+            positions = pushed room (h .kept) (h .places .positions) (p .position);
+            numbers = pushed room (h .kept) (h .places .numbers) (p .number);
+            times = pushed room (h .kept) (h .places .times) (p .time);
+          };
     }
 
--- a new jump p where all places are taken: the oldest is dropped and the others move one place
-unfoldable pub shifted : Jumps → Placed → Jumps
-shifted j p =
-    record {
-      kept = j .kept;
-      dropped = getD (j .numbers) 0 0;
-      positions = drop 1 (j .positions) ++ (p .position ∷ []);
-      numbers = drop 1 (j .numbers) ++ (p .number ∷ []);
-      times = drop 1 (j .times) ++ (p .time ∷ []);
-    }
+-- a receiver has room for a new jump while it keeps fewer than 64
+abbrev pub hasRoom : Held → Bool
+hasRoom h = ltb (h .kept) window
 
--- the kept jumps under a new one
-unfoldable pub withJump : Jumps → Placed → Jumps
-withJump j p = cond (ltb (j .kept) window) (appended j p) (shifted j p)
+-- what is held after an in-order arrival p with a jump size: it is a jump if this is not 0
+unfoldable pub heldAfter : Bool → Held → ℕ → Placed → Held
+heldAfter room h size p = cond (eqb size 0) h (withJump room h p)

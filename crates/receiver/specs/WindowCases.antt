@@ -9,7 +9,9 @@ use Rattle.rfc4737.specs.declared.Answer.{Answer}
 use Rattle.rfc4737.specs.declared.Answer.the-variants as answer
 use Rattle.receiver.specs.declared.Noted.{Noted}
 use Rattle.receiver.specs.declared.Noted.the-variants.{Exact, Beyond}
-use Rattle.receiver.specs.Account.{accountOf, answerIn, Outcome, outcomeIn}
+use Rattle.receiver.specs.declared.Outcome.{Outcome}
+use Rattle.receiver.specs.Said.{accepted}
+use Rattle.receiver.specs.Account.{accountOf, answerIn, windowIn, outcomeIn}
 use Rattle.receiver.specs.Demand3.{outcomeAfter}
 
 -- record r of a packet
@@ -41,7 +43,7 @@ computed c =
     let a = atRecord (c .evens + 1) (c .late) in
     record {
       receiver = outcomeAfter 130 earlier a;
-      account = outcomeIn 130 (accountOf 130 earlier) a;
+      account = outcomeIn (windowIn (accountOf 130 earlier)) 130 (accountOf 130 earlier) a;
       answer = answerIn (accountOf 130 earlier) a;
     }
 
@@ -49,8 +51,8 @@ computed c =
 unfoldable pub expected : WindowCase → WindowOutcome
 expected c =
     record {
-      receiver = record { refusal = 0; noted = c .noted };
-      account = record { refusal = 0; noted = c .noted };
+      receiver = accepted (c .noted);
+      account = accepted (c .noted);
       answer = c .truth;
     }
 

@@ -1,32 +1,31 @@
-// The step on a receiver's parts: the fields by value, the marks and the places of the kept jumps lent and written where
-// they stand. Nothing else is copied.
+// The step on a receiver's parts: the stream's numbers by value, the marks and the places of the kept jumps lent and written
+// where they stand. Nothing else is copied.
 
 use crate::MARK_WORDS;
 use crate::Noted;
+use crate::Outcome;
 use crate::Receiver;
+use crate::Stream;
 use crate::decide::decide;
-use crate::fields::Fields;
-use crate::fields::after_duplicate;
-use crate::fields::after_in_order;
-use crate::fields::after_reordered;
-use crate::kept::push16;
-use crate::kept::push64;
+use crate::kept::push;
 use crate::marking::mark;
+use crate::numbers::after_duplicate;
+use crate::numbers::after_in_order;
+use crate::numbers::after_reordered;
 ghost use mathlib.Core.Path.{_≡_};
 ghost use Rattle.receiver.specs.Step.{stepOf};
-ghost use Rattle.receiver.specs.Parts.{Full, whole, steppedOf};
+ghost use Rattle.receiver.specs.Private.Parts.{Full, whole, steppedOf};
 
-// The refusal of an arrival (0 for none), what is noted of it, and the fields after it.
+// What is said of an arrival, and the stream's numbers after it.
 pub struct Advanced {
-    pub refusal: u32,
-    pub noted: Noted,
-    pub fields: Fields,
+    pub outcome: Outcome,
+    pub stream: Stream,
 }
 
-// The answer to an arrival, and the parts after it: first what is noted is decided, which only reads; then the parts are
+// The answer to an arrival, and the parts after it: first what is said is decided, which only reads; then the parts are
 // written. With a refusal they stay as they were.
-pub fn advance<'a>(
-    f: Fields,
+pub(crate) fn advance<'a>(
+    s: Stream,
     marks: &'a mut [u64; MARK_WORDS],
     positions: &'a mut [u16; Receiver::WINDOW],
     numbers: &'a mut [u16; Receiver::WINDOW],
@@ -34,45 +33,41 @@ pub fn advance<'a>(
     number: u32,
     time: u64,
 ) -> Advanced
-    ensures { λ a. ⌜ (Full (now (positions .entry)) (now (numbers .entry)) (now (times .entry))
-        → steppedOf a (now (marks .exit)) (now (positions .exit)) (now (numbers .exit)) (now (times .exit))
-        ≡ stepOf (whole f (now (marks .entry)) (now (positions .entry)) (now (numbers .entry)) (now (times .entry))) number time) ⌝ }
+    requires { ⌜ Full (now positions) (now numbers) (now times) ⌝ }
+    ensures { λ a. ⌜ steppedOf a (now (marks .exit)) (now (positions .exit)) (now (numbers .exit)) (now (times .exit))
+        ≡ stepOf (whole s (now (marks .entry)) (now (positions .entry)) (now (numbers .entry)) (now (times .entry))) number time ⌝ }
 {
-    let decision = decide(f, marks, positions, numbers, times, number, time);
-    let noted = decision.noted;
-    if decision.refusal != 0 {
-        return Advanced {
-            refusal: decision.refusal,
-            noted,
-            fields: f,
-        };
+    let outcome = decide(s, marks, positions, numbers, times, number, time);
+    if outcome.refusal != 0 {
+        return Advanced { outcome, stream: s };
     }
+    let noted = outcome.noted;
     match noted {
         Noted::Duplicate => Advanced {
-            refusal: 0,
-            noted,
-            fields: after_duplicate(f, time),
+            outcome,
+            stream: after_duplicate(s, time),
         },
         Noted::InOrder(size) => {
-            let fields = after_in_order(f, numbers, size, number, time);
+            let stream = after_in_order(s, numbers, size, number, time);
             mark(marks, number);
             if size != 0 {
-                push16(positions, f.kept, (f.arrived + 1) as u16);
-                push16(numbers, f.kept, number as u16);
-                push64(times, f.kept, time);
+                push(
+                    positions,
+                    numbers,
+                    times,
+                    s.kept,
+                    (s.arrived + 1) as u16,
+                    number as u16,
+                    time,
+                );
             }
-            Advanced {
-                refusal: 0,
-                noted,
-                fields,
-            }
+            Advanced { outcome, stream }
         }
         _ => {
             mark(marks, number);
             Advanced {
-                refusal: 0,
-                noted,
-                fields: after_reordered(f, number, time),
+                outcome,
+                stream: after_reordered(s, number, time),
             }
         }
     }

@@ -1,95 +1,58 @@
-// What a step answers to an arrival, decided from the state before it: this only reads.
+// What a step says of an arrival, decided from the state before it: this only reads.
 
 use crate::Lateness;
 use crate::MARK_WORDS;
 use crate::Noted;
+use crate::Outcome;
 use crate::Receiver;
-use crate::fields::Fields;
-use crate::fit::fields_fit;
+use crate::Stream;
 use crate::fit::places_fit;
+use crate::fit::stream_fit;
 use crate::kept::place_above;
 use crate::marking::is_marked;
 use rfc4737::refusal;
 use rfc4737::time::elapsed;
 use rfc4737::time::too_early;
 ghost use mathlib.Core.Path.{_≡_};
-ghost use mathlib.Core.List.{List, []};
+ghost use mathlib.Core.List.{[]};
 ghost use mathlib.Core.Option.{some};
-ghost use Prim.Native.Nat.{ℕ};
+ghost use Prim.Native.Nat.{ℕ, _+_};
 ghost use lib.ListN.{getD};
-ghost use Rattle.receiver.specs.Step.{refusalOf, latenessFrom};
-ghost use Rattle.receiver.specs.Parts.{whole};
-ghost use Rattle.receiver.specs.Private.Decision.{IsStep, IsLate, Unrefused, After};
-
-// The refusal of an arrival, 0 for none, and what is noted of it.
-pub struct Decision {
-    pub refusal: u32,
-    pub noted: Noted,
-}
+ghost use Rattle.receiver.specs.Step.{refusalOf, latenessFrom, lateOutcome, outcomeOf};
+ghost use Rattle.receiver.specs.Kept.{heldOf};
+ghost use Rattle.receiver.specs.Private.Parts.{placesOf, whole};
+ghost use Rattle.receiver.specs.Private.Decision.{Unrefused, After};
 
 // The refusal that an arrival meets before it is looked at, 0 for none.
 fn refusal_of<'a>(
-    f: Fields,
+    s: Stream,
     positions: &'a [u16; Receiver::WINDOW],
     numbers: &'a [u16; Receiver::WINDOW],
     times: &'a [u64; Receiver::WINDOW],
     number: u32,
     time: u64,
 ) -> u32
-    ensures { λ r. ⌜ r ≡ refusalOf (whole f [] (now (positions .entry)) (now (numbers .entry)) (now (times .entry))) number time ⌝ }
+    ensures { λ r. ⌜ r ≡ refusalOf (whole s [] (now (positions .entry)) (now (numbers .entry)) (now (times .entry))) number time ⌝ }
 {
-    if !fields_fit(f) {
+    if !stream_fit(s) {
         return refusal::STATE_UNFIT;
     }
-    if !places_fit(f, positions, numbers, times) {
+    if !places_fit(s, positions, numbers, times) {
         return refusal::STATE_UNFIT;
     }
-    if f.arrived + f.duplicates == Receiver::PACKETS {
+    if s.arrived + s.duplicates == Receiver::PACKETS {
         return refusal::STATE_FULL;
     }
     if number == 0 {
         return refusal::NUMBER_OUTSIDE;
     }
-    if f.sent < number {
+    if s.sent < number {
         return refusal::NUMBER_OUTSIDE;
     }
-    if too_early(f.last, time) {
+    if too_early(s.last, time) {
         return refusal::TIME_BACK;
     }
     0
-}
-
-// What is decided of a reordered packet: done, it is the step for one.
-fn late<'a>(
-    f: Fields,
-    positions: &'a [u16; Receiver::WINDOW],
-    numbers: &'a [u16; Receiver::WINDOW],
-    times: &'a [u64; Receiver::WINDOW],
-    number: u32,
-    time: u64,
-) -> Decision
-    requires { ⌜ Unrefused (whole f [] (now positions) (now numbers) (now times)) number ⌝ }
-    ensures { λ d. ⌜ ((marks : List ℕ) → IsLate (whole f marks (now (positions .entry)) (now (numbers .entry)) (now (times .entry))) number time d) ⌝ }
-{
-    let place = place_above(numbers, f.kept, number);
-    if f.kept as usize <= place {
-        return Decision {
-            refusal: refusal::STATE_UNFIT,
-            noted: Noted::InOrder(0),
-        };
-    }
-    if number < f.dropped as u32 {
-        let lateness = lateness_from(positions, times, 0, f.arrived + 1, time);
-        return Decision {
-            refusal: 0,
-            noted: Noted::Beyond(lateness),
-        };
-    }
-    let lateness = lateness_from(positions, times, place, f.arrived + 1, time);
-    Decision {
-        refusal: 0,
-        noted: Noted::Exact(lateness),
-    }
 }
 
 // Extent and late time of the packet that arrives at a position and a time, from the jump in a place.
@@ -109,36 +72,69 @@ fn lateness_from<'a>(
     }
 }
 
-// What is decided of an arrival: done, it is the step.
+// What is said of a reordered packet.
+fn late<'a>(
+    s: Stream,
+    positions: &'a [u16; Receiver::WINDOW],
+    numbers: &'a [u16; Receiver::WINDOW],
+    times: &'a [u64; Receiver::WINDOW],
+    number: u32,
+    time: u64,
+) -> Outcome
+    requires { ⌜ Unrefused (whole s [] (now positions) (now numbers) (now times)) number ⌝ }
+    ensures { λ r. ⌜ r ≡ lateOutcome (heldOf s (placesOf (now (positions .entry)) (now (numbers .entry)) (now (times .entry)))) (s .arrived + 1) number time ⌝ }
+{
+    let place = place_above(numbers, s.kept, number);
+    if s.kept as usize <= place {
+        return Outcome {
+            refusal: refusal::STATE_UNFIT,
+            noted: Noted::InOrder(0),
+        };
+    }
+    if number < s.dropped as u32 {
+        let lateness = lateness_from(positions, times, 0, s.arrived + 1, time);
+        return Outcome {
+            refusal: 0,
+            noted: Noted::Beyond(lateness),
+        };
+    }
+    let lateness = lateness_from(positions, times, place, s.arrived + 1, time);
+    Outcome {
+        refusal: 0,
+        noted: Noted::Exact(lateness),
+    }
+}
+
+// What is said of an arrival.
 pub(crate) fn decide<'a>(
-    f: Fields,
+    s: Stream,
     marks: &'a [u64; MARK_WORDS],
     positions: &'a [u16; Receiver::WINDOW],
     numbers: &'a [u16; Receiver::WINDOW],
     times: &'a [u64; Receiver::WINDOW],
     number: u32,
     time: u64,
-) -> Decision
-    ensures { λ d. ⌜ IsStep (whole f (now (marks .entry)) (now (positions .entry)) (now (numbers .entry)) (now (times .entry))) number time d ⌝ }
+) -> Outcome
+    ensures { λ r. ⌜ r ≡ outcomeOf (whole s (now (marks .entry)) (now (positions .entry)) (now (numbers .entry)) (now (times .entry))) number time ⌝ }
 {
-    let refusal = refusal_of(f, positions, numbers, times, number, time);
+    let refusal = refusal_of(s, positions, numbers, times, number, time);
     if refusal != 0 {
-        return Decision {
+        return Outcome {
             refusal,
             noted: Noted::InOrder(0),
         };
     }
     if is_marked(marks, number) {
-        return Decision {
+        return Outcome {
             refusal: 0,
             noted: Noted::Duplicate,
         };
     }
-    if f.next <= number {
-        return Decision {
+    if s.next <= number {
+        return Outcome {
             refusal: 0,
-            noted: Noted::InOrder(number - f.next),
+            noted: Noted::InOrder(number - s.next),
         };
     }
-    late(f, positions, numbers, times, number, time)
+    late(s, positions, numbers, times, number, time)
 }

@@ -1,51 +1,51 @@
-// The fit test: the fields, and the kept places.
+// The fit test: the numbers of the stream, and the kept places.
 
 use crate::Receiver;
-use crate::fields::Fields;
+use crate::Stream;
 ghost use mathlib.Core.Path.{_≡_};
 ghost use mathlib.Core.Bool.{_&&_};
 ghost use Prim.Native.Nat.{_≤_};
 ghost use Rattle.rfc4737.specs.Refusals.{within};
 ghost use Rattle.receiver.specs.Limits.{window, packets};
-ghost use Rattle.receiver.specs.Fit.{fieldsFit, placesFit};
-ghost use Rattle.receiver.specs.Parts.{jumpsOf};
+ghost use Rattle.receiver.specs.Fit.{streamFit, placesFit};
+ghost use Rattle.receiver.specs.Private.Parts.{placesOf};
 ghost use Rattle.receiver.specs.Private.Decision.{firstPass, upTo};
 
 // The greatest sum of squares.
 const SQUARES_MOST: u32 = 16777216;
 
-// Whether the fields are fit.
-pub(crate) fn fields_fit(f: Fields) -> bool
-    ensures { λ r. ⌜ r ≡ fieldsFit (f .sent) (f .arrived) (f .duplicates) (f .inorder) (f .next) (f .runs) ⌝ }
+// Whether the numbers are fit.
+pub(crate) fn stream_fit(s: Stream) -> bool
+    ensures { λ r. ⌜ r ≡ streamFit s ⌝ }
 {
-    if f.sent == 0 {
+    if s.sent == 0 {
         return false;
     }
-    if Receiver::PACKETS < f.sent {
+    if Receiver::PACKETS < s.sent {
         return false;
     }
-    if f.sent < f.arrived {
+    if s.sent < s.arrived {
         return false;
     }
-    if Receiver::PACKETS - f.arrived < f.duplicates {
+    if Receiver::PACKETS - s.arrived < s.duplicates {
         return false;
     }
-    if f.arrived < f.inorder {
+    if s.arrived < s.inorder {
         return false;
     }
-    if f.inorder < f.runs.current {
+    if s.inorder < s.runs.current {
         return false;
     }
-    if f.arrived < f.runs.closed {
+    if s.arrived < s.runs.closed {
         return false;
     }
-    if SQUARES_MOST < f.runs.squares {
+    if SQUARES_MOST < s.runs.squares {
         return false;
     }
-    if f.next == 0 {
+    if s.next == 0 {
         return false;
     }
-    if f.sent < f.next - 1 {
+    if s.sent < s.next - 1 {
         return false;
     }
     true
@@ -98,26 +98,26 @@ fn none_after(times: &[u64; Receiver::WINDOW], count: usize, last: u64) -> bool
 
 // Whether the kept places are fit, under K, L and the last time.
 pub(crate) fn places_fit<'a>(
-    f: Fields,
+    s: Stream,
     positions: &'a [u16; Receiver::WINDOW],
     numbers: &'a [u16; Receiver::WINDOW],
     times: &'a [u64; Receiver::WINDOW],
 ) -> bool
-    requires { ⌜ (f .sent ≤ packets) × (f .arrived ≤ packets) ⌝ }
-    ensures { λ r. ⌜ r ≡ placesFit (f .sent) (f .arrived) (f .last) (jumpsOf f (now (positions .entry)) (now (numbers .entry)) (now (times .entry))) ⌝ }
+    requires { ⌜ (s .sent ≤ packets) × (s .arrived ≤ packets) ⌝ }
+    ensures { λ r. ⌜ r ≡ placesFit s (placesOf (now (positions .entry)) (now (numbers .entry)) (now (times .entry))) ⌝ }
 {
-    let kept = f.kept as usize;
+    let kept = s.kept as usize;
     if Receiver::WINDOW < kept {
         return false;
     }
-    if f.sent < f.dropped as u32 {
+    if s.sent < s.dropped as u32 {
         return false;
     }
-    if !all_within(positions, kept, f.arrived as u16) {
+    if !all_within(positions, kept, s.arrived as u16) {
         return false;
     }
-    if !all_within(numbers, kept, f.sent as u16) {
+    if !all_within(numbers, kept, s.sent as u16) {
         return false;
     }
-    none_after(times, kept, f.last)
+    none_after(times, kept, s.last)
 }

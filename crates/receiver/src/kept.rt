@@ -5,9 +5,11 @@ ghost use mathlib.Core.Path.{_≡_};
 ghost use mathlib.Core.Bool.{cond};
 ghost use Prim.Native.Nat.{_+_, _≤_};
 ghost use lib.Dec.{eqb, ltb};
-ghost use lib.ListN.{length, getD};
+ghost use lib.ListN.{getD};
 ghost use Rattle.receiver.specs.Limits.{window};
-ghost use Rattle.receiver.specs.Private.Decision.{pushed, Found};
+ghost use Rattle.receiver.specs.Kept.{pushed};
+ghost use Rattle.receiver.specs.Private.Parts.{Full};
+ghost use Rattle.receiver.specs.Private.Decision.{Found};
 
 // The last place.
 const LAST: usize = Receiver::WINDOW - 1;
@@ -67,36 +69,36 @@ pub(crate) fn dropped_after(
     numbers[0]
 }
 
-// A new value of 16 bits after the kept ones; if all places are taken, they move by one.
-pub(crate) fn push16(places: &mut [u16; Receiver::WINDOW], kept: u32, value: u16)
-    ensures { λ _. ⌜ (length (now (places .entry)) ≡ window → now (places .exit) ≡ pushed kept (now (places .entry)) value) ⌝ }
+// A new jump after the kept ones; if all places are taken, they move by one.
+pub(crate) fn push<'a>(
+    positions: &'a mut [u16; Receiver::WINDOW],
+    numbers: &'a mut [u16; Receiver::WINDOW],
+    times: &'a mut [u64; Receiver::WINDOW],
+    kept: u32,
+    position: u16,
+    number: u16,
+    time: u64,
+)
+    requires { ⌜ (kept ≤ window) × Full (now positions) (now numbers) (now times) ⌝ }
+    ensures { λ _. ⌜ (now (positions .exit) ≡ pushed (ltb kept window) kept (now (positions .entry)) position)
+        × ((now (numbers .exit) ≡ pushed (ltb kept window) kept (now (numbers .entry)) number)
+        × (now (times .exit) ≡ pushed (ltb kept window) kept (now (times .entry)) time)) ⌝ }
 {
     let count = kept as usize;
     if count < Receiver::WINDOW {
-        places[count] = value;
+        positions[count] = position;
+        numbers[count] = number;
+        times[count] = time;
         return;
     }
     let mut i = 0;
     while i < LAST {
-        places[i] = places[i + 1];
+        times[i] = times[i + 1];
+        positions[i] = positions[i + 1];
+        numbers[i] = numbers[i + 1];
         i += 1;
     }
-    places[LAST] = value;
-}
-
-// A new value of 64 bits after the kept ones; if all places are taken, they move by one.
-pub(crate) fn push64(places: &mut [u64; Receiver::WINDOW], kept: u32, value: u64)
-    ensures { λ _. ⌜ (length (now (places .entry)) ≡ window → now (places .exit) ≡ pushed kept (now (places .entry)) value) ⌝ }
-{
-    let count = kept as usize;
-    if count < Receiver::WINDOW {
-        places[count] = value;
-        return;
-    }
-    let mut i = 0;
-    while i < LAST {
-        places[i] = places[i + 1];
-        i += 1;
-    }
-    places[LAST] = value;
+    positions[LAST] = position;
+    numbers[LAST] = number;
+    times[LAST] = time;
 }

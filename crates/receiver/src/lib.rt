@@ -1,54 +1,55 @@
 // The receiver: fed one arrival at a time, it answers each and keeps a state of fixed size, handed in and
-// back by value. Its rule is specs/Step.antt, after the scope's "The receiver".
+// back by value, or lent and written where it stands. Its rule is specs/Step.antt, after the scope's "The receiver".
 
-pub mod advance;
+mod advance;
 mod decide;
-pub mod fields;
 mod fit;
 mod kept;
 mod marking;
 pub mod numbering;
+mod numbers;
 
 use advance::advance;
-use fields::fields_of;
 use rfc4737::Runs;
 use rfc4737::refusal;
 ghost use mathlib.Core.Path.{_≡_};
 ghost use mathlib.Core.List.{List};
-ghost use Prim.Native.Nat.{_<_, _≤_};
 ghost use Rattle.rfc4737.specs.declared.Arrival.{Arrival};
-ghost use Rattle.rfc4737.specs.Order.{nextAfter};
-ghost use Rattle.rfc4737.specs.Runs.{ended};
-ghost use Rattle.receiver.specs.Limits.{packets, squaresMost};
 ghost use Rattle.receiver.specs.Step.{madeFor, freshOf, stepOf};
+ghost use Rattle.receiver.specs.Lent.{AsStep};
 ghost use Rattle.receiver.specs.Demand3.{Demand3};
 ghost use Rattle.receiver.specs.WindowCases.{WindowCasesHold};
 
-// The last jumps: how many are kept, the number of the last jump dropped (0 for none), and position, number
-// and time of each kept one, the oldest first. The places after the kept ones are unused.
+// The numbers that a step decides by: the packets sent (K), the first arrivals (L), the duplicates, the in-order count,
+// NextExp, how many jumps are kept, the time of the last accepted arrival (0 at first), the runs, and the number of the last
+// jump dropped (0 for none).
 #[repr(C)]
-pub struct Jumps {
-    pub kept: u32,
-    pub dropped: u16,
-    pub positions: [u16; Receiver::WINDOW],
-    pub numbers: [u16; Receiver::WINDOW],
-    pub times: [u64; Receiver::WINDOW],
-}
-
-// What a receiver holds: the packets sent (K), the first arrivals (L), the duplicates, the in-order count,
-// NextExp, the time of the last accepted arrival (0 at first), a bit for each packet that has arrived, the
-// runs, and the last jumps.
-#[repr(C)]
-pub struct Receiver {
+pub struct Stream {
     pub sent: u32,
     pub arrived: u32,
     pub duplicates: u32,
     pub inorder: u32,
     pub next: u32,
+    pub kept: u32,
     pub last: u64,
-    pub marks: [u64; MARK_WORDS],
     pub runs: Runs,
-    pub jumps: Jumps,
+    pub dropped: u16,
+}
+
+// The places of the kept jumps: position, number and time of each, the oldest first. Those after the kept ones are unused.
+#[repr(C)]
+pub struct Places {
+    pub positions: [u16; Receiver::WINDOW],
+    pub numbers: [u16; Receiver::WINDOW],
+    pub times: [u64; Receiver::WINDOW],
+}
+
+// What a receiver holds: the numbers of its stream, a bit for each packet that has arrived, and the places of its kept jumps.
+#[repr(C)]
+pub struct Receiver {
+    pub stream: Stream,
+    pub marks: [u64; MARK_WORDS],
+    pub places: Places,
 }
 
 // Of a reordered packet: its extent and late time.
@@ -66,10 +67,15 @@ pub enum Noted {
     Beyond(Lateness),
 }
 
-// The answer of a step: the refusal (0 for none), what is noted of the arrival, and the state after it.
-pub struct Stepped {
+// What is said of an arrival: the refusal (0 for none), and what is noted.
+pub struct Outcome {
     pub refusal: u32,
     pub noted: Noted,
+}
+
+// The answer of a step: what is said of the arrival, and the state after it.
+pub struct Stepped {
+    pub outcome: Outcome,
     pub state: Receiver,
 }
 
@@ -92,7 +98,7 @@ impl Receiver {
     // A fresh receiver for k packets; where k is refused, one for a single packet.
     pub fn fresh(k: u32) -> Started
         ensures fresh { λ r. ⌜ r ≡ freshOf k ⌝ }
-        ensures demand3 { λ r. ⌜ ((fed : List Arrival) → Demand3 (r .state .sent) fed) ⌝ }
+        ensures demand3 { λ r. ⌜ ((fed : List Arrival) → Demand3 (r .state .stream .sent) fed) ⌝ }
         ensures windowcases { λ _. ⌜ WindowCasesHold ⌝ }
     {
         if k == 0 {
@@ -118,11 +124,11 @@ impl Receiver {
         ensures { λ r. ⌜ r ≡ stepOf self number time ⌝ }
     {
         let mut marks = self.marks;
-        let mut positions = self.jumps.positions;
-        let mut numbers = self.jumps.numbers;
-        let mut times = self.jumps.times;
+        let mut positions = self.places.positions;
+        let mut numbers = self.places.numbers;
+        let mut times = self.places.times;
         let a = advance(
-            fields_of(self),
+            self.stream,
             &mut marks,
             &mut positions,
             &mut numbers,
@@ -130,29 +136,37 @@ impl Receiver {
             number,
             time,
         );
-        let noted = a.noted;
-        let runs = a.fields.runs;
-        self.sent = a.fields.sent;
-        self.arrived = a.fields.arrived;
-        self.duplicates = a.fields.duplicates;
-        self.inorder = a.fields.inorder;
-        self.next = a.fields.next;
-        self.last = a.fields.last;
+        let outcome = a.outcome;
+        let stream = a.stream;
+        self.stream = stream;
         self.marks = marks;
-        self.runs = runs;
-        let mut jumps = self.jumps;
-        jumps.kept = a.fields.kept;
-        jumps.dropped = a.fields.dropped;
-        jumps.positions = positions;
-        jumps.numbers = numbers;
-        jumps.times = times;
-        self.jumps = jumps;
+        let mut places = self.places;
+        places.positions = positions;
+        places.numbers = numbers;
+        places.times = times;
+        self.places = places;
         Stepped {
-            refusal: a.refusal,
-            noted,
+            outcome,
             state: self,
         }
     }
+}
+
+// The step in place: the numbers are read and stored, the arrays are lent on, and nothing else is copied.
+pub fn step_in_place(r: &mut Receiver, number: u32, time: u64) -> Outcome
+    ensures { λ outcome. ⌜ AsStep (now (r .entry)) number time outcome (now (r .exit)) ⌝ }
+{
+    let a = advance(
+        r.stream,
+        &mut r.marks,
+        &mut r.places.positions,
+        &mut r.places.numbers,
+        &mut r.places.times,
+        number,
+        time,
+    );
+    r.stream = a.stream;
+    a.outcome
 }
 
 // The receiver for k packets, before any arrival.
@@ -160,21 +174,23 @@ fn made_for(k: u32) -> Receiver
     ensures { λ r. ⌜ r ≡ madeFor k ⌝ }
 {
     Receiver {
-        sent: k,
-        arrived: 0,
-        duplicates: 0,
-        inorder: 0,
-        next: 1,
-        last: 0,
-        marks: [0u64; MARK_WORDS],
-        runs: Runs {
-            closed: 0,
-            squares: 0,
-            current: 0,
-        },
-        jumps: Jumps {
+        stream: Stream {
+            sent: k,
+            arrived: 0,
+            duplicates: 0,
+            inorder: 0,
+            next: 1,
             kept: 0,
+            last: 0,
+            runs: Runs {
+                closed: 0,
+                squares: 0,
+                current: 0,
+            },
             dropped: 0,
+        },
+        marks: [0u64; MARK_WORDS],
+        places: Places {
             positions: [0u16; Receiver::WINDOW],
             numbers: [0u16; Receiver::WINDOW],
             times: [0u64; Receiver::WINDOW],

@@ -39,11 +39,12 @@ fn fed(start: Receiver, first: u32, rise: u32, count: u32) -> Receiver
 // back equal.
 fn one_more(name: &[u8], r: Receiver, number: u32, time: u64) {
     let s = r.step(number, time);
-    let noted = s.noted;
+    let outcome = s.outcome;
+    let noted = outcome.noted;
     let after = s.state;
     write_word(name);
-    write_answer(s.refusal, noted);
-    if s.refusal != 0 {
+    write_answer(outcome.refusal, noted);
+    if outcome.refusal != 0 {
         write_either(same(r, after), b", receiver equal", b", receiver CHANGED");
     }
     write_word(b"\n");
@@ -55,8 +56,8 @@ fn made(name: &[u8], k: u32, expected: u32) {
     let state = start.state;
     write_word(name);
     write_number(b"refused ", start.refusal as u64);
-    write_number(b", K ", state.sent as u64);
-    write_number(b", NextExp ", state.next as u64);
+    write_number(b", K ", state.stream.sent as u64);
+    write_number(b", NextExp ", state.stream.next as u64);
     write_either(
         same(state, receiver_for(expected)),
         b", as fresh for K ",
@@ -112,13 +113,13 @@ fn edges_of_arrival() {
 // The state that is unfit, and the fit one that no run reaches, K being 5.
 fn odd_states() {
     let mut unfit = receiver_for(5);
-    unfit.next = 7;
+    unfit.stream.next = 7;
     one_more(b"NextExp K + 2: ", unfit, 1, 10);
     let mut many = receiver_for(5);
-    many.jumps.kept = 65;
+    many.stream.kept = 65;
     one_more(b"65 kept jumps: ", many, 1, 10);
     let mut odd = receiver_for(5);
-    odd.next = 4;
+    odd.stream.next = 4;
     one_more(b"NextExp 4 and no kept jump, number 3: ", odd, 3, 10);
     one_more(b"NextExp 4 and no kept jump, number 4: ", odd, 4, 10);
 }

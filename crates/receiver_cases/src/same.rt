@@ -1,6 +1,7 @@
 // Whether two receivers are equal, field by field.
-use receiver::Jumps;
+use receiver::Places;
 use receiver::Receiver;
+use receiver::Stream;
 use rfc4737::Runs;
 
 // Whether two lists of 64 numbers of 16 bits are equal.
@@ -32,11 +33,22 @@ fn same_runs(a: Runs, b: Runs) -> bool {
     a.closed == b.closed && a.squares == b.squares && a.current == b.current
 }
 
-// Whether the kept jumps are equal, with the places that are not used.
-fn same_jumps(a: Jumps, b: Jumps) -> bool {
+// Whether all numbers of two streams are equal.
+fn same_stream(a: Stream, b: Stream) -> bool {
+    if a.sent != b.sent || a.arrived != b.arrived || a.duplicates != b.duplicates {
+        return false;
+    }
+    if a.inorder != b.inorder || a.next != b.next || a.last != b.last {
+        return false;
+    }
     if a.kept != b.kept || a.dropped != b.dropped {
         return false;
     }
+    same_runs(a.runs, b.runs)
+}
+
+// Whether the places of the kept jumps are equal, with those that are not used.
+fn same_places(a: Places, b: Places) -> bool {
     if !same16(&a.positions, &b.positions) {
         return false;
     }
@@ -46,24 +58,13 @@ fn same_jumps(a: Jumps, b: Jumps) -> bool {
     same64(&a.times, &b.times)
 }
 
-// Whether all counts and the last time are equal.
-fn same_counts(a: Receiver, b: Receiver) -> bool {
-    if a.sent != b.sent || a.arrived != b.arrived || a.duplicates != b.duplicates {
-        return false;
-    }
-    a.inorder == b.inorder && a.next == b.next && a.last == b.last
-}
-
 // Whether two receivers are equal.
 pub(crate) fn same(a: Receiver, b: Receiver) -> bool {
-    if !same_counts(a, b) {
+    if !same_stream(a.stream, b.stream) {
         return false;
     }
     if !same64(&a.marks, &b.marks) {
         return false;
     }
-    if !same_runs(a.runs, b.runs) {
-        return false;
-    }
-    same_jumps(a.jumps, b.jumps)
+    same_places(a.places, b.places)
 }

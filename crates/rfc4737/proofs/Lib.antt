@@ -3,6 +3,7 @@ pub mod Lists
 pub mod Arrivals
 pub mod Folds
 pub mod Jumps
+pub mod Skipped
 pub mod Packets
 pub mod Cases
 pub mod Due

@@ -1,4 +1,4 @@
--- `capi::krakobran_step_lent` meets its contract: a walk of its MIR, by hand. The reference is passed on to the gateway's
+-- `capi::krakobran_step_lent` meets its contract: a walk of its MIR, by hand. The reference is passed on to the receiver's
 -- step in place, which gives it up at the new state, and what the step says is made figures. All that is known of the
 -- two callees is that each meets its contract. Assumes nothing.
 use mathlib.Core.Path.{_≡_, refl, ap, _∙_}
@@ -36,20 +36,20 @@ use denote.Triple.Walked.{says, Stays, gave-ref, stay-none, walkOf, AllGo, goes-
 use denote.Exit.{yes}
 use Rattle.receiver.specs.declared.Receiver.{Receiver}
 use Rattle.receiver.specs.Step.{stepOf}
-use Rattle.gateway.specs.declared.Said.{Said}
-use Rattle.gateway.specs.Said.{saidOf, AsStep}
-use Rattle.gateway.proofs.Returned.{returned}
+use Rattle.receiver.specs.declared.Outcome.{Outcome}
+use Rattle.receiver.specs.Lent.{AsStep}
+use Rattle.receiver.proofs.Returned.{returned}
 use Rattle.capi.specs.declared.noted.SaidAnswer.{SaidAnswer}
 use Rattle.capi.specs.Noted.{saidAnswer}
 use Rattle.receiver.proofs.Receiver as R
-use Rattle.gateway.proofs.Said as S
-use Rattle.gateway.proofs.Said.Laws as S′
+use Rattle.receiver.proofs.Outcome as S
+use Rattle.receiver.proofs.Outcome.Laws as S′
 use Rattle.capi.proofs.noted.SaidAnswer as F
 use Rattle.capi.proofs.noted.SaidAnswer.Laws as F′
-use Rattle.gateway.proofs.step_in_place as step
-use Rattle.gateway.proofs.step_in_place.Symbol as step-def
-use Rattle.gateway.proofs.step_in_place.Symbol.{name as #step}
-use Rattle.gateway.proofs.step_in_place.Met as step-thm
+use Rattle.receiver.proofs.step_in_place as step
+use Rattle.receiver.proofs.step_in_place.Symbol as step-def
+use Rattle.receiver.proofs.step_in_place.Symbol.{name as #step}
+use Rattle.receiver.proofs.step_in_place.Met as step-thm
 use Rattle.capi.proofs.noted.said_answer as said
 use Rattle.capi.proofs.noted.said_answer.Symbol as said-def
 use Rattle.capi.proofs.noted.said_answer.Symbol.{name as #said}
@@ -65,7 +65,7 @@ stayed =
     (gave-ref (0 ∷ []) tt (plain (λ _. R.the-row)), (stay-none (λ _. u32) yes, (stay-none (λ _. u64) yes, tt)))
 
 module _ {M : Type 1} (𝓤 : URA M) (H : Heap 𝓤) (A : Atoms 𝓤) (at-mem : Memory → SProp 𝓤) (run : Routine → Fun 𝓤) where
-  -- the contracts that the walk cites: of the gateway's step in place and of `said_answer`
+  -- the contracts that the walk cites: of the step in place and of `said_answer`
   abbrev Step : Contract 𝓤
   Step = tripleOf 𝓤 H A step.signature (step.spec 𝓤 H A at-mem run)
 
@@ -90,7 +90,7 @@ module _ {M : Type 1} (𝓤 : URA M) (H : Heap 𝓤) (A : Atoms 𝓤) (W : Given
 
   -- the exit: the answer d, at the machine value v, and the receiver h′
   exits : (d : SaidAnswer) (v : Val) → Is F.the-row d (v ∷ []) → (h′ : Receiver)
-      → d ≡ saidAnswer (saidOf (stepOf h n t))
+      → d ≡ saidAnswer (stepOf h n t .outcome)
       → h′ ≡ stepOf h n t .state
       → ent 𝓤 (sep 𝓤 (A .res γ (R.the-row .coded .code h′)) (A .lft κ q)) (Post v)
   exits d v is h′ e-said e-state =
@@ -107,7 +107,7 @@ module _ {M : Type 1} (𝓤 : URA M) (H : Heap 𝓤) (A : Atoms 𝓤) (W : Given
   abbrev Lends : Fml
   Lends = MutRef (named 0) κ R.the-row .own (x .0) (vptr b o ∷ [])
 
-  -- what the gateway's step in place is handed: all that is passed
+  -- what the step in place is handed: all that is passed
   abbrev to-step : Step 𝓤 H A at-mem run .Ghost
   to-step = (((κ, tt), (q, tt), tt, x, at), tt)
 
@@ -121,11 +121,11 @@ module _ {M : Type 1} (𝓤 : URA M) (H : Heap 𝓤) (A : Atoms 𝓤) (W : Given
       move ! (1 ∷ 0 ∷ []) $ fjoin ! $ move ! (1 ∷ 0 ∷ []) $ join ! $ frame ! $ done !
 
   -- what `said_answer` is handed: what is said, s, at its machine value
-  abbrev to-said : Said → Val → Saying 𝓤 H A at-mem run .Ghost
+  abbrev to-said : Outcome → Val → Saying 𝓤 H A at-mem run .Ghost
   to-said s v = ((tt, tt, tt, (s, tt), (v ∷ [], tt)), tt)
 
   -- it is had for nothing
-  goes-said : (s : Said) (v : Val) → Is S.the-row s (v ∷ [])
+  goes-said : (s : Outcome) (v : Val) → Is S.the-row s (v ∷ [])
       → ent 𝓤 (emp 𝓤) (Saying 𝓤 H A at-mem run .pre (to-said s v))
   goes-said s v is =
       qed W [] ∵ nothing ! $ owned ! S.the-row (Is S.the-row) (LL.makes S.the-type S′.the-plain 𝓤 H A) s _ is $
@@ -151,7 +151,7 @@ module _ {M : Type 1} (𝓤 : URA M) (H : Heap 𝓤) (A : Atoms 𝓤) (W : Given
         calls-at ! fm (Step 𝓤 H A at-mem run) known-step to-step
         (and-then ! (load ! (from ! (stop !)) (look ! 1 refl)) (and-then ! (load ! (from ! (stop !)) (look ! 7 refl))
         (and-then ! (load ! (from ! (stop !)) (look ! 5 refl)) (no-more !)))) (λ v₁.
-        use1 W (later (some (λ (s : Said).
+        use1 W (later (some (λ (s : Outcome).
         ((‵ (flft κ q) ⊛ ‵ ftrue) ⊛ ‵ (S.the-row .own s (v₁ ∷ [])))
         ⊛ some (λ (ws : Receiver × (Unit {0} × (Unit {0} × Unit {0}))).
         ‵ (lasts step.ended (κ, tt) x ws) ⊛ raw (fact 𝓤 (AsStep h n t s (ws .0)))))))
@@ -211,7 +211,7 @@ krakobran-step-lent-spec 𝓤 H 𝓜 𝓖 𝓡 =
     entered 𝓤 H (tripleOf 𝓤 H (𝓖 .A) f.signature (f.spec 𝓤 H (𝓖 .A) (𝓜 .mem) (𝓡 .run)))
     (tables 𝓤 H 𝓜 𝓡 code.env .C) (tables 𝓤 H 𝓜 𝓡 code.env .Λ) #f code.function (code.unfolded 𝓤 H 𝓜 𝓡)
     (meets 𝓤 H (𝓖 .A) (givenOf 𝓤 H 𝓜 𝓖) (𝓜 .mem) (𝓡 .run) (tablesOf 𝓤 H 𝓜 (tables 𝓤 H 𝓜 𝓡 code.env))
-    (cited 𝓤 H (Step 𝓤 H (𝓖 .A) (𝓜 .mem) (𝓡 .run)) 𝓜 𝓡 code.env #step step-def.routine code.calls-gateway·step-in-place
+    (cited 𝓤 H (Step 𝓤 H (𝓖 .A) (𝓜 .mem) (𝓡 .run)) 𝓜 𝓡 code.env #step step-def.routine code.calls-receiver·step-in-place
     (step-thm.met 𝓤 H 𝓜 𝓖 𝓡))
     (cited 𝓤 H (Saying 𝓤 H (𝓖 .A) (𝓜 .mem) (𝓡 .run)) 𝓜 𝓡 code.env #said said-def.routine
     code.calls-capi·noted·said-answer (said-thm.met 𝓤 H 𝓜 𝓖 𝓡)))

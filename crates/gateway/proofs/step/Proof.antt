@@ -41,16 +41,15 @@ use denote.Exit.{yes}
 use Rattle.receiver.specs.declared.Receiver.{Receiver}
 use Rattle.receiver.specs.declared.Stepped.{Stepped}
 use Rattle.receiver.specs.Step.{stepOf}
-use Rattle.receiver.proofs.Refused.{refused-equal}
-use Rattle.gateway.specs.declared.Said.{Said}
-use Rattle.gateway.specs.Said.{saidOf}
+use Rattle.receiver.proofs.Steps.{refused-equal}
+use Rattle.receiver.specs.declared.Outcome.{Outcome}
 use Rattle.receiver.proofs.Receiver as R
 use Rattle.receiver.proofs.Receiver.Laws as R′
 use Rattle.receiver.proofs.Stepped as P
 use Rattle.receiver.proofs.Stepped.Laws as P′
-use Rattle.gateway.proofs.Returned.{returned}
-use Rattle.gateway.proofs.Said as S
-use Rattle.gateway.proofs.Said.Laws as S′
+use Rattle.receiver.proofs.Returned.{returned}
+use Rattle.receiver.proofs.Outcome as S
+use Rattle.receiver.proofs.Outcome.Laws as S′
 use Rattle.receiver.proofs.Receiver.step as inner
 use Rattle.receiver.proofs.Receiver.step.Symbol as inner-def
 use Rattle.receiver.proofs.Receiver.step.Symbol.{name as #inner}
@@ -59,10 +58,10 @@ use Rattle.gateway.proofs.state_of as state
 use Rattle.gateway.proofs.state_of.Symbol as state-def
 use Rattle.gateway.proofs.state_of.Symbol.{name as #state}
 use Rattle.gateway.proofs.state_of.Met as state-thm
-use Rattle.gateway.proofs.said_of as said
-use Rattle.gateway.proofs.said_of.Symbol as said-def
-use Rattle.gateway.proofs.said_of.Symbol.{name as #said}
-use Rattle.gateway.proofs.said_of.Met as said-thm
+use Rattle.gateway.proofs.outcome_of as said
+use Rattle.gateway.proofs.outcome_of.Symbol as said-def
+use Rattle.gateway.proofs.outcome_of.Symbol.{name as #said}
+use Rattle.gateway.proofs.outcome_of.Met as said-thm
 use Rattle.gateway.proofs.step.Key.{name as #step}
 use Rattle.gateway.proofs.step as step
 use Rattle.gateway.proofs.step.Statement as stated
@@ -74,7 +73,7 @@ stayed =
     (stay-ref (0 ∷ []) tt (plain (λ _. R.the-row)), (stay-none (λ _. u32) yes, (stay-none (λ _. u64) yes, tt)))
 
 module _ {M : Type 1} (𝓤 : URA M) (H : Heap 𝓤) (A : Atoms 𝓤) (at-mem : Memory → SProp 𝓤) (run : Routine → Fun 𝓤) where
-  -- the contracts that the walk cites: of the receiver's step, of `state_of` and of `said_of`
+  -- the contracts that the walk cites: of the receiver's step, of `state_of` and of `outcome_of`
   abbrev Inner : Contract 𝓤
   Inner = tripleOf 𝓤 H A inner.signature (inner.spec 𝓤 H A at-mem run)
 
@@ -105,7 +104,7 @@ module _ {M : Type 1} (𝓤 : URA M) (H : Heap 𝓤) (A : Atoms 𝓤) (W : Given
   Post = walkOf 𝓤 H A step.ended stayed (step.clauses 𝓤 H A at-mem run) .post (((κ, tt), (q, tt), tt, x, at), tt)
 
   -- the exit: the answer s, at the machine value v, and the receiver h′
-  exits : (s : Said) (v : Val) → Is S.the-row s (v ∷ []) → (h′ : Receiver) → s ≡ saidOf (stepOf h n t)
+  exits : (s : Outcome) (v : Val) → Is S.the-row s (v ∷ []) → (h′ : Receiver) → s ≡ stepOf h n t .outcome
       → h′ ≡ stepOf h n t .state
       → ent 𝓤
       (sep 𝓤 (A .obs γ (R.the-row .coded .code h′)) (sep 𝓤 (A .bor κ (Body (mem R.the-row) b o γ)) (A .lft κ q)))
@@ -119,7 +118,7 @@ module _ {M : Type 1} (𝓤 : URA M) (H : Heap 𝓤) (A : Atoms 𝓤) (W : Given
       says ! (
         e-said,
         e-state,
-        λ refusal. e-state ∙ refused-equal h n t (λ none. refusal (ap (λ (z : Said). z .refusal) e-said ∙ none)),
+        λ refusal. e-state ∙ refused-equal _ h n t (λ none. refusal (ap (λ (z : Outcome). z .refusal) e-said ∙ none)),
       ) $
       nothing ! $ move ! (3 ∷ 0 ∷ []) $ join ! $ frame ! $
       feqI ! (List Val) (vptr b o ∷ []) (vptr b o ∷ []) refl $ fjoin3 ! $
@@ -139,7 +138,7 @@ module _ {M : Type 1} (𝓤 : URA M) (H : Heap 𝓤) (A : Atoms 𝓤) (W : Given
       owned ! R.the-row (Is R.the-row) (LL.makes R.the-type R′.the-plain 𝓤 H A) h _ is $ fjoin ! $
       nothing ! $ join ! $ frame ! $ done !
 
-  -- what `state_of` is handed, and `said_of` too: the step p, at its machine value
+  -- what `state_of` is handed, and `outcome_of` too: the step p, at its machine value
   abbrev to-leaf : Stepped → Val → State 𝓤 H A at-mem run .Ghost
   to-leaf p v = ((tt, tt, tt, (p, tt), (v ∷ [], tt)), tt)
 
@@ -197,14 +196,14 @@ module _ {M : Type 1} (𝓤 : URA M) (H : Heap 𝓤) (A : Atoms 𝓤) (W : Given
         use0 W (raw (Saying 𝓤 H A at-mem run .pre (to-leaf p v₁))) (goes-leaf p v₁ is₁) $
         calls-at ! fm (Saying 𝓤 H A at-mem run) known-said (to-leaf p v₁)
         (and-then ! (load ! (from ! (stop !)) (look ! 6 refl)) (no-more !)) (λ v₃.
-        returned 𝓤 H A said.ended (said.clauses 𝓤 H A at-mem run) (to-leaf p v₁) v₃ ! tt (λ s. s ≡ saidOf p)
+        returned 𝓤 H A said.ended (said.clauses 𝓤 H A at-mem run) (to-leaf p v₁) v₃ ! tt (λ s. s ≡ p .outcome)
         (λ s _. id⊢ 𝓤 _) (λ s e₃ is₃.
         land ! (from ! (stop !)) (init ! 13 refl (LL.lawful S.the-type S′.the-laws 𝓤 H A W .typed s _ is₃ .0)) $
         returns ! (look ! 13 refl) $ forget ! 3 refl $ forget ! 5 refl $ forget ! 7 refl $ forget ! 9 refl $
         forget ! 11 refl $ forget ! 13 refl $ move ! (13 ∷ 14 ∷ []) $ free1 ! $ move ! (11 ∷ 12 ∷ []) $ free1 ! $
         move ! (9 ∷ 10 ∷ []) $ free1 ! $ move ! (7 ∷ 8 ∷ []) $ free1 ! $ move ! (5 ∷ 6 ∷ []) $ free1 ! $
         move ! (3 ∷ 4 ∷ []) $ free1 ! $ free0 ! $ keep ! (0 ∷ 1 ∷ 2 ∷ []) $
-        by ! (exits s v₃ is₃ h′ (e₃ ∙ ap saidOf e₁) (e₂ ∙ ap (λ (p : Stepped). p .state) e₁))))))))))))))))
+        by ! (exits s v₃ is₃ h′ (e₃ ∙ ap (λ (p : Stepped). p .outcome) e₁) (e₂ ∙ ap (λ (p : Stepped). p .state) e₁))))))))))))))))
 
 module _ {M : Type 1} (𝓤 : URA M) (H : Heap 𝓤) (A : Atoms 𝓤) (W : Given 𝓤 H A) (at-mem : Memory → SProp 𝓤)
     (run : Routine → Fun 𝓤) where
@@ -249,4 +248,4 @@ step-spec 𝓤 H 𝓜 𝓖 𝓡 =
     (cited 𝓤 H (State 𝓤 H (𝓖 .A) (𝓜 .mem) (𝓡 .run)) 𝓜 𝓡 code.env #state state-def.routine
     code.calls-gateway·state-of (state-thm.met 𝓤 H 𝓜 𝓖 𝓡))
     (cited 𝓤 H (Saying 𝓤 H (𝓖 .A) (𝓜 .mem) (𝓡 .run)) 𝓜 𝓡 code.env #said said-def.routine
-    code.calls-gateway·said-of (said-thm.met 𝓤 H 𝓜 𝓖 𝓡)))
+    code.calls-gateway·outcome-of (said-thm.met 𝓤 H 𝓜 𝓖 𝓡)))

@@ -42,17 +42,16 @@ use denote.Triple.Clauses.{lasts}
 use denote.Exit.{yes}
 use Rattle.receiver.specs.declared.Receiver.{Receiver}
 use Rattle.receiver.specs.Step.{stepOf}
-use Rattle.gateway.specs.declared.Said.{Said}
-use Rattle.gateway.specs.Said.{saidOf, AsStep}
-use Rattle.gateway.proofs.Returned.{returned}
-use Rattle.gateway_cases.specs.declared.Fed.{Fed}
-use Rattle.gateway_cases.specs.Fed.{fedOf}
+use Rattle.receiver.specs.declared.Outcome.{Outcome}
+use Rattle.receiver.specs.declared.Stepped.{Stepped}
+use Rattle.receiver.specs.Lent.{AsStep}
+use Rattle.receiver.proofs.Returned.{returned}
 use Rattle.receiver.proofs.Receiver as R
 use Rattle.receiver.proofs.Receiver.Laws as R′
-use Rattle.gateway.proofs.Said as S
-use Rattle.gateway.proofs.Said.Laws as S′
-use Rattle.gateway_cases.proofs.Fed as F
-use Rattle.gateway_cases.proofs.Fed.Laws as F′
+use Rattle.receiver.proofs.Outcome as S
+use Rattle.receiver.proofs.Outcome.Laws as S′
+use Rattle.receiver.proofs.Stepped as F
+use Rattle.receiver.proofs.Stepped.Laws as F′
 use Rattle.gateway.proofs.step as step
 use Rattle.gateway.proofs.step.Symbol as step-def
 use Rattle.gateway.proofs.step.Symbol.{name as #step}
@@ -120,8 +119,8 @@ module _ {M : Type 1} (𝓤 : URA M) (H : Heap 𝓤) (A : Atoms 𝓤) (W : Given
   abbrev Post : Val → SProp 𝓤
   Post = walkOf 𝓤 H A f.ended stayed (f.clauses 𝓤 H A at-mem run) .post ((tt, tt, tt, x, at), tt)
 
-  -- the exit: what is fed, d, at the machine value v
-  exits : (d : Fed) (v : Val) → Is F.the-row d (v ∷ []) → d ≡ fedOf (stepOf h n t) → ent 𝓤 (emp 𝓤) (Post v)
+  -- the exit: the step d, at the machine value v
+  exits : (d : Stepped) (v : Val) → Is F.the-row d (v ∷ []) → d ≡ stepOf h n t → ent 𝓤 (emp 𝓤) (Post v)
   exits d v is e =
       qed W [] ∵ suffices ! _
       (ends-at 𝓤 H A f.ended stayed (f.clauses 𝓤 H A at-mem run) W ((tt, tt, tt, x, at), tt) v d (tt, (tt, (tt, tt)))
@@ -163,11 +162,11 @@ module _ {M : Type 1} (𝓤 : URA M) (H : Heap 𝓤) (A : Atoms 𝓤) (W : Given
       move ! (1 ∷ 0 ∷ []) $ fjoin ! $ move ! (1 ∷ 0 ∷ []) $ join ! $ frame ! $ done !
 
   -- what `together` is handed: the answer s, at its machine value, and the receiver h′
-  abbrev to-both : Said → Val → Receiver → Both 𝓤 H A at-mem run .Ghost
+  abbrev to-both : Outcome → Val → Receiver → Both 𝓤 H A at-mem run .Ghost
   to-both s v h′ = ((tt, tt, tt, (s, (h′, tt)), (v ∷ [], (mach h′ ∷ [], tt))), tt)
 
   -- it is had for nothing
-  goes-both : (s : Said) (v : Val) (h′ : Receiver) → Is S.the-row s (v ∷ []) → Is R.the-row h′ (mach h′ ∷ [])
+  goes-both : (s : Outcome) (v : Val) (h′ : Receiver) → Is S.the-row s (v ∷ []) → Is R.the-row h′ (mach h′ ∷ [])
       → ent 𝓤 (emp 𝓤) (Both 𝓤 H A at-mem run .pre (to-both s v h′))
   goes-both s v h′ is is′ =
       qed W [] ∵ nothing ! $
@@ -203,7 +202,7 @@ module _ {M : Type 1} (𝓤 : URA M) (H : Heap 𝓤) (A : Atoms 𝓤) (W : Given
         calls-at ! fm (Step 𝓤 H A at-mem run) known-step (to-step l₄ α γ)
         (and-then ! (load ! (from ! (stop !)) (look ! 4 refl)) (and-then ! (load ! (from ! (stop !)) (look ! 11 refl))
         (and-then ! (load ! (from ! (stop !)) (look ! 9 refl)) (no-more !)))) (λ v₁.
-        use1 W (later (some (λ (s : Said).
+        use1 W (later (some (λ (s : Outcome).
         ((‵ (flft (α ∷ []) fullShare) ⊛ ‵ ftrue) ⊛ ‵ (S.the-row .own s (v₁ ∷ [])))
         ⊛ some (λ (ws : Receiver × (Unit {0} × (Unit {0} × Unit {0}))).
         ‵ (lasts step.ended (α ∷ [], tt) (ref l₄ γ, (n, (t, tt))) ws) ⊛ raw (fact 𝓤 (AsStep h n t s (ws .0)))))))
@@ -228,14 +227,14 @@ module _ {M : Type 1} (𝓤 : URA M) (H : Heap 𝓤) (A : Atoms 𝓤) (W : Given
         (and-then ! (load ! (from ! (stop !)) (look ! 6 refl)) (and-then ! (load ! (from ! (stop !)) (look ! 2 refl))
         (no-more !))) (λ v₂.
         returned 𝓤 H A both.ended (both.clauses 𝓤 H A at-mem run) (to-both s v₁ (ws .0)) v₂ ! tt
-        (λ d. d ≡ record { said = s; state = ws .0 }) (λ d _. id⊢ 𝓤 _) (λ d e₂ is₃.
+        (λ d. d ≡ record { outcome = s; state = ws .0 }) (λ d _. id⊢ 𝓤 _) (λ d e₂ is₃.
         land ! (from ! (stop !)) (init ! 14 refl (LL.lawful F.the-type F′.the-laws 𝓤 H A W .typed d _ is₃ .0)) $
         returns ! (look ! 14 refl) $ forget ! 0 refl $ forget ! 1 refl $ forget ! 3 refl $ forget ! 5 refl $
         forget ! 8 refl $ forget ! 10 refl $ forget ! 12 refl $ forget ! 14 refl $
         move ! (14 ∷ 15 ∷ []) $ free1 ! $ move ! (12 ∷ 13 ∷ []) $ free1 ! $ move ! (10 ∷ 11 ∷ []) $ free1 ! $
         move ! (8 ∷ 9 ∷ []) $ free1 ! $ move ! (0 ∷ 7 ∷ []) $ free1 ! $ move ! (4 ∷ 5 ∷ []) $ free1 ! $
         move ! (2 ∷ 3 ∷ []) $ free1 ! $ free1 ! $ free0 ! $
-        by ! (exits d v₂ is₃ (e₂ ∙ (λ i. record { said = e₁ .0 i; state = e₁ .1 i })))))))))))))))))))))
+        by ! (exits d v₂ is₃ (e₂ ∙ (λ i. record { outcome = e₁ .0 i; state = e₁ .1 i })))))))))))))))))))))
 
 module _ {M : Type 1} (𝓤 : URA M) (H : Heap 𝓤) (A : Atoms 𝓤) (W : Given 𝓤 H A) (at-mem : Memory → SProp 𝓤)
     (run : Routine → Fun 𝓤) where

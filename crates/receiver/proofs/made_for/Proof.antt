@@ -1,11 +1,11 @@
 -- `receiver::made_for` meets its contract. Assumes nothing.
 use mathlib.Core.Path.{refl}
-use Rattle.receiver.specs.Step.{madeFor}
+use Rattle.receiver.specs.Step.{freshStream, madeFor}
 use Rattle.receiver.proofs.made_for.Statement.{statement}
 use Rattle.receiver.proofs.made_for.Tie as tie
 
 returns : tie.Need-returns
-unfolding madeFor
+unfolding freshStream madeFor
 returns c = refl
 
 pub made-for-spec : {M : Type 1} → statement M

@@ -20,9 +20,9 @@ use Rattle.receiver.proofs.Receiver.fresh.Tie as tie
 
 -- what is carried: demand 3 of the receiver handed back, and the window cases
 carries : (k : ℕ) (r : Started) → r ≡ freshOf k
-    → (r ≡ freshOf k) × (((fed : List Arrival) → Demand3 (r .state .sent) fed) × WindowCasesHold)
+    → (r ≡ freshOf k) × (((fed : List Arrival) → Demand3 (r .state .stream .sent) fed) × WindowCasesHold)
 carries k r e =
-    (e, ((λ fed. subst (λ (s : Started). Demand3 (s .state .sent) fed) (sym e) (demand3-fresh k fed)), window-cases-hold))
+    (e, ((λ fed. subst (λ (s : Started). Demand3 (s .state .stream .sent) fed) (sym e) (demand3-fresh k fed)), window-cases-hold))
 
 made-for-requires : tie.Need-made-for-requires
 made-for-requires c κs = search needs

@@ -1,4 +1,4 @@
--- `receiver::decide::decide` meets its contract: each return is a case of the step, in its order. Assumes nothing.
+-- `receiver::decide::decide` meets its contract: each return is a case of the definition, in its order. Assumes nothing.
 use mathlib.Core.Path.{_≡_, sym, _∙_}
 use mathlib.Core.List.{[]}
 use native.Mathlib.Omega.{arith}
@@ -6,15 +6,15 @@ use borrow.Author.Needs.{needs}
 use Rattle.receiver.specs.declared.Receiver.{Receiver}
 use Rattle.receiver.specs.Step.{refusalOf}
 use Rattle.receiver.specs.Fit.{fit}
-use Rattle.receiver.specs.Parts.{whole}
+use Rattle.receiver.specs.Private.Parts.{whole}
 use Rattle.receiver.specs.Private.Decision.{Unrefused}
-use Rattle.receiver.proofs.Steps.{accepted-facts, step-refused, step-duplicate, step-in-order, step-late}
+use Rattle.receiver.proofs.Steps.{accepted-facts, outcome-refused, outcome-duplicate, outcome-in-order, outcome-late}
 use Rattle.receiver.proofs.decide.decide.Statement.{statement}
 use Rattle.receiver.proofs.decide.decide.Tie as tie
 
 -- the state
 abbrev stateAt : tie.Start → Receiver
-stateAt c = whole (c .args .f) (c .args .marks .now) (c .args .positions .now) (c .args .numbers .now) (c .args .times .now)
+stateAt c = whole (c .args .s) (c .args .marks .now) (c .args .positions .now) (c .args .numbers .now) (c .args .times .now)
 
 -- past the first test there is no refusal
 no-refusal : (c : tie.Else1) → refusalOf (stateAt (c .before .before)) (c .before .before .args .number) (c .before .before .args .time) ≡ 0
@@ -23,7 +23,7 @@ no-refusal c = sym (c .before .refusal-of .ensures) ∙ c .if1 .left
 
 -- so what an accepted arrival has holds, whatever the marks
 accepted : (c : tie.Else1) →
-    Unrefused (whole (c .before .before .args .f) [] (c .before .before .args .positions .now) (c .before .before .args .numbers .now) (c .before .before .args .times .now)) (c .before .before .args .number)
+    Unrefused (whole (c .before .before .args .s) [] (c .before .before .args .positions .now) (c .before .before .args .numbers .now) (c .before .before .args .times .now)) (c .before .before .args .number)
 accepted c = accepted-facts _ _ _ (sym (c .before .refusal-of .ensures) ∙ c .if1 .left)
 
 refusal-of-requires : tie.Need-refusal-of-requires
@@ -33,22 +33,22 @@ returns : tie.Need-returns
 unfolding refusalOf fit
 returns c =
     let s = c .before .before in
-    step-refused (stateAt s) (s .args .number) (s .args .time) _ (c .if1 .taken) (c .before .refusal-of .ensures)
+    outcome-refused (stateAt s) (s .args .number) (s .args .time) _ (c .if1 .taken) (c .before .refusal-of .ensures)
 
 is-marked-requires : tie.Need-is-marked-requires
 is-marked-requires c κs =
     let a = accepted c in
-    (a .number-low, omega (arith, a .number-high, a .fields .sent-high))
+    (a .number-low, omega (arith, a .number-high, a .stream .sent-high))
 
 returns-2 : tie.Need-returns-2
 returns-2 c =
     let s = c .before .before .before .before in
-    step-duplicate (stateAt s) (s .args .number) (s .args .time) (no-refusal (c .before .before)) (sym (c .before .is-marked .ensures) ∙ c .if2 .taken)
+    outcome-duplicate (stateAt s) (s .args .number) (s .args .time) (no-refusal (c .before .before)) (sym (c .before .is-marked .ensures) ∙ c .if2 .taken)
 
 returns-3 : tie.Need-returns-3
 returns-3 c =
     let s = c .before .before .before .before .before .before .before in
-    step-in-order (stateAt s) (s .args .number) (s .args .time) (no-refusal (c .before .before .before .before .before))
+    outcome-in-order (stateAt s) (s .args .number) (s .args .time) (no-refusal (c .before .before .before .before .before))
     (sym (c .before .before .before .before .is-marked .ensures) ∙ c .before .before .before .if2 .left) (c .before .if3 .taken)
 
 late-requires : tie.Need-late-requires
@@ -57,8 +57,8 @@ late-requires c κs = accepted (c .before .before .before .before)
 returns-4 : tie.Need-returns-4
 returns-4 c =
     let s = c .before .before .before .before .before .before .before in
-    step-late (stateAt s) (s .args .number) (s .args .time) (no-refusal (c .before .before .before .before .before)) _
-    (sym (c .before .before .before .before .is-marked .ensures) ∙ c .before .before .before .if2 .left) (c .before .if3 .left) (c .late .ensures (s .args .marks .now))
+    outcome-late (stateAt s) (s .args .number) (s .args .time) (no-refusal (c .before .before .before .before .before)) _
+    (sym (c .before .before .before .before .is-marked .ensures) ∙ c .before .before .before .if2 .left) (c .before .if3 .left) (c .late .ensures)
 
 pub decide-spec : {M : Type 1} → statement M
 decide-spec =

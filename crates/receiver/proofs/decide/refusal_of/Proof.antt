@@ -5,58 +5,57 @@ use mathlib.Core.Bool.{true}
 use native.Mathlib.Omega.{arith}
 use borrow.Author.Tests.{not-true, not-false, eq-eqb, ne-eqb, le-leb, lt-leb}
 use borrow.Author.Needs.{needs}
-use Rattle.receiver.specs.Parts.{jumpsOf}
+use Rattle.receiver.specs.Private.Parts.{placesOf}
 use Rattle.receiver.specs.Step.{refusalOf}
-use Rattle.receiver.specs.Fit.{fieldsFit, placesFit, fit}
-use Rattle.receiver.proofs.Fits.{fields-facts}
+use Rattle.receiver.specs.Fit.{streamFit, placesFit, fit}
+use Rattle.receiver.proofs.Fits.{stream-facts}
 use Rattle.receiver.proofs.decide.refusal_of.Statement.{statement}
 use Rattle.receiver.proofs.decide.refusal_of.Tie as tie
 
--- past the second test the fields are fit
-fields-known : (c : tie.Else2) →
-    fieldsFit (c .before .before .before .before .args .f .sent) (c .before .before .before .before .args .f .arrived) (c .before .before .before .before .args .f .duplicates) (c .before .before .before .before .args .f .inorder) (c .before .before .before .before .args .f .next) (c .before .before .before .before .args .f .runs) ≡ true
-fields-known c = sym (c .before .before .before .fields-fit .ensures) ∙ not-false _ (c .before .before .if1 .left)
+-- past the second test the numbers are fit
+stream-known : (c : tie.Else2) → streamFit (c .before .before .before .before .args .s) ≡ true
+stream-known c = sym (c .before .before .before .stream-fit .ensures) ∙ not-false _ (c .before .before .if1 .left)
 
 -- and so are the places
 places-known : (c : tie.Else2) →
-    placesFit (c .before .before .before .before .args .f .sent) (c .before .before .before .before .args .f .arrived) (c .before .before .before .before .args .f .last) (jumpsOf (c .before .before .before .before .args .f) (c .before .before .before .before .args .positions .now) (c .before .before .before .before .args .numbers .now) (c .before .before .before .before .args .times .now)) ≡ true
+    placesFit (c .before .before .before .before .args .s) (placesOf (c .before .before .before .before .args .positions .now) (c .before .before .before .before .args .numbers .now) (c .before .before .before .before .args .times .now)) ≡ true
 places-known c = sym (c .before .places-fit .ensures) ∙ not-false _ (c .if2 .left)
 
-fields-fit-requires : tie.Need-fields-fit-requires
-fields-fit-requires c κs = search needs
+stream-fit-requires : tie.Need-stream-fit-requires
+stream-fit-requires c κs = search needs
 
 returns : tie.Need-returns
 unfolding refusalOf fit
-returns c = simp (sym (c .before .fields-fit .ensures) ∙ not-true _ (c .if1 .taken))
+returns c = simp (sym (c .before .stream-fit .ensures) ∙ not-true _ (c .if1 .taken))
 
 places-fit-requires : tie.Need-places-fit-requires
 places-fit-requires c κs =
-    let h = fields-facts _ _ _ _ _ _ (sym (c .before .fields-fit .ensures) ∙ not-false _ (c .if1 .left)) in
+    let h = stream-facts _ (sym (c .before .stream-fit .ensures) ∙ not-false _ (c .if1 .left)) in
     (h .sent-high, omega (arith, h .arrived-high, h .sent-high))
 
 returns-2 : tie.Need-returns-2
 unfolding refusalOf fit
 returns-2 c =
-    let f = sym (c .before .before .before .fields-fit .ensures) ∙ not-false _ (c .before .before .if1 .left) in
+    let f = sym (c .before .before .before .stream-fit .ensures) ∙ not-false _ (c .before .before .if1 .left) in
     let p = sym (c .before .places-fit .ensures) ∙ not-true _ (c .if2 .taken) in
     simp (f, p)
 
 add-if3 : tie.Need-add-if3
 add-if3 c =
-    let h = fields-facts _ _ _ _ _ _ (fields-known (c .before)) in
+    let h = stream-facts _ (stream-known (c .before)) in
     record { fits = omega (arith, h .accepted-high) }
 
 returns-3 : tie.Need-returns-3
 unfolding refusalOf fit
 returns-3 c =
-    let f = fields-known (c .before .before) in
+    let f = stream-known (c .before .before) in
     let p = places-known (c .before .before) in
     simp (f, p, eq-eqb _ _ (c .if3 .taken))
 
 returns-4 : tie.Need-returns-4
 unfolding refusalOf fit
 returns-4 c =
-    let f = fields-known (c .before .before .before) in
+    let f = stream-known (c .before .before .before) in
     let p = places-known (c .before .before .before) in
     let low : c .before .before .before .before .before .before .before .args .number < 1 = omega (arith, c .if4 .taken) in
     simp (f, p, ne-eqb _ _ (c .before .if3 .left), lt-leb _ _ low)
@@ -64,7 +63,7 @@ returns-4 c =
 returns-5 : tie.Need-returns-5
 unfolding refusalOf fit
 returns-5 c =
-    let f = fields-known (c .before .before .before .before .before) in
+    let f = stream-known (c .before .before .before .before .before) in
     let p = places-known (c .before .before .before .before .before) in
     let low : 1 ≤ c .before .before .before .before .before .before .before .before .before .args .number = omega (arith, c .before .before .if4 .left) in
     simp (f, p, ne-eqb _ _ (c .before .before .before .if3 .left), le-leb _ _ low, lt-leb _ _ (c .if5 .taken))
@@ -75,7 +74,7 @@ too-early-requires c κs = search needs
 returns-6 : tie.Need-returns-6
 unfolding refusalOf fit
 returns-6 c =
-    let f = fields-known (c .before .before .before .before .before .before .before) in
+    let f = stream-known (c .before .before .before .before .before .before .before) in
     let p = places-known (c .before .before .before .before .before .before .before) in
     let low : 1 ≤ c .before .before .before .before .before .before .before .before .before .before .before .args .number = omega (arith, c .before .before .before .before .if4 .left) in
     simp (f, p, ne-eqb _ _ (c .before .before .before .before .before .if3 .left), le-leb _ _ low, le-leb _ _ (c .before .before .if5 .left), sym (c .before .too-early .ensures) ∙ c .if6 .taken)
@@ -83,7 +82,7 @@ returns-6 c =
 returns-7 : tie.Need-returns-7
 unfolding refusalOf fit
 returns-7 c =
-    let f = fields-known (c .before .before .before .before .before .before .before) in
+    let f = stream-known (c .before .before .before .before .before .before .before) in
     let p = places-known (c .before .before .before .before .before .before .before) in
     let low : 1 ≤ c .before .before .before .before .before .before .before .before .before .before .before .args .number = omega (arith, c .before .before .before .before .if4 .left) in
     simp (f, p, ne-eqb _ _ (c .before .before .before .before .before .if3 .left), le-leb _ _ low, le-leb _ _ (c .before .before .if5 .left), sym (c .before .too-early .ensures) ∙ c .if6 .left)
@@ -92,7 +91,7 @@ pub refusal-of-spec : {M : Type 1} → statement M
 refusal-of-spec =
     tie.close
     (tie.spec
-    fields-fit-requires
+    stream-fit-requires
     returns
     places-fit-requires
     returns-2

@@ -13,13 +13,13 @@ cast-kept : tie.Need-cast-kept
 cast-kept c = search needs
 
 returns : tie.Need-returns
-returns c = places-false _ _ _ _ (λ h. omega arith)
+returns c = places-false _ _ (λ h. omega arith)
 
 cast-if2 : tie.Need-cast-if2
 cast-if2 c = search needs
 
 returns-2 : tie.Need-returns-2
-returns-2 c = places-false _ _ _ _ (λ h. omega arith)
+returns-2 c = places-false _ _ (λ h. omega arith)
 
 cast-all-within : tie.Need-cast-all-within
 cast-all-within c = search needs
@@ -28,7 +28,7 @@ all-within-requires : tie.Need-all-within-requires
 all-within-requires c κs = search needs
 
 returns-3 : tie.Need-returns-3
-returns-3 c = positions-unfit _ _ _ _ (sym (c .before .all-within .ensures) ∙ not-true _ (c .if3 .taken))
+returns-3 c = positions-unfit _ _ (sym (c .before .all-within .ensures) ∙ not-true _ (c .if3 .taken))
 
 cast-all-within-2 : tie.Need-cast-all-within-2
 cast-all-within-2 c = search needs
@@ -37,14 +37,14 @@ all-within-requires-2 : tie.Need-all-within-requires-2
 all-within-requires-2 c κs = search needs
 
 returns-4 : tie.Need-returns-4
-returns-4 c = numbers-unfit _ _ _ _ (sym (c .before .all-within2 .ensures) ∙ not-true _ (c .if4 .taken))
+returns-4 c = numbers-unfit _ _ (sym (c .before .all-within2 .ensures) ∙ not-true _ (c .if4 .taken))
 
 none-after-requires : tie.Need-none-after-requires
 none-after-requires c κs = search needs
 
 returns-5 : tie.Need-returns-5
 returns-5 c =
-    times-decide _ _ _ _ (search needs) (search needs) (sym (c .before .before .before .before .before .all-within .ensures) ∙ not-false _ (c .before .before .before .before .if3 .left))
+    times-decide _ _ (search needs) (search needs) (sym (c .before .before .before .before .before .all-within .ensures) ∙ not-false _ (c .before .before .before .before .if3 .left))
     (sym (c .before .before .all-within2 .ensures) ∙ not-false _ (c .before .if4 .left)) _ (c .none-after .ensures)
 
 pub places-fit-spec : {M : Type 1} → statement M

@@ -1,2 +1,0 @@
--- What the gateway says of an arrival. Assumes nothing.
-pub mod Said

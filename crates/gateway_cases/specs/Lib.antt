@@ -1,2 +1,0 @@
--- What is said of an arrival, and the receiver after it. Assumes nothing.
-pub mod Fed

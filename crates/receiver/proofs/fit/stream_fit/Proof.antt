@@ -1,0 +1,69 @@
+-- `receiver::fit::stream_fit` meets its contract: a return of false shows a condition that fails. Assumes nothing.
+use mathlib.Core.Path.{sym}
+use native.Mathlib.Omega.{arith}
+use borrow.Author.Needs.{needs}
+use Rattle.receiver.proofs.Fits.{stream-pass, stream-false}
+use Rattle.receiver.proofs.fit.stream_fit.Statement.{statement}
+use Rattle.receiver.proofs.fit.stream_fit.Tie as tie
+
+returns : tie.Need-returns
+returns c = stream-false _ (λ h. omega arith)
+
+returns-2 : tie.Need-returns-2
+returns-2 c = stream-false _ (λ h. omega arith)
+
+returns-3 : tie.Need-returns-3
+returns-3 c = stream-false _ (λ h. omega arith)
+
+sub-if4 : tie.Need-sub-if4
+sub-if4 c = search needs
+
+returns-4 : tie.Need-returns-4
+returns-4 c = stream-false _ (λ h. omega arith)
+
+returns-5 : tie.Need-returns-5
+returns-5 c = stream-false _ (λ h. omega arith)
+
+returns-6 : tie.Need-returns-6
+returns-6 c = stream-false _ (λ h. omega arith)
+
+returns-7 : tie.Need-returns-7
+returns-7 c = stream-false _ (λ h. omega arith)
+
+returns-8 : tie.Need-returns-8
+returns-8 c = stream-false _ (λ h. omega arith)
+
+returns-9 : tie.Need-returns-9
+returns-9 c = stream-false _ (λ h. omega arith)
+
+sub-if10 : tie.Need-sub-if10
+sub-if10 c = search needs
+
+returns-10 : tie.Need-returns-10
+returns-10 c = stream-false _ (λ h. omega arith)
+
+returns-11 : tie.Need-returns-11
+returns-11 c =
+    let late = c .before .before .before .before .before .before .before in
+    let early = late .before .before .before .before .before .before in
+    sym (stream-pass _
+    (omega
+    (arith, early .before .before .before .before .before .before .before .if1 .left, early .before .before .before .before .before .if2 .left, early .before .before .before .if3 .left, early .if4 .left, late .before .before .before .before .if5 .left, late .before .before .if6 .left, late .if7 .left, c .before .before .before .before .before .if8 .left, c .before .before .before .if9 .left)))
+
+pub stream-fit-spec : {M : Type 1} → statement M
+stream-fit-spec =
+    tie.close
+    (tie.spec
+    returns
+    returns-2
+    returns-3
+    sub-if4
+    returns-4
+    returns-5
+    returns-6
+    returns-7
+    returns-8
+    returns-9
+    sub-if10
+    returns-10
+    returns-11)

@@ -1,0 +1,117 @@
+// The stream's numbers after an arrival that is accepted.
+
+use crate::Receiver;
+use crate::Stream;
+use crate::kept::dropped_after;
+use crate::kept::kept_after;
+use rfc4737::Runs;
+use rfc4737::time::next_reference;
+ghost use mathlib.Core.Path.{_≡_};
+ghost use mathlib.Core.List.{List};
+ghost use Prim.Native.Nat.{ℕ, _≤_};
+ghost use lib.Dec.{ltb};
+ghost use Rattle.rfc4737.specs.Order.{nextAfter};
+ghost use Rattle.rfc4737.specs.Runs.{lengthened, ended};
+ghost use Rattle.receiver.specs.Limits.{window, packets, squaresMost};
+ghost use Rattle.receiver.specs.Kept.{heldOf, heldAfter};
+ghost use Rattle.receiver.specs.Step.{placedAt, duplicateStream, inOrderStream, reorderedStream};
+ghost use Rattle.receiver.specs.Private.Parts.{placesOf};
+ghost use Rattle.receiver.specs.Private.Decision.{Small};
+
+// The numbers after a duplicate.
+pub(crate) fn after_duplicate(s: Stream, time: u64) -> Stream
+    requires { ⌜ s .duplicates ≤ packets ⌝ }
+    ensures { λ r. ⌜ r ≡ duplicateStream s time ⌝ }
+{
+    let runs = s.runs;
+    Stream {
+        sent: s.sent,
+        arrived: s.arrived,
+        duplicates: s.duplicates + 1,
+        inorder: s.inorder,
+        next: s.next,
+        kept: s.kept,
+        last: next_reference(s.last, time),
+        runs,
+        dropped: s.dropped,
+    }
+}
+
+// The numbers after an in-order arrival with a jump size, the kept jumps having these numbers.
+pub(crate) fn after_in_order(
+    s: Stream,
+    numbers: &[u16; Receiver::WINDOW],
+    size: u32,
+    number: u32,
+    time: u64,
+) -> Stream
+    requires { ⌜ Small s × (number ≤ packets) ⌝ }
+    ensures { λ r. ⌜ ((positions times : List ℕ) → r ≡ inOrderStream s (heldAfter (ltb (s .kept) window) (heldOf s (placesOf positions (now (numbers .entry)) times)) size (placedAt s number time)) number time) ⌝ }
+{
+    let runs = lengthened(s.runs);
+    Stream {
+        sent: s.sent,
+        arrived: s.arrived + 1,
+        duplicates: s.duplicates,
+        inorder: s.inorder + 1,
+        next: next_after(s.next, number),
+        kept: kept_after(s.kept, size),
+        last: next_reference(s.last, time),
+        runs,
+        dropped: dropped_after(s.dropped, s.kept, size, numbers),
+    }
+}
+
+// The numbers after a reordered packet.
+pub(crate) fn after_reordered(s: Stream, number: u32, time: u64) -> Stream
+    requires { ⌜ Small s × (number ≤ packets) ⌝ }
+    ensures { λ r. ⌜ r ≡ reorderedStream s number time ⌝ }
+{
+    let runs = closed(s.runs);
+    Stream {
+        sent: s.sent,
+        arrived: s.arrived + 1,
+        duplicates: s.duplicates,
+        inorder: s.inorder,
+        next: next_after(s.next, number),
+        kept: s.kept,
+        last: next_reference(s.last, time),
+        runs,
+        dropped: s.dropped,
+    }
+}
+
+// The runs after an in-order packet.
+fn lengthened(runs: Runs) -> Runs
+    requires { ⌜ runs .current ≤ packets ⌝ }
+    ensures { λ r. ⌜ r ≡ lengthened runs ⌝ }
+{
+    Runs {
+        closed: runs.closed,
+        squares: runs.squares,
+        current: runs.current + 1,
+    }
+}
+
+// NextExp after a first arrival of a number.
+fn next_after(next: u32, number: u32) -> u32
+    requires { ⌜ number ≤ packets ⌝ }
+    ensures { λ r. ⌜ r ≡ nextAfter next number ⌝ }
+{
+    if next <= number {
+        return number + 1;
+    }
+    next
+}
+
+// The runs after a reordered packet.
+fn closed(runs: Runs) -> Runs
+    requires { ⌜ (runs .current ≤ packets) × ((runs .closed ≤ packets) × (runs .squares ≤ squaresMost)) ⌝ }
+    ensures { λ r. ⌜ r ≡ ended runs ⌝ }
+{
+    Runs {
+        closed: runs.closed + 1,
+        squares: runs.squares + runs.current * runs.current,
+        current: 0,
+    }
+}
