@@ -33,6 +33,7 @@ enum {
     KRAKOBRAN_STATE_UNFIT = 10,    /* receiver state unfit, or a reordered packet with no greater kept jump */
     KRAKOBRAN_STATE_FULL = 11,     /* receiver has accepted 4,096 arrivals */
     KRAKOBRAN_LISTS_DIFFER = 12,   /* the writer's lists of numbers and of times differ in length */
+    KRAKOBRAN_OCTET_OUTSIDE = 13,  /* a label octet outside hexadecimal 20 to 7E */
     KRAKOBRAN_LINE_MALFORMED = 14  /* a line not of the form, or a value over the field's range */
 };
 

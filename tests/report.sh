@@ -21,6 +21,11 @@ example() {
     done
 }
 
+# The example with a label: its octets are given.
+labelled() {
+    two "${#1}" && printf '%s' "$1" && example 0 5 5 3 70 | tail -c +3
+}
+
 # The longest sample: every arrival is packet 1 at 0.
 longest() {
     two 64 && printf 'x%.0s' {1..64}
@@ -72,6 +77,8 @@ cp "$root/crates/report/stdout" "$dir/expected"
 try 'the embedded example' 0 ''
 example 0 5 5 3 70 > "$dir/file"
 try 'the example as a file' 0 '' "$dir/file"
+labelled ' ~' > "$dir/file"
+try 'the example with a label of 20 and 7E' 0 '' "$dir/file"
 longest > "$dir/longest"
 longest_report > "$dir/expected"
 try "the longest sample, of $(wc -c < "$dir/longest") octets" 0 '' "$dir/longest"
@@ -81,6 +88,8 @@ refused 'an empty file' 1 < /dev/null
 refused 'one octet short' 1 < <(example 0 5 5 3 70 | head -c 75)
 refused 'one octet too many' 2 < <(example 0 5 5 3 70 && printf x)
 refused 'label of 65 octets' 3 < <(example 65 5 5 3 70)
+refused 'a label octet of 1F' 13 < <(labelled $'ab\x1f')
+refused 'a label octet of 7F' 13 < <(labelled $'\x7fab')
 refused 'K of 0' 4 < <(example 0 0 5 3 70)
 refused 'K of 4097' 4 < <(example 0 4097 5 3 70)
 refused 'A of 4097' 5 < <(example 0 5 4097 3 70)
@@ -90,6 +99,7 @@ refused 'time less by 1' 7 < <(example 0 5 5 3 49)
 # Input longer than any sample.
 refused '57415 octets' 2 < <(cat "$dir/longest" && printf x)
 refused '1000000 octets' 2 < <(cat "$dir/longest" && head -c 942586 /dev/zero)
+refused '57415 octets, those of the label 0' 13 < <(two 64 && head -c 57413 /dev/zero)
 refused '1000000 octets of 0' 4 < <(head -c 1000000 /dev/zero)
 
 # What is no file, and bad usage.

@@ -14,6 +14,11 @@ use crate::reference::{
 pub enum Mistake {
     // of the file
     LabelJudgedAfterLength,
+    OctetsBeforeLength,
+    OctetsBeforeCount,
+    OctetsAfterSent,
+    FirstOctetOnly,
+    SevenFShown,
     SentJudgedAfterLength,
     ArrivalsJudgedAfterLength,
     TailJudgedLast,
@@ -89,6 +94,11 @@ impl Mistake {
         use Mistake::*;
         let mut all = vec![
             LabelJudgedAfterLength,
+            OctetsBeforeLength,
+            OctetsBeforeCount,
+            OctetsAfterSent,
+            FirstOctetOnly,
+            SevenFShown,
             SentJudgedAfterLength,
             ArrivalsJudgedAfterLength,
             TailJudgedLast,
@@ -249,11 +259,35 @@ impl Definition {
         Ok(())
     }
 
+    /// Whether some octet of a label lies outside hexadecimal 20 to 7E.
+    fn octet_outside(&self, label: &[u8]) -> bool {
+        let most = if self.is(Mistake::SevenFShown) { 0x7F } else { 0x7E };
+        let looked_at = if self.is(Mistake::FirstOctetOnly) { label.len().min(1) } else { label.len() };
+        label[..looked_at].iter().any(|&octet| octet < 0x20 || octet > most)
+    }
+
+    /// The label's octets, as many as the file has of them.
+    fn judge_octets(&self, file: &[u8]) -> Result<(), u32> {
+        let count = Self::number_at(file, 0, 2).unwrap_or(0) as usize;
+        let octets: Vec<u8> = file.iter().skip(2).take(count).copied().collect();
+        if self.octet_outside(&octets) {
+            return Err(13);
+        }
+        Ok(())
+    }
+
     fn decode(&self, file: &[u8]) -> Result<Lists, u32> {
         use Mistake::*;
+        if self.is(OctetsBeforeCount) || self.is(OctetsBeforeLength) && Self::number_at(file, 0, 2) <= Some(64) {
+            self.judge_octets(file)?;
+        }
         let (label, label_end) = self.section(file, 0, 1, |n| n <= 64, (3, LabelJudgedAfterLength))?;
+        if !self.is(OctetsAfterSent) {
+            self.judge_octets(file)?;
+        }
         let (sizes, sizes_end) =
             self.section(file, label_end, 2, |n| (1..=4096).contains(&n), (4, SentJudgedAfterLength))?;
+        self.judge_octets(file)?;
         let (arrivals, end) = self.section(file, sizes_end, 12, |n| n <= 4096, (5, ArrivalsJudgedAfterLength))?;
         if end < file.len() && !self.is(TailJudgedLast) {
             return Err(2);
@@ -503,8 +537,11 @@ impl Definition {
         let many = if self.is(WriterTimesDecideFive) { numbers.len().max(times.len()) } else { numbers.len() };
         let steps = [
             (self.is(WriterRoomFirst) && length > room, 8),
+            (self.is(OctetsBeforeCount) && self.octet_outside(label), 13),
             (label.len() > 64, 3),
+            (!self.is(OctetsAfterSent) && self.octet_outside(label), 13),
             (sizes.is_empty() || sizes.len() > 4096, 4),
+            (self.octet_outside(label), 13),
             (self.is(WriterDifferBeforeFive) && differ, 12),
             (many > 4096, 5),
             (differ && !self.is(WriterArrivalsBeforeDiffer), 12),

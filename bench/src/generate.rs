@@ -246,6 +246,7 @@ pub enum Damage {
     Flip,
     LabelLong,
     LabelCount,
+    LabelOctet,
     SentNone,
     SentOver,
     SentCount,
@@ -260,13 +261,14 @@ pub enum Damage {
     Noise,
 }
 
-pub const DAMAGES: [Damage; 17] = [
+pub const DAMAGES: [Damage; 18] = [
     Damage::Cut,
     Damage::CutAtBorder,
     Damage::Tail,
     Damage::Flip,
     Damage::LabelLong,
     Damage::LabelCount,
+    Damage::LabelOctet,
     Damage::SentNone,
     Damage::SentOver,
     Damage::SentCount,
@@ -279,6 +281,25 @@ pub const DAMAGES: [Damage; 17] = [
     Damage::TimesShorter,
     Damage::Noise,
 ];
+
+/// An octet that a label may have: hexadecimal 20 to 7E.
+fn shown_octet(random: &mut Random) -> u8 {
+    match random.below(8) {
+        0 => 0x20,
+        1 => 0x7E,
+        _ => random.between_32(0x20, 0x7E) as u8,
+    }
+}
+
+/// An octet that a label may not have.
+fn octet_outside(random: &mut Random) -> u8 {
+    match random.below(4) {
+        0 => 0x1F,
+        1 => 0x7F,
+        2 => random.between_32(0, 0x1F) as u8,
+        _ => random.between_32(0x7F, 0xFF) as u8,
+    }
+}
 
 /// A number outside 1 to K; some have low bits that lie inside.
 pub fn number_outside(random: &mut Random, sent: u32) -> u32 {
@@ -326,6 +347,14 @@ fn damage(random: &mut Random, draft: &mut Draft, damage: Damage) {
             draft.label = (0..many).map(|_| random.draw() as u8).collect();
         }
         Damage::LabelCount => draft.counts[0] = Some(random.pick(&[0, 1, 63, 64, 65, 255, 256, 320, 0x4000, 0xFFFF])),
+        Damage::LabelOctet => {
+            if draft.label.is_empty() {
+                draft.label = (0..random.between(1, 64)).map(|_| shown_octet(random)).collect();
+            }
+            let last = draft.label.len() - 1;
+            let at = random.pick(&[0, last, last / 2]);
+            draft.label[at] = octet_outside(random);
+        }
         Damage::SentNone => draft.sizes.clear(),
         Damage::SentOver => {
             let many = random.pick(&[4097, 4097, 4098, 5000]);
@@ -401,7 +430,7 @@ pub fn sound(random: &mut Random, order: Order, sent: usize) -> Draft {
     }
     numbers.truncate(MOST_ARRIVALS);
     Draft {
-        label: (0..label).map(|_| random.draw() as u8).collect(),
+        label: (0..label).map(|_| shown_octet(random)).collect(),
         sizes: (0..sent).map(|_| if equal { same } else { random.draw() as u16 }).collect(),
         times: rising_times(random, numbers.len()),
         numbers,

@@ -29,6 +29,8 @@ pub const RECEIVER_UNFIT: u32 = 10;
 pub const RECEIVER_FULL: u32 = 11;
 /// The writer's lists of numbers and of times differ in length.
 pub const LISTS_DIFFER: u32 = 12;
+/// A label octet outside hexadecimal 20 to 7E.
+pub const LABEL_OCTET: u32 = 13;
 
 // The limits of a sample.
 pub const MOST_LABEL: usize = 64;
@@ -175,12 +177,18 @@ fn judge_arrivals(arrivals: impl Iterator<Item = (u32, u64)>, sent: u32) -> Resu
     Ok(())
 }
 
-/// The file taken apart, or its refusal, 1 to 7.
+/// Judges the octets of a label.
+fn judge_octets(label: &[u8]) -> Result<(), u32> {
+    judge(label.iter().all(|octet| (0x20..=0x7E).contains(octet)), LABEL_OCTET)
+}
+
+/// The file taken apart, or its refusal, 1 to 7 or 13.
 pub fn check(file: &[u8]) -> Result<Sample<'_>, u32> {
     let mut rest = file;
     let length = count(&mut rest)?;
     judge(length <= MOST_LABEL, LABEL_COUNT)?;
     let label = take(&mut rest, length)?;
+    judge_octets(label)?;
     let sent = count(&mut rest)?;
     judge((1..=MOST_SENT).contains(&sent), SENT_COUNT)?;
     let sizes = take(&mut rest, 2 * sent)?.as_chunks::<2>().0;
@@ -228,7 +236,7 @@ pub fn read(file: &[u8], sizes: &mut [u16], numbers: &mut [u32], times: &mut [u6
     Read::of(&sample)
 }
 
-/// The label as a part of the file; with a refusal, 1 to 7, the empty part at its start.
+/// The label as a part of the file; with a refusal, 1 to 7 or 13, the empty part at its start.
 pub fn label(file: &[u8]) -> &[u8] {
     check(file).map_or(&file[..0], |sample| sample.label)
 }
@@ -247,6 +255,7 @@ pub fn write(label: &[u8], sizes: &[u16], numbers: &[u32], times: &[u64], out: &
 /// The length of the file of these lists, or the writer's refusal.
 fn judge_lists(label: &[u8], sizes: &[u16], numbers: &[u32], times: &[u64], room: usize) -> Result<usize, u32> {
     judge(label.len() <= MOST_LABEL, LABEL_COUNT)?;
+    judge_octets(label)?;
     judge((1..=MOST_SENT).contains(&sizes.len()), SENT_COUNT)?;
     judge(numbers.len() <= MOST_ARRIVALS, ARRIVAL_COUNT)?;
     judge(numbers.len() == times.len(), LISTS_DIFFER)?;

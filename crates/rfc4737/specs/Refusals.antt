@@ -53,6 +53,10 @@ stateFull = 11
 abbrev pub listsDiffer : ℕ
 listsDiffer = 12
 
+-- 13: a label octet outside hexadecimal 20 to 7E
+abbrev pub octetOutside : ℕ
+octetOutside = 13
+
 -- 14: a line not of the form, or a value over the field's range
 abbrev pub lineMalformed : ℕ
 lineMalformed = 14

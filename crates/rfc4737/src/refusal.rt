@@ -26,4 +26,6 @@ pub const STATE_FULL: u32 = 11;
 
 pub const LISTS_DIFFER: u32 = 12;
 
+pub const OCTET_OUTSIDE: u32 = 13;
+
 pub const LINE_MALFORMED: u32 = 14;

@@ -1,7 +1,7 @@
 -- Decoding: what it says of a file that nothing is refused, and when that is so. Assumes nothing.
 use Prim.Native.Nat.{ℕ, zero, suc, _+_, _≤_, _<_}
 use native.Mathlib.Omega.{arith}
-use mathlib.Core.Bool.{false}
+use mathlib.Core.Bool.{true, false}
 use mathlib.Core.Path.{_≡_, refl, ap, _∙_}
 use mathlib.Core.List.{List, [], _∷_}
 use borrow.Author.Tests.{le-ltb, ltb-false}
@@ -9,11 +9,11 @@ use lib.Dec.{ltb}
 use lib.ListN.{length}
 use Rattle.octets.specs.BigEndian.{beValue}
 use Rattle.octets.proofs.Memory.{part-length}
-use Rattle.rfc4737.specs.Refusals.{outside, endsEarly, octetsFollow, longLabel, sentOutside, manyArrivals}
+use Rattle.rfc4737.specs.Refusals.{outside, endsEarly, octetsFollow, longLabel, octetOutside, sentOutside, manyArrivals}
 use Rattle.rfc4737.specs.Judge.{sentMost, arrivalsMost, judgeSent, judgeArrivals, judge}
 use Rattle.sample.specs.Format.{Sample, labelMost}
-use Rattle.sample.specs.Judge.{judgeLabel}
-use Rattle.sample.specs.Decode.{countAt, endOf, labelCount, sentAt, sentCount, arrivedAt, arrivalCount, fileEnd, arrivalIn, arrivalsIn, sampleIn, countStage, lengthStage, sectionStage, labelStage, sentStage, arrivedStage, endStage, arrivalsStage, refusalIn, refused, accepted, decided, decode, refusalOf, layoutOf}
+use Rattle.sample.specs.Judge.{judgeLabel, someUnshown}
+use Rattle.sample.specs.Decode.{countAt, endOf, labelCount, sentAt, sentCount, arrivedAt, arrivalCount, fileEnd, arrivalIn, labelIn, arrivalsIn, sampleIn, countStage, lengthStage, sectionStage, labelStage, octetsStage, sentStage, arrivedStage, endStage, arrivalsStage, refusalIn, refused, accepted, decided, decode, refusalOf, layoutOf}
 use Rattle.rfc4737.proofs.Due.{first-none, first-due, first-one, case-none, between, not-outside}
 use Rattle.sample.proofs.Items.{items-length}
 
@@ -45,6 +45,7 @@ none-stage at width judged file e h =
 -- what holds of a file of which nothing is refused
 pub record WholeFile (file : List ℕ) : Type 0 where
   pub labelFits : labelCount file ≤ labelMost
+  pub shown : someUnshown (labelIn file) ≡ false
   pub sentSome : 1 ≤ sentCount file
   pub sentFits : sentCount file ≤ sentMost
   pub arrivalsFit : arrivalCount file ≤ arrivalsMost
@@ -53,35 +54,37 @@ pub record WholeFile (file : List ℕ) : Type 0 where
 
 -- each stage refuses nothing
 pub none-stages : (file : List ℕ) → refusalIn file ≡ 0
-    → (labelStage file ≡ 0) × (sentStage file ≡ 0) × (arrivedStage file ≡ 0) × (endStage file ≡ 0) × (arrivalsStage file ≡ 0)
+    → (labelStage file ≡ 0) × (octetsStage file ≡ 0) × (sentStage file ≡ 0) × (arrivedStage file ≡ 0) × (endStage file ≡ 0) × (arrivalsStage file ≡ 0)
 unfolding refusalIn
 none-stages file e =
-    let a = first-none (labelStage file) (sentStage file ∷ arrivedStage file ∷ endStage file ∷ arrivalsStage file ∷ []) e in
-    let b = first-none (sentStage file) (arrivedStage file ∷ endStage file ∷ arrivalsStage file ∷ []) (a .1) in
+    let a = first-none (labelStage file) (octetsStage file ∷ sentStage file ∷ arrivedStage file ∷ endStage file ∷ arrivalsStage file ∷ []) e in
+    let o = first-none (octetsStage file) (sentStage file ∷ arrivedStage file ∷ endStage file ∷ arrivalsStage file ∷ []) (a .1) in
+    let b = first-none (sentStage file) (arrivedStage file ∷ endStage file ∷ arrivalsStage file ∷ []) (o .1) in
     let c = first-none (arrivedStage file) (endStage file ∷ arrivalsStage file ∷ []) (b .1) in
     let d = first-none (endStage file) (arrivalsStage file ∷ []) (c .1) in
     let f = first-none (arrivalsStage file) [] (d .1) in
-    (a .0, b .0, c .0, d .0, f .0)
+    (a .0, o .0, b .0, c .0, d .0, f .0)
 
 -- nothing is refused: all of that holds
 pub refused-none : (file : List ℕ) → refusalIn file ≡ 0 → WholeFile file
 refused-none file e =
     let s = none-stages file e in
     let l = stage-none 0 1 judgeLabel file (s .0) in
-    let k = stage-none (sentAt file) 2 judgeSent file (s .1) in
-    let a = stage-none (arrivedAt file) 12 judgeArrivals file (s .2) in
+    let k = stage-none (sentAt file) 2 judgeSent file (s .2) in
+    let a = stage-none (arrivedAt file) 12 judgeArrivals file (s .3) in
     let p = between 0 labelMost (labelCount file) (case-none (outside 0 labelMost (labelCount file)) longLabel (omega arith) (l .1)) in
     let q = between 1 sentMost (sentCount file) (case-none (outside 1 sentMost (sentCount file)) sentOutside (omega arith) (k .1)) in
     let r = between 0 arrivalsMost (arrivalCount file) (case-none (outside 0 arrivalsMost (arrivalCount file)) manyArrivals (omega arith) (a .1)) in
-    let t : length file ≤ fileEnd file = ltb-false (fileEnd file) (length file) (case-none (ltb (fileEnd file) (length file)) octetsFollow (omega arith) (s .3)) in
+    let t : length file ≤ fileEnd file = ltb-false (fileEnd file) (length file) (case-none (ltb (fileEnd file) (length file)) octetsFollow (omega arith) (s .4)) in
     let u : fileEnd file ≤ length file = a .2 in
     record {
       labelFits = p .1;
+      shown = case-none (someUnshown (labelIn file)) octetOutside (omega arith) (s .1);
       sentSome = q .0;
       sentFits = q .1;
       arrivalsFit = r .1;
       ends = omega arith;
-      judged = s .4;
+      judged = s .5;
     }
 
 -- all of that holds: nothing is refused
@@ -93,7 +96,7 @@ none-refused file w =
     let q : sentStage file ≡ 0 = none-stage (sentAt file) 2 judgeSent file (simp (not-outside 1 sentMost (sentCount file) (w .sentSome) (w .sentFits))) (omega arith) in
     let r : arrivedStage file ≡ 0 = none-stage (arrivedAt file) 12 judgeArrivals file (simp (not-outside 0 arrivalsMost (arrivalCount file) (omega arith) (w .arrivalsFit))) (omega arith) in
     let f : ltb (fileEnd file) (length file) ≡ false = le-ltb (fileEnd file) (length file) (omega arith) in
-    simp (p, q, r, f, w .judged)
+    simp (p, w .shown, q, r, f, w .judged)
 
 -- ---- the answer
 
@@ -152,29 +155,35 @@ layout-accepted file e =
 -- ---- a refusal, by the stage that refuses
 
 module _ (file : List ℕ) (p : labelStage file ≡ 0) where
-  module _ (q : sentStage file ≡ 0) where
-    module _ (r : arrivedStage file ≡ 0) where
-      -- octets follow the last section
-      pub refused-end : (n : ℕ) → 0 < n → endStage file ≡ n → refusalIn file ≡ n
-      unfolding refusalIn
-      refused-end n h e = simp (p, q, r, e) (first-due n (arrivalsStage file ∷ []) h)
+  module _ (o : someUnshown (labelIn file) ≡ false) where
+    module _ (q : sentStage file ≡ 0) where
+      module _ (r : arrivedStage file ≡ 0) where
+        -- octets follow the last section
+        pub refused-end : (n : ℕ) → 0 < n → endStage file ≡ n → refusalIn file ≡ n
+        unfolding refusalIn
+        refused-end n h e = simp (p, o, q, r, e) (first-due n (arrivalsStage file ∷ []) h)
 
-      -- an arrival is refused, or nothing is
-      pub refused-arrivals : (n : ℕ) → endStage file ≡ 0 → arrivalsStage file ≡ n → refusalIn file ≡ n
-      unfolding refusalIn
-      refused-arrivals n e f = simp (p, q, r, e, f) (first-one n)
+        -- an arrival is refused, or nothing is
+        pub refused-arrivals : (n : ℕ) → endStage file ≡ 0 → arrivalsStage file ≡ n → refusalIn file ≡ n
+        unfolding refusalIn
+        refused-arrivals n e f = simp (p, o, q, r, e, f) (first-one n)
 
-    -- the section of arrivals is refused
-    pub refused-arrived : (n : ℕ) → 0 < n → arrivedStage file ≡ n → refusalIn file ≡ n
+      -- the section of arrivals is refused
+      pub refused-arrived : (n : ℕ) → 0 < n → arrivedStage file ≡ n → refusalIn file ≡ n
+      unfolding refusalIn
+      refused-arrived n h e = simp (p, o, q, e) (first-due n (endStage file ∷ arrivalsStage file ∷ []) h)
+
+    -- the section of sent packets is refused
+    pub refused-sent : (n : ℕ) → 0 < n → sentStage file ≡ n → refusalIn file ≡ n
     unfolding refusalIn
-    refused-arrived n h e = simp (p, q, e) (first-due n (endStage file ∷ arrivalsStage file ∷ []) h)
+    refused-sent n h e = simp (p, o, e) (first-due n (arrivedStage file ∷ endStage file ∷ arrivalsStage file ∷ []) h)
 
-  -- the section of sent packets is refused
-  pub refused-sent : (n : ℕ) → 0 < n → sentStage file ≡ n → refusalIn file ≡ n
+  -- an octet of the label cannot be shown
+  pub refused-octets : someUnshown (labelIn file) ≡ true → refusalIn file ≡ octetOutside
   unfolding refusalIn
-  refused-sent n h e = simp (p, e) (first-due n (arrivedStage file ∷ endStage file ∷ arrivalsStage file ∷ []) h)
+  refused-octets o = simp (p, o)
 
 -- the section of the label is refused
 pub refused-label : (file : List ℕ) (n : ℕ) → 0 < n → labelStage file ≡ n → refusalIn file ≡ n
 unfolding refusalIn
-refused-label file n h e = simp e (first-due n (sentStage file ∷ arrivedStage file ∷ endStage file ∷ arrivalsStage file ∷ []) h)
+refused-label file n h e = simp e (first-due n (octetsStage file ∷ sentStage file ∷ arrivedStage file ∷ endStage file ∷ arrivalsStage file ∷ []) h)

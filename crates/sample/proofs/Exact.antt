@@ -16,11 +16,11 @@ use Rattle.octets.proofs.Below.{below-part, below-drop}
 use Rattle.octets.proofs.BigEndian.{octets-length, value-octets}
 use Rattle.octets.proofs.Memory.{part-length, part-append}
 use Rattle.rfc4737.specs.declared.Arrival.{Arrival}
-use Rattle.rfc4737.specs.Refusals.{outside, longLabel, sentOutside, manyArrivals}
+use Rattle.rfc4737.specs.Refusals.{outside, longLabel, octetOutside, sentOutside, manyArrivals}
 use Rattle.rfc4737.specs.Judge.{sentMost, arrivalsMost, judgeSent, judgeArrivals, judge}
 use Rattle.sample.specs.Format.{Sample, section, sizeOctets, arrivalOctets, itemOctets, itemsIn, fileOf, labelMost}
-use Rattle.sample.specs.Judge.{judgeLabel, judgeSample, Fit}
-use Rattle.sample.specs.Decode.{countAt, endOf, labelCount, sentAt, sentCount, arrivedAt, arrivalCount, arrivalIn, sizesIn, arrivalsIn, sampleIn, decode, accepted}
+use Rattle.sample.specs.Judge.{judgeLabel, someUnshown, judgeOctets, judgeSample, Fit}
+use Rattle.sample.specs.Decode.{countAt, endOf, labelCount, sentAt, sentCount, arrivedAt, arrivalCount, arrivalIn, labelIn, sizesIn, arrivalsIn, sampleIn, decode, accepted}
 use Rattle.sample.specs.RoundTrip.{Exact}
 use Rattle.rfc4737.proofs.Due.{first-none, case-none, between, not-outside}
 use Rattle.sample.proofs.Items.{items-length, items-stand, part-fits, octets-many, read-written, written-read, arrival-long, arrival-read, arrival-back, time-stands, size-long, size-back}
@@ -36,6 +36,7 @@ none = record { number = 0; time = 0 }
 -- what holds of a sample of which nothing is refused
 pub record Limits (s : Sample) : Type 0 where
   pub labelFits : length (s .label) ≤ labelMost
+  pub shown : someUnshown (s .label) ≡ false
   pub sentSome : 1 ≤ length (s .sizes)
   pub sentFits : length (s .sizes) ≤ sentMost
   pub arrivalsFit : length (s .arrivals) ≤ arrivalsMost
@@ -45,14 +46,16 @@ pub record Limits (s : Sample) : Type 0 where
 pub limits : (s : Sample) → judgeSample s ≡ 0 → Limits s
 unfolding judgeSample
 limits s e =
-    let a = first-none (judgeLabel (length (s .label))) (judgeSent (length (s .sizes)) ∷ judgeArrivals (length (s .arrivals)) ∷ judge (length (s .sizes)) 0 (s .arrivals) ∷ []) e in
-    let b = first-none (judgeSent (length (s .sizes))) (judgeArrivals (length (s .arrivals)) ∷ judge (length (s .sizes)) 0 (s .arrivals) ∷ []) (a .1) in
+    let a = first-none (judgeLabel (length (s .label))) (judgeOctets (s .label) ∷ judgeSent (length (s .sizes)) ∷ judgeArrivals (length (s .arrivals)) ∷ judge (length (s .sizes)) 0 (s .arrivals) ∷ []) e in
+    let o = first-none (judgeOctets (s .label)) (judgeSent (length (s .sizes)) ∷ judgeArrivals (length (s .arrivals)) ∷ judge (length (s .sizes)) 0 (s .arrivals) ∷ []) (a .1) in
+    let b = first-none (judgeSent (length (s .sizes))) (judgeArrivals (length (s .arrivals)) ∷ judge (length (s .sizes)) 0 (s .arrivals) ∷ []) (o .1) in
     let c = first-none (judgeArrivals (length (s .arrivals))) (judge (length (s .sizes)) 0 (s .arrivals) ∷ []) (b .1) in
     let d = first-none (judge (length (s .sizes)) 0 (s .arrivals)) [] (c .1) in
     let p = between 0 labelMost (length (s .label)) (case-none (outside 0 labelMost (length (s .label))) longLabel (omega arith) (a .0)) in
     let q = between 1 sentMost (length (s .sizes)) (case-none (outside 1 sentMost (length (s .sizes))) sentOutside (omega arith) (b .0)) in
     let r = between 0 arrivalsMost (length (s .arrivals)) (case-none (outside 0 arrivalsMost (length (s .arrivals))) manyArrivals (omega arith) (c .0)) in
-    record { labelFits = p .1; sentSome = q .0; sentFits = q .1; arrivalsFit = r .1; judged = d .0 }
+    let t = case-none (someUnshown (s .label)) octetOutside (omega arith) (o .0) in
+    record { labelFits = p .1; shown = t; sentSome = q .0; sentFits = q .1; arrivalsFit = r .1; judged = d .0 }
 
 -- all of that holds: nothing is refused
 pub within-limits : (s : Sample) → Limits s → judgeSample s ≡ 0
@@ -61,7 +64,7 @@ within-limits s l =
     let p = not-outside 0 labelMost (length (s .label)) (omega arith) (l .labelFits) in
     let q = not-outside 1 sentMost (length (s .sizes)) (l .sentSome) (l .sentFits) in
     let r = not-outside 0 arrivalsMost (length (s .arrivals)) (omega arith) (l .arrivalsFit) in
-    simp (p, q, r, l .judged)
+    simp (p, l .shown, q, r, l .judged)
 
 -- ---- an accepted file is the file of its sample
 
@@ -102,8 +105,8 @@ module _ (file : List ℕ) (o : Octets file) (w : WholeFile file) where
   label-back : section (length (sampleIn file .label)) (sampleIn file .label) ≡ part 0 (2 + 1 * labelCount file) file
   unfolding sampleIn
   label-back =
-      ap (λ (n : ℕ). section n (part 2 (labelCount file) file)) (label-length file w)
-      ∙ section-back 0 1 (part 2 (labelCount file) file) file o sent-within (let e : labelCount file ≡ 1 * labelCount file = omega arith in ap (λ (n : ℕ). part 2 n file) e)
+      ap (λ (n : ℕ). section n (labelIn file)) (label-length file w)
+      ∙ section-back 0 1 (labelIn file) file o sent-within (let e : labelCount file ≡ 1 * labelCount file = omega arith in ap (λ (n : ℕ). part 2 n file) e)
 
   -- the sent packets, written back
   sizes-back : section (length (sampleIn file .sizes)) (itemOctets sizeOctets (sampleIn file .sizes)) ≡ part (sentAt file) (2 + 2 * sentCount file) file
@@ -150,12 +153,12 @@ module _ (file : List ℕ) (o : Octets file) (w : WholeFile file) where
       record {
         judged = within-limits (sampleIn file) (record {
           labelFits = rw l (w .labelFits);
+          shown = w .shown;
           sentSome = rw k (w .sentSome);
           sentFits = rw k (w .sentFits);
           arrivalsFit = rw a (w .arrivalsFit);
           judged = rw k (w .judged);
         });
-        octets = below-part 256 2 (labelCount file) file o;
         sizes = items-below (2 ^ 16) 2 beValue (λ (n : ℕ). n) 0 refl (omega arith) (sentCount file) (sentAt file + 2) file (λ i. part-fits 2 (sentAt file + 2 + 2 * i) file o);
         times = λ i. rw (List·getD-map (λ (x : Arrival). x .time) (arrivalsIn file) i none)
             (items-below (2 ^ 64) 12 arrivalIn (λ (x : Arrival). x .time) none refl (omega arith) (arrivalCount file) (arrivedAt file + 2) file
@@ -260,7 +263,7 @@ module _ (s : Sample) (f : Fit s) where
       ∙ section-count (labelSection s ++ sentSection s) (arrivalsPart s) [] (length (s .arrivals)) (arrivedAt (fileOf s)) arrived-begins (omega arith)
 
   -- the label
-  label-found : part 2 (labelCount (fileOf s)) (fileOf s) ≡ s .label
+  label-found : labelIn (fileOf s) ≡ s .label
   unfolding fileOf
   label-found =
       ap (λ (n : ℕ). take n (drop 2 (fileOf s))) label-count
@@ -301,6 +304,7 @@ module _ (s : Sample) (f : Fit s) where
       let d = file-length s in
       record {
         labelFits = omega arith;
+        shown = ap someUnshown label-found ∙ l .shown;
         sentSome = omega arith;
         sentFits = omega arith;
         arrivalsFit = omega arith;

@@ -2,6 +2,7 @@
 pub mod Cases
 pub mod Items
 pub mod Readings
+pub mod Shown
 pub mod Writing
 pub mod Decoded
 pub mod Exact

@@ -11,19 +11,21 @@ use lib.ListN.{length, take, drop, length-take, replicate, length-replicate}
 use lib.Seq.{take-take}
 use Rattle.octets.specs.Below.{Below, Octets}
 use Rattle.octets.specs.BigEndian.{beValue}
+use Rattle.octets.specs.Memory.{part}
 use Rattle.octets.proofs.Below.{below-nil, below-cons}
 use Rattle.octets.proofs.Memory.{drop-take}
 use Rattle.rfc4737.specs.declared.Arrival.{Arrival}
 use Rattle.rfc4737.specs.Times.{tooEarly, nextReference}
-use Rattle.rfc4737.specs.Refusals.{outside, inCase, octetsFollow, longLabel, sentOutside, manyArrivals}
+use Rattle.rfc4737.specs.Refusals.{outside, inCase, octetsFollow, longLabel, octetOutside, sentOutside, manyArrivals}
 use Rattle.rfc4737.specs.Judge.{sentMost, arrivalsMost, timesOf, judgeSent, judgeArrivals, judgeOne, judge}
-use Rattle.sample.specs.Format.{fileOf, labelMost, longest}
-use Rattle.sample.specs.Judge.{judgeLabel, Fit}
-use Rattle.sample.specs.Decode.{countAt, endOf, lengthStage, labelCount, sentAt, sentCount, arrivedAt, arrivalCount, fileEnd, sectionStage, labelStage, sentStage, refusalIn, Decoded, decode, refusalOf}
+use Rattle.sample.specs.Format.{fileOf, labelMost, shownLeast, longest}
+use Rattle.sample.specs.Judge.{judgeLabel, someUnshown, Fit}
+use Rattle.sample.specs.Decode.{countAt, endOf, lengthStage, labelCount, sentAt, sentCount, arrivedAt, arrivalCount, fileEnd, labelIn, sectionStage, labelStage, sentStage, refusalIn, Decoded, decode, refusalOf}
 use Rattle.sample.specs.RoundTrip.{filled, among, Lengths}
 use Rattle.rfc4737.proofs.Due.{between, not-outside, first-due}
-use Rattle.sample.proofs.Decoded.{none-stage, decode-refused, refused-label, refused-sent, refused-arrived, refused-end}
+use Rattle.sample.proofs.Decoded.{none-stage, decode-refused, refused-label, refused-octets, refused-sent, refused-arrived, refused-end}
 use Rattle.sample.proofs.Exact.{within-limits, file-length, decode-file}
+use Rattle.sample.proofs.Shown.{spaces-shown}
 use Rattle.sample.proofs.Accepted.{accepted-most}
 
 -- a count that is refused
@@ -52,59 +54,67 @@ module _ (f : List ℕ) (h : longest < length f) where
         let p = between 0 labelMost (labelCount f) a in
         (p .1, stage-passed 0 1 0 labelMost longLabel f a (omega arith))
 
-    -- a wrong K
-    four : outside 1 sentMost (sentCount f) ≡ true → refusalIn f ≡ sentOutside
-    four t =
-        let p = label-passed in
-        refused-sent f (p .1) sentOutside (omega arith)
-        (stage-judged (sentAt f) 2 judgeSent f sentOutside (omega arith) (omega arith) (ap (λ (b : Bool). inCase b sentOutside) t))
+    -- a label octet that cannot be shown
+    thirteen : someUnshown (labelIn f) ≡ true → refusalIn f ≡ octetOutside
+    thirteen t = refused-octets f (label-passed .1) t
 
-    module _ (b : outside 1 sentMost (sentCount f) ≡ false) where
-      -- the sizes are there
-      sent-passed : (sentCount f ≤ sentMost) × (sentStage f ≡ 0)
-      sent-passed =
+    module _ (o : someUnshown (labelIn f) ≡ false) where
+      -- a wrong K
+      four : outside 1 sentMost (sentCount f) ≡ true → refusalIn f ≡ sentOutside
+      four t =
           let p = label-passed in
-          let q = between 1 sentMost (sentCount f) b in
-          (q .1, stage-passed (sentAt f) 2 1 sentMost sentOutside f b (omega arith))
+          refused-sent f (p .1) o sentOutside (omega arith)
+          (stage-judged (sentAt f) 2 judgeSent f sentOutside (omega arith) (omega arith) (ap (λ (b : Bool). inCase b sentOutside) t))
 
-      -- too many arrivals
-      five : outside 0 arrivalsMost (arrivalCount f) ≡ true → refusalIn f ≡ manyArrivals
-      five t =
-          let p = label-passed in
-          let q = sent-passed in
-          refused-arrived f (p .1) (q .1) manyArrivals (omega arith)
-          (stage-judged (arrivedAt f) 12 judgeArrivals f manyArrivals (omega arith) (omega arith) (ap (λ (c : Bool). inCase c manyArrivals) t))
+      module _ (b : outside 1 sentMost (sentCount f) ≡ false) where
+        -- the sizes are there
+        sent-passed : (sentCount f ≤ sentMost) × (sentStage f ≡ 0)
+        sent-passed =
+            let p = label-passed in
+            let q = between 1 sentMost (sentCount f) b in
+            (q .1, stage-passed (sentAt f) 2 1 sentMost sentOutside f b (omega arith))
 
-      -- octets that follow
-      two : outside 0 arrivalsMost (arrivalCount f) ≡ false → refusalIn f ≡ octetsFollow
-      two t =
-          let p = label-passed in
-          let q = sent-passed in
-          let r = between 0 arrivalsMost (arrivalCount f) t in
-          refused-end f (p .1) (q .1) (stage-passed (arrivedAt f) 12 0 arrivalsMost manyArrivals f t (omega arith)) octetsFollow (omega arith)
-          (ap (λ (c : Bool). inCase c octetsFollow) (lt-ltb (fileEnd f) (length f) (omega arith)))
+        -- too many arrivals
+        five : outside 0 arrivalsMost (arrivalCount f) ≡ true → refusalIn f ≡ manyArrivals
+        five t =
+            let p = label-passed in
+            let q = sent-passed in
+            refused-arrived f (p .1) o (q .1) manyArrivals (omega arith)
+            (stage-judged (arrivedAt f) 12 judgeArrivals f manyArrivals (omega arith) (omega arith) (ap (λ (c : Bool). inCase c manyArrivals) t))
+
+        -- octets that follow
+        two : outside 0 arrivalsMost (arrivalCount f) ≡ false → refusalIn f ≡ octetsFollow
+        two t =
+            let p = label-passed in
+            let q = sent-passed in
+            let r = between 0 arrivalsMost (arrivalCount f) t in
+            refused-end f (p .1) o (q .1) (stage-passed (arrivedAt f) 12 0 arrivalsMost manyArrivals f t (omega arith)) octetsFollow (omega arith)
+            (ap (λ (c : Bool). inCase c octetsFollow) (lt-ltb (fileEnd f) (length f) (omega arith)))
 
 -- ---- its first octets
+
+-- a part that stands within them
+part-within : (at n m : ℕ) (file : List ℕ) → at + n ≤ m → part at n (take m file) ≡ part at n file
+part-within at n m file h = ap (take n) (drop-take at m file) ∙ take-take n (m - at) (drop at file) (omega arith)
 
 -- a count that stands within them
 count-within : (at m : ℕ) (file : List ℕ) → at + 2 ≤ m → countAt at (take m file) ≡ countAt at file
 unfolding countAt
-count-within at m file h =
-    ap beValue (ap (take 2) (drop-take at m file) ∙ take-take 2 (m - at) (drop at file) (omega arith))
+count-within at m file h = ap beValue (part-within at 2 m file h)
 
 -- one octet more than the longest sample has
 abbrev pub begin : List ℕ → List ℕ
 begin file = take (longest + 1) file
 
 -- the refusals that a longer file can have
-abbrev fourRefusals : List ℕ
-fourRefusals = octetsFollow ∷ longLabel ∷ sentOutside ∷ manyArrivals ∷ []
+abbrev longerRefusals : List ℕ
+longerRefusals = octetsFollow ∷ longLabel ∷ octetOutside ∷ sentOutside ∷ manyArrivals ∷ []
 
 -- the whole and its beginning are refused with one of them
 record Refused (file : List ℕ) : Type 0 where
   pub with : ℕ
   pub due : 0 < with
-  pub one : among with fourRefusals ≡ true
+  pub one : among with longerRefusals ≡ true
   pub whole : refusalIn file ≡ with
   pub start : refusalIn (begin file) ≡ with
 
@@ -119,35 +129,45 @@ longer-refused f h = first (outside 0 labelMost (labelCount f)) refl where
   l = count-within 0 (longest + 1) f (omega arith)
 
   -- by the count of arrivals
-  third : (t : Bool) → outside 0 arrivalsMost (arrivalCount f) ≡ t
-      → outside 0 labelMost (labelCount f) ≡ false → outside 1 sentMost (sentCount f) ≡ false
-      → sentCount (begin f) ≡ sentCount f → arrivalCount (begin f) ≡ arrivalCount f
+  fourth : (t : Bool) → outside 0 arrivalsMost (arrivalCount f) ≡ t
+      → outside 0 labelMost (labelCount f) ≡ false → someUnshown (labelIn f) ≡ false → outside 1 sentMost (sentCount f) ≡ false
+      → labelIn (begin f) ≡ labelIn f → sentCount (begin f) ≡ sentCount f → arrivalCount (begin f) ≡ arrivalCount f
       → Refused f
-  third true e a b s r =
-      record { with = manyArrivals; due = omega arith; one = refl; whole = five f h a b e; start = five (begin f) k (ap (outside 0 labelMost) l ∙ a) (ap (outside 1 sentMost) s ∙ b) (ap (outside 0 arrivalsMost) r ∙ e) }
-  third false e a b s r =
-      record { with = octetsFollow; due = omega arith; one = refl; whole = two f h a b e; start = two (begin f) k (ap (outside 0 labelMost) l ∙ a) (ap (outside 1 sentMost) s ∙ b) (ap (outside 0 arrivalsMost) r ∙ e) }
+  fourth true e a o b n s r =
+      record { with = manyArrivals; due = omega arith; one = refl; whole = five f h a o b e; start = five (begin f) k (ap (outside 0 labelMost) l ∙ a) (ap someUnshown n ∙ o) (ap (outside 1 sentMost) s ∙ b) (ap (outside 0 arrivalsMost) r ∙ e) }
+  fourth false e a o b n s r =
+      record { with = octetsFollow; due = omega arith; one = refl; whole = two f h a o b e; start = two (begin f) k (ap (outside 0 labelMost) l ∙ a) (ap someUnshown n ∙ o) (ap (outside 1 sentMost) s ∙ b) (ap (outside 0 arrivalsMost) r ∙ e) }
 
   -- by the count of sent packets
-  second : (t : Bool) → outside 1 sentMost (sentCount f) ≡ t → outside 0 labelMost (labelCount f) ≡ false → sentCount (begin f) ≡ sentCount f
+  third : (t : Bool) → outside 1 sentMost (sentCount f) ≡ t → outside 0 labelMost (labelCount f) ≡ false → someUnshown (labelIn f) ≡ false
+      → labelIn (begin f) ≡ labelIn f → sentCount (begin f) ≡ sentCount f
       → Refused f
-  second true e a s =
-      record { with = sentOutside; due = omega arith; one = refl; whole = four f h a e; start = four (begin f) k (ap (outside 0 labelMost) l ∙ a) (ap (outside 1 sentMost) s ∙ e) }
-  second false e a s =
+  third true e a o n s =
+      record { with = sentOutside; due = omega arith; one = refl; whole = four f h a o e; start = four (begin f) k (ap (outside 0 labelMost) l ∙ a) (ap someUnshown n ∙ o) (ap (outside 1 sentMost) s ∙ e) }
+  third false e a o n s =
       let p = between 0 labelMost (labelCount f) a in
       let q = between 1 sentMost (sentCount f) e in
       let u : arrivedAt (begin f) ≡ arrivedAt f = omega (arith, l) in
-      third (outside 0 arrivalsMost (arrivalCount f)) refl a e s
+      fourth (outside 0 arrivalsMost (arrivalCount f)) refl a o e n s
       (ap (λ (n : ℕ). countAt n (begin f)) u ∙ count-within (arrivedAt f) (longest + 1) f (omega arith))
+
+  -- by the octets of the label
+  second : (t : Bool) → someUnshown (labelIn f) ≡ t → outside 0 labelMost (labelCount f) ≡ false → labelIn (begin f) ≡ labelIn f → Refused f
+  second true e a n =
+      record { with = octetOutside; due = omega arith; one = refl; whole = thirteen f h a e; start = thirteen (begin f) k (ap (outside 0 labelMost) l ∙ a) (ap someUnshown n ∙ e) }
+  second false e a n =
+      let p = between 0 labelMost (labelCount f) a in
+      let u : sentAt (begin f) ≡ sentAt f = omega (arith, l) in
+      third (outside 1 sentMost (sentCount f)) refl a e n
+      (ap (λ (n : ℕ). countAt n (begin f)) u ∙ count-within (sentAt f) (longest + 1) f (omega arith))
 
   -- by the count of the label
   first : (t : Bool) → outside 0 labelMost (labelCount f) ≡ t → Refused f
   first true e = record { with = longLabel; due = omega arith; one = refl; whole = three f h e; start = three (begin f) k (ap (outside 0 labelMost) l ∙ e) }
   first false e =
       let p = between 0 labelMost (labelCount f) e in
-      let u : sentAt (begin f) ≡ sentAt f = omega (arith, l) in
-      second (outside 1 sentMost (sentCount f)) refl e
-      (ap (λ (n : ℕ). countAt n (begin f)) u ∙ count-within (sentAt f) (longest + 1) f (omega arith))
+      second (someUnshown (labelIn f)) refl e
+      (ap (λ (n : ℕ). part 2 n (begin f)) l ∙ part-within 2 (labelCount f) (longest + 1) f (omega arith))
 
 -- ---- a sample that is filled
 
@@ -175,13 +195,12 @@ again-judged k (suc n) h = rw (not-outside 1 k 1 (omega arith) h, again-judged k
 filled-fit : (label sent arrivals : ℕ) → label ≤ labelMost → 1 ≤ sent → sent ≤ sentMost → arrivals ≤ arrivalsMost → Fit (filled label sent arrivals)
 unfolding filled
 filled-fit label sent arrivals l p s a =
-    let n = length-replicate {A = ℕ} label 0 in
+    let n = length-replicate {A = ℕ} label shownLeast in
     let m = length-replicate {A = ℕ} sent 0 in
     let o = length-replicate arrivals again in
     record {
-      judged = within-limits (record { label = replicate label 0; sizes = replicate sent 0; arrivals = replicate arrivals again })
-          (record { labelFits = omega arith; sentSome = omega arith; sentFits = omega arith; arrivalsFit = omega arith; judged = again-judged (length (replicate sent 0)) arrivals (omega arith) });
-      octets = zeros-below 256 label (omega arith);
+      judged = within-limits (record { label = replicate label shownLeast; sizes = replicate sent 0; arrivals = replicate arrivals again })
+          (record { labelFits = omega arith; shown = spaces-shown label; sentSome = omega arith; sentFits = omega arith; arrivalsFit = omega arith; judged = again-judged (length (replicate sent 0)) arrivals (omega arith) });
       sizes = zeros-below (2 ^ 16) sent (omega arith);
       times = again-below (2 ^ 64) arrivals (omega arith);
     }
@@ -190,8 +209,8 @@ filled-fit label sent arrivals l p s a =
 filled-length : (label sent arrivals : ℕ) → length (fileOf (filled label sent arrivals)) ≡ 6 + label + 2 * sent + 12 * arrivals
 unfolding filled
 filled-length label sent arrivals =
-    file-length (record { label = replicate label 0; sizes = replicate sent 0; arrivals = replicate arrivals again })
-    ∙ rw (length-replicate {A = ℕ} label 0, length-replicate {A = ℕ} sent 0, length-replicate arrivals again)
+    file-length (record { label = replicate label shownLeast; sizes = replicate sent 0; arrivals = replicate arrivals again })
+    ∙ rw (length-replicate {A = ℕ} label shownLeast, length-replicate {A = ℕ} sent 0, length-replicate arrivals again)
 
 -- ---- together
 
@@ -205,8 +224,8 @@ lengths file o =
       begun = λ h. same (longer-refused file h);
     }
   where
-    one-of : Refused file → among (refusalOf (decode file)) fourRefusals ≡ true
-    one-of r = ap (λ (d : Decoded). among (refusalOf d) fourRefusals) (decode-refused file (r .with) (r .due) (r .whole)) ∙ r .one
+    one-of : Refused file → among (refusalOf (decode file)) longerRefusals ≡ true
+    one-of r = ap (λ (d : Decoded). among (refusalOf d) longerRefusals) (decode-refused file (r .with) (r .due) (r .whole)) ∙ r .one
 
     same : Refused file → decode file ≡ decode (begin file)
     same r = decode-refused file (r .with) (r .due) (r .whole) ∙ sym (decode-refused (begin file) (r .with) (r .due) (r .start))

@@ -1,6 +1,7 @@
 -- Both round trips: what was read is written back as the same octets, and what was written is read back as the same lists. Assumes nothing.
 use Prim.Native.Nat.{ℕ, _^_, _≤_}
 use native.Mathlib.Omega.{arith}
+use mathlib.Core.Bool.{false}
 use mathlib.Core.Path.{_≡_, sym, ap, ap₂, _∙_, subst}
 use mathlib.Core.List.{List, [], _∷_}
 use borrow.Author.Tests.{le-ltb}
@@ -10,10 +11,10 @@ use Rattle.octets.specs.Below.{Below, Octets}
 use Rattle.octets.specs.Memory.{over}
 use Rattle.octets.proofs.Memory.{over-read}
 use Rattle.rfc4737.specs.declared.Arrival.{Arrival}
-use Rattle.rfc4737.specs.Refusals.{outside, inCase, firstOf, longLabel, outputShort}
+use Rattle.rfc4737.specs.Refusals.{outside, inCase, firstOf, longLabel, octetOutside, outputShort}
 use Rattle.rfc4737.specs.Judge.{arrivalsMost, numbersOf, timesOf, arrivalsOf, judge, refusalOfLists}
 use Rattle.sample.specs.Format.{Sample, fileOf, labelMost}
-use Rattle.sample.specs.Judge.{judgeLabel, judgeSample, Fit}
+use Rattle.sample.specs.Judge.{judgeLabel, someUnshown, judgeOctets, judgeSample, Fit}
 use Rattle.sample.specs.Decode.{refusalIn, sampleIn, decided, decode, accepted, sampleOf, refusalOf, layoutOf}
 use Rattle.sample.specs.Calls.{listsShort, decodeInto, sampleFrom, refusalFrom, refusalInto, octetsInto, unlessRefused, WrittenTo}
 use Rattle.sample.specs.RoundTrip.{WrittenAgain, ReadAgain}
@@ -45,25 +46,26 @@ into-room a b c file s e p q r =
 
 -- ---- the writer
 
--- of a label and lists nothing is refused: the label has at most 64 octets, and K and the lists are fit
+-- of a label and lists nothing is refused: the label has at most 64 octets, which can be shown, and K and the lists are fit
 pub label-fit : (label sizes numbers times : List ℕ) → refusalFrom label sizes numbers times ≡ 0
-    → (length label ≤ labelMost) × ListsFit (length sizes) numbers times
+    → (length label ≤ labelMost) × (someUnshown label ≡ false) × ListsFit (length sizes) numbers times
 unfolding refusalFrom
 label-fit label sizes numbers times e =
     let r = refusalOfLists (length sizes) numbers times in
-    let p = first-none (judgeLabel (length label)) (r ∷ []) e in
+    let p = first-none (judgeLabel (length label)) (judgeOctets label ∷ r ∷ []) e in
+    let q = first-none (judgeOctets label) (r ∷ []) (p .1) in
     let l = between 0 labelMost (length label) (case-none (outside 0 labelMost (length label)) longLabel (omega arith) (p .0)) in
-    (l .1, lists-fit (length sizes) numbers times (first-none r [] (p .1) .0))
+    (l .1, case-none (someUnshown label) octetOutside (omega arith) (q .0), lists-fit (length sizes) numbers times (first-none r [] (q .1) .0))
 
 -- nothing of their sample is refused
 from-none : (label sizes numbers times : List ℕ) → refusalFrom label sizes numbers times ≡ 0 → judgeSample (sampleFrom label sizes numbers times) ≡ 0
 unfolding judgeSample
 from-none label sizes numbers times e =
     let f = label-fit label sizes numbers times e in
-    let n = arrivals-length numbers times (f .1 .same) in
+    let n = arrivals-length numbers times (f .2 .same) in
     let p = not-outside 0 labelMost (length label) (omega arith) (f .0) in
-    let q = not-outside 0 arrivalsMost (length numbers) (omega arith) (f .1 .few) in
-    simp (p, f .1 .sent, n, q, f .1 .judged)
+    let q = not-outside 0 arrivalsMost (length numbers) (omega arith) (f .2 .few) in
+    simp (p, f .1, f .2 .sent, n, q, f .2 .judged)
 
 -- nothing of a sample is refused: nothing of its lists is
 pub none-from : (s : Sample) → judgeSample s ≡ 0 → refusalFrom (s .label) (s .sizes) (numbersOf (s .arrivals)) (timesOf (s .arrivals)) ≡ 0
@@ -74,7 +76,7 @@ none-from s e =
     let t = length-map (s .arrivals) (λ (a : Arrival). a .time) in
     let p = not-outside 0 labelMost (length (s .label)) (omega arith) (l .labelFits) in
     let j : judge (length (s .sizes)) 0 (arrivalsOf (numbersOf (s .arrivals)) (timesOf (s .arrivals))) ≡ 0 = rw (arrivals-back (s .arrivals)) (l .judged) in
-    simp (p, fit-lists (length (s .sizes)) (numbersOf (s .arrivals)) (timesOf (s .arrivals)) (l .sentSome) (l .sentFits) (rw n (l .arrivalsFit)) (t ∙ sym n) j)
+    simp (p, l .shown, fit-lists (length (s .sizes)) (numbersOf (s .arrivals)) (timesOf (s .arrivals)) (l .sentSome) (l .sentFits) (rw n (l .arrivalsFit)) (t ∙ sym n) j)
 
 -- nothing is refused where there is room
 pub written-into : (room : ℕ) (label sizes numbers times : List ℕ) → refusalFrom label sizes numbers times ≡ 0
@@ -127,17 +129,17 @@ written-again file o sizes numbers times sizes′ numbers′ times′ out out′
 -- ---- written, then read
 
 -- an accepted label and lists, written and read again, are the same
-pub read-again : (label sizes numbers times : List ℕ) → Octets label → Below (2 ^ 16) sizes → Below (2 ^ 64) times → ReadAgain label sizes numbers times
-read-again label sizes numbers times fl fs ft out out′ sizes₀ numbers₀ times₀ sizes′ numbers′ times′ written read w z ps pn pt h =
+pub read-again : (label sizes numbers times : List ℕ) → Below (2 ^ 16) sizes → Below (2 ^ 64) times → ReadAgain label sizes numbers times
+read-again label sizes numbers times fs ft out out′ sizes₀ numbers₀ times₀ sizes′ numbers′ times′ written read w z ps pn pt h =
     let s = sampleFrom label sizes numbers times in
     let r = sym (w .refusal) ∙ z in
     let e = into-written (length out) label sizes numbers times r in
-    let q = label-fit label sizes numbers times e .1 .same in
+    let q = label-fit label sizes numbers times e .2 .same in
     let n = arrivals-length numbers times q in
     let os : octetsInto (length out) label sizes numbers times ≡ fileOf s = ap (λ (k : ℕ). unlessRefused k (fileOf s)) r in
     let file : take (written .length) out′ ≡ fileOf s =
     ap₂ take (w .octets ∙ ap length os) (w .filled ∙ ap (λ (l : List ℕ). over l out) os) ∙ over-read (fileOf s) out in
-    let fit : Fit s = record { judged = from-none label sizes numbers times e; octets = fl; sizes = fs; times = rw (times-back numbers times q) ft } in
+    let fit : Fit s = record { judged = from-none label sizes numbers times e; sizes = fs; times = rw (times-back numbers times q) ft } in
     let d : decode (take (written .length) out′) ≡ accepted s = ap decode file ∙ decode-file s fit in
     let i = into-room (length sizes₀) (length numbers₀) (length times₀) (take (written .length) out′) s d ps (omega arith) (omega arith) in
     record {

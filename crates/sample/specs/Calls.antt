@@ -9,7 +9,7 @@ use Rattle.octets.specs.Memory.{over}
 use Rattle.rfc4737.specs.Refusals.{inCase, firstOf, outputShort}
 use Rattle.rfc4737.specs.Judge.{numbersOf, timesOf, arrivalsOf, refusalOfLists}
 use Rattle.sample.specs.Format.{Sample, fileOf}
-use Rattle.sample.specs.Judge.{judgeLabel}
+use Rattle.sample.specs.Judge.{judgeLabel, judgeOctets}
 use Rattle.sample.specs.Decode.{Decoded, refused, accepted, refusalIn, sampleIn, decided, decode, sampleOf, layoutOf}
 use Rattle.sample.specs.declared.Layout.{Layout}
 use Rattle.sample.specs.declared.Written.{Written}
@@ -45,9 +45,9 @@ pub record ReadFrom (file sizes numbers times : List ℕ) (answer : Layout) (siz
 abbrev pub sampleFrom : List ℕ → List ℕ → List ℕ → List ℕ → Sample
 sampleFrom label sizes numbers times = record { label = label; sizes = sizes; arrivals = arrivalsOf numbers times }
 
--- the first refusal that is due of a label and lists: 3, then those of K, the number of sizes, and the lists
+-- the first refusal that is due of a label and lists: 3, 13, then those of K, the number of sizes, and the lists
 unfoldable pub refusalFrom : List ℕ → List ℕ → List ℕ → List ℕ → ℕ
-refusalFrom label sizes numbers times = firstOf (judgeLabel (length label) ∷ refusalOfLists (length sizes) numbers times ∷ [])
+refusalFrom label sizes numbers times = firstOf (judgeLabel (length label) ∷ judgeOctets label ∷ refusalOfLists (length sizes) numbers times ∷ [])
 
 -- the same where so many octets can be written: 8 comes last
 unfoldable pub refusalInto : ℕ → List ℕ → List ℕ → List ℕ → List ℕ → ℕ

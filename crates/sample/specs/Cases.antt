@@ -17,6 +17,10 @@ table =
     ([], 1) ∷ (0 ∷ [], 1) ∷ (0 ∷ 1 ∷ [], 1)
     -- a label of 65 octets, of which none is there; no packets, of 4,097 of which none is there
     ∷ (0 ∷ 65 ∷ [], 3) ∷ (0 ∷ 0 ∷ 0 ∷ 0 ∷ [], 4) ∷ (0 ∷ 0 ∷ 16 ∷ 1 ∷ [], 4)
+    -- a label of one octet, the least and the greatest that can be shown, and no packets; one beside them, and no packets or no K
+    ∷ (0 ∷ 1 ∷ 0x20 ∷ 0 ∷ 0 ∷ [], 4) ∷ (0 ∷ 1 ∷ 0x7E ∷ 0 ∷ 0 ∷ [], 4) ∷ (0 ∷ 1 ∷ 0x1F ∷ 0 ∷ 0 ∷ [], 13) ∷ (0 ∷ 1 ∷ 0x7F ∷ [], 13)
+    -- an octet that cannot be shown: the last of two, the first of two and of 65 of which no other is there
+    ∷ (0 ∷ 2 ∷ 65 ∷ 0x1F ∷ [], 13) ∷ (0 ∷ 2 ∷ 0x1F ∷ [], 1) ∷ (0 ∷ 65 ∷ 0x1F ∷ [], 3)
     -- no packets, and octets that follow
     ∷ (0 ∷ 0 ∷ 0 ∷ 0 ∷ 0 ∷ 0 ∷ 9 ∷ [], 4)
     -- 4,097 arrivals, of which none is there

@@ -1,5 +1,5 @@
--- Decoding a file by stages. Order in the file: each count is read (1), judged (3, 4 or 5), then its section's length (1); then 2;
--- then the arrivals in turn, 6 before 7. Assumes nothing.
+-- Decoding a file by stages. Order in the file: each count is read (1), judged (3, 4 or 5), then its section's length (1), and after
+-- the label's its octets (13); then 2; then the arrivals in turn, 6 before 7. Assumes nothing.
 use Prim.Native.Nat.{ℕ, zero, suc, _+_, _*_}
 use mathlib.Core.List.{List, [], _∷_}
 use lib.Dec.{ltb}
@@ -10,7 +10,7 @@ use Rattle.rfc4737.specs.declared.Arrival.{Arrival}
 use Rattle.rfc4737.specs.Refusals.{inCase, firstOf, endsEarly, octetsFollow}
 use Rattle.sample.specs.Format.{Sample, itemsIn}
 use Rattle.rfc4737.specs.Judge.{judgeSent, judgeArrivals, judge}
-use Rattle.sample.specs.Judge.{judgeLabel}
+use Rattle.sample.specs.Judge.{judgeLabel, judgeOctets}
 use Rattle.sample.specs.declared.Layout.{Layout}
 
 -- ---- where the sections stand
@@ -53,6 +53,10 @@ fileEnd file = endOf (arrivedAt file) 12 (arrivalCount file)
 unfoldable pub arrivalIn : List ℕ → Arrival
 arrivalIn os = record { number = beValue (take 4 os); time = beValue (drop 4 os) }
 
+-- the label
+abbrev pub labelIn : List ℕ → List ℕ
+labelIn file = part 2 (labelCount file) file
+
 -- the payload sizes
 abbrev pub sizesIn : List ℕ → List ℕ
 sizesIn file = itemsIn 2 beValue (sentCount file) (drop (sentAt file + 2) file)
@@ -64,7 +68,7 @@ arrivalsIn file = itemsIn 12 arrivalIn (arrivalCount file) (drop (arrivedAt file
 -- the sample
 unfoldable pub sampleIn : List ℕ → Sample
 sampleIn file =
-    record { label = part 2 (labelCount file) file; sizes = sizesIn file; arrivals = arrivalsIn file }
+    record { label = labelIn file; sizes = sizesIn file; arrivals = arrivalsIn file }
 
 -- ---- what is refused
 
@@ -84,6 +88,10 @@ sectionStage at width judged file = firstOf (countStage at file ∷ judged (coun
 abbrev pub labelStage : List ℕ → ℕ
 labelStage file = sectionStage 0 1 judgeLabel file
 
+-- the octets of the label
+abbrev pub octetsStage : List ℕ → ℕ
+octetsStage file = judgeOctets (labelIn file)
+
 -- the sent packets
 abbrev pub sentStage : List ℕ → ℕ
 sentStage file = sectionStage (sentAt file) 2 judgeSent file
@@ -102,7 +110,7 @@ arrivalsStage file = judge (sentCount file) 0 (arrivalsIn file)
 
 -- the first refusal that is due of a file, by the stages in their order; 0 if none is
 unfoldable pub refusalIn : List ℕ → ℕ
-refusalIn file = firstOf (labelStage file ∷ sentStage file ∷ arrivedStage file ∷ endStage file ∷ arrivalsStage file ∷ [])
+refusalIn file = firstOf (labelStage file ∷ octetsStage file ∷ sentStage file ∷ arrivedStage file ∷ endStage file ∷ arrivalsStage file ∷ [])
 
 -- ---- the answer
 

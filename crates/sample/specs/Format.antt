@@ -17,6 +17,14 @@ pub record Sample : Type 0 where
 abbrev pub labelMost : ℕ
 labelMost = 64
 
+-- the least octet of a label
+abbrev pub shownLeast : ℕ
+shownLeast = 0x20
+
+-- the greatest octet of a label
+abbrev pub shownMost : ℕ
+shownMost = 0x7E
+
 -- the number of octets of the longest sample
 abbrev pub longest : ℕ
 longest = 57414

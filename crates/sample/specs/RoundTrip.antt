@@ -8,9 +8,9 @@ use mathlib.Core.Path.{_≡_}
 use lib.Dec.{eqb}
 use lib.ListN.{length, take, replicate}
 use Rattle.octets.specs.Memory.{over}
-use Rattle.rfc4737.specs.Refusals.{octetsFollow, longLabel, sentOutside, manyArrivals}
+use Rattle.rfc4737.specs.Refusals.{octetsFollow, longLabel, octetOutside, sentOutside, manyArrivals}
 use Rattle.rfc4737.specs.Judge.{sentMost, arrivalsMost}
-use Rattle.sample.specs.Format.{Sample, fileOf, labelMost, longest}
+use Rattle.sample.specs.Format.{Sample, fileOf, labelMost, shownLeast, longest}
 use Rattle.sample.specs.Judge.{Fit}
 use Rattle.sample.specs.Decode.{decode, accepted, sampleOf, refusalOf}
 use Rattle.sample.specs.Calls.{ReadFrom, WrittenTo}
@@ -21,10 +21,11 @@ use Rattle.sample.specs.declared.Written.{Written}
 abbrev pub Exact : List ℕ → Type 0
 Exact file = (s : Sample) → (decode file ≡ accepted s) ↔ (Fit s × (file ≡ fileOf s))
 
--- a sample of so many label octets, sent packets and arrivals: every octet, size and time is 0, every arrival is of packet 1
+-- a sample of so many label octets, sent packets and arrivals: every octet is a space, every size and time is 0, every arrival is of
+-- packet 1
 unfoldable pub filled : ℕ → ℕ → ℕ → Sample
 filled label sent arrivals =
-    record { label = replicate label 0; sizes = replicate sent 0; arrivals = replicate arrivals (record { number = 1; time = 0 }) }
+    record { label = replicate label shownLeast; sizes = replicate sent 0; arrivals = replicate arrivals (record { number = 1; time = 0 }) }
 
 -- whether a number is in a list
 abbrev pub among : ℕ → List ℕ → Bool
@@ -38,8 +39,8 @@ pub record Lengths (file : List ℕ) : Type 0 where
   -- some accepted file has as many: that of a sample that is filled up to the limits
   pub reached : decode (fileOf (filled labelMost sentMost arrivalsMost)) ≡ accepted (filled labelMost sentMost arrivalsMost)
   pub reachedBy : length (fileOf (filled labelMost sentMost arrivalsMost)) ≡ longest
-  -- a longer file is refused with 2, 3, 4 or 5
-  pub longer : longest < length file → among (refusalOf (decode file)) (octetsFollow ∷ longLabel ∷ sentOutside ∷ manyArrivals ∷ []) ≡ true
+  -- a longer file is refused with 2, 3, 13, 4 or 5
+  pub longer : longest < length file → among (refusalOf (decode file)) (octetsFollow ∷ longLabel ∷ octetOutside ∷ sentOutside ∷ manyArrivals ∷ []) ≡ true
   -- and decoded as its first octets are, one more than the longest sample has
   pub begun : longest < length file → decode file ≡ decode (take (longest + 1) file)
 

@@ -1,12 +1,34 @@
-// The arrivals of a file, judged in turn.
+// The octets of a label and the arrivals of a file, judged in turn.
 ghost use mathlib.Core.Path.{_≡_};
 ghost use Prim.Native.Nat.{_+_, _*_, _≤_};
 ghost use lib.ListN.{length, drop};
 ghost use Rattle.rfc4737.specs.Judge.{judge};
 ghost use Rattle.sample.specs.Format.{itemsIn};
+ghost use Rattle.sample.specs.Judge.{someUnshown};
 ghost use Rattle.sample.specs.Decode.{arrivalIn};
 use rfc4737::judge::judge_one;
+use rfc4737::judge::outside;
 use rfc4737::time::next_reference;
+
+// The least octet of a label.
+const SHOWN_LEAST: u64 = 0x20;
+
+// The greatest octet of a label.
+const SHOWN_MOST: u64 = 0x7E;
+
+// Whether one of some octets cannot be shown.
+pub(crate) fn some_unshown(octets: &[u8]) -> bool
+    ensures { λ r. ⌜ r ≡ someUnshown (now (octets .entry)) ⌝ }
+{
+    let mut i = 0;
+    while i < octets.len() {
+        if outside(SHOWN_LEAST, SHOWN_MOST, octets[i] as u64) {
+            return true;
+        }
+        i += 1;
+    }
+    false
+}
 
 // So many arrivals of a file, which stand from a place on, in turn.
 pub(crate) fn judge_file(file: &[u8], at: usize, sent: u64, count: usize) -> u32

@@ -15,12 +15,14 @@ mod sections;
 use fill::fill_arrivals;
 use fill::fill_sizes;
 use judge::judge_file;
+use judge::some_unshown;
 use rfc4737::judge::ARRIVALS_MOST;
 use rfc4737::judge::SENT_MOST;
 use rfc4737::judge::outside;
 use rfc4737::judge::refusal_of_lists;
 use rfc4737::refusal::LONG_LABEL;
 use rfc4737::refusal::MANY_ARRIVALS;
+use rfc4737::refusal::OCTET_OUTSIDE;
 use rfc4737::refusal::OCTETS_FOLLOW;
 use rfc4737::refusal::OUTPUT_SHORT;
 use rfc4737::refusal::SENT_OUTSIDE;
@@ -66,7 +68,8 @@ fn refused_with(refusal: u32) -> Layout
     }
 }
 
-// Checks a whole file: its sections in their order, its end, then the arrivals in turn.
+// Checks a whole file: its sections in their order, the label's octets after the first, its end, then the arrivals in
+// turn.
 pub fn check(file: &[u8]) -> Layout
     ensures { λ r. ⌜ r ≡ layoutOf (decode (now (file .entry))) ⌝ }
     ensures exact { λ _. ⌜ Exact (now (file .entry)) ⌝ }
@@ -77,6 +80,10 @@ pub fn check(file: &[u8]) -> Layout
     let Section::Whole(label_count, sent_at) = label else {
         return refused_with(refusal_of(label));
     };
+    let shown = &file[2..sent_at];
+    if some_unshown(shown) {
+        return refused_with(OCTET_OUTSIDE);
+    }
     let sent = section_at(file, sent_at, 2, 1, SENT_MOST, SENT_OUTSIDE);
     let Section::Whole(sent_count, arrived_at) = sent else {
         return refused_with(refusal_of(sent));
@@ -170,6 +177,9 @@ fn refusal_from(label: &[u8], sizes: &[u16], numbers: &[u32], times: &[u64]) -> 
 {
     if outside(0, LABEL_MOST, label.len() as u64) {
         return LONG_LABEL;
+    }
+    if some_unshown(label) {
+        return OCTET_OUTSIDE;
     }
     refusal_of_lists(sizes.len() as u64, numbers, times)
 }

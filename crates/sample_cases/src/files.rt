@@ -107,6 +107,49 @@ fn run_cut(name: &[u8], n: usize) {
     run(name, first_octets(&file, n));
 }
 
+// Runs a case on a file with a label of so many octets, so many sizes and one arrival. One octet of it is put at a
+// place, and of the file no more than so many octets are there.
+fn run_octet(name: &[u8], label: u16, sent: u16, at: usize, octet: u8, most: usize) {
+    let mut file = [b'x'; ROOM];
+    let n = put_file(&mut file, label, sent, 1);
+    octets::put_number(&mut file, at, 1, octet as u64);
+    run(name, first_octets(first_octets(&file, n), most));
+}
+
+// The octets of a label of 3, which stand at 2, 3 and 4: the least and the greatest that can be shown, and those
+// beside them.
+pub(crate) fn label_octets() {
+    run_octet(b"label octet 20, the first of 3", 3, 1, 2, 0x20, ROOM);
+    run_octet(b"label octet 20, the second of 3", 3, 1, 3, 0x20, ROOM);
+    run_octet(b"label octet 20, the last of 3", 3, 1, 4, 0x20, ROOM);
+    run_octet(b"label octet 7E, the first of 3", 3, 1, 2, 0x7E, ROOM);
+    run_octet(b"label octet 7E, the second of 3", 3, 1, 3, 0x7E, ROOM);
+    run_octet(b"label octet 7E, the last of 3", 3, 1, 4, 0x7E, ROOM);
+    run_octet(b"label octet 1F, the first of 3", 3, 1, 2, 0x1F, ROOM);
+    run_octet(b"label octet 1F, the second of 3", 3, 1, 3, 0x1F, ROOM);
+    run_octet(b"label octet 1F, the last of 3", 3, 1, 4, 0x1F, ROOM);
+    run_octet(b"label octet 7F, the first of 3", 3, 1, 2, 0x7F, ROOM);
+    run_octet(b"label octet 7F, the second of 3", 3, 1, 3, 0x7F, ROOM);
+    run_octet(b"label octet 7F, the last of 3", 3, 1, 4, 0x7F, ROOM);
+    run_octet(b"label octet 7F, the last of 64", 64, 1, 65, 0x7F, ROOM);
+}
+
+// Label octets that cannot be shown, where another refusal is due too; and an empty label, which has none.
+pub(crate) fn label_octets_in_order() {
+    run_octet(b"label of 65 octets, the first 1F", 65, 1, 2, 0x1F, ROOM);
+    run_octet(b"label octet 1F, ends in the label", 3, 1, 2, 0x1F, 4);
+    run_octet(b"label octet 1F, ends after the label", 3, 1, 2, 0x1F, 5);
+    run_octet(b"label octet 1F and K of 0", 3, 0, 2, 0x1F, ROOM);
+    run_octet(
+        b"an empty label, then K of 1, its octets 00 and 01",
+        0,
+        1,
+        2,
+        0,
+        ROOM,
+    );
+}
+
 // The edges of label, K and A.
 pub(crate) fn edges() {
     run_whole(b"label of 64 octets", 64, 1, 1);

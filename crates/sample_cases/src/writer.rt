@@ -109,6 +109,63 @@ pub(crate) fn arrival_lists() {
     run_last(b"write number K + 1 and time less by 1", 6, 39);
 }
 
+// Runs a case on a label of so many octets, of which one is put at a place, no size or one, and one arrival. Where a
+// file is written it is compared with the one that the format's rules build.
+fn run_octet(name: &[u8], label: u16, sent: u16, at: u16, octet: u8) {
+    let mut text = [b'x'; 65];
+    let mut out = [OCTET; 30];
+    let mut file = [b'x'; 30];
+    octets::put_number(&mut text, at as usize, 1, octet as u64);
+    write_word(name);
+    let n = write_into(
+        first_octets(&text, label as usize),
+        first_sizes(&[100u16], sent as usize),
+        &[1u32],
+        &[10u64],
+        &mut out,
+    );
+    if n != 0 {
+        let end = put_file(&mut file, label, sent, 1);
+        octets::put_number(&mut file, 2 + at as usize, 1, octet as u64);
+        write_either(
+            same_octets(first_octets(&out, n), first_octets(&file, end)),
+            b", as the format has it",
+            b", NOT as the format has it",
+        );
+    }
+    write_word(b"\n");
+}
+
+// The octets of a label of 3: the least and the greatest that can be shown, and those beside them.
+pub(crate) fn written_label_octets() {
+    run_octet(b"write label octet 20, the first of 3", 3, 1, 0, 0x20);
+    run_octet(b"write label octet 20, the second of 3", 3, 1, 1, 0x20);
+    run_octet(b"write label octet 20, the last of 3", 3, 1, 2, 0x20);
+    run_octet(b"write label octet 7E, the first of 3", 3, 1, 0, 0x7E);
+    run_octet(b"write label octet 7E, the second of 3", 3, 1, 1, 0x7E);
+    run_octet(b"write label octet 7E, the last of 3", 3, 1, 2, 0x7E);
+    run_octet(b"write label octet 1F, the first of 3", 3, 1, 0, 0x1F);
+    run_octet(b"write label octet 1F, the second of 3", 3, 1, 1, 0x1F);
+    run_octet(b"write label octet 1F, the last of 3", 3, 1, 2, 0x1F);
+    run_octet(b"write label octet 7F, the first of 3", 3, 1, 0, 0x7F);
+    run_octet(b"write label octet 7F, the second of 3", 3, 1, 1, 0x7F);
+    run_octet(b"write label octet 7F, the last of 3", 3, 1, 2, 0x7F);
+    run_octet(b"write label octet 7F, the last of 64", 64, 1, 63, 0x7F);
+}
+
+// Label octets where another refusal is due too.
+pub(crate) fn written_label_octets_in_order() {
+    run_octet(
+        b"write a label of 65 octets, the first 1F, no sizes",
+        65,
+        0,
+        0,
+        0x1F,
+    );
+    run_octet(b"write label octet 1F, no sizes", 3, 0, 0, 0x1F);
+    run_octet(b"write label octet 20, no sizes", 3, 0, 0, 0x20);
+}
+
 // Runs a case on one size and one arrival, 20 octets, written into lent ones.
 fn run_room(name: &[u8], out: &mut [u8]) {
     write_word(name);

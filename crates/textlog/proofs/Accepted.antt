@@ -20,7 +20,7 @@ use Rattle.rfc4737.proofs.Due.{first-none, first-next, first-one, case-none, no
 use Rattle.rfc4737.proofs.Judged.{fit-lists}
 use Rattle.rfc4737.proofs.Pairs.{arrivals-back}
 use Rattle.sample.specs.Format.{Sample, fileOf}
-use Rattle.sample.specs.Judge.{judgeLabel, judgeSample, Fit}
+use Rattle.sample.specs.Judge.{judgeLabel, someUnshown, judgeSample, Fit}
 use Rattle.sample.specs.Decode.{decode, accepted}
 use Rattle.sample.specs.Calls.{refusalFrom, refusalInto, octetsInto, unlessRefused, WrittenTo}
 use Rattle.sample.specs.declared.Written.{Written}
@@ -143,7 +143,7 @@ module _ (k : ℕ) (log : List ℕ) (e : judgeLog k log .refusal ≡ 0) where
 
   -- with so many payload sizes of one size, they are a fit sample
   pub fit-sample : (size : ℕ) → size < 2 ^ 16 → Fit (sampleFrom k size log)
-  unfolding judgeSample
+  unfolding judgeSample someUnshown
   fit-sample size h =
       let a = accepted-log k log e in
       let m : length (replicate k size) ≡ k = length-replicate k size in
@@ -151,7 +151,6 @@ module _ (k : ℕ) (log : List ℕ) (e : judgeLog k log .refusal ≡ 0) where
       let z : judgeLabel 0 ≡ 0 = rw (not-outside 0 64 0 (omega arith) (omega arith)) in
       record {
         judged = rw (z, m, a .sent, f) (first-one _ ∙ a .inTurn .judged);
-        octets = below-nil 256 (omega arith);
         sizes = below-replicate k;
         times = a .inTurn .times;
       }

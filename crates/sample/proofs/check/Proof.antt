@@ -1,7 +1,8 @@
 -- `sample::check` meets its contract: at each `return` the readings that led there say which stage refuses, or that none does. Assumes nothing.
 use borrow.Author.Needs.{needs}
-use Prim.Native.Nat.{ℕ, _+_, _*_, _≤_, _<_}
+use Prim.Native.Nat.{ℕ, _+_, _*_, _-_, _≤_, _<_}
 use native.Mathlib.Omega.{arith}
+use mathlib.Core.Bool.{false}
 use mathlib.Core.Path.{_≡_, refl, sym, ap, _∙_}
 use mathlib.Core.List.{List}
 use borrow.Author.Tests.{lt-ltb, le-ltb}
@@ -9,18 +10,19 @@ use lib.ListN.{length, drop}
 use mir.Syntax.{w8}
 use denote.Ref.{now}
 use Rattle.octets.specs.Below.{Octets}
+use Rattle.octets.specs.Memory.{part}
 use Rattle.octets.proofs.Below.{below-fits}
-use Rattle.rfc4737.specs.Refusals.{inCase, octetsFollow, longLabel, sentOutside, manyArrivals}
+use Rattle.rfc4737.specs.Refusals.{inCase, octetsFollow, longLabel, octetOutside, sentOutside, manyArrivals}
 use Rattle.rfc4737.specs.Judge.{sentMost, arrivalsMost, judgeSent, judgeArrivals, judge}
 use Rattle.sample.specs.Format.{itemsIn, labelMost, longest}
-use Rattle.sample.specs.Judge.{judgeLabel}
-use Rattle.sample.specs.Decode.{labelCount, sentAt, sentCount, arrivedAt, arrivalCount, fileEnd, arrivalIn, labelStage, sentStage, arrivedStage, endStage, refusalIn, refused, decode, layoutOf}
+use Rattle.sample.specs.Judge.{judgeLabel, someUnshown}
+use Rattle.sample.specs.Decode.{labelCount, sentAt, sentCount, arrivedAt, arrivalCount, fileEnd, arrivalIn, labelIn, labelStage, sentStage, arrivedStage, endStage, refusalIn, refused, decode, layoutOf}
 use Rattle.sample.specs.RoundTrip.{Exact, Lengths}
 use Rattle.sample.specs.Cases.{RefusalsInOrder}
 use Rattle.sample.specs.Private.Readings.{refusalOfSection, sectionReading}
 use Rattle.sample.specs.declared.Layout.{Layout}
 use Rattle.sample.proofs.Readings.{whole-section, refusal-section, refused-section}
-use Rattle.sample.proofs.Decoded.{WholeFile, refused-none, stage-none, decode-refused, layout-accepted, refused-label, refused-sent, refused-arrived, refused-end, refused-arrivals}
+use Rattle.sample.proofs.Decoded.{WholeFile, refused-none, stage-none, decode-refused, layout-accepted, refused-label, refused-octets, refused-sent, refused-arrived, refused-end, refused-arrivals}
 use Rattle.sample.proofs.Exact.{exact}
 use Rattle.sample.proofs.Longer.{lengths}
 use Rattle.sample.proofs.Cases.{in-order}
@@ -43,62 +45,76 @@ labelled : (c : tie.After-known-told)
 labelled c =
     whole-section 0 1 0 labelMost longLabel (now (c .before .before .before .before .before .args .file)) (sym (c .before .before .before .section-at .ensures) ∙ c .before .label .given .1)
 
+-- after its octets are looked at
+looked : (c : tie.After-some-unshown) → c .some-unshown .result ≡ someUnshown (labelIn (now (c .before .before .before .before .before .before .before .args .file)))
+looked c =
+    let l = c .before .before in
+    let f = now (l .before .before .before .before .before .args .file) in
+    let w = labelled l in
+    let e : l .before .label .given .0 .1 .0 - 2 ≡ labelCount f = omega arith in
+    c .some-unshown .ensures ∙ ap (λ (n : ℕ). someUnshown (part 2 n f)) e
+
+-- all of them can be shown
+shown : (c : tie.Else1) → someUnshown (labelIn (now (c .before .before .before .before .before .before .before .before .args .file))) ≡ false
+shown c = sym (looked (c .before)) ∙ c .if1 .left
+
 -- after the sent packets
 counted : (c : tie.After-known-told2)
-    → (sentStage (now (c .before .before .before .before .before .before .before .before .before .args .file)) ≡ 0)
-    × (c .before .sent .given .0 .0 ≡ sentCount (now (c .before .before .before .before .before .before .before .before .before .args .file)))
-    × (c .before .sent .given .0 .1 .0 ≡ arrivedAt (now (c .before .before .before .before .before .before .before .before .before .args .file)))
+    → (sentStage (now (c .before .before .before .before .before .before .before .before .before .before .before .before .args .file)) ≡ 0)
+    × (c .before .sent .given .0 .0 ≡ sentCount (now (c .before .before .before .before .before .before .before .before .before .before .before .before .args .file)))
+    × (c .before .sent .given .0 .1 .0 ≡ arrivedAt (now (c .before .before .before .before .before .before .before .before .before .before .before .before .args .file)))
 counted c =
-    let l = c .before .before .before .before in
+    let l = c .before .before .before .before .before .before .before in
     let f = now (l .before .before .before .before .before .args .file) in
     whole-section (sentAt f) 2 1 sentMost sentOutside f
     (sym (c .before .before .before .section-at2 .ensures ∙ ap (λ (n : ℕ). sectionReading n 2 1 sentMost sentOutside f) (labelled l .2)) ∙ c .before .sent .given .1)
 
 -- after the arrivals
 arrived : (c : tie.After-known-told3)
-    → (arrivedStage (now (c .before .before .before .before .before .before .before .before .before .before .before .before .before .args .file)) ≡ 0)
-    × (c .before .arrived .given .0 .0 ≡ arrivalCount (now (c .before .before .before .before .before .before .before .before .before .before .before .before .before .args .file)))
-    × (c .before .arrived .given .0 .1 .0 ≡ fileEnd (now (c .before .before .before .before .before .before .before .before .before .before .before .before .before .args .file)))
+    → (arrivedStage (now (c .before .before .before .before .before .before .before .before .before .before .before .before .before .before .before .before .args .file)) ≡ 0)
+    × (c .before .arrived .given .0 .0 ≡ arrivalCount (now (c .before .before .before .before .before .before .before .before .before .before .before .before .before .before .before .before .args .file)))
+    × (c .before .arrived .given .0 .1 .0 ≡ fileEnd (now (c .before .before .before .before .before .before .before .before .before .before .before .before .before .before .before .before .args .file)))
 arrived c =
     let k = c .before .before .before .before in
-    let f = now (k .before .before .before .before .before .before .before .before .before .args .file) in
+    let f = now (k .before .before .before .before .before .before .before .before .before .before .before .before .args .file) in
     whole-section (arrivedAt f) 12 0 arrivalsMost manyArrivals f
     (sym (c .before .before .before .section-at3 .ensures ∙ ap (λ (n : ℕ). sectionReading n 12 0 arrivalsMost manyArrivals f) (counted k .2)) ∙ c .before .arrived .given .1)
 
 -- the arrivals lie within the file
 sections-within : (c : tie.After-known-told3)
-    → c .before .before .before .before .before .sent .given .0 .1 .0 + 2 + 12 * c .before .arrived .given .0 .0 ≤ length (now (c .before .before .before .before .before .before .before .before .before .before .before .before .before .args .file))
+    → c .before .before .before .before .before .sent .given .0 .1 .0 + 2 + 12 * c .before .arrived .given .0 .0 ≤ length (now (c .before .before .before .before .before .before .before .before .before .before .before .before .before .before .before .before .args .file))
 sections-within c =
     let k = c .before .before .before .before in
-    let f = now (k .before .before .before .before .before .before .before .before .before .args .file) in
+    let f = now (k .before .before .before .before .before .before .before .before .before .before .before .before .args .file) in
     let u = arrived c in
     let v = counted k in
     let s = stage-none (arrivedAt f) 12 judgeArrivals f (u .0) in
     omega arith
 
 -- after the arrivals are judged: theirs is the first refusal, if any
-judged : (c : tie.After-judge-file) → refusalIn (now (c .before .before .before .before .before .before .before .before .before .before .before .before .before .before .before .args .file)) ≡ c .judge-file .result
+judged : (c : tie.After-judge-file) → refusalIn (now (c .before .before .before .before .before .before .before .before .before .before .before .before .before .before .before .before .before .before .args .file)) ≡ c .judge-file .result
 judged c =
     let b = c .before .before in
     let k = b .before .before .before .before in
-    let l = k .before .before .before .before in
+    let o = k .before .before .before .before in
+    let l = o .before .before .before in
     let f = now (l .before .before .before .before .before .args .file) in
     let u = arrived b in
     let v = counted k in
     let e : endStage f ≡ 0 = ap (λ t. inCase t octetsFollow) (le-ltb (fileEnd f) (length f) (omega arith)) in
-    refused-arrivals f (labelled l .0) (v .0) (u .0) (c .judge-file .result) e
+    refused-arrivals f (labelled l .0) (shown o) (v .0) (u .0) (c .judge-file .result) e
     (sym (c .judge-file .ensures ∙ (λ i. judge (v .1 i) 0 (itemsIn 12 arrivalIn (u .1 i) (drop (v .2 i + 2) f)))))
 
 -- where nothing is refused
-accepted : (c : tie.Else2) → WholeFile (now (c .before .before .before .before .before .before .before .before .before .before .before .before .before .before .before .before .args .file))
-accepted c = refused-none (now (c .before .before .before .before .before .before .before .before .before .before .before .before .before .before .before .before .args .file)) (judged (c .before) ∙ c .if2 .left)
+accepted : (c : tie.Else3) → WholeFile (now (c .before .before .before .before .before .before .before .before .before .before .before .before .before .before .before .before .before .before .before .args .file))
+accepted c = refused-none (now (c .before .before .before .before .before .before .before .before .before .before .before .before .before .before .before .before .before .before .before .args .file)) (judged (c .before) ∙ c .if3 .left)
 
 -- and each count is within its limit
-within : (c : tie.Else2)
-    → (c .before .before .before .before .before .before .before .before .before .before .before .before .label .given .0 .0 ≤ labelMost) × (c .before .before .before .before .before .before .before .before .sent .given .0 .0 ≤ sentMost) × (c .before .before .before .before .arrived .given .0 .0 ≤ arrivalsMost)
+within : (c : tie.Else3)
+    → (c .before .before .before .before .before .before .before .before .before .before .before .before .before .before .before .label .given .0 .0 ≤ labelMost) × (c .before .before .before .before .before .before .before .before .sent .given .0 .0 ≤ sentMost) × (c .before .before .before .before .arrived .given .0 .0 ≤ arrivalsMost)
 within c =
     let w = accepted c in
-    let p = labelled (c .before .before .before .before .before .before .before .before .before .before .before) in
+    let p = labelled (c .before .before .before .before .before .before .before .before .before .before .before .before .before .before) in
     let q = counted (c .before .before .before .before .before .before .before) in
     let r = arrived (c .before .before .before) in
     (omega arith, omega arith, omega arith)
@@ -128,10 +144,42 @@ returns c =
       promised f (below-fits w8 f (c .before .before .before .before .before .shared-slice-known .given)),
     )
 
-section-at-requires-2 : tie.Need-section-at-requires-2
-section-at-requires-2 c κs =
+sub-shown : tie.Need-sub-shown
+sub-shown c =
+    let w = labelled c in
+    omega arith
+
+part-shown-start : tie.Need-part-shown-start
+part-shown-start c =
+    let w = labelled c in
+    omega arith
+
+part-shown-end : tie.Need-part-shown-end
+part-shown-end c =
     let w = labelled c in
     let s = stage-none 0 1 judgeLabel (now (c .before .before .before .before .before .args .file)) (w .0) in
+    omega arith
+
+some-unshown-requires : tie.Need-some-unshown-requires
+some-unshown-requires c κs = search needs
+
+refused-with-requires-2 : tie.Need-refused-with-requires-2
+refused-with-requires-2 c κs = search needs
+
+returns-2 : tie.Need-returns-2
+returns-2 c =
+    let l = c .before .before .before .before in
+    let f = now (l .before .before .before .before .before .args .file) in
+    let o = sym (looked (c .before .before)) ∙ c .before .if1 .taken in (
+      answer f octetOutside (omega arith) (refused-octets f (labelled l .0) o) (c .refused-with2 .ensures) refl,
+      promised f (below-fits w8 f (l .before .before .before .before .shared-slice-known .given)),
+    )
+
+section-at-requires-2 : tie.Need-section-at-requires-2
+section-at-requires-2 c κs =
+    let l = c .before .before .before in
+    let w = labelled l in
+    let s = stage-none 0 1 judgeLabel (now (l .before .before .before .before .before .args .file)) (w .0) in
     (omega arith, omega arith, omega arith)
 
 enum-known-sent : tie.Need-enum-known-sent
@@ -143,25 +191,26 @@ enum-told-2 c = search needs
 refusal-of-requires-2 : tie.Need-refusal-of-requires-2
 refusal-of-requires-2 c κs = search needs
 
-refused-with-requires-2 : tie.Need-refused-with-requires-2
-refused-with-requires-2 c κs = search needs
+refused-with-requires-3 : tie.Need-refused-with-requires-3
+refused-with-requires-3 c κs = search needs
 
-returns-2 : tie.Need-returns-2
-returns-2 c =
-    let b = c .before .before .before .before .before in
-    let f = now (b .before .before .before .before .before .args .file) in
-    let w = labelled b in
+returns-3 : tie.Need-returns-3
+returns-3 c =
+    let o = c .before .before .before .before .before in
+    let l = o .before .before .before in
+    let f = now (l .before .before .before .before .before .args .file) in
+    let w = labelled l in
     let s = c .before .before .before .before .section-at2 .ensures ∙ ap (λ (n : ℕ). sectionReading n 2 1 sentMost sentOutside f) (w .2) in
     let r = c .before .refusal-of2 .ensures ∙ ap refusalOfSection s ∙ refusal-section (sentAt f) 2 1 sentMost sentOutside f in
     let p = refused-section (sentAt f) 2 1 sentMost sentOutside f (sym s ∙ c .before .before .enum-told2 .given .1) in (
-      answer f (sentStage f) p (refused-sent f (w .0) (sentStage f) p refl) (c .refused-with2 .ensures) r,
-      promised f (below-fits w8 f (b .before .before .before .before .shared-slice-known .given)),
+      answer f (sentStage f) p (refused-sent f (w .0) (shown o) (sentStage f) p refl) (c .refused-with3 .ensures) r,
+      promised f (below-fits w8 f (l .before .before .before .before .shared-slice-known .given)),
     )
 
 section-at-requires-3 : tie.Need-section-at-requires-3
 section-at-requires-3 c κs =
     let w = counted c in
-    let f = now (c .before .before .before .before .before .before .before .before .before .args .file) in
+    let f = now (c .before .before .before .before .before .before .before .before .before .before .before .before .args .file) in
     let s = stage-none (sentAt f) 2 judgeSent f (w .0) in
     (omega arith, omega arith, omega arith)
 
@@ -174,35 +223,36 @@ enum-told-3 c = search needs
 refusal-of-requires-3 : tie.Need-refusal-of-requires-3
 refusal-of-requires-3 c κs = search needs
 
-refused-with-requires-3 : tie.Need-refused-with-requires-3
-refused-with-requires-3 c κs = search needs
-
-returns-3 : tie.Need-returns-3
-returns-3 c =
-    let b = c .before .before .before .before .before in
-    let l = b .before .before .before .before in
-    let f = now (l .before .before .before .before .before .args .file) in
-    let w = labelled l in
-    let v = counted b in
-    let s = c .before .before .before .before .section-at3 .ensures ∙ ap (λ (n : ℕ). sectionReading n 12 0 arrivalsMost manyArrivals f) (v .2) in
-    let r = c .before .refusal-of3 .ensures ∙ ap refusalOfSection s ∙ refusal-section (arrivedAt f) 12 0 arrivalsMost manyArrivals f in
-    let p = refused-section (arrivedAt f) 12 0 arrivalsMost manyArrivals f (sym s ∙ c .before .before .enum-told3 .given .1) in (
-      answer f (arrivedStage f) p (refused-arrived f (w .0) (v .0) (arrivedStage f) p refl) (c .refused-with3 .ensures) r,
-      promised f (below-fits w8 f (l .before .before .before .before .shared-slice-known .given)),
-    )
-
 refused-with-requires-4 : tie.Need-refused-with-requires-4
 refused-with-requires-4 c κs = search needs
 
 returns-4 : tie.Need-returns-4
 returns-4 c =
+    let b = c .before .before .before .before .before in
+    let o = b .before .before .before .before in
+    let l = o .before .before .before in
+    let f = now (l .before .before .before .before .before .args .file) in
+    let v = counted b in
+    let s = c .before .before .before .before .section-at3 .ensures ∙ ap (λ (n : ℕ). sectionReading n 12 0 arrivalsMost manyArrivals f) (v .2) in
+    let r = c .before .refusal-of3 .ensures ∙ ap refusalOfSection s ∙ refusal-section (arrivedAt f) 12 0 arrivalsMost manyArrivals f in
+    let p = refused-section (arrivedAt f) 12 0 arrivalsMost manyArrivals f (sym s ∙ c .before .before .enum-told3 .given .1) in (
+      answer f (arrivedStage f) p (refused-arrived f (labelled l .0) (shown o) (v .0) (arrivedStage f) p refl) (c .refused-with4 .ensures) r,
+      promised f (below-fits w8 f (l .before .before .before .before .shared-slice-known .given)),
+    )
+
+refused-with-requires-5 : tie.Need-refused-with-requires-5
+refused-with-requires-5 c κs = search needs
+
+returns-5 : tie.Need-returns-5
+returns-5 c =
     let b = c .before .before in
     let k = b .before .before .before .before in
-    let l = k .before .before .before .before in
+    let o = k .before .before .before .before in
+    let l = o .before .before .before in
     let f = now (l .before .before .before .before .before .args .file) in
     let u = arrived b in
     let e : endStage f ≡ octetsFollow = ap (λ t. inCase t octetsFollow) (lt-ltb (fileEnd f) (length f) (omega arith)) in (
-      answer f octetsFollow (omega arith) (refused-end f (labelled l .0) (counted k .0) (u .0) octetsFollow (omega arith) e) (c .refused-with4 .ensures) refl,
+      answer f octetsFollow (omega arith) (refused-end f (labelled l .0) (shown o) (counted k .0) (u .0) octetsFollow (omega arith) e) (c .refused-with5 .ensures) refl,
       promised f (below-fits w8 f (l .before .before .before .before .shared-slice-known .given)),
     )
 
@@ -216,43 +266,41 @@ judge-file-requires c κs =
     let s = sections-within (c .before) in
     omega arith
 
-refused-with-requires-5 : tie.Need-refused-with-requires-5
-refused-with-requires-5 c κs = search needs
-
-returns-5 : tie.Need-returns-5
-returns-5 c =
-    let b = c .before .before .before .before in
-    let k = b .before .before .before .before in
-    let l = k .before .before .before .before in
-    let f = now (l .before .before .before .before .before .args .file) in
-    let j = judged (c .before .before) in
-    let n : 0 < c .before .before .judge-file .result = omega (arith, c .before .if2 .taken) in (
-      answer f (c .before .before .judge-file .result) n j (c .refused-with5 .ensures) refl,
-      promised f (below-fits w8 f (l .before .before .before .before .shared-slice-known .given)),
-    )
-
-cast-t18 : tie.Need-cast-t18
-cast-t18 c =
-    let w = within c in
-    omega arith
-
-cast-t19 : tie.Need-cast-t19
-cast-t19 c =
-    let w = within c in
-    omega arith
-
-cast-t20 : tie.Need-cast-t20
-cast-t20 c =
-    let w = within c in
-    omega arith
+refused-with-requires-6 : tie.Need-refused-with-requires-6
+refused-with-requires-6 c κs = search needs
 
 returns-6 : tie.Need-returns-6
 returns-6 c =
+    let l = c .before .before .before .before .before .before .before .before .before .before .before .before .before .before .before in
+    let f = now (l .before .before .before .before .before .args .file) in
+    let j = judged (c .before .before) in
+    let n : 0 < c .before .before .judge-file .result = omega (arith, c .before .if3 .taken) in (
+      answer f (c .before .before .judge-file .result) n j (c .refused-with6 .ensures) refl,
+      promised f (below-fits w8 f (l .before .before .before .before .shared-slice-known .given)),
+    )
+
+cast-t22 : tie.Need-cast-t22
+cast-t22 c =
+    let w = within c in
+    omega arith
+
+cast-t23 : tie.Need-cast-t23
+cast-t23 c =
+    let w = within c in
+    omega arith
+
+cast-t24 : tie.Need-cast-t24
+cast-t24 c =
+    let w = within c in
+    omega arith
+
+returns-7 : tie.Need-returns-7
+returns-7 c =
     let b = c .before .before .before in
     let k = b .before .before .before .before in
-    let l = k .before .before .before .before in
+    let l = k .before .before .before .before .before .before .before in
     let f = now (l .before .before .before .before .before .args .file) in
-    let j = judged (c .before) ∙ c .if2 .left in
+    let j = judged (c .before) ∙ c .if3 .left in
     let p = labelled l .1 in
     let q = counted k .1 in
     let r = arrived b .1 in (
@@ -270,25 +318,31 @@ check-spec =
     refusal-of-requires
     refused-with-requires
     returns
+    sub-shown
+    part-shown-start
+    part-shown-end
+    some-unshown-requires
+    refused-with-requires-2
+    returns-2
     section-at-requires-2
     enum-known-sent
     enum-told-2
     refusal-of-requires-2
-    refused-with-requires-2
-    returns-2
+    refused-with-requires-3
+    returns-3
     section-at-requires-3
     enum-known-arrived
     enum-told-3
     refusal-of-requires-3
-    refused-with-requires-3
-    returns-3
     refused-with-requires-4
     returns-4
-    add-judge-file
-    judge-file-requires
     refused-with-requires-5
     returns-5
-    cast-t18
-    cast-t19
-    cast-t20
-    returns-6)
+    add-judge-file
+    judge-file-requires
+    refused-with-requires-6
+    returns-6
+    cast-t22
+    cast-t23
+    cast-t24
+    returns-7)

@@ -2,15 +2,17 @@
 use borrow.Author.Needs.{needs}
 use Prim.Native.Nat.{_+_, _*_, _≤_}
 use native.Mathlib.Omega.{arith}
-use mathlib.Core.Path.{sym, ap, _∙_}
+use mathlib.Core.Bool.{false}
+use mathlib.Core.Path.{_≡_, sym, ap, _∙_}
 use lib.ListN.{length}
-use mir.Syntax.{w8, w16, w64}
+use mir.Syntax.{w16, w64}
 use denote.Ref.{now}
 use Rattle.octets.specs.Memory.{splice}
 use Rattle.octets.proofs.Below.{below-fits}
 use Rattle.rfc4737.specs.Judge.{arrivalsOf}
 use Rattle.rfc4737.proofs.Judged.{ListsFit}
 use Rattle.sample.specs.Format.{labelMost, section, sizeOctets, arrivalOctets, itemOctets}
+use Rattle.sample.specs.Judge.{someUnshown}
 use Rattle.sample.specs.RoundTrip.{ReadAgain}
 use Rattle.sample.proofs.Answers.{write-refused, write-short, write-filled}
 use Rattle.sample.proofs.RoundTrips.{label-fit, read-again}
@@ -23,13 +25,12 @@ again : (c : tie.After-slice-known)
 again c =
     let a = c .before .before .before .before .before .args in
     read-again (now (a .label)) (now (a .sizes)) (now (a .numbers)) (now (a .times))
-    (below-fits w8 (now (a .label)) (c .before .before .before .before .shared-slice-known .given))
     (below-fits w16 (now (a .sizes)) (c .before .before .before .shared-slice-known2 .given))
     (below-fits w64 (now (a .times)) (c .before .shared-slice-known4 .given))
 
 -- where nothing of the lists is refused
 limited : (c : tie.Else1)
-    → (length (now (c .before .before .before .before .before .before .before .args .label)) ≤ labelMost) × ListsFit (length (now (c .before .before .before .before .before .before .before .args .sizes))) (now (c .before .before .before .before .before .before .before .args .numbers)) (now (c .before .before .before .before .before .before .before .args .times))
+    → (length (now (c .before .before .before .before .before .before .before .args .label)) ≤ labelMost) × (someUnshown (now (c .before .before .before .before .before .before .before .args .label)) ≡ false) × ListsFit (length (now (c .before .before .before .before .before .before .before .args .sizes))) (now (c .before .before .before .before .before .before .before .args .numbers)) (now (c .before .before .before .before .before .before .before .args .times))
 limited c =
     let a = c .before .before .before .before .before .before .before .args in
     label-fit (now (a .label)) (now (a .sizes)) (now (a .numbers)) (now (a .times)) (sym (c .before .refusal-from .ensures) ∙ c .if1 .left)
@@ -78,7 +79,7 @@ returns-2 : tie.Need-returns-2
 returns-2 c =
     let k = c .before .before .before in
     let a = k .before .before .before .before .before .args in (
-      write-short (now (a .label)) (now (a .sizes)) (now (a .numbers)) (now (a .times)) (now (a .out)) (sym (c .before .if1 .left) ∙ c .before .before .refusal-from .ensures) (limited (c .before) .1 .same) (c .if2 .taken),
+      write-short (now (a .label)) (now (a .sizes)) (now (a .numbers)) (now (a .times)) (now (a .out)) (sym (c .before .if1 .left) ∙ c .before .before .refusal-from .ensures) (limited (c .before) .2 .same) (c .if2 .taken),
       again k,
     )
 
@@ -94,7 +95,7 @@ write-arrivals-requires c κs =
     let p = c .before .before .before .write-sizes .kept .1 .0 in
     let q = c .before .before .before .before .before .before .before .write-label .kept .1 .0 in
     let r = c .before .before .before .before .before .before .before .before .before .if2 .left in
-    (l .1 .same, omega arith)
+    (l .2 .same, omega arith)
 
 cast-t21 : tie.Need-cast-t21
 cast-t21 c =
@@ -111,7 +112,7 @@ returns-3 c =
     let a = k .before .before .before .before .before .args in
     let n = length (now (a .label)) in
     let m = length (now (a .sizes)) in (
-      write-filled (now (a .label)) (now (a .sizes)) (now (a .numbers)) (now (a .times)) (now (a .out)) (sym (e .before .if1 .left) ∙ e .before .before .refusal-from .ensures) (limited (e .before) .1 .same)
+      write-filled (now (a .label)) (now (a .sizes)) (now (a .numbers)) (now (a .times)) (now (a .out)) (sym (e .before .if1 .left) ∙ e .before .before .refusal-from .ensures) (limited (e .before) .2 .same)
           (c .before .before .write-arrivals .last .1 .1 .0) (e .if2 .left)
           (c .before .before .write-arrivals .ensures
           ∙ ap (splice (2 + n + 2 + 2 * m) (section (length (now (a .numbers))) (itemOctets arrivalOctets (arrivalsOf (now (a .numbers)) (now (a .times))))))
