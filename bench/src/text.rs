@@ -314,14 +314,17 @@ fn one(random: &mut Random, log: &[u8], sent: u32, seen: &mut Seen) -> Result<()
         return Err(format!("import\n left {a:?} {left:?}\nright {b:?} {right:?}\n"));
     }
     let most = if a.refusal == 0 { a.arrivals as usize } else { n.min(t) };
-    let (numbers, times) =
-        (&left.0[..most.min(n)], &left.1[..(most - usize::from(random.once_in(20) && most > 0)).min(t)]);
+    let one_short = usize::from(random.once_in(20) && most > 0);
+    let (numbers, mut times) = (&left.0[..most.min(n)], left.1[..(most - one_short).min(t)].to_vec());
+    if random.once_in(10) {
+        times.reverse();
+    }
     let room = 46 * most + 3;
     let room = if random.once_in(4) { random.below(room) } else { room };
     let mut left = vec![b'.'; room];
     let mut right = left.clone();
-    let a = write_by_library(sent, numbers, times, &mut left);
-    let b = write(sent, numbers, times, &mut right);
+    let a = write_by_library(sent, numbers, &times, &mut left);
+    let b = write(sent, numbers, &times, &mut right);
     seen.call("write text", a.refusal);
     if (a, &left) != (b, &right) {
         return Err(format!("write\n left {a:?} {left:?}\nright {b:?} {right:?}\n"));

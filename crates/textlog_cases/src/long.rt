@@ -43,27 +43,69 @@ fn lines_in_turn() -> [u8; MOST] {
 fn run(name: &[u8], lines: u16, at: usize, line: &[u8]) {
     let mut log = lines_in_turn();
     octets::put_octets(&mut log, at, line);
-    import_and_sum(name, 4096, first_octets(&log, lines as usize * LINE), &mut [NUMBER; 4098], &mut [TIME; 4098]);
+    import_and_sum(
+        name,
+        4096,
+        first_octets(&log, lines as usize * LINE),
+        &mut [NUMBER; 4098],
+        &mut [TIME; 4098],
+    );
 }
 
 // Imports the first so many lines into lists of 4,095 places.
 fn run_short(name: &[u8], lines: u16) {
     let log = lines_in_turn();
-    import_and_sum(name, 4096, first_octets(&log, lines as usize * LINE), &mut [NUMBER; 4095], &mut [TIME; 4095]);
+    import_and_sum(
+        name,
+        4096,
+        first_octets(&log, lines as usize * LINE),
+        &mut [NUMBER; 4095],
+        &mut [TIME; 4095],
+    );
 }
 
 // 4,096 lines and 4,097, with another line in place of one near the end, and lists that are too short.
 pub(crate) fn many_lines() {
     run(b"4096 lines", 4096, 0, b"");
     run(b"4097 lines", 4097, 0, b"");
-    run(b"4097 lines, the last malformed", 4097, 4096 * LINE, b"4097,1\n");
-    run(b"4097 lines, the last of number 0", 4097, 4096 * LINE, b"0000;1\n");
-    run(b"4097 lines, the last early", 4097, 4096 * LINE, b"4096;0\n");
-    run(b"4097 lines, line 4096 malformed", 4097, 4095 * LINE, b"4096;\0\n");
-    run(b"4097 lines, line 4096 of number 0", 4097, 4095 * LINE, b"0000;1\n");
+    run(
+        b"4097 lines, the last malformed",
+        4097,
+        4096 * LINE,
+        b"4097,1\n",
+    );
+    run(
+        b"4097 lines, the last of number 0",
+        4097,
+        4096 * LINE,
+        b"0000;1\n",
+    );
+    run(
+        b"4097 lines, the last early",
+        4097,
+        4096 * LINE,
+        b"4096;0\n",
+    );
+    run(
+        b"4097 lines, line 4096 malformed",
+        4097,
+        4095 * LINE,
+        b"4096;\0\n",
+    );
+    run(
+        b"4097 lines, line 4096 of number 0",
+        4097,
+        4095 * LINE,
+        b"0000;1\n",
+    );
     run_short(b"4097 lines into too few places", 4097);
     run_short(b"4096 lines into too few places", 4096);
-    run(b"4096 lines, the last early", 4096, 4095 * LINE, b"4096;0\n");
+    run(
+        b"4096 lines, the last early",
+        4096,
+        4095 * LINE,
+        b"4096;0\n",
+    );
 }
 
 // Imports the first octets of a log, after others are put at its start and at a place.

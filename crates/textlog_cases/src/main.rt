@@ -39,14 +39,10 @@ pub(crate) fn import_into(name: &[u8], k: u32, log: &[u8], numbers: &mut [u32], 
 
 // Runs all cases.
 fn main() {
-    short::forms();
-    short::malformed();
-    short::ranges();
-    short::orders();
-    short::places();
+    short::accepted();
+    short::refused();
+    short::in_order();
     long::many_lines();
     long::many_digits();
-    writing::arrivals();
-    writing::refusals();
-    writing::many_arrivals();
+    writing::written();
 }

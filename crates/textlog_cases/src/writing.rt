@@ -31,7 +31,7 @@ fn run(name: &[u8], k: u32, numbers: &[u32], times: &[u64], out: &mut [u8]) {
 }
 
 // Arrivals that are written.
-pub(crate) fn arrivals() {
+fn arrivals() {
     run(
         b"write the request's own",
         3,
@@ -90,8 +90,8 @@ pub(crate) fn arrivals() {
     );
 }
 
-// Refusals, in their order.
-pub(crate) fn refusals() {
+// Refusals before the arrivals are judged, and 8.
+fn lists_refused() {
     run(
         b"write 8 octets into 7",
         1,
@@ -122,6 +122,10 @@ pub(crate) fn refusals() {
         &[1u64, 2],
         &mut [OCTET; 9],
     );
+}
+
+// Refusals of arrivals.
+fn arrivals_refused() {
     run(b"write number K + 1", 1, &[2u32], &[1u64], &mut [OCTET; 9]);
     run(b"write number 0", 1, &[0u32], &[1u64], &mut [OCTET; 9]);
     run(
@@ -168,7 +172,15 @@ fn run_many(name: &[u8], numbers: &[u32], times: &[u64]) {
 }
 
 // 4,096 arrivals and 4,097.
-pub(crate) fn many_arrivals() {
+fn many_arrivals() {
     run_many(b"write 4096 arrivals", &[1u32; 4096], &[4500u64; 4096]);
     run_many(b"write 4097 arrivals", &[1u32; 4097], &[4500u64; 4097]);
+}
+
+// Runs the cases of writing.
+pub(crate) fn written() {
+    arrivals();
+    lists_refused();
+    arrivals_refused();
+    many_arrivals();
 }
