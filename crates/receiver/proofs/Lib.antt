@@ -18,3 +18,4 @@ pub mod Demand3
 pub mod WindowCases
 pub mod FieldLent
 pub mod Returned
+pub mod Local

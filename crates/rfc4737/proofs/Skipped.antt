@@ -1,7 +1,7 @@
 -- The discontinuity of a packet is the jump that skipped it: the jump before which the packet was not below NextExp, and after
 -- which it was. Assumes nothing.
 use Prim.Native.Nat.{ℕ, _≤_, _<_}
-use mathlib.Core.Path.{_≡_, refl, sym, ap, subst, _∙_}
+use mathlib.Core.Path.{_≡_, refl, sym, ap, _∙_}
 use mathlib.Core.Bool.{Bool, true, false, cond}
 use mathlib.Core.List.{List, [], _∷_, _++_, append-assoc}
 use mathlib.Core.Option.{Option, none, some, Option·some-ne-none}
@@ -9,7 +9,7 @@ use lib.Dec.{ltb}
 use borrow.Author.Tests.{ltb-true}
 use Rattle.rfc4737.specs.declared.Arrival.{Arrival}
 use Rattle.rfc4737.specs.Arrivals.{has, each, eachAfter}
-use Rattle.rfc4737.specs.Order.{Placed, nextExp, placeAfter, placed, jumps}
+use Rattle.rfc4737.specs.Order.{Placed, nextExp, placeAfter, placed}
 use Rattle.rfc4737.specs.Extent.{firstAbove, discontinuity}
 use Rattle.rfc4737.proofs.Lists.{snoc-ind}
 use Rattle.rfc4737.proofs.Jumps.{has-more-false, placed-more, orElse, firstAbove-append, search-agrees}
