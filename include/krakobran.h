@@ -160,7 +160,9 @@ typedef struct {
     uint32_t places[KRAKOBRAN_TALLY_PLACES];
 } krakobran_tallied;
 
-/* Whether a record has a gap (1) or none (0), and the gap in positions; 0 and 0 with a refusal. */
+/* Whether a record has a gap (1) or none (0), and the gap in positions; 0 and 0 with a refusal. A discontinuity is discovered by
+   the first reordered arrival that has it as its own. It has a gap exactly if its neighbour before in position was discovered
+   by an earlier reordered arrival; the gap is the difference of their positions. */
 typedef struct {
     uint32_t refusal;
     uint32_t known;

@@ -58,7 +58,9 @@ pub enum Mistake {
     GapByRecords,
     GapOfAllJumps,
     GapOfFirst,
-    GapByDiscovery,
+    GapByPositions,
+    GapAgainstDiscovery,
+    GapAmongDiscovered,
     RatioZeroWithoutArrivals,
     RatioOverArrivals,
     DegreeMoreThanN,
@@ -137,7 +139,9 @@ impl Mistake {
             GapByRecords,
             GapOfAllJumps,
             GapOfFirst,
-            GapByDiscovery,
+            GapByPositions,
+            GapAgainstDiscovery,
+            GapAmongDiscovered,
             RatioZeroWithoutArrivals,
             RatioOverArrivals,
             DegreeMoreThanN,
@@ -436,23 +440,28 @@ impl Definition {
         found
     }
 
+    /// The record of the first reordered arrival that has the discontinuity at this position as its own.
+    fn discoverer(answers: &[Answer], wanted: u32) -> Option<usize> {
+        answers
+            .iter()
+            .position(|a| matches!(*a, Answer::Reordered { position, extent, .. } if position - extent == wanted))
+    }
+
     fn gap_of(&self, answers: &[Answer], index: usize) -> Option<u32> {
         let Answer::InOrder { position, .. } = answers[index] else { return None };
-        let found = self.discontinuities(answers);
+        let mut found = self.discontinuities(answers);
+        if self.is(Mistake::GapAmongDiscovered) {
+            let own = Self::discoverer(answers, position);
+            found.retain(|&p| Self::discoverer(answers, p) <= own);
+        }
         let place = found.iter().position(|&p| p == position)?;
         if place == 0 {
             return self.is(Mistake::GapOfFirst).then_some(position);
         }
         let before = found[place - 1];
-        if self.is(Mistake::GapByDiscovery) {
-            let discoverer = |wanted: u32| {
-                answers.iter().position(
-                    |a| matches!(*a, Answer::Reordered { position, extent, .. } if position - extent == wanted),
-                )
-            };
-            if discoverer(before) > discoverer(position) {
-                return None;
-            }
+        let earlier = Self::discoverer(answers, before) < Self::discoverer(answers, position);
+        if earlier == self.is(Mistake::GapAgainstDiscovery) && !self.is(Mistake::GapByPositions) {
+            return None;
         }
         if self.is(Mistake::GapByRecords) {
             let record = |wanted: u32| {

@@ -465,10 +465,11 @@ pub fn gap(file: &[u8], record: u32) -> Gap {
     }
 }
 
-/// The jumps in order, each with its number, position and whether some reordered packet has it as its own.
+/// The jumps in order, each with its number, position and the position of the first reordered packet that has it as its own, 0 for
+/// none. There is a gap exactly if the neighbour before was discovered earlier.
 fn gap_at(sample: &Sample, index: usize) -> Option<u32> {
     let mut marks = Marks::new();
-    let mut jumps: Vec<(u32, u32, bool)> = Vec::new();
+    let mut jumps: Vec<(u32, u32, u32)> = Vec::new();
     let (mut next_expected, mut position, mut wanted) = (1, 0, None);
     for (at, arrival) in sample.arrivals.iter().enumerate() {
         let number = number_and_time(arrival).0;
@@ -478,21 +479,23 @@ fn gap_at(sample: &Sample, index: usize) -> Option<u32> {
         position += 1;
         if number < next_expected {
             let own = jumps.partition_point(|jump| jump.0 < number);
-            jumps[own].2 = true;
+            if jumps[own].2 == 0 {
+                jumps[own].2 = position;
+            }
             continue;
         }
         if number > next_expected {
             if at == index {
                 wanted = Some(jumps.len());
             }
-            jumps.push((number, position, false));
+            jumps.push((number, position, 0));
         }
         next_expected = number + 1;
     }
     let (before, rest) = jumps.split_at(wanted?);
-    let (_, position, own) = rest[0];
-    let neighbour = before.iter().rev().find(|jump| jump.2)?;
-    own.then(|| position - neighbour.1)
+    let (_, position, discoverer) = rest[0];
+    let neighbour = before.iter().rev().find(|jump| jump.2 > 0)?;
+    (neighbour.2 < discoverer).then(|| position - neighbour.1)
 }
 
 fn ratio(part: u32, whole: u32) -> Option<f64> {

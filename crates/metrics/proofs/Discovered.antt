@@ -1,17 +1,17 @@
 -- The gap of a position from a table of discoverers, looked through downward. Assumes nothing.
-use mathlib.Core.Path.{_≡_, refl, ap, _∙_}
+use mathlib.Core.Path.{_≡_, refl, sym, ap, _∙_}
 use mathlib.Core.Bool.{Bool, true, false, cond, not}
 use mathlib.Core.List.{List, [], _∷_, _++_}
 use mathlib.Core.Option.{Option, none, some}
 use Prim.Native.Nat.{ℕ, zero, suc, _+_, _-_, _≤_, _<_}
 use native.Mathlib.Omega.{arith}
-use lib.Dec.{eqb}
+use lib.Dec.{eqb, ltb}
 use lib.ListN.{getD}
-use borrow.Author.Tests.{eq-eqb, ne-eqb, eqb-true, eqb-false}
+use borrow.Author.Tests.{eq-eqb, ne-eqb, eqb-true, eqb-false, le-ltb}
 use Rattle.rfc4737.specs.declared.Answer.{Answer}
 use Rattle.rfc4737.specs.declared.Gap.{Gap}
 use Rattle.rfc4737.specs.Runs.{arrived}
-use Rattle.rfc4737.specs.Gaps.{discoverer, isSome, discontinuitiesTo, discontinuities, gapAfter, gapAmong, gapOf}
+use Rattle.rfc4737.specs.Gaps.{discoverer, isSome, discontinuitiesTo, discontinuities, earlier, gapAfter, gapAmong, gapOf}
 use Rattle.rfc4737.proofs.Lists.{All, all-append, all-weaken}
 use Rattle.metrics.specs.Private.Steps.{orZero, Marked, lastTo, gapFrom, gapBy}
 
@@ -47,14 +47,31 @@ module _ (found : List ℕ) where
       go true e h = rw (last-suc q true e) (omega arith)
       go false e h = rw (last-suc q false e) (omega arith)
 
-  -- the gap after the last discontinuity before a position
-  pub gap-some : (p b : ℕ) → (getD found p 0 ≡ 0 → ⊥) → b ≡ lastTo found (p - 1) → (b ≡ 0 → ⊥) → Gap.Positions (p - b) ≡ gapBy found p
-  unfolding gapBy
-  gap-some p b h e s = rw (ne-eqb (getD found p 0) 0 h, ← e) (go b s)
+  -- it is marked
+  last-marked : (q b : ℕ) → lastTo found q ≡ suc b → getD found (suc b) 0 ≡ 0 → ⊥
+  last-marked zero b e z = omega (arith, e, last-none 0 (omega arith))
+  last-marked (suc q) b e z = go (eqb (getD found (suc q) 0) 0) refl (last-marked q b)
     where
-      go : (b : ℕ) → (b ≡ 0 → ⊥) → Gap.Positions (p - b) ≡ gapFrom p b
-      go zero s = absurd (s refl)
-      go (suc b) s = refl
+      go : (t : Bool) → eqb (getD found (suc q) 0) 0 ≡ t → (lastTo found q ≡ suc b → getD found (suc b) 0 ≡ 0 → ⊥) → ⊥
+      go true h k = k (sym (last-suc q true h) ∙ e) z
+      go false h k = eqb-false (getD found (suc q) 0) 0 h (ap (λ (x : ℕ). getD found x 0) (sym (last-suc q false h) ∙ e) ∙ z)
+
+  -- the gap after the last discontinuity before a position
+  pub gap-after : (p b : ℕ) (t : Bool) → (getD found p 0 ≡ 0 → ⊥) → b ≡ lastTo found (p - 1) → (b ≡ 0 → ⊥)
+      → ltb (getD found b 0) (getD found p 0) ≡ t → cond t (Gap.Positions (p - b)) Gap.None ≡ gapBy found p
+  unfolding gapBy
+  gap-after p b t h e s k = rw (ne-eqb (getD found p 0) 0 h, ← e) (go b s k)
+    where
+      go : (b : ℕ) → (b ≡ 0 → ⊥) → ltb (getD found b 0) (getD found p 0) ≡ t → cond t (Gap.Positions (p - b)) Gap.None ≡ gapFrom found p b
+      go zero s k = absurd (s refl)
+      go (suc b) s k = rw k
+
+-- of two discoverers, 0 for none, the first is earlier if it is less
+earlier-known : (d e : Option ℕ) → (orZero d ≡ 0 → ⊥) → earlier d e ≡ ltb (orZero d) (orZero e)
+unfolding earlier
+earlier-known none e h = absurd (h refl)
+earlier-known (some d) none h = sym (le-ltb d 0 (omega arith))
+earlier-known (some d) (some e) h = refl
 
 -- ---- gaps among positions in order
 
@@ -68,27 +85,27 @@ last-append : (before : Option ℕ) (xs ys : List ℕ) → lastOf before (xs ++ 
 last-append before [] ys = refl
 last-append before (x ∷ xs) ys = last-append (some x) xs ys
 
--- positions below p are passed over, and the last of them is before p
-gap-below : (p : ℕ) (before : Option ℕ) (xs ys : List ℕ) → All (λ (x : ℕ). x < p) xs → gapAmong p before (xs ++ ys) ≡ gapAmong p (lastOf before xs) ys
-unfolding gapAmong
-gap-below p before [] ys h = refl
-gap-below p before (x ∷ xs) ys h = rw (ne-eqb x p (λ e. omega (arith, e, h .0))) (gap-below p (some x) xs ys (h .1))
-
--- no position above p is p
-gap-none : (p : ℕ) (before : Option ℕ) (ys : List ℕ) → All (λ (y : ℕ). p < y) ys → gapAmong p before ys ≡ Gap.None
-unfolding gapAmong
-gap-none p before [] h = refl
-gap-none p before (y ∷ ys) h = rw (ne-eqb y p (λ e. omega (arith, e, h .0))) (gap-none p (some y) ys (h .1))
-
--- positions above p change nothing
-gap-above : (p : ℕ) (before : Option ℕ) (xs ys : List ℕ) → All (λ (y : ℕ). p < y) ys → gapAmong p before (xs ++ ys) ≡ gapAmong p before xs
-unfolding gapAmong
-gap-above p before [] ys h = gap-none p before ys h
-gap-above p before (x ∷ xs) ys h = ap (cond (eqb x p) (gapAfter before p)) (gap-above p (some x) xs ys h)
-
--- ---- the discontinuities up to a position
-
 module _ (l : List Answer) where
+  -- positions below p are passed over, and the last of them is before p
+  gap-below : (p : ℕ) (before : Option ℕ) (xs ys : List ℕ) → All (λ (x : ℕ). x < p) xs → gapAmong l p before (xs ++ ys) ≡ gapAmong l p (lastOf before xs) ys
+  unfolding gapAmong
+  gap-below p before [] ys h = refl
+  gap-below p before (x ∷ xs) ys h = rw (ne-eqb x p (λ e. omega (arith, e, h .0))) (gap-below p (some x) xs ys (h .1))
+
+  -- no position above p is p
+  gap-none : (p : ℕ) (before : Option ℕ) (ys : List ℕ) → All (λ (y : ℕ). p < y) ys → gapAmong l p before ys ≡ Gap.None
+  unfolding gapAmong
+  gap-none p before [] h = refl
+  gap-none p before (y ∷ ys) h = rw (ne-eqb y p (λ e. omega (arith, e, h .0))) (gap-none p (some y) ys (h .1))
+
+  -- positions above p change nothing
+  gap-above : (p : ℕ) (before : Option ℕ) (xs ys : List ℕ) → All (λ (y : ℕ). p < y) ys → gapAmong l p before (xs ++ ys) ≡ gapAmong l p before xs
+  unfolding gapAmong
+  gap-above p before [] ys h = gap-none p before ys h
+  gap-above p before (x ∷ xs) ys h = ap (cond (eqb x p) (gapAfter l before p)) (gap-above p (some x) xs ys h)
+
+  -- ---- the discontinuities up to a position
+
   -- the discontinuity at a position, if there is one
   abbrev here : ℕ → List ℕ
   here p = cond (isSome (discoverer p l)) (p ∷ []) []
@@ -111,13 +128,13 @@ module _ (l : List Answer) where
       (here-all (λ (x : ℕ). x < suc (suc n)) (suc n) (omega arith))
 
   -- those after p do not change the gap of p
-  gap-upto : (p n : ℕ) → p ≤ n → gapAmong p none (discontinuitiesTo n l) ≡ gapAmong p none (discontinuitiesTo p l)
+  gap-upto : (p n : ℕ) → p ≤ n → gapAmong l p none (discontinuitiesTo n l) ≡ gapAmong l p none (discontinuitiesTo p l)
   unfolding discontinuitiesTo
   gap-upto p zero h = let e : p ≡ 0 = omega arith in rw e
   gap-upto p (suc n) h = go (eqb p (suc n)) refl (gap-upto p n)
     where
-      go : (t : Bool) → eqb p (suc n) ≡ t → (p ≤ n → gapAmong p none (discontinuitiesTo n l) ≡ gapAmong p none (discontinuitiesTo p l))
-          → gapAmong p none (discontinuitiesTo (suc n) l) ≡ gapAmong p none (discontinuitiesTo p l)
+      go : (t : Bool) → eqb p (suc n) ≡ t → (p ≤ n → gapAmong l p none (discontinuitiesTo n l) ≡ gapAmong l p none (discontinuitiesTo p l))
+          → gapAmong l p none (discontinuitiesTo (suc n) l) ≡ gapAmong l p none (discontinuitiesTo p l)
       go true e k = rw (eqb-true p (suc n) e)
       go false e k =
           let other : p ≡ suc n → ⊥ = eqb-false p (suc n) e in
@@ -125,15 +142,15 @@ module _ (l : List Answer) where
           gap-above p none (discontinuitiesTo n l) (here (suc n)) (here-all (λ (y : ℕ). p < y) (suc n) (omega arith)) ∙ k low
 
   -- the gap of a position: none if it is no discontinuity, else after the last one before it
-  gap-here : (q : ℕ) → gapAmong (suc q) none (discontinuitiesTo (suc q) l)
-      ≡ cond (isSome (discoverer (suc q) l)) (gapAfter (lastOf none (discontinuitiesTo q l)) (suc q)) Gap.None
+  gap-here : (q : ℕ) → gapAmong l (suc q) none (discontinuitiesTo (suc q) l)
+      ≡ cond (isSome (discoverer (suc q) l)) (gapAfter l (lastOf none (discontinuitiesTo q l)) (suc q)) Gap.None
   unfolding discontinuitiesTo gapAmong
   gap-here q =
       gap-below (suc q) none (discontinuitiesTo q l) (here (suc q)) (to-below q)
       ∙ go (isSome (discoverer (suc q) l))
     where
-      go : (t : Bool) → gapAmong (suc q) (lastOf none (discontinuitiesTo q l)) (cond t (suc q ∷ []) [])
-          ≡ cond t (gapAfter (lastOf none (discontinuitiesTo q l)) (suc q)) Gap.None
+      go : (t : Bool) → gapAmong l (suc q) (lastOf none (discontinuitiesTo q l)) (cond t (suc q ∷ []) [])
+          ≡ cond t (gapAfter l (lastOf none (discontinuitiesTo q l)) (suc q)) Gap.None
       go true = rw (eq-eqb (suc q) (suc q) refl)
       go false = refl
 
@@ -167,11 +184,18 @@ module _ (l : List Answer) where
         go true t e k = rw e k
         go false t e k = rw e
 
-    -- and so is the gap after it
-    gap-known : (p q : ℕ) → gapAfter (known q) p ≡ gapFrom p q
+    -- of two discoverers the first is earlier by the table, if it is there
+    earlier-marked : (q p : ℕ) → 1 ≤ q → q ≤ 4096 → 1 ≤ p → p ≤ 4096 → (getD found q 0 ≡ 0 → ⊥)
+        → earlier (discoverer q l) (discoverer p l) ≡ ltb (getD found q 0) (getD found p 0)
+    earlier-marked q p low high low' high' h =
+        rw (m .at q low high, m .at p low' high') (earlier-known (discoverer q l) (discoverer p l) (λ z. h (m .at q low high ∙ z)))
+
+    -- and the gap after the last discontinuity is that of the table
+    gap-known : (p n q : ℕ) → 1 ≤ p → p ≤ 4096 → n ≤ 4096 → lastTo found n ≡ q → gapAfter l (known q) p ≡ gapFrom found p q
     unfolding gapAfter
-    gap-known p zero = refl
-    gap-known p (suc q) = refl
+    gap-known p n zero low few h e = refl
+    gap-known p n (suc q) low few h e =
+        rw (earlier-marked (suc q) p (omega arith) (omega (arith, e, h, last-le found n)) low few (last-marked found n q e))
 
     -- the gap of a position from 1 on
     gap-suc : (q : ℕ) → suc q ≤ arrived l → suc q ≤ 4096 → gapOf l (some (suc q)) ≡ gapBy found (suc q)
@@ -179,13 +203,13 @@ module _ (l : List Answer) where
     gap-suc q inside few =
         gap-upto (suc q) (arrived l) inside
         ∙ gap-here q
-        ∙ rw (marked-some (suc q) (omega arith) few, last-known q (omega arith), gap-known (suc q) (lastTo found q), back)
+        ∙ rw (marked-some (suc q) (omega arith) few, last-known q (omega arith), gap-known (suc q) q (lastTo found q) (omega arith) few (omega arith) refl, back)
         (go (eqb (getD found (suc q) 0) 0))
       where
         back : suc q - 1 ≡ q
         back = omega arith
 
-        go : (z : Bool) → cond (not z) (gapFrom (suc q) (lastTo found q)) Gap.None ≡ cond z Gap.None (gapFrom (suc q) (lastTo found q))
+        go : (z : Bool) → cond (not z) (gapFrom found (suc q) (lastTo found q)) Gap.None ≡ cond z Gap.None (gapFrom found (suc q) (lastTo found q))
         go true = refl
         go false = refl
 

@@ -1,4 +1,4 @@
-// The gap of a discontinuity: a table of the discontinuities by position, looked through downward.
+// The gap of a discontinuity: a table of the discoverers by the discontinuity's position, looked through downward.
 ghost use mathlib.Core.Path.{_≡_};
 ghost use Prim.Native.Nat.{_-_, _≤_};
 ghost use lib.ListN.{length, replicate};
@@ -92,7 +92,7 @@ fn last_to(found: &[u16; PLACES], p: u32) -> u32
     0
 }
 
-// The gap of position p.
+// The gap of position p: there is one if the discontinuity before it was discovered earlier.
 fn gap_at(found: &[u16; PLACES], p: u32) -> Gap
     requires { ⌜ (1 ≤ p) × (p ≤ 4096) ⌝ }
     ensures { λ r. ⌜ r ≡ gapBy (now (found .entry)) p ⌝ }
@@ -105,7 +105,11 @@ fn gap_at(found: &[u16; PLACES], p: u32) -> Gap
     if before == 0 {
         return Gap::None;
     }
-    Gap::Positions(p - before)
+    let neighbour = before as usize;
+    if found[neighbour] < found[place] {
+        return Gap::Positions(p - before);
+    }
+    Gap::None
 }
 
 // The gap of a record of a file.

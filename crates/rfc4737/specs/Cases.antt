@@ -1,5 +1,5 @@
--- The cases P1 to P9 of the scope, as data: what is sent, what arrives and the figures that must come of it, and the
--- statement that the definitions give these figures. Unless a case says otherwise, K is the greatest number that arrives,
+-- The cases P1 to P9 of the scope and P10, which request 2 brings, as data: what is sent, what arrives and the figures
+-- that must come of it, and the statement that the definitions give these figures. Unless a case says otherwise, K is the greatest number that arrives,
 -- every size is 100, and record r arrives at 10 times r. The ratios stand as f64 in the kit's form: `fin false m e` is
 -- m times 2 to the e. Assumes nothing.
 use Prim.Native.Nat.{ℕ, _+_, _-_, _*_}
@@ -228,7 +228,7 @@ p6 =
           };
     }
 
--- P7: two discontinuities, the earlier one discovered last. The ratio figures: 2 / 5, 2 / 5, 1 / 5
+-- P7: two discontinuities, the earlier one discovered last, so that the later one has no gap. The ratio figures: 2 / 5, 2 / 5, 1 / 5
 unfoldable pub p7 : Case
 p7 =
     record {
@@ -239,7 +239,7 @@ p7 =
             answers =
                 inOrder 1 0 ∷ inOrder 2 1 ∷ inOrder 3 2 ∷ late 4 1 10 100 1 ∷ late 5 3 30 300 3 ∷ [];
             discontinuities = 2 ∷ 3 ∷ [];
-            gaps = withGaps 5 ((3, 1) ∷ []);
+            gaps = noGaps 5;
             lengths = 3 ∷ 0 ∷ [];
             tally = tallied ((1, 1) ∷ (3, 1) ∷ []);
             counts = totals 5 2 0 3 2 9 0;
@@ -285,8 +285,29 @@ p9 =
           };
     }
 
+-- P10 (request 2): discontinuities at 1, 3, 4, discovered at positions 2, 6, 5. The one at 3 has the gap 2; the one at 4 has none,
+-- since its neighbour 3 is discovered later. The ratio figures: 3 / 6, 3 / 6, 1 / 6
+unfoldable pub p10 : Case
+p10 =
+    record {
+      sent = 6;
+      arrivals = everyTen (2 ∷ 1 ∷ 4 ∷ 6 ∷ 5 ∷ 3 ∷ []);
+      given =
+          record {
+            answers =
+                inOrder 1 1 ∷ late 2 1 10 100 1 ∷ inOrder 3 1 ∷ inOrder 4 1 ∷ late 5 1 10 100 1
+                ∷ late 6 3 30 300 3 ∷ [];
+            discontinuities = 1 ∷ 3 ∷ 4 ∷ [];
+            gaps = withGaps 6 ((3, 2) ∷ []);
+            lengths = 1 ∷ 2 ∷ 0 ∷ [];
+            tally = tallied ((1, 2) ∷ (3, 1) ∷ []);
+            counts = totals 6 3 0 3 3 5 0;
+            ratios = known (fin false 1 (negsuc 0)) (fin false 1 (negsuc 0)) (fin false 6004799503160661 (negsuc 54));
+          };
+    }
+
 unfoldable pub table : List Case
-table = p1 ∷ p2 ∷ p3 ∷ p4 ∷ p5 ∷ p6 ∷ p7 ∷ p8 ∷ p9 ∷ []
+table = p1 ∷ p2 ∷ p3 ∷ p4 ∷ p5 ∷ p6 ∷ p7 ∷ p8 ∷ p9 ∷ p10 ∷ []
 
 -- every case of the table has the figures given for it
 abbrev pub CasesHold : Type 0

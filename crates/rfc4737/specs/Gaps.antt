@@ -3,7 +3,7 @@ use Prim.Native.Nat.{ℕ, zero, suc, _-_}
 use mathlib.Core.Bool.{Bool, true, false, cond}
 use mathlib.Core.List.{List, [], _∷_, _++_, map}
 use mathlib.Core.Option.{Option, none, some}
-use lib.Dec.{eqb}
+use lib.Dec.{eqb, ltb}
 use Rattle.rfc4737.specs.declared.Answer.{Answer}
 use Rattle.rfc4737.specs.declared.Answer.the-variants.{Duplicate, InOrder, Reordered}
 use Rattle.rfc4737.specs.declared.Gap.{Gap}
@@ -41,20 +41,27 @@ discontinuitiesTo (suc n) l = discontinuitiesTo n l ++ cond (isSome (discoverer 
 unfoldable pub discontinuities : List Answer → List ℕ
 discontinuities l = discontinuitiesTo (arrived l) l
 
--- the gap of a discontinuity at p, after the one before it: its position less that one's; the first has none
-unfoldable pub gapAfter : Option ℕ → ℕ → Gap
-gapAfter none p = None
-gapAfter (some q) p = Positions (p - q)
+-- whether one discoverer is an earlier reordered packet than another: positions of first arrivals rise with time
+unfoldable pub earlier : Option ℕ → Option ℕ → Bool
+earlier none e = false
+earlier (some d) none = false
+earlier (some d) (some e) = ltb d e
+
+-- the gap of a discontinuity at p, after its neighbour before in position: p less that position exactly if the neighbour was
+-- discovered by an earlier reordered packet, else none; the first has none
+unfoldable pub gapAfter : List Answer → Option ℕ → ℕ → Gap
+gapAfter l none p = None
+gapAfter l (some q) p = cond (earlier (discoverer q l) (discoverer p l)) (Positions (p - q)) None
 
 -- the gap of position p among discontinuities in order, of which the one before them is given: none if p is no discontinuity
-unfoldable pub gapAmong : ℕ → Option ℕ → List ℕ → Gap
-gapAmong p before [] = None
-gapAmong p before (d ∷ ds) = cond (eqb d p) (gapAfter before p) (gapAmong p (some d) ds)
+unfoldable pub gapAmong : List Answer → ℕ → Option ℕ → List ℕ → Gap
+gapAmong l p before [] = None
+gapAmong l p before (d ∷ ds) = cond (eqb d p) (gapAfter l before p) (gapAmong l p (some d) ds)
 
 -- the gap of a record with this position, if it has one; a duplicate has no gap
 unfoldable pub gapOf : List Answer → Option ℕ → Gap
 gapOf l none = None
-gapOf l (some p) = gapAmong p none (discontinuities l)
+gapOf l (some p) = gapAmong l p none (discontinuities l)
 
 -- the gap of every record of a sample
 unfoldable pub gaps : List Answer → List Gap

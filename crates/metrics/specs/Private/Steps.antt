@@ -4,7 +4,7 @@ use mathlib.Core.Bool.{Bool, false, cond}
 use mathlib.Core.List.{List}
 use mathlib.Core.Option.{Option, none, some}
 use Prim.Native.Nat.{ℕ, zero, suc, _+_, _-_, _≤_, _<_}
-use lib.Dec.{eqb, leb}
+use lib.Dec.{eqb, leb, ltb}
 use lib.ListN.{length, getD, set}
 use Rattle.rfc4737.specs.declared.Answer.{Answer}
 use Rattle.rfc4737.specs.declared.Counts.{Counts}
@@ -149,11 +149,11 @@ unfoldable pub lastTo : List ℕ → ℕ → ℕ
 lastTo found zero = 0
 lastTo found (suc p) = cond (eqb (getD found (suc p) 0) 0) (lastTo found p) (suc p)
 
--- the gap of position p after the discontinuity before it, 0 for none
-abbrev pub gapFrom : ℕ → ℕ → Gap
-gapFrom p zero = Gap.None
-gapFrom p (suc q) = Gap.Positions (p - suc q)
+-- the gap of position p after the discontinuity before it, 0 for none: by the table, that one was discovered earlier
+abbrev pub gapFrom : List ℕ → ℕ → ℕ → Gap
+gapFrom found p zero = Gap.None
+gapFrom found p (suc q) = cond (ltb (getD found (suc q) 0) (getD found p 0)) (Gap.Positions (p - suc q)) Gap.None
 
 -- the gap of position p by the table
 unfoldable pub gapBy : List ℕ → ℕ → Gap
-gapBy found p = cond (eqb (getD found p 0) 0) Gap.None (gapFrom p (lastTo found (p - 1)))
+gapBy found p = cond (eqb (getD found p 0) 0) Gap.None (gapFrom found p (lastTo found (p - 1)))

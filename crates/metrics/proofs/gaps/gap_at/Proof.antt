@@ -1,11 +1,12 @@
--- `gap_at` looks at the position, then for the last discontinuity before it. Assumes nothing.
+-- `gap_at` looks at the position, then for the last discontinuity before it, then at both discoverers. Assumes nothing.
 use mathlib.Core.Path.{sym, _∙_}
-use Prim.Native.Nat.{_-_}
+use mathlib.Core.Bool.{true, false}
+use Prim.Native.Nat.{_-_, _≤_}
 use native.Mathlib.Omega.{arith}
 use denote.Ref.{now}
-use borrow.Author.Tests.{eq-eqb, ne-eqb}
-use Rattle.metrics.specs.Private.Steps.{gapBy}
-use Rattle.metrics.proofs.Discovered.{last-le, gap-some}
+use borrow.Author.Tests.{eq-eqb, ne-eqb, lt-ltb, le-ltb}
+use Rattle.metrics.specs.Private.Steps.{lastTo, gapBy}
+use Rattle.metrics.proofs.Discovered.{last-le, gap-after}
 use borrow.Author.Needs.{needs}
 use Rattle.metrics.proofs.gaps.gap_at.Statement.{statement}
 use Rattle.metrics.proofs.gaps.gap_at.Tie as tie
@@ -30,11 +31,33 @@ returns-2 : tie.Need-returns-2
 unfolding gapBy
 returns-2 c = simp (ne-eqb _ 0 (c .before .before .if1 .left), sym (c .before .last-to .ensures) ∙ c .if2 .taken)
 
-sub-t10 : tie.Need-sub-t10
-sub-t10 c = omega (arith, c .before .last-to .ensures, last-le (now (c .before .before .before .before .args .found)) (c .before .before .before .before .args .p - 1))
+-- the neighbour is before p
+near : (c : tie.Else2) → lastTo (now (c .before .before .before .before .args .found)) (c .before .before .before .before .args .p - 1) ≤ c .before .before .before .before .args .p - 1
+near c = last-le _ _
+
+cast-neighbour : tie.Need-cast-neighbour
+cast-neighbour c = omega (arith, c .before .last-to .ensures, near c)
+
+mul-if3 : tie.Need-mul-if3
+mul-if3 c = omega (arith, c .before .last-to .ensures, near c)
+
+element-copy-out-if3 : tie.Need-element-copy-out-if3
+element-copy-out-if3 c = omega (arith, c .before .last-to .ensures, near c)
+
+mul-if3-2 : tie.Need-mul-if3-2
+mul-if3-2 c = search needs
+
+element-copy-out-if3-2 : tie.Need-element-copy-out-if3-2
+element-copy-out-if3-2 c = search needs
+
+sub-t18 : tie.Need-sub-t18
+sub-t18 c = omega (arith, c .before .before .before .before .last-to .ensures, near (c .before .before .before))
 
 returns-3 : tie.Need-returns-3
-returns-3 c = gap-some _ _ _ (c .before .before .if1 .left) (c .before .last-to .ensures) (c .if2 .left)
+returns-3 c = let e = c .before .before .before in gap-after _ _ _ true (e .before .before .if1 .left) (e .before .last-to .ensures) (e .if2 .left) (lt-ltb _ _ (c .if3 .taken))
+
+returns-4 : tie.Need-returns-4
+returns-4 c = let e = c .before .before .before in gap-after _ _ _ false (e .before .before .if1 .left) (e .before .last-to .ensures) (e .if2 .left) (le-ltb _ _ (c .if3 .left))
 
 pub gap-at-spec : {M : Type 1} → statement M
 gap-at-spec =
@@ -46,5 +69,11 @@ gap-at-spec =
     sub-last-to
     last-to-requires
     returns-2
-    sub-t10
-    returns-3)
+    cast-neighbour
+    mul-if3
+    element-copy-out-if3
+    mul-if3-2
+    element-copy-out-if3-2
+    sub-t18
+    returns-3
+    returns-4)
