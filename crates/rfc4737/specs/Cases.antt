@@ -1,7 +1,7 @@
--- The cases P1 to P9 of the scope and P10, which request 2 brings, as data: what is sent, what arrives and the figures
--- that must come of it, and the statement that the definitions give these figures. Unless a case says otherwise, K is the greatest number that arrives,
--- every size is 100, and record r arrives at 10 times r. The ratios stand as f64 in the kit's form: `fin false m e` is
--- m times 2 to the e. Assumes nothing.
+-- The cases P1 to P9 of the scope and P10, which request 2 brings, as data: what is sent, what arrives and the figures that
+-- must come of it, and the statement that the definitions give these figures. Unless a case says otherwise, K is the
+-- greatest number that arrives, every size is 100, and record r arrives at 10 times r. The ratios stand as f64 in the kit's
+-- form: `fin false m e` is m times 2 to the e. Assumes nothing.
 use Prim.Native.Nat.{ℕ, _+_, _-_, _*_}
 use mathlib.Core.Path.{_≡_}
 use mathlib.Core.Bool.{false, cond}

@@ -1,6 +1,7 @@
 // The values that the definitions of specs/ name: an arrival, the answer for a record, and the figures
 // of a sample. What each value means is said in specs/, after RFC 4737. Beside them stand the numbers of
-// an answer's cases and of the refusals, and the three rules about times, which every crate above shares.
+// an answer's cases and of the refusals, the three rules about times, and the judge of K and the arrivals,
+// which every crate above shares.
 
 // The numbers of an answer's cases.
 pub mod numbering;

@@ -149,7 +149,7 @@ unfoldable pub lastTo : List ℕ → ℕ → ℕ
 lastTo found zero = 0
 lastTo found (suc p) = cond (eqb (getD found (suc p) 0) 0) (lastTo found p) (suc p)
 
--- the gap of position p after the discontinuity before it, 0 for none: by the table, that one was discovered earlier
+-- the gap of position p after the discontinuity before it, 0 for none, if that one has the earlier discoverer by the table
 abbrev pub gapFrom : List ℕ → ℕ → ℕ → Gap
 gapFrom found p zero = Gap.None
 gapFrom found p (suc q) = cond (ltb (getD found (suc q) 0) (getD found p 0)) (Gap.Positions (p - suc q)) Gap.None
