@@ -12,15 +12,24 @@ static void print_noted(krakobran_noted noted) {
     case KRAKOBRAN_IN_ORDER:
         printf("in order, jump size %" PRIu32 "\n", noted.jump);
         break;
-    case KRAKOBRAN_REORDERED:
+    case KRAKOBRAN_REORDERED_AFTER:
         printf("reordered, extent %" PRIu32 ", late by %" PRIu64 "\n", noted.extent, noted.late);
+        break;
+    case KRAKOBRAN_REORDERED_BEFORE:
+        printf("reordered, extent %" PRIu32 ", stamped %" PRIu64 " before its discontinuity\n", noted.extent,
+               noted.late);
         break;
     case KRAKOBRAN_DUPLICATE:
         printf("duplicate\n");
         break;
-    case KRAKOBRAN_BEYOND:
-        printf("reordered beyond the window, at least %" PRIu32 ", late by at least %" PRIu64 "\n", noted.extent,
-               noted.late);
+    case KRAKOBRAN_BEYOND_AFTER:
+        printf("reordered beyond the window, extent over %" PRIu32 ", late by %" PRIu64 " after the oldest kept jump\n",
+               noted.extent, noted.late);
+        break;
+    case KRAKOBRAN_BEYOND_BEFORE:
+        printf("reordered beyond the window, extent over %" PRIu32 ", stamped %" PRIu64
+               " before the oldest kept jump\n",
+               noted.extent, noted.late);
         break;
     }
 }
@@ -36,9 +45,9 @@ static void feed(krakobran_receiver *receiver, uint32_t number, uint64_t time) {
 }
 
 int main(int argc, char **argv) {
-    static const uint32_t numbers[] = {1, 2, 4, 5, 3, 3, 9};
-    static const uint64_t times[] = {10, 20, 40, 50, 70, 80, 90};
-    uint32_t sent = argc > 1 ? (uint32_t)strtoul(argv[1], NULL, 10) : 5;
+    static const uint32_t numbers[] = {1, 2, 4, 6, 3, 3, 5, 9};
+    static const uint64_t times[] = {10, 20, 40, 50, 70, 80, 45, 90};
+    uint32_t sent = argc > 1 ? (uint32_t)strtoul(argv[1], NULL, 10) : 6;
     krakobran_started started = krakobran_fresh(sent);
     if (started.refusal != KRAKOBRAN_NONE) {
         fprintf(stderr, "refused %" PRIu32 "\n", started.refusal);

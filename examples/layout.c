@@ -36,7 +36,7 @@ int main(void) {
     FIELD(stream, inorder);
     FIELD(stream, next);
     FIELD(stream, kept);
-    FIELD(stream, last);
+    FIELD(stream, greatest);
     FIELD(stream, runs);
     FIELD(stream, dropped);
     SIZE(places);

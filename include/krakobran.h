@@ -27,7 +27,7 @@ enum {
     KRAKOBRAN_SENT_COUNT = 4,      /* K is 0 or over 4,096 */
     KRAKOBRAN_ARRIVAL_COUNT = 5,   /* over 4,096 arrivals */
     KRAKOBRAN_NUMBER_OUTSIDE = 6,  /* sequence number outside 1 to K */
-    KRAKOBRAN_TIME_BACK = 7,       /* arrival time before that of the arrival before */
+    KRAKOBRAN_TIME_BACK = 7,       /* arrival time over 1,000 below the greatest earlier time */
     KRAKOBRAN_OUTPUT_SHORT = 8,    /* lent output too short */
     KRAKOBRAN_ASKED_OUTSIDE = 9,   /* record outside 1 to A, or n outside 1 to 100 */
     KRAKOBRAN_STATE_UNFIT = 10,    /* receiver state unfit, or a reordered packet with no greater kept jump */
@@ -37,12 +37,15 @@ enum {
     KRAKOBRAN_LINE_MALFORMED = 14  /* a line not of the form, or a value over the field's range */
 };
 
-/* Cases of an answer; the last is a receiver's only. A refused answer is in order, with zeros. */
+/* Cases of an answer; the last two are a receiver's only. A late time is told by the case, which has its direction, and
+ * by its amount; equal times are after, by 0. A refused answer is in order, with zeros. */
 enum {
-    KRAKOBRAN_IN_ORDER = 0,  /* the number is at least the next expected */
-    KRAKOBRAN_REORDERED = 1, /* it is not */
-    KRAKOBRAN_DUPLICATE = 3, /* the packet has arrived before */
-    KRAKOBRAN_BEYOND = 4     /* reordered, with its discontinuity beyond the receiver's window */
+    KRAKOBRAN_IN_ORDER = 0,         /* the number is at least the next expected */
+    KRAKOBRAN_REORDERED_AFTER = 1,  /* it is not, and the packet is stamped at or after its discontinuity */
+    KRAKOBRAN_REORDERED_BEFORE = 2, /* it is not, and the packet is stamped before its discontinuity */
+    KRAKOBRAN_DUPLICATE = 3,        /* the packet has arrived before */
+    KRAKOBRAN_BEYOND_AFTER = 4,     /* reordered, its discontinuity dropped; at or after the oldest kept jump */
+    KRAKOBRAN_BEYOND_BEFORE = 5     /* reordered, its discontinuity dropped; stamped before the oldest kept jump */
 };
 
 /* Sizes. */
@@ -55,7 +58,8 @@ enum {
     KRAKOBRAN_DEGREE_MOST = 100,       /* the greatest n of a degree of n-reordering */
     KRAKOBRAN_LISTING_OCTETS = 262144, /* octets that suffice for any listing */
     KRAKOBRAN_PACKETS = 4096,          /* packets a receiver is made for at most, and arrivals it accepts */
-    KRAKOBRAN_WINDOW = 64              /* jumps that a receiver keeps */
+    KRAKOBRAN_WINDOW = 64,             /* jumps that a receiver keeps */
+    KRAKOBRAN_BACK_MOST = 1000         /* how far below the greatest earlier time an arrival may be stamped */
 };
 
 /* ---- the sample file */
@@ -123,8 +127,8 @@ krakobran_written krakobran_write_text(uint32_t sent, const uint32_t *numbers, s
 /* ---- figures of a sample file */
 
 /* The answer for a record: its case; the record of the first copy if a duplicate; the position if not, and the jump
- * size if in order; extent, byte offset, largest n and late time if reordered. What a case does not have is 0, and
- * with a refusal all is. */
+ * size if in order; extent, byte offset, largest n and the amount of the late time if reordered. What a case does not
+ * have is 0, and with a refusal all is. */
 typedef struct {
     uint32_t refusal;
     uint32_t kind;
@@ -227,8 +231,8 @@ krakobran_written krakobran_listing(const uint8_t *file, size_t octets, uint8_t 
 /* ---- the receiver */
 
 /* The numbers that a step decides by: K, first arrivals (L), duplicates, in-order packets, the next expected number, how
- * many jumps are kept, the time of the last accepted arrival, the runs, and the number of the last jump dropped (0 for
- * none). */
+ * many jumps are kept, the greatest time of the accepted arrivals, copies among them (0 for none), the runs, and the
+ * number of the last jump dropped (0 for none). */
 typedef struct {
     uint32_t sent;
     uint32_t arrived;
@@ -236,7 +240,7 @@ typedef struct {
     uint32_t inorder;
     uint32_t next;
     uint32_t kept;
-    uint64_t last;
+    uint64_t greatest;
     krakobran_runs runs;
     uint16_t dropped;
 } krakobran_stream;
@@ -262,9 +266,9 @@ typedef struct {
     krakobran_receiver state;
 } krakobran_started;
 
-/* What a receiver notes of an arrival: the case; the jump size if in order; extent and late time if reordered, exact
- * ones or, beyond the window, those of the oldest kept jump. What a case does not have is 0, and with a refusal all
- * is. */
+/* What a receiver notes of an arrival: the case; the jump size if in order; extent and the amount of the late time if
+ * reordered, exact ones or, beyond the window, those of the oldest kept jump: the true extent is greater, and of the
+ * true late time they say nothing. What a case does not have is 0, and with a refusal all is. */
 typedef struct {
     uint32_t kind;
     uint32_t jump;

@@ -75,7 +75,8 @@ refused '4097 lines, the last malformed' 14 'line 4097: ' 4096 < <(printf '%s;1\
 refused 'K of 0' 4 '' 0 < "$dir/log"
 refused 'K of 4097' 4 '' 4097 < "$dir/log"
 refused 'number K + 1' 6 'line 3: ' 2 < "$dir/log"
-refused 'a time that goes back' 7 'line 2: ' 2 < <(printf '1;5\n2;4,999\n')
+refused 'a time less by 1001 microseconds' 7 'line 2: ' 2 < <(printf '1;5\n2;3,999\n')
+refused 'a time less by 1001 than the greatest' 7 'line 3: ' 2 < <(printf '1;2\n2;1,5\n1;0,999\n')
 refused 'a carriage return' 14 'line 1: ' 2 < <(printf '1;5\r\n')
 refused 'no last line feed' 14 'line 2: ' 2 < <(printf '1;5\n2;6')
 refused 'octet 0' 14 'line 1: ' 2 < <(printf '\0')

@@ -26,6 +26,11 @@ labelled() {
     two "${#1}" && printf '%s' "$1" && example 0 5 5 3 70 | tail -c +3
 }
 
+# Packet 2 at 2000, then packet 1 at a time that is given.
+stepped() {
+    two 0 && two 2 && printf '\000\144%.0s' {1..2} && two 2 && four 2 && eight 2000 && four 1 && eight "$1"
+}
+
 # The longest sample: every arrival is packet 1 at 0.
 longest() {
     two 64 && printf 'x%.0s' {1..64}
@@ -79,6 +84,11 @@ example 0 5 5 3 70 > "$dir/file"
 try 'the example as a file' 0 '' "$dir/file"
 labelled ' ~' > "$dir/file"
 try 'the example with a label of 20 and 7E' 0 '' "$dir/file"
+for t in '2000 0' '1999 -1' '1000 -1000'; do
+    stepped "${t% *}" > "$dir/file"
+    printf 'sent 2 arrivals 2\n1 2 in 1 1\n2 1 late 2 1 %d 100 1\nend 2 1 0 1 1 0\n' "${t#* }" > "$dir/expected"
+    try "a late packet of 2000 at ${t% *}" 0 '' "$dir/file"
+done
 longest > "$dir/longest"
 longest_report > "$dir/expected"
 try "the longest sample, of $(wc -c < "$dir/longest") octets" 0 '' "$dir/longest"
@@ -94,7 +104,7 @@ refused 'K of 0' 4 < <(example 0 0 5 3 70)
 refused 'K of 4097' 4 < <(example 0 4097 5 3 70)
 refused 'A of 4097' 5 < <(example 0 5 4097 3 70)
 refused 'number K + 1' 6 < <(example 0 5 5 6 70)
-refused 'time less by 1' 7 < <(example 0 5 5 3 49)
+refused 'time less by 1001' 7 < <(stepped 999)
 
 # Input longer than any sample.
 refused '57415 octets' 2 < <(cat "$dir/longest" && printf x)

@@ -6,15 +6,17 @@ use std::hint::black_box;
 use crate::boundary::{Meter, Place};
 use crate::receiver::Jumps;
 use crate::reference::{
-    Answer, Answered, Counts, Degree, DegreeCounts, Figures, Fresh, Gap, Ratios, Read, Receiver, RecordAnswer, Step,
-    Stepped, Tally, Written,
+    Answer, Answered, Counts, Degree, DegreeCounts, Figures, Fresh, Gap, LateTime, Ratios, Read, Receiver, RecordAnswer,
+    Step, Stepped, Tally, Written,
 };
 use crate::text::Imported;
 
 const IN_ORDER: u32 = 0;
-const REORDERED: u32 = 1;
+const REORDERED_AFTER: u32 = 1;
+const REORDERED_BEFORE: u32 = 2;
 const DUPLICATE: u32 = 3;
-const BEYOND: u32 = 4;
+const BEYOND_AFTER: u32 = 4;
+const BEYOND_BEFORE: u32 = 5;
 
 /// The archive's structs.
 pub mod c {
@@ -116,7 +118,7 @@ pub mod c {
         pub inorder: u32,
         pub next: u32,
         pub kept: u32,
-        pub last: u64,
+        pub greatest: u64,
         pub runs: Runs,
         pub dropped: u16,
     }
@@ -204,7 +206,7 @@ fn to_archive(r: &Receiver) -> c::State {
             inorder: r.in_order,
             next: r.next_expected,
             kept: r.jumps.kept,
-            last: r.last_time,
+            greatest: r.greatest_time,
             runs: c::Runs { closed: r.closed_runs, squares: r.squares, current: r.open_run },
             dropped: r.jumps.dropped.try_into().expect("a dropped number of 16 bits"),
         },
@@ -225,7 +227,7 @@ fn from_archive(state: &c::State) -> Receiver {
             kept: s.kept,
             dropped: u32::from(s.dropped),
         },
-        last_time: s.last,
+        greatest_time: s.greatest,
         sent: s.sent,
         first_arrivals: s.arrived,
         duplicates: s.duplicates,
@@ -237,13 +239,26 @@ fn from_archive(state: &c::State) -> Receiver {
     }
 }
 
+/// A late time by its direction and its amount.
+fn late_time(after: bool, amount: u64) -> LateTime {
+    if after {
+        LateTime::After(amount)
+    } else {
+        LateTime::Before(amount)
+    }
+}
+
 /// What is noted, by the number of its case; figures that the case does not have are 0.
 fn noted(n: c::Noted) -> Step {
     match n {
         c::Noted { kind: DUPLICATE, jump: 0, extent: 0, late: 0 } => Step::Duplicate,
         c::Noted { kind: IN_ORDER, jump, extent: 0, late: 0 } => Step::InOrder { jump },
-        c::Noted { kind: REORDERED, jump: 0, extent, late } => Step::Exact { extent, late_time: late },
-        c::Noted { kind: BEYOND, jump: 0, extent, late } => Step::Beyond { extent, late_time: late },
+        c::Noted { kind: kind @ (REORDERED_AFTER | REORDERED_BEFORE), jump: 0, extent, late } => {
+            Step::Exact { extent, late_time: late_time(kind == REORDERED_AFTER, late) }
+        }
+        c::Noted { kind: kind @ (BEYOND_AFTER | BEYOND_BEFORE), jump: 0, extent, late } => {
+            Step::Beyond { extent, late_time: late_time(kind == BEYOND_AFTER, late) }
+        }
         c::Noted { kind, jump, extent, late } => panic!("noted {kind} {jump} {extent} {late}"),
     }
 }
@@ -254,10 +269,10 @@ fn answered(a: &c::Answer) -> Answer {
     match a.kind {
         DUPLICATE if a.position == 0 && a.jump == 0 && late == [0; 5] => Answer::Duplicate { first_record: a.first },
         IN_ORDER if a.first == 0 && late == [0; 5] => Answer::InOrder { position: a.position, jump: a.jump },
-        REORDERED if a.first == 0 && a.jump == 0 => Answer::Reordered {
+        REORDERED_AFTER | REORDERED_BEFORE if a.first == 0 && a.jump == 0 => Answer::Reordered {
             position: a.position,
             extent: a.extent,
-            late_time: a.late,
+            late_time: late_time(a.kind == REORDERED_AFTER, a.late),
             byte_offset: a.offset,
             largest_n: a.largest,
         },
@@ -424,7 +439,7 @@ pub fn layout() {
         "written" c::Written: refusal length;
         "imported" Imported: refusal arrivals line;
         "runs" c::Runs: closed squares current;
-        "stream" c::Stream: sent arrived duplicates inorder next kept last runs dropped;
+        "stream" c::Stream: sent arrived duplicates inorder next kept greatest runs dropped;
         "places" c::Places: positions numbers times;
         "receiver" c::State: stream marks places;
         "started" c::Started: refusal state;

@@ -43,6 +43,7 @@ pub fn run(amounts: &Amounts) -> bool {
     example(&mut run);
     table(&mut run);
     windows(&mut run);
+    directions(&mut run);
     limits(&mut run);
     refusal_order(&mut run);
     writer(&mut run);
@@ -74,8 +75,8 @@ fn listed(file: &[u8]) -> String {
     String::from_utf8(report(file)).unwrap()
 }
 
-fn late(position: u32, extent: u32, late_time: u64, byte_offset: u32, largest_n: u32) -> Answer {
-    Answer::Reordered { position, extent, late_time, byte_offset, largest_n }
+fn late(position: u32, extent: u32, after: u64, byte_offset: u32, largest_n: u32) -> Answer {
+    Answer::Reordered { position, extent, late_time: LateTime::After(after), byte_offset, largest_n }
 }
 
 fn in_order(position: u32, jump: u32) -> Answer {
@@ -190,13 +191,48 @@ fn windows(run: &mut Run) {
     let evens = |high: u32, last: u32| (2..=high).step_by(2).chain([last]).collect::<Vec<u32>>();
     let accepted = |answer| Answered { refusal: 0, answer };
     let last = fed(run, "window to 128, then 1", 130, &evens(128, 1));
-    run.equal("window to 128, then 1", last, accepted(Step::Exact { extent: 64, late_time: 640 }));
+    run.equal("window to 128, then 1", last, accepted(Step::Exact { extent: 64, late_time: LateTime::After(640) }));
     let last = fed(run, "window to 130, then 1", 130, &evens(130, 1));
-    run.equal("window to 130, then 1", last, accepted(Step::Beyond { extent: 64, late_time: 640 }));
+    run.equal("window to 130, then 1", last, accepted(Step::Beyond { extent: 64, late_time: LateTime::After(640) }));
     let last = fed(run, "window to 130, then 3", 130, &evens(130, 3));
-    run.equal("window to 130, then 3", last, accepted(Step::Exact { extent: 64, late_time: 640 }));
+    run.equal("window to 130, then 3", last, accepted(Step::Exact { extent: 64, late_time: LateTime::After(640) }));
     let truth = answers(&file(&evens(130, 1)))[65];
-    run.check("the true extent is 65", matches!(truth, Answer::Reordered { extent: 65, late_time: 650, .. }));
+    run.check("the true extent is 65", matches!(truth, Answer::Reordered { extent: 65, late_time: LateTime::After(650), .. }));
+}
+
+/// A late packet after and before its discontinuity, of a file and of a receiver; then a copy that raises the greatest time.
+fn directions(run: &mut Run) {
+    let refused = Answered { refusal: TIME, answer: Step::InOrder { jump: 0 } };
+    let times = [
+        (2001, Ok(LateTime::After(1))),
+        (2000, Ok(LateTime::After(0))),
+        (1999, Ok(LateTime::Before(1))),
+        (1000, Ok(LateTime::Before(1000))),
+        (999, Err(TIME)),
+    ];
+    for (time, wanted) in times {
+        let file = Draft { times: vec![2000, time], ..sample(&[2, 1]) }.file();
+        let found = answer(&file, 2);
+        let mut r = Receiver::fresh(2).receiver;
+        r.step_mut(2, 2000);
+        let stepped = r.step_mut(1, time);
+        let Ok(late_time) = wanted else {
+            run.equal("time too early", (found.refusal, stepped), (TIME, refused));
+            continue;
+        };
+        let wanted = Answer::Reordered { position: 2, extent: 1, late_time, byte_offset: 100, largest_n: 1 };
+        run.equal("direction of a record", found.answer, wanted);
+        run.equal("direction of a step", stepped.answer, Step::Exact { extent: 1, late_time });
+        run.equal("greatest time", r.greatest_time, time.max(2000));
+        let minus = if matches!(late_time, LateTime::Before(_)) { "-" } else { "" };
+        let line = format!("2 1 late 2 1 {minus}{} 100 1\n", time.abs_diff(2000));
+        run.check("direction in a listing", listed(&file).contains(&line));
+    }
+    let mut r = Receiver::fresh(2).receiver;
+    r.step_mut(2, 1500);
+    run.equal("a copy", r.step_mut(2, 2000).answer, Step::Duplicate);
+    run.equal("too early for the copy", r.step_mut(1, 999), refused);
+    run.equal("not for it", r.step_mut(1, 1000).answer, Step::Exact { extent: 1, late_time: LateTime::Before(500) });
 }
 
 fn with_label(octets: usize) -> Vec<u8> {
@@ -230,9 +266,15 @@ fn limits(run: &mut Run) {
     for (number, wanted) in [(0, NUMBER), (1, 0), (7, 0), (8, NUMBER), (65_537, NUMBER), (u32::MAX, NUMBER)] {
         run.equal("number", refusal(&with_sent(7, &[number])), wanted);
     }
-    for (second, wanted) in [(10, 0), (9, TIME), (11, 0), (u64::MAX, 0), (0, TIME)] {
-        let file = Draft { times: vec![10, second], ..sample(&[1, 2]) }.file();
+    for (second, wanted) in [(2000, 0), (1000, 0), (999, TIME), (2001, 0), (u64::MAX, 0), (0, TIME)] {
+        let file = Draft { times: vec![2000, second], ..sample(&[1, 2]) }.file();
         run.equal("time", refusal(&file), wanted);
+    }
+    for (third, wanted) in [(1000, 0), (999, TIME)] {
+        let file = Draft { times: vec![2000, 1500, third], ..sample(&[1, 2, 3]) }.file();
+        run.equal("time after 2000 and 1500", refusal(&file), wanted);
+        let file = Draft { times: vec![1500, 2000, third], ..sample(&[1, 1, 2]) }.file();
+        run.equal("time after 1500 and a copy's 2000", refusal(&file), wanted);
     }
     let whole = file(&[1, 2, 4, 5, 3]);
     for (n, wanted) in [(0, OUTSIDE), (1, 0), (100, 0), (101, OUTSIDE), (257, OUTSIDE)] {
@@ -294,12 +336,12 @@ fn refusal_order(run: &mut Run) {
         let draft = Draft { sizes: vec![1; 3], times: times.to_vec(), tail: vec![0; tail], ..sample(numbers) };
         refusal(&draft.file())
     };
-    run.equal("2 before 6 and 7", bad(&[4, 1], &[5, 4], 1), 2);
-    run.equal("6 before 7 of one record", bad(&[1, 4], &[5, 4], 0), 6);
-    run.equal("7 of a record before 6 of a later one", bad(&[1, 2, 4], &[5, 4, 6], 0), 7);
-    run.equal("6 of a record before 7 of a later one", bad(&[1, 4, 2], &[5, 6, 4], 0), 6);
-    run.equal("7 against a copy", bad(&[1, 1, 2], &[5, 7, 6], 0), 7);
-    run.equal("7 against the record before only", bad(&[1, 2, 3], &[7, 6, 8], 0), 7);
+    run.equal("2 before 6 and 7", bad(&[4, 1], &[2000, 999], 1), 2);
+    run.equal("6 before 7 of one record", bad(&[1, 4], &[2000, 999], 0), 6);
+    run.equal("7 of a record before 6 of a later one", bad(&[1, 2, 4], &[2000, 999, 2000], 0), 7);
+    run.equal("6 of a record before 7 of a later one", bad(&[1, 4, 2], &[2000, 2001, 999], 0), 6);
+    run.equal("7 against a copy", bad(&[1, 1, 2], &[1500, 2000, 999], 0), 7);
+    run.equal("7 against the greatest", bad(&[1, 2, 3], &[2000, 1500, 999], 0), 7);
 
     // 8 comes last, and leaves all lists as they were.
     let whole = file(&[1, 2, 3]);
@@ -335,8 +377,9 @@ fn writer(run: &mut Run) {
     refused(&[], &[0], &most, &[], 0, 5);
     refused(&[], &[0], &[2], &[0; 4097], 0, 12);
     refused(&[], &[0], &[2, 1], &[1], 0, 12);
-    refused(&[], &[0], &[1, 2], &[1, 0], 0, 6);
-    refused(&[], &[0], &[1, 1, 2], &[1, 0, 0], 0, 7);
+    refused(&[], &[0], &[1, 2], &[1001, 0], 0, 6);
+    refused(&[], &[0], &[1, 1, 2], &[1001, 0, 0], 0, 7);
+    refused(&[], &[0], &[1, 1, 1], &[2000, 1500, 999], 0, 7);
     refused(&[], &[0], &[1], &[1], 19, 8);
     let found = write(b"9", &[258], &[1], &[u64::MAX - 1], &mut out);
     run.equal("written", found, Written { refusal: 0, length: 21 });
@@ -354,16 +397,16 @@ fn receiver(run: &mut Run) {
     run.equal(
         "6 before 7",
         {
-            r.last_time = 5;
-            r.step_mut(4, 4)
+            r.greatest_time = 2000;
+            r.step_mut(4, 999)
         },
         refused(6),
     );
-    run.equal("7", r.step_mut(3, 4), refused(7));
+    run.equal("7", r.step_mut(3, 999), refused(7));
     r.duplicates = 4096;
-    run.equal("11 before 6 and 7", r.step_mut(4, 4), refused(11));
+    run.equal("11 before 6 and 7", r.step_mut(4, 999), refused(11));
     r.duplicates = 4097;
-    run.equal("unfit before all", r.step_mut(4, 4), refused(10));
+    run.equal("unfit before all", r.step_mut(4, 999), refused(10));
 
     // The second case of 10, and only for an unmarked number below NextExp.
     let mut r = Receiver::fresh(10).receiver;
@@ -373,7 +416,7 @@ fn receiver(run: &mut Run) {
     run.equal(
         "7 before it",
         {
-            r.last_time = 1;
+            r.greatest_time = 1001;
             r.step_mut(3, 0)
         },
         refused(7),
@@ -385,11 +428,11 @@ fn receiver(run: &mut Run) {
     (r.first_arrivals, r.jumps.kept, r.jumps.dropped) = (1, 1, 4);
     (r.jumps.positions[0], r.jumps.numbers[0]) = (1, 3);
     run.equal("below the dropped one, none greater kept", r.step_mut(3, 0), refused(10));
-    let beyond = Answered { refusal: 0, answer: Step::Beyond { extent: 1, late_time: 9 } };
+    let beyond = Answered { refusal: 0, answer: Step::Beyond { extent: 1, late_time: LateTime::After(9) } };
     r.jumps.numbers[0] = 4;
     run.equal("below the dropped one", r.step_mut(3, 9), beyond);
     r.jumps.numbers[0] = 5;
-    let exact = Answered { refusal: 0, answer: Step::Exact { extent: 2, late_time: 9 } };
+    let exact = Answered { refusal: 0, answer: Step::Exact { extent: 2, late_time: LateTime::After(9) } };
     run.equal("the dropped number itself", r.step_mut(4, 9), exact);
 
     // A fit state that no run reaches may leave an unfit one.
@@ -475,7 +518,7 @@ fn covered(run: &mut Run, seen: &Seen) {
         let found: Vec<u32> = seen.refusals.keys().filter(|key| key.0 == call).map(|key| key.1).collect();
         run.equal(call, found, refusals.to_vec());
     }
-    run.equal("kinds of answers", seen.kinds.len(), 27);
+    run.equal("kinds of answers", seen.kinds.len(), 32);
 }
 
 /// Each wrong reading differs from the reference on some generated input.

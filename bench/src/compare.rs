@@ -7,7 +7,7 @@ use std::fmt::{Debug, Write};
 use crate::boundary::Meter;
 use crate::definition::Account;
 use crate::generate::{ArrivalList, SampleCase, StateCase};
-use crate::reference::{Answer, Answered, Degree, Ratios, Receiver, Step, LISTING_ROOM, LONGEST_FILE};
+use crate::reference::{Answer, Answered, Degree, LateTime, Ratios, Receiver, Step, LISTING_ROOM, LONGEST_FILE};
 
 /// How often each call was compared with each refusal, and how often each kind of answer came.
 #[derive(Default)]
@@ -133,8 +133,11 @@ fn compare_sample(
             _ if answer.refusal != 0 => {}
             Answer::Duplicate { .. } => seen.kind("answer: duplicate"),
             Answer::InOrder { .. } => seen.kind("answer: in order"),
-            Answer::Reordered { extent, largest_n, .. } => {
-                seen.kind("answer: reordered");
+            Answer::Reordered { extent, largest_n, late_time, .. } => {
+                seen.kind(match late_time {
+                    LateTime::After(_) => "answer: reordered, late after",
+                    LateTime::Before(_) => "answer: reordered, late before",
+                });
                 if extent > 100 {
                     seen.kind("answer: extent over 100");
                 }
@@ -198,6 +201,15 @@ fn read(left: &dyn Meter, right: &dyn Meter, case: &SampleCase, seen: &mut Seen)
     Ok(())
 }
 
+/// The most that a time is below the greatest earlier one.
+fn most_back(times: &[u64]) -> u64 {
+    let mut greatest = 0;
+    times.iter().fold(0, |most, &time| {
+        greatest = time.max(greatest);
+        most.max(greatest - time)
+    })
+}
+
 /// Notes accepted samples at the limits.
 fn accepted(case: &SampleCase, sent: u32, arrivals: u32, seen: &mut Seen) {
     let label = u16::from_be_bytes([case.file[0], case.file[1]]);
@@ -210,6 +222,8 @@ fn accepted(case: &SampleCase, sent: u32, arrivals: u32, seen: &mut Seen) {
         (arrivals == 4096, "file: A of 4,096"),
         (case.file.len() == LONGEST_FILE, "file: longest"),
         (case.draft.times.windows(2).any(|pair| pair[0] == pair[1]), "file: equal times"),
+        (case.draft.times.windows(2).any(|pair| pair[1] < pair[0]), "file: a time below the one before"),
+        (most_back(&case.draft.times) == 1000, "file: a time 1,000 below the greatest"),
     ];
     limits.iter().filter(|limit| limit.0).for_each(|limit| seen.kind(limit.1));
 }
@@ -325,8 +339,10 @@ fn one_step(
         Step::InOrder { jump: 0 } => seen.kind("step: in order"),
         Step::InOrder { .. } if receiver.jumps.kept == 64 => seen.kind("step: jump, the oldest dropped"),
         Step::InOrder { .. } => seen.kind("step: jump"),
-        Step::Exact { .. } => seen.kind("step: exact"),
-        Step::Beyond { .. } => seen.kind("step: beyond"),
+        Step::Exact { late_time: LateTime::After(_), .. } => seen.kind("step: exact, late after"),
+        Step::Exact { late_time: LateTime::Before(_), .. } => seen.kind("step: exact, late before"),
+        Step::Beyond { late_time: LateTime::After(_), .. } => seen.kind("step: beyond, late after"),
+        Step::Beyond { late_time: LateTime::Before(_), .. } => seen.kind("step: beyond, late before"),
     }
     *receiver = l.receiver;
     Ok(answered)

@@ -5,8 +5,8 @@ use std::cell::RefCell;
 
 use crate::boundary::{Meter, Place};
 use crate::reference::{
-    Answer, Answered, Counts, Degree, DegreeCounts, Figures, Fresh, Gap, Ratios, Read, Receiver, RecordAnswer, Step,
-    Stepped, Tally, Written, LISTING_ROOM,
+    Answer, Answered, Counts, Degree, DegreeCounts, Figures, Fresh, Gap, LateTime, Ratios, Read, Receiver, RecordAnswer,
+    Step, Stepped, Tally, Written, LISTING_ROOM,
 };
 
 /// A wrong reading.
@@ -26,6 +26,9 @@ pub enum Mistake {
     NumbersBeforeTimes,
     NumberNarrowed,
     EqualTimesRefused,
+    NoTimeBack,
+    ThousandRefused,
+    TimeAgainstNeighbour,
     TimeAgainstFirstArrivals,
     ShortListFilled,
     RoomBeforeArrivals,
@@ -51,6 +54,10 @@ pub enum Mistake {
     OffsetOfNeighbours,
     SizeOfNextPacket,
     LateTimeOfNeighbour,
+    DirectionsExchanged,
+    EqualTimesBefore,
+    BeforeCutOff,
+    AlwaysAfter,
     ZeroRunNotCounted,
     OpenRunCounted,
     TallyHundredOver,
@@ -68,12 +75,15 @@ pub enum Mistake {
     DegreeNineFirst,
     ListingOfRefused,
     ListingRoomForAny,
+    MinusLost,
+    MinusForNought,
     // of the receiver
     GreaterIsExact,
     DroppedIsBeyond,
     BeyondFromOwnJump,
     YoungestGreater,
     CopyKeepsTime,
+    LastForGreatest,
     FullByFirstsOnly,
     FullAfterNumber,
     NumberAfterTime,
@@ -108,6 +118,9 @@ impl Mistake {
             NumbersBeforeTimes,
             NumberNarrowed,
             EqualTimesRefused,
+            NoTimeBack,
+            ThousandRefused,
+            TimeAgainstNeighbour,
             TimeAgainstFirstArrivals,
             ShortListFilled,
             RoomBeforeArrivals,
@@ -132,6 +145,10 @@ impl Mistake {
             OffsetOfNeighbours,
             SizeOfNextPacket,
             LateTimeOfNeighbour,
+            DirectionsExchanged,
+            EqualTimesBefore,
+            BeforeCutOff,
+            AlwaysAfter,
             ZeroRunNotCounted,
             OpenRunCounted,
             TallyHundredOver,
@@ -149,11 +166,14 @@ impl Mistake {
             DegreeNineFirst,
             ListingOfRefused,
             ListingRoomForAny,
+            MinusLost,
+            MinusForNought,
             GreaterIsExact,
             DroppedIsBeyond,
             BeyondFromOwnJump,
             YoungestGreater,
             CopyKeepsTime,
+            LastForGreatest,
             FullByFirstsOnly,
             FullAfterNumber,
             NumberAfterTime,
@@ -233,18 +253,41 @@ impl Definition {
         Ok((at + 2, end))
     }
 
+    /// Whether a time is over 1,000 below an earlier one.
+    fn goes_back(&self, earlier: u64, time: u64) -> bool {
+        let most = match self.mistake {
+            Some(Mistake::NoTimeBack) => 0,
+            Some(Mistake::ThousandRefused) => 999,
+            _ => 1000,
+        };
+        earlier > time && earlier - time > most || self.is(Mistake::EqualTimesRefused) && earlier == time
+    }
+
+    /// How far a packet is stamped after its discontinuity, or before it.
+    fn late_time(&self, since: u64, time: u64) -> LateTime {
+        let (after, amount) = (time >= since, time.abs_diff(since));
+        match self.mistake {
+            Some(Mistake::DirectionsExchanged) if after => LateTime::Before(amount),
+            Some(Mistake::DirectionsExchanged) => LateTime::After(amount),
+            Some(Mistake::EqualTimesBefore) if amount == 0 => LateTime::Before(0),
+            Some(Mistake::BeforeCutOff) if !after => LateTime::After(0),
+            _ if after || self.is(Mistake::AlwaysAfter) => LateTime::After(amount),
+            _ => LateTime::Before(amount),
+        }
+    }
+
     fn judge_in_turn(&self, arrivals: &[(u32, u64)], sent: usize) -> Result<(), u32> {
         let outside = |r: usize| {
             let number = if self.is(Mistake::NumberNarrowed) { arrivals[r].0 & 0xFFFF } else { arrivals[r].0 };
             number < 1 || number as usize > sent
         };
         let early = |r: usize| {
-            let before = (0..r).rev().find(|&q| {
-                !self.is(Mistake::TimeAgainstFirstArrivals) || !arrivals[..q].iter().any(|a| a.0 == arrivals[q].0)
-            });
-            before.is_some_and(|q| {
-                arrivals[r].1 < arrivals[q].1 || self.is(Mistake::EqualTimesRefused) && arrivals[r].1 == arrivals[q].1
-            })
+            let counted = |q: usize| match self.mistake {
+                Some(Mistake::TimeAgainstNeighbour) => q + 1 == r,
+                Some(Mistake::TimeAgainstFirstArrivals) => !arrivals[..q].iter().any(|a| a.0 == arrivals[q].0),
+                _ => true,
+            };
+            (0..r).any(|q| self.goes_back(arrivals[q].1, arrivals[r].1) && counted(q))
         };
         if self.is(Mistake::NumbersBeforeTimes) && (0..arrivals.len()).any(outside) {
             return Err(6);
@@ -367,7 +410,7 @@ impl Definition {
         let j = j.unwrap();
         let extent = position - (j as u32 + 1);
         let since = if self.is(LateTimeOfNeighbour) { before[before.len() - 1].1 } else { before[j].1 };
-        let late_time = time - since;
+        let late_time = self.late_time(since, time);
         let largest_n = before.iter().rev().take_while(|a| a.0 > s).count() as u32;
         let in_order = |at: usize| before[..at].iter().all(|a| a.0 < before[at].0);
         let mut byte_offset = 0;
@@ -577,6 +620,11 @@ impl Definition {
                 Answer::Duplicate { first_record } => format!("copy {first_record}\n"),
                 Answer::InOrder { position, jump } => format!("in {position} {jump}\n"),
                 Answer::Reordered { position, extent, late_time, byte_offset, largest_n } => {
+                    let late_time = match *late_time {
+                        LateTime::Before(amount) if !self.is(Mistake::MinusLost) => format!("-{amount}"),
+                        LateTime::After(0) if self.is(Mistake::MinusForNought) => "-0".to_string(),
+                        LateTime::Before(amount) | LateTime::After(amount) => amount.to_string(),
+                    };
                     format!("late {position} {extent} {late_time} {byte_offset} {largest_n}\n")
                 }
             };
@@ -793,7 +841,7 @@ pub fn unfit_ways(r: &Receiver) -> [bool; 13] {
         r.jumps.kept > 64,
         some(&|p| outside(u64::from(r.jumps.positions[p]), l)),
         some(&|p| outside(u64::from(r.jumps.numbers[p]), k)),
-        some(&|p| r.jumps.times[p] > r.last_time),
+        some(&|p| r.jumps.times[p] > r.greatest_time),
         u64::from(r.jumps.dropped) > k,
     ]
 }
@@ -827,13 +875,14 @@ impl Definition {
         if full && !(self.is(FullAfterNumber) && outside) {
             return Err(if self.is(FullIsUnfit) { 10 } else { 11 });
         }
-        if self.is(NumberAfterTime) && time < r.last_time {
+        let early = self.goes_back(r.greatest_time, time);
+        if self.is(NumberAfterTime) && early {
             return Err(7);
         }
         if outside {
             return Err(6);
         }
-        if time < r.last_time {
+        if early {
             return Err(7);
         }
         // A forgotten condition may leave numbers that no place holds; such a state is only ever compared as refused.
@@ -843,18 +892,19 @@ impl Definition {
         let mut jumps: Vec<(u16, u16, u64)> =
             (0..r.jumps.kept as usize).map(|p| (r.jumps.positions[p], r.jumps.numbers[p], r.jumps.times[p])).collect();
         let mut after = r.clone();
+        let greatest = if self.is(LastForGreatest) { time } else { r.greatest_time.max(time) };
         let in_order = number >= r.next_expected;
         if r.marked(number) && !(in_order && self.is(InOrderBeforeCopy)) {
             after.duplicates = r.duplicates.wrapping_add(1);
             if !self.is(CopyKeepsTime) {
-                after.last_time = time;
+                after.greatest_time = greatest;
             }
             return Ok((Step::Duplicate, after));
         }
         let l = r.first_arrivals.wrapping_add(1);
         after.first_arrivals = l;
         after.mark(number);
-        after.last_time = time;
+        after.greatest_time = greatest;
         if in_order {
             let jump = number - r.next_expected;
             after.in_order = r.in_order.wrapping_add(1);
@@ -894,13 +944,13 @@ impl Definition {
         }
         let beyond = number < r.jumps.dropped || self.is(DroppedIsBeyond) && number == r.jumps.dropped;
         if own.is_none() && beyond && !jumps.is_empty() && self.is(BeyondWithoutGreater) {
-            let late_time = time.wrapping_sub(jumps[0].2);
+            let late_time = self.late_time(jumps[0].2, time);
             return Ok((Step::Beyond { extent: l.wrapping_sub(u32::from(jumps[0].0)), late_time }, after));
         }
         let own = *own.ok_or(10u32)?;
         let beyond = beyond && !self.is(GreaterIsExact);
         let from = if beyond && !self.is(BeyondFromOwnJump) { jumps[0] } else { own };
-        let (extent, late_time) = (l.wrapping_sub(u32::from(from.0)), time.wrapping_sub(from.2));
+        let (extent, late_time) = (l.wrapping_sub(u32::from(from.0)), self.late_time(from.2, time));
         let answer = if beyond { Step::Beyond { extent, late_time } } else { Step::Exact { extent, late_time } };
         Ok((answer, after))
     }
@@ -937,7 +987,7 @@ impl Account {
         if number < 1 || number > self.sent {
             return refused(6);
         }
-        if self.accepted.last().is_some_and(|last| time < last.1) {
+        if self.accepted.iter().any(|earlier| self.definition.goes_back(earlier.1, time)) {
             return refused(7);
         }
         self.accepted.push((number, time));
@@ -953,7 +1003,7 @@ impl Account {
     }
 
     /// Exact exactly if the discontinuity is among the last 64 jumps.
-    fn late(&self, position: u32, extent: u32, late_time: u64) -> Step {
+    fn late(&self, position: u32, extent: u32, late_time: LateTime) -> Step {
         let jumps: Vec<u32> = self
             .answers
             .iter()
@@ -966,13 +1016,10 @@ impl Account {
         if window.contains(&(position - extent)) {
             return Step::Exact { extent, late_time };
         }
-        let since = self.firsts[window[0] as usize - 1].1;
-        let answer =
-            Step::Beyond { extent: position - window[0], late_time: self.firsts[position as usize - 1].1 - since };
-        if let Step::Beyond { extent: shown, late_time: shown_time } = answer {
-            assert!(extent > shown && late_time >= shown_time, "beyond the window the true figures are no less");
-        }
-        answer
+        let shown = position - window[0];
+        assert!(extent > shown, "beyond the window the true extent is greater");
+        let (since, time) = (self.firsts[window[0] as usize - 1].1, self.firsts[position as usize - 1].1);
+        Step::Beyond { extent: shown, late_time: self.definition.late_time(since, time) }
     }
 
     /// L, duplicates, in order, open run, closed runs, squares; and the sum of the three kinds is what was accepted.

@@ -173,6 +173,34 @@ fn rising_times(random: &mut Random, many: usize) -> Vec<u64> {
     times
 }
 
+/// How far a clock steps: up to 1,001.
+pub fn clock_step(random: &mut Random) -> u64 {
+    let any = random.below(1002) as u64;
+    random.pick(&[0, 1, 999, 1000, 1001, any])
+}
+
+/// Times for so many arrivals: of a clock that rises, or of one that also steps by 0 to 1,001 in both directions. Most of
+/// those are held to 1,000 below their greatest time, so that none is refused.
+fn clock_times(random: &mut Random, many: usize) -> Vec<u64> {
+    let mut times = rising_times(random, many);
+    if random.once_in(2) {
+        return times;
+    }
+    let (one_in, held) = (random.pick(&[1, 1, 2, 5]), !random.once_in(4));
+    let mut greatest = 0u64;
+    for time in &mut times {
+        if random.once_in(one_in) {
+            let step = clock_step(random);
+            *time = if random.once_in(2) { time.saturating_add(step) } else { time.saturating_sub(step) };
+        }
+        if held {
+            *time = (*time).max(greatest.saturating_sub(1000));
+        }
+        greatest = greatest.max(*time);
+    }
+    times
+}
+
 /// Short more often than long.
 fn sent_count(random: &mut Random) -> usize {
     match random.below(1000) {
@@ -316,10 +344,15 @@ pub fn number_outside(random: &mut Random, sent: u32) -> u32 {
 
 fn time_before(random: &mut Random, time: u64) -> u64 {
     match random.below(4) {
-        0 | 1 => time.saturating_sub(1),
-        2 => time.saturating_sub(random.pick(&[256, 1000, 1001, 1 << 32])),
+        0 | 1 => time.saturating_sub(random.pick(&[1, 1000, 1001, 1001, 1002])),
+        2 => time.saturating_sub(random.pick(&[256, 2000, 2001, 1 << 32])),
         _ => random.below(time as usize) as u64,
     }
+}
+
+/// The greatest time before the arrival at a place.
+fn greatest_before(draft: &Draft, at: usize) -> u64 {
+    draft.times[..at].iter().copied().max().unwrap_or(0)
 }
 
 fn damage(random: &mut Random, draft: &mut Draft, damage: Damage) {
@@ -380,12 +413,12 @@ fn damage(random: &mut Random, draft: &mut Draft, damage: Damage) {
         }
         Damage::TimeBack if draft.times.len() > 1 => {
             let at = random.between(1, draft.times.len() - 1);
-            draft.times[at] = time_before(random, draft.times[at - 1]);
+            draft.times[at] = time_before(random, greatest_before(draft, at));
         }
         Damage::NumberAndTime if arrivals > 1 && draft.times.len() > 1 => {
             let at = random.between(1, draft.times.len() - 1);
             let near = (at + random.pick(&[1, 1, 0, 2])).saturating_sub(1).min(arrivals - 1);
-            draft.times[at] = time_before(random, draft.times[at - 1]);
+            draft.times[at] = time_before(random, greatest_before(draft, at));
             draft.numbers[near] = number_outside(random, draft.sizes.len() as u32);
         }
         Damage::TimesLonger => {
@@ -432,7 +465,7 @@ pub fn sound(random: &mut Random, order: Order, sent: usize) -> Draft {
     Draft {
         label: (0..label).map(|_| shown_octet(random)).collect(),
         sizes: (0..sent).map(|_| if equal { same } else { random.draw() as u16 }).collect(),
-        times: rising_times(random, numbers.len()),
+        times: clock_times(random, numbers.len()),
         numbers,
         ..Draft::default()
     }
@@ -579,20 +612,21 @@ pub fn arrival_list(seed: u64, index: u64) -> ArrivalList {
         }
         numbers.truncate(many);
     }
-    let times = rising_times(random, numbers.len());
+    let times = clock_times(random, numbers.len());
     let one_in = random.pick(&[5, 20, 100, usize::MAX]);
     let mut arrivals = Vec::with_capacity(numbers.len());
+    let mut greatest = 0;
     for (number, time) in numbers.into_iter().zip(times) {
         if random.once_in(one_in) {
-            let before = arrivals.last().map_or(0, |last: &(u32, u64)| last.1);
             arrivals.push(match random.below(4) {
                 0 => (number_outside(random, sent), time),
-                1 => (number_outside(random, sent), time_before(random, before)),
-                2 => (number, time_before(random, before)),
+                1 => (number_outside(random, sent), time_before(random, greatest)),
+                2 => (number, time_before(random, greatest)),
                 _ => (number, time),
             });
         }
         arrivals.push((number, time));
+        greatest = greatest.max(time);
     }
     ArrivalList { sent, arrivals }
 }
@@ -647,9 +681,9 @@ fn fit_state(random: &mut Random, spare: bool) -> Receiver {
     r.closed_runs = ends(random, 0, l);
     r.squares = ends(random, 0, 16_777_216);
     r.next_expected = ends(random, 1, k + 1);
-    r.last_time = random.pick(&[0, 1, 1000, u64::MAX, u64::MAX - 1, 1 << 40]);
+    r.greatest_time = random.pick(&[0, 1, 1000, 1001, u64::MAX, u64::MAX - 1, 1 << 40]);
     if spare {
-        r.last_time = r.last_time.clamp(1, u64::MAX - 1);
+        r.greatest_time = r.greatest_time.clamp(1, u64::MAX - 1);
     }
     r.jumps.dropped = match random.below(3) {
         0 => 0,
@@ -679,11 +713,12 @@ fn fill_jumps(random: &mut Random, r: &mut Receiver, rising: bool) {
         let used = place < kept;
         r.jumps.positions[place] = if used { ends(random, 1, r.first_arrivals) as u16 } else { random.draw() as u16 };
         r.jumps.numbers[place] = if used { ends(random, 1, r.sent) as u16 } else { random.draw() as u16 };
-        r.jumps.times[place] = match random.below(4) {
+        r.jumps.times[place] = match random.below(5) {
             _ if !used => random.draw(),
-            0 => r.last_time,
+            0 => r.greatest_time,
             1 => 0,
-            _ => random.below(r.last_time as usize) as u64,
+            2 => r.greatest_time.saturating_sub(clock_step(random)),
+            _ => random.below(r.greatest_time as usize) as u64,
         };
     }
     if rising {
@@ -723,7 +758,7 @@ fn break_one(random: &mut Random, r: &mut Receiver, way: u8) {
         }
         9 => r.jumps.positions[place] = random.pick(&[0, l as u16 + 1, u16::MAX]),
         10 => r.jumps.numbers[place] = random.pick(&[0, k as u16 + 1, u16::MAX]),
-        11 => r.jumps.times[place] = random.pick(&[r.last_time + 1, u64::MAX]),
+        11 => r.jumps.times[place] = random.pick(&[r.greatest_time + 1, u64::MAX]),
         _ => r.jumps.dropped = random.pick(&[k + 1, k + 1, u32::from(u16::MAX)]),
     }
 }
@@ -755,12 +790,12 @@ pub fn state_case(seed: u64, index: u64) -> StateCase {
         }
     }
     let number = next_number(random, &receiver);
-    let time = match random.below(6) {
-        0 => receiver.last_time.saturating_sub(1),
-        1 => receiver.last_time,
-        2 => random.draw(),
-        3 => u64::MAX,
-        _ => receiver.last_time.saturating_add(random.below(1000) as u64),
+    let time = match random.below(8) {
+        0..3 => receiver.greatest_time.saturating_sub(clock_step(random)),
+        3 => receiver.greatest_time,
+        4 => random.draw(),
+        5 => u64::MAX,
+        _ => receiver.greatest_time.saturating_add(clock_step(random)),
     };
     StateCase { kind, receiver, number, time }
 }

@@ -1,6 +1,24 @@
 //! The receiver: one arrival at a time, the last 64 jumps kept.
 
-use crate::reference::{NUMBER, RECEIVER_FULL, RECEIVER_UNFIT, SENT_COUNT, TIME};
+use crate::reference::{MOST_BACK, NUMBER, RECEIVER_FULL, RECEIVER_UNFIT, SENT_COUNT, TIME};
+
+/// How far one arrival is stamped after another, or before it.
+#[derive(Clone, Copy, PartialEq, Eq, Debug)]
+pub enum LateTime {
+    After(u64),
+    Before(u64),
+}
+
+impl LateTime {
+    /// The time from `past` to `own`; equal times are after, by 0.
+    #[inline(always)]
+    pub fn since(past: u64, own: u64) -> LateTime {
+        match own.checked_sub(past) {
+            Some(amount) => LateTime::After(amount),
+            None => LateTime::Before(past - own),
+        }
+    }
+}
 
 /// The last jumps in order of arrival, `kept` of them from place 0 on. Places past them are unused.
 #[repr(C)]
@@ -20,7 +38,8 @@ pub struct Receiver {
     /// One bit for each packet: packet s has bit (s - 1) % 64 of word (s - 1) / 64.
     pub marks: [u64; Receiver::PACKETS / 64],
     pub jumps: Jumps,
-    pub last_time: u64,
+    /// The greatest time of an accepted arrival, copies among them.
+    pub greatest_time: u64,
     /// K.
     pub sent: u32,
     /// L.
@@ -38,8 +57,8 @@ pub struct Receiver {
 pub enum Step {
     Duplicate,
     InOrder { jump: u32 },
-    Exact { extent: u32, late_time: u64 },
-    Beyond { extent: u32, late_time: u64 },
+    Exact { extent: u32, late_time: LateTime },
+    Beyond { extent: u32, late_time: LateTime },
 }
 
 /// What a step answers; refused, it is in order with jump size 0.
@@ -96,13 +115,13 @@ impl Jumps {
     }
 
     /// Whether some kept jump has a position outside 1 to `last`, a number outside 1 to `sent` or a time after
-    /// `last_time`. All kept places are looked at: without an early end the loops run several places at a time.
-    fn unfit(&self, last: u16, sent: u16, last_time: u64) -> bool {
+    /// `greatest_time`. All kept places are looked at: without an early end the loops run several places at a time.
+    fn unfit(&self, last: u16, sent: u16, greatest_time: u64) -> bool {
         let kept = self.kept as usize;
         let outside = |values: &[u16], most: u16| values.iter().fold(false, |bad, v| bad | (v.wrapping_sub(1) >= most));
         outside(&self.positions[..kept], last)
             | outside(&self.numbers[..kept], sent)
-            | self.times[..kept].iter().fold(false, |bad, &t| bad | (t > last_time))
+            | self.times[..kept].iter().fold(false, |bad, &t| bad | (t > greatest_time))
     }
 }
 
@@ -128,7 +147,7 @@ impl Receiver {
                 kept: 0,
                 dropped: 0,
             },
-            last_time: 0,
+            greatest_time: 0,
             sent: if fits { sent } else { 1 },
             first_arrivals: 0,
             duplicates: 0,
@@ -154,7 +173,7 @@ impl Receiver {
             || self.next_expected > k + 1
             || self.jumps.dropped > k
             || self.jumps.kept > Self::WINDOW as u32
-            || self.jumps.unfit(l as u16, k as u16, self.last_time)
+            || self.jumps.unfit(l as u16, k as u16, self.greatest_time)
     }
 
     pub fn marked(&self, number: u32) -> bool {
@@ -200,12 +219,12 @@ impl Receiver {
         if number < 1 || number > self.sent {
             return Answered::refused(NUMBER);
         }
-        if time < self.last_time {
+        if self.greatest_time.saturating_sub(time) > MOST_BACK {
             return Answered::refused(TIME);
         }
         if self.marked(number) {
             self.duplicates += 1;
-            self.last_time = time;
+            self.greatest_time = self.greatest_time.max(time);
             return Answered::accepted(Step::Duplicate);
         }
         let position = self.first_arrivals + 1;
@@ -225,7 +244,7 @@ impl Receiver {
             let beyond = number < self.jumps.dropped;
             let place = if beyond { 0 } else { place };
             let extent = position - u32::from(self.jumps.positions[place]);
-            let late_time = time - self.jumps.times[place];
+            let late_time = LateTime::since(self.jumps.times[place], time);
             self.closed_runs += 1;
             self.squares += self.open_run * self.open_run;
             self.open_run = 0;
@@ -237,7 +256,7 @@ impl Receiver {
         };
         self.mark(number);
         self.first_arrivals = position;
-        self.last_time = time;
+        self.greatest_time = self.greatest_time.max(time);
         Answered::accepted(answer)
     }
 }

@@ -2,7 +2,7 @@
 //! one pass where the order is kept, and one forward scan of the first arrivals for each reordered packet.
 //! The two faster engines at the end are for information.
 
-pub use crate::receiver::{Answered, Fresh, Jumps, Receiver, Step, Stepped};
+pub use crate::receiver::{Answered, Fresh, Jumps, LateTime, Receiver, Step, Stepped};
 
 // The refusals.
 /// The file ends before a count or a section does.
@@ -17,7 +17,7 @@ pub const SENT_COUNT: u32 = 4;
 pub const ARRIVAL_COUNT: u32 = 5;
 /// Sequence number outside 1 to K.
 pub const NUMBER: u32 = 6;
-/// Arrival time before that of the arrival before.
+/// Arrival time over 1,000 below the greatest earlier time.
 pub const TIME: u32 = 7;
 /// Lent output too short.
 pub const OUTPUT_SHORT: u32 = 8;
@@ -37,6 +37,8 @@ pub const MOST_LABEL: usize = 64;
 pub const MOST_SENT: usize = 4096;
 pub const MOST_ARRIVALS: usize = 4096;
 pub const MOST_DEGREE: u32 = 100;
+/// How far below the greatest earlier time an arrival may be stamped.
+pub const MOST_BACK: u64 = 1000;
 /// The octets of the longest sample.
 pub const LONGEST_FILE: usize = 2 + MOST_LABEL + 2 + 2 * MOST_SENT + 2 + 12 * MOST_ARRIVALS;
 /// Room for every listing, as the library names it: 64 octets for each of 4,096 records; the longest listing has fewer.
@@ -66,7 +68,7 @@ pub struct Written {
 pub enum Answer {
     Duplicate { first_record: u32 },
     InOrder { position: u32, jump: u32 },
-    Reordered { position: u32, extent: u32, late_time: u64, byte_offset: u32, largest_n: u32 },
+    Reordered { position: u32, extent: u32, late_time: LateTime, byte_offset: u32, largest_n: u32 },
 }
 
 #[derive(Clone, Copy, PartialEq, Eq, Debug)]
@@ -164,15 +166,15 @@ fn judge(holds: bool, refusal: u32) -> Result<(), u32> {
 
 /// Judges arrivals in turn, the number before the time.
 fn judge_arrivals(arrivals: impl Iterator<Item = (u32, u64)>, sent: u32) -> Result<(), u32> {
-    let mut last = 0;
+    let mut greatest = 0u64;
     for (number, time) in arrivals {
         if number.wrapping_sub(1) >= sent {
             return Err(NUMBER);
         }
-        if time < last {
+        if greatest.saturating_sub(time) > MOST_BACK {
             return Err(TIME);
         }
-        last = time;
+        greatest = greatest.max(time);
     }
     Ok(())
 }
@@ -347,7 +349,8 @@ fn answer_at(sample: &Sample, index: usize) -> Answer {
     if earliest == 0 {
         return Answer::InOrder { position, jump: wanted - (greatest + 1) };
     }
-    Answer::Reordered { position, extent: position - earliest, late_time: time - earliest_time, byte_offset, largest_n }
+    let late_time = LateTime::since(earliest_time, time);
+    Answer::Reordered { position, extent: position - earliest, late_time, byte_offset, largest_n }
 }
 
 /// The counts of a sample, one answer after another.
@@ -599,7 +602,7 @@ impl Firsts {
             Answer::InOrder { position, jump }
         } else {
             let (earliest, byte_offset, largest_n) = scan(&self.numbers, &self.sizes, number as u16);
-            let (extent, late_time) = ((before - earliest) as u32, time - self.times[earliest]);
+            let (extent, late_time) = ((before - earliest) as u32, LateTime::since(self.times[earliest], time));
             Answer::Reordered { position, extent, late_time, byte_offset, largest_n }
         };
         self.numbers.push(number as u16);
@@ -726,7 +729,7 @@ impl Engine for Swift {
             Answer::Reordered {
                 position,
                 extent: position - u32::from(from),
-                late_time: time - since,
+                late_time: LateTime::since(since, time),
                 byte_offset: self.total - self.sum_to(s),
                 largest_n: position - 1 - smaller,
             }
@@ -897,7 +900,14 @@ impl Text<'_> {
                 self.word(b"late ");
                 self.number(u64::from(position), b' ');
                 self.number(u64::from(extent), b' ');
-                self.number(late_time, b' ');
+                let amount = match late_time {
+                    LateTime::After(amount) => amount,
+                    LateTime::Before(amount) => {
+                        self.word(b"-");
+                        amount
+                    }
+                };
+                self.number(amount, b' ');
                 self.numbers([byte_offset, largest_n]);
             }
         }

@@ -4,7 +4,8 @@
 use std::hint::black_box;
 
 use crate::compare::Seen;
-use crate::generate::Random;
+use crate::generate::{clock_step, Random};
+use crate::reference::MOST_BACK;
 use crate::time::{calls, measure};
 
 const MOST: usize = 4096;
@@ -112,7 +113,7 @@ pub fn import(log: &[u8], sent: u32, numbers: &mut [u32], times: &mut [u64]) -> 
     }
     let mut rest = log;
     let mut count = 0;
-    let mut last = 0;
+    let mut greatest = 0u64;
     while !rest.is_empty() {
         let at = count as u32 + 1;
         let Some((number, time, after)) = line(rest) else {
@@ -124,10 +125,10 @@ pub fn import(log: &[u8], sent: u32, numbers: &mut [u32], times: &mut [u64]) -> 
         if number == 0 || number > sent {
             return refused(NUMBER_OUTSIDE, at);
         }
-        if time < last {
+        if greatest.saturating_sub(time) > MOST_BACK {
             return refused(TIME_BACK, at);
         }
-        last = time;
+        greatest = greatest.max(time);
         count += 1;
         rest = after;
     }
@@ -171,15 +172,15 @@ pub fn write(sent: u32, numbers: &[u32], times: &[u64], out: &mut [u8]) -> Writt
     if numbers.len() != times.len() {
         return refused(LISTS_DIFFER);
     }
-    let mut last = 0;
+    let mut greatest = 0u64;
     for (&number, &time) in numbers.iter().zip(times) {
         if number == 0 || number > sent {
             return refused(NUMBER_OUTSIDE);
         }
-        if time < last {
+        if greatest.saturating_sub(time) > MOST_BACK {
             return refused(TIME_BACK);
         }
-        last = time;
+        greatest = greatest.max(time);
     }
     let length: usize = numbers.iter().zip(times).map(|(&number, &time)| line_octets(number, time)).sum();
     if out.len() < length {
@@ -212,6 +213,18 @@ fn log_of(random: &mut Random, many: usize) -> Vec<u8> {
     log
 }
 
+/// A log of so many arrivals by a clock that steps by 0 to 1,001 in both directions.
+fn stepping_log(random: &mut Random, many: usize) -> Vec<u8> {
+    let apart = random.pick(&[0, 1, 300, 1000]);
+    let mut log = Vec::new();
+    for record in 1..=many {
+        let (time, step) = (2000 + apart * record as u64, clock_step(random));
+        let micros = if random.once_in(2) { time + step } else { time - step };
+        log.extend(format!("{record};{}.{:03}\n", micros / 1000, micros % 1000).bytes());
+    }
+    log
+}
+
 /// A log with a small change somewhere, or none.
 fn damaged(random: &mut Random, mut log: Vec<u8>) -> Vec<u8> {
     const OCTETS: &[u8] = b"0123456789;,.\n\r -+x/:\0";
@@ -228,7 +241,7 @@ fn damaged(random: &mut Random, mut log: Vec<u8>) -> Vec<u8> {
 }
 
 /// A line with values near the ends of their ranges and forms of every kind.
-fn odd_line(random: &mut Random, sent: u32, last: u64) -> Vec<u8> {
+fn odd_line(random: &mut Random, sent: u32, greatest: u64) -> Vec<u8> {
     const TIMES: [u64; 6] = [0, 1, u64::MAX, u64::MAX - 1, u64::MAX / 1000, 999];
     let number = match random.below(12) {
         0 => 0,
@@ -238,8 +251,8 @@ fn odd_line(random: &mut Random, sent: u32, last: u64) -> Vec<u8> {
     };
     let micros = match random.below(16) {
         0 => random.pick(&TIMES),
-        1 => last.saturating_sub(1),
-        _ => last.saturating_add(random.below(3000) as u64),
+        1 | 2 => greatest.saturating_sub(clock_step(random)),
+        _ => greatest.saturating_add(random.below(3000) as u64),
     };
     let (whole, rest) = (u128::from(micros) / 1000 + u128::from(random.once_in(60)), micros % 1000);
     let zeros = "0".repeat(if random.once_in(6) { random.below(40) } else { 0 });
@@ -256,12 +269,12 @@ fn odd_line(random: &mut Random, sent: u32, last: u64) -> Vec<u8> {
 
 fn odd_log(random: &mut Random, sent: u32) -> Vec<u8> {
     let mut log = Vec::new();
-    let mut last = 0;
+    let mut greatest = 0;
     for _ in 0..random.below(6) {
-        let line = odd_line(random, sent, last);
+        let line = odd_line(random, sent, greatest);
         let mut time = [0];
         if import(&line, sent, &mut [0], &mut time).refusal == 0 {
-            last = time[0];
+            greatest = time[0].max(greatest);
         }
         log.extend(line);
     }
@@ -287,9 +300,10 @@ pub fn compare(seed: u64, logs: u64, seen: &mut Seen) -> Result<(), String> {
         } else {
             random.between(many.clamp(1, MOST), MOST) as u32
         };
-        let log = match random.below(3) {
+        let log = match random.below(4) {
             0 => odd_log(&mut random, sent.clamp(1, 4096)),
             1 => log_of(&mut random, many),
+            2 => stepping_log(&mut random, many),
             _ => {
                 let log = log_of(&mut random, many);
                 damaged(&mut random, log)

@@ -6,14 +6,14 @@ use Rattle.rfc4737.specs.declared.Answer.{Answer}
 use Rattle.rfc4737.specs.declared.Gap.{Gap}
 use Rattle.rfc4737.specs.declared.Ratio.{Ratio}
 use Rattle.rfc4737.specs.declared.Ratios.{Ratios}
-use Rattle.rfc4737.specs.Numbering.{answerNumber}
+use Rattle.rfc4737.specs.Numbering.{answerNumber, amountOf}
 use Rattle.capi.specs.declared.figures.AnswerFigures.{AnswerFigures}
 use Rattle.capi.specs.declared.figures.GapFigures.{GapFigures}
 use Rattle.capi.specs.declared.figures.DegreeFigures.{DegreeFigures}
 use Rattle.capi.specs.declared.figures.RatiosFigures.{RatiosFigures}
 
 -- the answer for a record: the number of its case, with the record of the first copy if a duplicate; with position and jump size if in
--- order; with position, extent, late time, byte offset and largest n if reordered
+-- order; with position, extent, byte offset, largest n and the late time's amount if reordered, where the number has its direction
 abbrev pub answerFigures : ℕ → Answer → AnswerFigures
 answerFigures n (Answer.Duplicate d) =
     record {
@@ -49,7 +49,7 @@ answerFigures n (Answer.Reordered d) =
       extent = d .extent;
       offset = d .offset;
       largest = d .largest;
-      late = d .late;
+      late = amountOf (d .late);
     }
 
 -- the gap of a record: none is 0; else 1, with the positions

@@ -6,17 +6,18 @@ use Rattle.receiver.specs.declared.Noted.{Noted}
 use Rattle.receiver.specs.declared.Noted.the-variants.{Duplicate, InOrder, Exact, Beyond}
 use Rattle.receiver.specs.declared.Outcome.{Outcome}
 use Rattle.receiver.specs.declared.Stepped.{Stepped}
+use Rattle.rfc4737.specs.Numbering.{amountOf}
 use Rattle.receiver.specs.Numbering.{notedNumber}
 use Rattle.capi.specs.declared.noted.NotedFigures.{NotedFigures}
 use Rattle.capi.specs.declared.noted.SaidAnswer.{SaidAnswer}
 use Rattle.capi.specs.declared.noted.StepAnswer.{StepAnswer}
 
--- a reordered packet in one of its two cases: extent and late time
+-- a reordered packet by the number of its case, which has the late time's direction: extent, and the late time's amount
 abbrev pub lateFigures : ℕ → Lateness → NotedFigures
-lateFigures n l = record { kind = n; jump = 0; extent = l .extent; late = l .late }
+lateFigures n l = record { kind = n; jump = 0; extent = l .extent; late = amountOf (l .late) }
 
--- what is noted: the number of its case, with the jump size if in order; with extent and late time if reordered, exact or beyond the
--- window
+-- what is noted: the number of its case, with the jump size if in order; with extent and the late time's amount if reordered, exact or
+-- beyond the window
 abbrev pub notedFigures : Noted → NotedFigures
 notedFigures Duplicate = record { kind = notedNumber Duplicate; jump = 0; extent = 0; late = 0 }
 notedFigures (InOrder jump) = record { kind = notedNumber (InOrder jump); jump = jump; extent = 0; late = 0 }

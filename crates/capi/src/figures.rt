@@ -7,13 +7,16 @@ use rfc4737::Ratio;
 use rfc4737::Ratios;
 use rfc4737::numbering::DUPLICATE;
 use rfc4737::numbering::IN_ORDER;
-use rfc4737::numbering::REORDERED;
+use rfc4737::numbering::REORDERED_AFTER;
+use rfc4737::numbering::REORDERED_BEFORE;
+use rfc4737::numbering::amount;
+use rfc4737::numbering::directed;
 ghost use mathlib.Core.Path.{_≡_};
 ghost use lib.Ieee.{binary64, toBits};
 ghost use Rattle.capi.specs.Figures.{answerFigures, gapFigures, degreeFigures, ratiosFigures};
 
 // The answer for a record: the refusal (0 for none), the case, the record of the first copy, position, jump size,
-// extent, byte offset, largest n and late time.
+// extent, byte offset, largest n and the late time's amount, which the case gives its direction.
 #[repr(C)]
 pub struct AnswerFigures {
     pub refusal: u32,
@@ -81,17 +84,20 @@ pub fn answer_figures(refusal: u32, answer: Answer) -> AnswerFigures
             largest: 0,
             late: 0,
         },
-        Answer::Reordered(l) => AnswerFigures {
-            refusal,
-            kind: REORDERED,
-            first: 0,
-            position: l.position,
-            jump: 0,
-            extent: l.extent,
-            offset: l.offset,
-            largest: l.largest,
-            late: l.late,
-        },
+        Answer::Reordered(l) => {
+            let late = l.late;
+            AnswerFigures {
+                refusal,
+                kind: directed(REORDERED_AFTER, REORDERED_BEFORE, late),
+                first: 0,
+                position: l.position,
+                jump: 0,
+                extent: l.extent,
+                offset: l.offset,
+                largest: l.largest,
+                late: amount(late),
+            }
+        }
     }
 }
 

@@ -5,14 +5,20 @@ use receiver::Noted;
 use receiver::Outcome;
 use receiver::Receiver;
 use receiver::Stepped;
-use receiver::numbering::BEYOND;
+use receiver::numbering::BEYOND_AFTER;
+use receiver::numbering::BEYOND_BEFORE;
 use rfc4737::numbering::DUPLICATE;
 use rfc4737::numbering::IN_ORDER;
-use rfc4737::numbering::REORDERED;
+use rfc4737::numbering::REORDERED_AFTER;
+use rfc4737::numbering::REORDERED_BEFORE;
+use rfc4737::numbering::amount;
+use rfc4737::numbering::directed;
 ghost use mathlib.Core.Path.{_≡_};
+ghost use Rattle.rfc4737.specs.Numbering.{directed};
 ghost use Rattle.capi.specs.Noted.{notedFigures, lateFigures, stepAnswer, saidAnswer};
 
-// What a receiver notes of an arrival: the case, and jump size, extent and late time.
+// What a receiver notes of an arrival: the case, and jump size, extent and the late time's amount, which the case gives
+// its direction.
 #[repr(C)]
 pub struct NotedFigures {
     pub kind: u32,
@@ -36,15 +42,16 @@ pub struct SaidAnswer {
     pub noted: NotedFigures,
 }
 
-// What is noted of a reordered packet, in one of its two cases.
-fn late_figures(kind: u32, l: Lateness) -> NotedFigures
-    ensures { λ r. ⌜ r ≡ lateFigures kind l ⌝ }
+// What is noted of a reordered packet, in one of its two cases, of which each has a number for after and one for before.
+fn late_figures(after: u32, before: u32, l: Lateness) -> NotedFigures
+    ensures { λ r. ⌜ r ≡ lateFigures (directed after before (l .late)) l ⌝ }
 {
+    let late = l.late;
     NotedFigures {
-        kind,
+        kind: directed(after, before, late),
         jump: 0,
         extent: l.extent,
-        late: l.late,
+        late: amount(late),
     }
 }
 
@@ -65,8 +72,8 @@ pub fn noted_figures(noted: Noted) -> NotedFigures
             extent: 0,
             late: 0,
         },
-        Noted::Exact(l) => late_figures(REORDERED, l),
-        Noted::Beyond(l) => late_figures(BEYOND, l),
+        Noted::Exact(l) => late_figures(REORDERED_AFTER, REORDERED_BEFORE, l),
+        Noted::Beyond(l) => late_figures(BEYOND_AFTER, BEYOND_BEFORE, l),
     }
 }
 

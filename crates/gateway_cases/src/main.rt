@@ -38,7 +38,7 @@ fn write_fed(way: &[u8], s: Stepped) {
     write_number(b" duplicates ", stream.duplicates as u64);
     write_number(b" in order ", stream.inorder as u64);
     write_number(b" NextExp ", stream.next as u64);
-    write_number(b" last ", stream.last);
+    write_number(b" greatest ", stream.greatest);
     write_number(b" jumps ", stream.kept as u64);
     write_word(b"\n");
 }
@@ -82,24 +82,24 @@ fn main() {
     let state = start.state;
     let p = thrice(state);
     // In order, the third with a jump over 3 and 4.
-    let p = feed(p, 1, 10);
-    let p = feed(p, 2, 20);
-    let p = feed(p, 5, 30);
+    let p = feed(p, 1, 1010);
+    let p = feed(p, 2, 1020);
+    let p = feed(p, 5, 1030);
     // Reordered, and again.
-    let p = feed(p, 4, 40);
-    let p = feed(p, 4, 50);
-    // Refused by 6, by 6 and by 7, and then taken.
-    let p = feed(p, 0, 60);
-    let p = feed(p, 9, 60);
+    let p = feed(p, 4, 1040);
+    let p = feed(p, 4, 1050);
+    // Refused by 6, by 6 and by 7, 1,001 below the greatest time; and then taken, 1,000 below it.
+    let p = feed(p, 0, 1060);
+    let p = feed(p, 9, 1060);
     let p = feed(p, 3, 49);
     let p = feed(p, 3, 50);
-    // A second jump, again, and the two packets that it skipped.
-    let p = feed(p, 8, 70);
-    let p = feed(p, 8, 80);
-    let p = feed(p, 6, 80);
-    let p = feed(p, 7, 90);
+    // A second jump, again, and the two packets that it skipped, one of them stamped before it.
+    let p = feed(p, 8, 1070);
+    let p = feed(p, 8, 1080);
+    let p = feed(p, 6, 1069);
+    let p = feed(p, 7, 1090);
     // The first packet again.
-    feed(p, 1, 100);
+    feed(p, 1, 1100);
     refused_states(state);
 }
 

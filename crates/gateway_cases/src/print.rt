@@ -2,6 +2,7 @@
 use libc::STDOUT_FILENO;
 use receiver::Lateness;
 use receiver::Noted;
+use rfc4737::LateTime;
 
 // Writes a word.
 pub(crate) fn write_word(word: &[u8]) {
@@ -14,10 +15,24 @@ pub(crate) fn write_number(word: &[u8], n: u64) {
     io::print_decimal(STDOUT_FILENO, n);
 }
 
+// Writes a word and a late time, with a leading minus for before.
+fn write_time(word: &[u8], late: LateTime) {
+    match late {
+        LateTime::After(t) => {
+            write_number(word, t);
+        }
+        LateTime::Before(t) => {
+            write_word(word);
+            write_number(b"-", t);
+        }
+    }
+}
+
 // Writes extent and late time of a reordered packet.
 fn write_late(l: Lateness) {
+    let late = l.late;
     write_number(b" extent ", l.extent as u64);
-    write_number(b" late ", l.late);
+    write_time(b" late ", late);
 }
 
 // Writes what a receiver notes of an arrival.

@@ -1,17 +1,38 @@
 -- How long the lines are. Assumes nothing.
 use Prim.Native.Nat.{ℕ, _^_, _≤_, _<_}
 use native.Mathlib.Omega.{arith}
+use mathlib.Core.Bool.{Bool, true, false, cond}
+use mathlib.Core.List.{[], _∷_}
+use lib.Dec.{ltb}
 use lib.ListN.{length, length-append}
 use Rattle.decimal.proofs.Laws.{at-most, at-most-20}
 use Rattle.rfc4737.specs.declared.Answer.{Answer}
 use Rattle.rfc4737.specs.declared.Answer.the-variants.{Duplicate, InOrder, Reordered}
+use Rattle.rfc4737.specs.declared.LateTime.{LateTime}
+use Rattle.rfc4737.specs.declared.LateTime.the-variants.{After, Before}
 use Rattle.rfc4737.specs.declared.Counts.{Counts}
-use Rattle.listing.specs.Lines.{number, headerLine, recordLine, endLine, refusedLine}
-use Rattle.listing.specs.Private.Within.{Small, AnswerWithin, CountsWithin}
+use Rattle.listing.specs.Words.{minus}
+use Rattle.listing.specs.Lines.{number, sign, lateTime, headerLine, recordLine, endLine, refusedLine}
+use Rattle.listing.specs.Private.Within.{Small, TimeWithin, AnswerWithin, CountsWithin}
 
 -- a number of at most four digits
 small : (n : ℕ) → Small n → length (number n) ≤ 4
 small n h = at-most 4 n (omega arith) h
+
+-- at most a minus
+pub sign-octets : (t : LateTime) → length (sign t) ≤ 1
+sign-octets (After t) = omega arith
+sign-octets (Before t) = go (ltb 0 t)
+  where
+    go : (u : Bool) → length (cond u (minus ∷ []) []) ≤ 1
+    go true = omega arith
+    go false = omega arith
+
+-- a late time: at most 20 digits; or a minus and at most four
+time-octets : (t : LateTime) → TimeWithin t → length (lateTime t) ≤ 20
+unfolding lateTime
+time-octets (After t) h = at-most-20 t h
+time-octets (Before t) h = simp length-append (omega (arith, sign-octets (Before t), small t (omega arith)))
 
 -- the first line
 pub header-octets : (k a : ℕ) → Small k → Small a → length (headerLine k a) ≤ 24
@@ -27,7 +48,7 @@ record-octets r n (InOrder f) hr hn h =
 record-octets r n (Reordered f) hr hn h =
     simp length-append
     (omega
-    (arith, small r hr, small n hn, small (f .position) (h .position), small (f .extent) (h .extent), at-most-20 (f .late) (h .late), at-most 9 (f .offset) (omega arith) (h .offset), small (f .largest) (h .largest)))
+    (arith, small r hr, small n hn, small (f .position) (h .position), small (f .extent) (h .extent), time-octets (f .late) (h .late), at-most 9 (f .offset) (omega arith) (h .offset), small (f .largest) (h .largest)))
 
 -- the last line
 pub end-octets : (c : Counts) → CountsWithin c → length (endLine c) ≤ 38

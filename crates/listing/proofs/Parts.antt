@@ -5,12 +5,23 @@ use mathlib.Core.Path.{_≡_, refl, sym, ap, _∙_}
 use mathlib.Core.List.{List, [], _∷_, _++_, append-assoc}
 use lib.ListN.{length, take, set, length-append}
 use Rattle.octets.specs.Memory.{splice, put}
-use Rattle.octets.proofs.Memory.{splice-length, splice-next, splice-part, splice-set, put-room}
+use Rattle.octets.proofs.Memory.{splice-nil, splice-length, splice-next, splice-part, splice-set, put-room}
+use Rattle.decimal.specs.Decimal.{decimalOf}
 use Rattle.rfc4737.specs.declared.Answer.{Answer}
 use Rattle.rfc4737.specs.declared.Answer.the-variants.{Duplicate, InOrder, Reordered}
+use Rattle.rfc4737.specs.declared.LateTime.{LateTime}
+use Rattle.rfc4737.specs.Numbering.{amountOf}
 use Rattle.listing.specs.Words.{space}
-use Rattle.listing.specs.Lines.{number, line, answerFields, recordLine}
+use Rattle.listing.specs.Lines.{number, sign, lateTime, line, answerFields, recordLine}
 use Rattle.listing.specs.Private.Written.{Written}
+
+-- nothing written
+pub nothing : (at : ℕ) (old : List ℕ) → Written at 1 at [] old old
+nothing at old = record { place = omega arith; within = omega arith; memory = sym (splice-nil at old) }
+
+-- one octet stored where there is room
+pub one : (at x : ℕ) (old : List ℕ) → at < length old → Written at 1 (at + 1) (x ∷ []) old (set old at x)
+one at x old h = record { place = refl; within = omega arith; memory = splice-set at x old h }
 
 -- octets put where there is room, and one octet stored after them
 pub with-after : (at : ℕ) (xs : List ℕ) (x : ℕ) (old : List ℕ) → at + (length xs + 1) ≤ length old
@@ -59,6 +70,11 @@ read-length w = rw (read-back w) (omega (arith, w .place))
 pub copied : {most next : ℕ} {xs text new newer : List ℕ} (at : ℕ) (old : List ℕ) → Written 0 most next xs text new
     → newer ≡ put at (take next new) old → (next ≡ length xs) × (newer ≡ put at xs old)
 copied at old w e = (omega (arith, w .place), e ∙ ap (λ (l : List ℕ). put at l old) (read-back w))
+
+-- a late time and the octet after it: what stands in front of its amount, and then the amount with that octet
+pub time-parts : (t : LateTime) (v after : ℕ) → v ≡ amountOf t → lateTime t ++ (after ∷ []) ≡ sign t ++ (decimalOf v ++ (after ∷ []))
+unfolding lateTime
+time-parts t v after e = rw e (append-assoc (sign t) (decimalOf (amountOf t)) (after ∷ []))
 
 -- a record's line: the record and its number, and then its answer
 pub record-parts : (r n : ℕ) (a : Answer)

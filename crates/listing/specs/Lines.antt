@@ -1,13 +1,18 @@
 -- The lines of the report and the listing of a sample, as ASCII octets. Assumes nothing.
 use Prim.Native.Nat.{ℕ, _+_}
+use mathlib.Core.Bool.{cond}
 use mathlib.Core.List.{List, [], _∷_, _++_}
+use lib.Dec.{ltb}
 use lib.ListN.{length}
 use Rattle.decimal.specs.Decimal.{decimalOf}
 use Rattle.rfc4737.specs.declared.Arrival.{Arrival}
 use Rattle.rfc4737.specs.declared.Answer.{Answer}
 use Rattle.rfc4737.specs.declared.Answer.the-variants.{Duplicate, InOrder, Reordered}
+use Rattle.rfc4737.specs.declared.LateTime.{LateTime}
+use Rattle.rfc4737.specs.declared.LateTime.the-variants.{After, Before}
 use Rattle.rfc4737.specs.declared.Counts.{Counts}
-use Rattle.listing.specs.Words.{space, lineFeed, sent, arrivals, inOrder, late, copy, end, refused}
+use Rattle.rfc4737.specs.Numbering.{amountOf}
+use Rattle.listing.specs.Words.{space, minus, lineFeed, sent, arrivals, inOrder, late, copy, end, refused}
 
 -- ---- fields and lines
 
@@ -15,9 +20,14 @@ use Rattle.listing.specs.Words.{space, lineFeed, sent, arrivals, inOrder
 abbrev pub number : ℕ → List ℕ
 number n = decimalOf n
 
+-- what stands in front of a late time's amount: a minus for before, unless the amount is 0
+abbrev pub sign : LateTime → List ℕ
+sign (After t) = []
+sign (Before t) = cond (ltb 0 t) (minus ∷ []) []
+
 -- a field that is a late time
-abbrev pub lateTime : ℕ → List ℕ
-lateTime t = decimalOf t
+unfoldable pub lateTime : LateTime → List ℕ
+lateTime t = sign t ++ decimalOf (amountOf t)
 
 -- fields parted by one space
 abbrev pub parted : List (List ℕ) → List ℕ

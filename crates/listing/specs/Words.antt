@@ -1,5 +1,5 @@
--- The octets of the report that are no figures, in ASCII: its words, the space between fields and the line feed at the end
--- of a line. Assumes nothing.
+-- The octets of the report that are no figures, in ASCII: its words, the space between fields, the minus of a late time and
+-- the line feed at the end of a line. Assumes nothing.
 use Prim.Native.Char.{code}
 use Prim.Native.Nat.{ℕ}
 use Prim.Native.String as text
@@ -13,6 +13,10 @@ ascii (text._∷_ c t) = code c ∷ ascii t
 -- between two fields
 abbrev pub space : ℕ
 space = code " "
+
+-- in front of a late time that is before
+abbrev pub minus : ℕ
+minus = code "-"
 
 -- at the end of a line
 abbrev pub lineFeed : ℕ

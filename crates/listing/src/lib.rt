@@ -8,13 +8,15 @@ ghost use lib.ListN.{length};
 ghost use Rattle.octets.specs.Memory.{put};
 ghost use Rattle.decimal.specs.Decimal.{decimalOf};
 ghost use Rattle.rfc4737.specs.declared.Answer.the-variants.{Duplicate, InOrder, Reordered};
-ghost use Rattle.listing.specs.Lines.{number, lateTime, line, answerFields, headerLine, recordLine, endLine, refusedLine};
+ghost use Rattle.listing.specs.Lines.{number, sign, lateTime, line, answerFields, headerLine, recordLine, endLine, refusedLine};
 ghost use Rattle.listing.specs.Private.Written.{Written};
 use rfc4737::Answer;
 use rfc4737::Counts;
 use rfc4737::DuplicateFigures;
 use rfc4737::InOrderFigures;
+use rfc4737::LateTime;
 use rfc4737::ReorderedFigures;
+use rfc4737::numbering::amount;
 
 // What parts two fields.
 const SPACE: u8 = b' ';
@@ -22,9 +24,12 @@ const SPACE: u8 = b' ';
 // What ends a line.
 const LINE_FEED: u8 = b'\n';
 
+// In front of a late time that is before.
+const MINUS: u8 = b'-';
+
 // The most octets of a line, whatever its figures: `late`, six numbers of 32 bits and a time of 64 bits, with an
-// octet after each of these eight.
-const LINE: usize = 92;
+// octet after each of these eight, and a minus.
+const LINE: usize = 93;
 
 // The octets that suffice for any listing: 64 for each of 4,096 records. The longest line of a record has 61; what
 // is left holds the first line, of at most 24, and the last, of at most 38.
@@ -59,12 +64,28 @@ fn write_number(out: &mut [u8], at: usize, n: u32, after: u8) -> usize
     write_digits(out, at, n as u64, after)
 }
 
-// Writes a late time and the octet after it.
-fn write_time(out: &mut [u8], at: usize, t: u64, after: u8) -> usize
-    requires { ⌜ at + 21 ≤ length (now out) ⌝ }
-    ensures { λ r. ⌜ Written at 21 r (lateTime t ++ (after ∷ [])) (now (out .entry)) (now (out .exit)) ⌝ }
+// Writes what stands in front of a late time's amount.
+fn write_sign(out: &mut [u8], at: usize, late: LateTime) -> usize
+    requires { ⌜ at + 1 ≤ length (now out) ⌝ }
+    ensures { λ r. ⌜ Written at 1 r (sign late) (now (out .entry)) (now (out .exit)) ⌝ }
 {
-    write_digits(out, at, t, after)
+    let LateTime::Before(t) = late else {
+        return at;
+    };
+    if 0 < t {
+        out[at] = MINUS;
+        return at + 1;
+    }
+    at
+}
+
+// Writes a late time and the octet after it.
+fn write_time(out: &mut [u8], at: usize, late: LateTime, after: u8) -> usize
+    requires { ⌜ at + 22 ≤ length (now out) ⌝ }
+    ensures { λ r. ⌜ Written at 22 r (lateTime late ++ (after ∷ [])) (now (out .entry)) (now (out .exit)) ⌝ }
+{
+    let digits = write_sign(out, at, late);
+    write_digits(out, digits, amount(late), after)
 }
 
 // Writes the first line.
@@ -109,21 +130,22 @@ fn write_in(out: &mut [u8], at: usize, f: InOrderFigures) -> usize
 
 // Writes the answer of a reordered packet.
 fn write_late(out: &mut [u8], at: usize, f: ReorderedFigures) -> usize
-    requires { ⌜ at + 70 ≤ length (now out) ⌝ }
-    ensures { λ r. ⌜ Written at 70 r (line (answerFields (Reordered f))) (now (out .entry)) (now (out .exit)) ⌝ }
+    requires { ⌜ at + 71 ≤ length (now out) ⌝ }
+    ensures { λ r. ⌜ Written at 71 r (line (answerFields (Reordered f))) (now (out .entry)) (now (out .exit)) ⌝ }
 {
     let position = write_word(out, at, b"late", SPACE);
     let extent = write_number(out, position, f.position, SPACE);
-    let late = write_number(out, extent, f.extent, SPACE);
-    let offset = write_time(out, late, f.late, SPACE);
+    let time = write_number(out, extent, f.extent, SPACE);
+    let late = f.late;
+    let offset = write_time(out, time, late, SPACE);
     let largest = write_number(out, offset, f.offset, SPACE);
     write_number(out, largest, f.largest, LINE_FEED)
 }
 
 // Writes an answer, and with it the end of a record's line.
 fn write_answer(out: &mut [u8], at: usize, answer: Answer) -> usize
-    requires { ⌜ at + 70 ≤ length (now out) ⌝ }
-    ensures { λ r. ⌜ Written at 70 r (line (answerFields answer)) (now (out .entry)) (now (out .exit)) ⌝ }
+    requires { ⌜ at + 71 ≤ length (now out) ⌝ }
+    ensures { λ r. ⌜ Written at 71 r (line (answerFields answer)) (now (out .entry)) (now (out .exit)) ⌝ }
 {
     match answer {
         Answer::Duplicate(f) => write_copy(out, at, f),
@@ -134,8 +156,8 @@ fn write_answer(out: &mut [u8], at: usize, answer: Answer) -> usize
 
 // Writes a record's line.
 fn write_record(out: &mut [u8], at: usize, record: u32, number: u32, answer: Answer) -> usize
-    requires { ⌜ at + 92 ≤ length (now out) ⌝ }
-    ensures { λ r. ⌜ Written at 92 r (recordLine «record» number answer) (now (out .entry)) (now (out .exit)) ⌝ }
+    requires { ⌜ at + 93 ≤ length (now out) ⌝ }
+    ensures { λ r. ⌜ Written at 93 r (recordLine «record» number answer) (now (out .entry)) (now (out .exit)) ⌝ }
 {
     let second = write_number(out, at, record, SPACE);
     let rest = write_number(out, second, number, SPACE);

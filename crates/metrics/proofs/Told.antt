@@ -10,6 +10,7 @@ use lib.Seq.{getD-take}
 use borrow.Author.Tests.{eqb-true, eqb-false, leb-true, leb-false, lt-leb}
 use Rattle.rfc4737.specs.declared.Arrival.{Arrival}
 use Rattle.rfc4737.specs.declared.Answer.{Answer}
+use Rattle.rfc4737.specs.declared.LateTime.{LateTime}
 use Rattle.rfc4737.specs.Times.{elapsed}
 use Rattle.rfc4737.specs.Arrivals.{has, firsts, firstRecord}
 use Rattle.rfc4737.specs.Order.{isInOrder, jumpSize, nextExp}
@@ -172,7 +173,7 @@ module _ (d : Decoded) (y : Layout) (i at count : ℕ) (h : Has d y i) (late : L
       ∙ rw (sym (late .position)) (late-found d i at late .time)
 
   -- the answer, from its parts
-  pub late-answer : (past own offset largest elapse number : ℕ)
+  pub late-answer : (past own offset largest : ℕ) (elapse : LateTime) (number : ℕ)
       → number ≡ arrivalAt d i .number
       → past ≡ arrivalAt d (getD records (getD numbers (at - 1) 0) 0 - 1) .time → own ≡ arrivalAt d i .time → elapse ≡ elapsed past own
       → offset ≡ byteOffset (sizeOf d) (firsts (before d i)) number → largest ≡ largestN (firsts (before d i)) number

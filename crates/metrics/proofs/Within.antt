@@ -5,26 +5,31 @@ use mathlib.Core.List.{List}
 use mathlib.Core.Option.{Option, none, some}
 use Prim.Native.Nat.{ℕ, _+_, _-_, _^_, _≤_, _<_}
 use native.Mathlib.Omega.{arith}
+use lib.Dec.{ltb}
 use lib.ListN.{length}
 use Rattle.octets.specs.Below.{Octets}
 use Rattle.rfc4737.specs.declared.Arrival.{Arrival}
 use Rattle.rfc4737.specs.declared.Answer.{Answer}
+use Rattle.rfc4737.specs.declared.LateTime.{LateTime}
 use Rattle.rfc4737.specs.Arrivals.{has, firsts, firstRecord}
 use Rattle.rfc4737.specs.Order.{Placed, isInOrder, jumpSize}
-use Rattle.rfc4737.specs.Times.{elapsed}
+use Rattle.rfc4737.specs.Times.{backMost, elapsed}
 use Rattle.rfc4737.specs.Extent.{extentFrom, lateFrom, sizeIn, discontinuity}
 use Rattle.rfc4737.specs.Answer.{inOrderAnswer, reorderedAnswer, firstAnswer, answerTo}
 use Rattle.rfc4737.specs.Runs.{counts}
+use Rattle.rfc4737.proofs.Lists.{All, all-take}
 use Rattle.rfc4737.proofs.Arrivals.{length-firsts}
+use Rattle.rfc4737.proofs.Jumps.{discontinuity-until}
+use Rattle.rfc4737.proofs.Packets.{all-firsts}
 use Rattle.rfc4737.proofs.Folds.{offset-le, largest-le, in-order-or-reordered, duplicate-or-first, closed-reordered, current-le, squares-le}
-use Rattle.listing.specs.Private.Within.{AnswerWithin, CountsWithin}
+use Rattle.listing.specs.Private.Within.{TimeWithin, AnswerWithin, CountsWithin}
 use Rattle.sample.specs.Decode.{Decoded, refused, accepted, decode}
 use Rattle.sample.specs.declared.Layout.{Layout}
-use Rattle.sample.proofs.Accepted.{size-fits, time-fits}
-use Rattle.metrics.specs.Sample.{sizeOf}
-use Rattle.metrics.specs.Private.Sample.{arrivalAt, before, answerAt, Has}
+use Rattle.sample.proofs.Accepted.{size-fits, time-fits, times-back}
+use Rattle.metrics.specs.Sample.{sizeOf, arrivalsOf}
+use Rattle.metrics.specs.Private.Sample.{noArrival, arrivalAt, before, answerAt, Has}
 use Rattle.metrics.proofs.Records.{record-some}
-use Rattle.metrics.proofs.Follow.{before-length}
+use Rattle.metrics.proofs.Follow.{inside-laid, before-length}
 
 -- the extent is at most the position
 extent-le : (i : ℕ) (d : Option Placed) → extentFrom i d ≤ i
@@ -32,14 +37,23 @@ unfolding extentFrom
 extent-le i none = omega arith
 extent-le i (some j) = omega arith
 
--- the late time is at most the arrival time
-late-le : (t : ℕ) (d : Option Placed) → lateFrom t d ≤ t
+-- the late time of a packet that arrives at time t: after, it is at most t; before, at most 1,000, since no first arrival is
+-- over 1,000 later than t
+late-within : (t : ℕ) → t < 2 ^ 64 → (fs : List Arrival) → All (λ (b : Arrival). b .time ≤ t + backMost) fs → (s : ℕ)
+    → TimeWithin (lateFrom t (discontinuity fs s))
 unfolding lateFrom elapsed
-late-le t none = omega arith
-late-le t (some j) = omega arith
+late-within t high fs back s = go (discontinuity fs s) (discontinuity-until (t + backMost) fs back s)
+  where
+    test : (p : Placed) → p .time ≤ t + backMost → (u : Bool) → TimeWithin (cond u (LateTime.Before (p .time - t)) (LateTime.After (t - p .time)))
+    test p h true = omega arith
+    test p h false = omega arith
+
+    go : (d : Option Placed) → ((p : Placed) → d ≡ some p → p .time ≤ t + backMost) → TimeWithin (lateFrom t d)
+    go none h = omega arith
+    go (some p) h = test p (h p refl) (ltb t (p .time))
 
 module _ (size : ℕ → ℕ) (small : (s : ℕ) → size s ≤ 65535) (earlier : List Arrival) (few : length earlier < 4096) (a : Arrival) (number : a .number ≤ 4096)
-    (time : a .time < 2 ^ 64) where
+    (time : a .time < 2 ^ 64) (back : All (λ (b : Arrival). b .time ≤ a .time + backMost) earlier) where
   -- the answer for an arrival after fewer than 4,096
   answer-within : AnswerWithin (answerTo size earlier a)
   unfolding answerTo firstAnswer inOrderAnswer reorderedAnswer jumpSize
@@ -56,7 +70,7 @@ module _ (size : ℕ → ℕ) (small : (s : ℕ) → size s ≤ 65535) (earlier 
           record {
             position = omega arith;
             extent = omega (arith, extent-le (length (firsts earlier) + 1) (discontinuity (firsts earlier) (a .number)));
-            late = omega (arith, late-le (a .time) (discontinuity (firsts earlier) (a .number)));
+            late = late-within (a .time) time (firsts earlier) (all-firsts _ earlier back) (a .number);
             offset = omega arith;
             largest = omega (arith, largest-le (firsts earlier) (a .number));
           }
@@ -78,6 +92,16 @@ time-most file o i = go (decode file) refl
     go (refused r) e = omega arith
     go (accepted w) e = time-fits file w e o i
 
+-- no arrival of a file is over 1,000 later than one after it
+back-most : (file : List ℕ) (y : Layout) → Octets file → (i : ℕ) → Has (decode file) y i
+    → All (λ (b : Arrival). b .time ≤ arrivalAt (decode file) i .time + backMost) (before (decode file) i)
+back-most file y o i h =
+    all-take _ noArrival (arrivalsOf (decode file)) i (λ j k. go (decode file) refl j (omega arith) (inside-laid (decode file) y i h))
+  where
+    go : (d : Decoded) → decode file ≡ d → (j : ℕ) → j ≤ i → i < length (arrivalsOf d) → arrivalAt d j .time ≤ arrivalAt d i .time + backMost
+    go (refused r) e j p q = omega arith
+    go (accepted w) e j p q = times-back file w e o noArrival j i p q
+
 -- the answer for any record of a file of octets
 pub answers-within : (file : List ℕ) (y : Layout) (i : ℕ) → Octets file → Has (decode file) y i → AnswerWithin (answerAt (decode file) i)
 answers-within file y i o h =
@@ -86,6 +110,7 @@ answers-within file y i o h =
     (arrivalAt (decode file) i)
     (omega (arith, h .file .numbers i (h .inside), h .file .sentFew))
     (time-most file o i)
+    (back-most file y o i h)
 
 -- the counts of at most 4,096 answers
 pub counts-within : (l : List Answer) → length l ≤ 4096 → CountsWithin (counts l)

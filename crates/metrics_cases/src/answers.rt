@@ -3,6 +3,7 @@ use crate::files::EXAMPLE;
 use crate::files::put_example;
 use crate::print::write_either;
 use crate::print::write_number;
+use crate::print::write_time;
 use crate::print::write_word;
 use rfc4737::Answer;
 use rfc4737::Counts;
@@ -12,9 +13,10 @@ use rfc4737::ReorderedFigures;
 
 // Writes the figures of a reordered packet.
 fn write_reordered(f: ReorderedFigures) {
+    let late = f.late;
     write_number(b" late ", f.position as u64);
     write_number(b" ", f.extent as u64);
-    write_number(b" ", f.late);
+    write_time(late);
     write_number(b" ", f.offset as u64);
     write_number(b" ", f.largest as u64);
 }

@@ -1,5 +1,6 @@
 // What the cases are written with: words and numbers, on standard output.
 use libc::STDOUT_FILENO;
+use rfc4737::LateTime;
 
 // Writes a word.
 pub(crate) fn write_word(word: &[u8]) {
@@ -10,6 +11,18 @@ pub(crate) fn write_word(word: &[u8]) {
 pub(crate) fn write_number(word: &[u8], n: u64) {
     write_word(word);
     io::print_decimal(STDOUT_FILENO, n);
+}
+
+// Writes a late time, with a leading minus for before.
+pub(crate) fn write_time(late: LateTime) {
+    match late {
+        LateTime::After(t) => {
+            write_number(b" ", t);
+        }
+        LateTime::Before(t) => {
+            write_number(b" -", t);
+        }
+    }
 }
 
 // Writes the one word where a test holds, and else the other.

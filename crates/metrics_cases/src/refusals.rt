@@ -85,7 +85,8 @@ fn run_cut(name: &[u8], n: usize) {
     run(name, first_octets(&file, n));
 }
 
-// The example, and each refusal of a file.
+// The example, and each refusal of a file. The time of the example's last record, 70, is made less by a later time of the
+// one before, which stands at octet 56.
 pub(crate) fn refusals() {
     run_cut(b"the example", 76);
     run_cut(b"one octet short", 75);
@@ -95,7 +96,8 @@ pub(crate) fn refusals() {
     run_changed(b"K of 4097", 2, 2, 4097);
     run_changed(b"A of 4097", 14, 2, 4097);
     run_changed(b"number K + 1", 64, 4, 6);
-    run_changed(b"time less by 1", 68, 8, 49);
+    run_changed(b"time less by 1000", 56, 8, 1070);
+    run_changed(b"time less by 1001", 56, 8, 1071);
 }
 
 // The sample with no arrivals.

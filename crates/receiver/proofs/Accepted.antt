@@ -1,60 +1,37 @@
--- What an account is: its arrivals are of the packets 1 to K, at most 4,096, and their times do not fall. Assumes nothing.
+-- What an account is: its arrivals are of the packets 1 to K, at most 4,096. Assumes nothing.
 use Prim.Native.Nat.{ℕ, _+_, _≤_}
-use mathlib.Core.Path.{_≡_, refl, sym, ap, _∙_}
+use mathlib.Core.Path.{_≡_, refl}
 use mathlib.Core.Bool.{Bool, true, false, not, cond}
-use mathlib.Core.List.{List, [], _∷_, _++_, foldl}
-use mathlib.Core.Option.{Option, none}
+use mathlib.Core.List.{List, [], _∷_, _++_}
 use native.Mathlib.Omega.{arith}
 use lib.Dec.{eqb}
 use lib.ListN.{length, length-append}
-use borrow.Author.Tests.{ltb-false, eqb-true, eqb-false, le-ltb}
+use borrow.Author.Tests.{eqb-true, eqb-false}
 use Rattle.rfc4737.specs.declared.Arrival.{Arrival}
-use Rattle.rfc4737.specs.Times.{tooEarly}
+use Rattle.rfc4737.specs.Times.{tooEarly, greatestTime}
 use Rattle.rfc4737.specs.Refusals.{within}
-use Rattle.rfc4737.proofs.Lists.{snoc-ind, All, Ordered, all-append, all-weaken, ordered-more}
+use Rattle.rfc4737.proofs.Lists.{snoc-ind, All, all-append}
 use Rattle.rfc4737.proofs.Arrivals.{fold-more}
-use Rattle.rfc4737.proofs.Jumps.{NotLater}
 use Rattle.rfc4737.proofs.Packets.{OfPackets}
 use Rattle.receiver.specs.Limits.{packets}
 use Rattle.receiver.proofs.Fits.{within-true}
-use Rattle.receiver.specs.Account.{lastIn, goesBack, refusalIn, accountWith, accountOf}
-
--- the time of the last of some arrivals, 0 for none
-unfoldable pub lastTime : List Arrival → ℕ
-lastTime account = foldl (λ (t : ℕ) (a : Arrival). a .time) 0 account
-
--- under one arrival more
-pub last-time-more : (account : List Arrival) (a : Arrival) → lastTime (account ++ (a ∷ [])) ≡ a .time
-unfolding lastTime
-last-time-more account a = fold-more _ 0 account a
-
--- a time goes back behind the last arrival exactly if it is too early for the last time, which is 0 for none
-pub goes-back : (account : List Arrival) (time : ℕ) → goesBack (lastIn account) time ≡ tooEarly (lastTime account) time
-unfolding lastIn goesBack lastTime tooEarly
-goes-back account time =
-    snoc-ind (λ (account : List Arrival). goesBack (lastIn account) time ≡ tooEarly (lastTime account) time) more (sym (le-ltb time 0 (omega arith))) account
-  where
-    more : (account : List Arrival) (a : Arrival)
-        → goesBack (lastIn account) time ≡ tooEarly (lastTime account) time
-        → goesBack (lastIn (account ++ (a ∷ []))) time ≡ tooEarly (lastTime (account ++ (a ∷ []))) time
-    more account a e = ap (λ (o : Option Arrival). goesBack o time) (fold-more _ none account a) ∙ ap (λ (t : ℕ). tooEarly t time) (sym (last-time-more account a))
+use Rattle.receiver.specs.Account.{refusalIn, accountWith, accountOf}
 
 -- what an arrival has that is not refused
 pub record Accepted (k : ℕ) (account : List Arrival) (a : Arrival) : Type 0 where
   pub room : length account ≡ packets → ⊥
   pub numbered : OfPackets k a
-  pub after : lastTime account ≤ a .time
 
 -- an arrival that is not refused has it
 pub accepted-arrival : (k : ℕ) (account : List Arrival) (a : Arrival) → refusalIn k account a ≡ 0 → Accepted k account a
-unfolding refusalIn tooEarly
+unfolding refusalIn
 accepted-arrival k account a e =
-    go (eqb (length account) packets) (within 1 k (a .number)) (goesBack (lastIn account) (a .time)) refl refl refl e
+    go (eqb (length account) packets) (within 1 k (a .number)) (tooEarly (greatestTime account) (a .time)) refl refl refl e
   where
     go : (t u v : Bool)
         → eqb (length account) packets ≡ t
         → within 1 k (a .number) ≡ u
-        → goesBack (lastIn account) (a .time) ≡ v
+        → tooEarly (greatestTime account) (a .time) ≡ v
         → _≡_ {A = ℕ} (cond t 11 (cond (not u) 6 (cond v 7 0))) 0
         → Accepted k account a
     go true u v et eu ev e = absurd (omega arith)
@@ -65,36 +42,26 @@ accepted-arrival k account a e =
         record {
           room = eqb-false _ _ et;
           numbered = record { low = w .0; high = w .1 };
-          after = ltb-false _ _ (sym (goes-back account (a .time)) ∙ ev);
         }
 
--- the account's arrivals are of the packets 1 to K, at most 4,096, and none is later than one that follows it
+-- the account's arrivals are of the packets 1 to K, at most 4,096
 pub record Sound (k : ℕ) (account : List Arrival) : Type 0 where
   pub numbered : All (OfPackets k) account
   pub short : length account ≤ packets
-  pub steady : Ordered NotLater account
-  pub until : All (λ (a : Arrival). a .time ≤ lastTime account) account
 
 -- an accepted arrival keeps it so
 sound-more : (k : ℕ) (account : List Arrival) (a : Arrival) → Sound k account → Accepted k account a → Sound k (account ++ (a ∷ []))
 sound-more k account a h g =
     let l : length (account ++ (a ∷ [])) ≡ length account + 1 = length-append account (a ∷ []) in
     let room = g .room in
-    let after = g .after in
-    let before : All (λ (b : Arrival). b .time ≤ a .time) account =
-    all-weaken (λ (b : Arrival) (w : b .time ≤ lastTime account). omega arith) account (h .until) in
     record {
       numbered = all-append (OfPackets k) account (a ∷ []) (h .numbered) (g .numbered, tt);
       short = omega arith;
-      steady = ordered-more NotLater account a (h .steady) before;
-      until =
-          rw last-time-more
-          (all-append (λ (b : Arrival). b .time ≤ a .time) account (a ∷ []) before (omega arith, tt));
     }
 
 -- the empty account is so
 pub sound-none : (k : ℕ) → Sound k []
-sound-none k = record { numbered = tt; short = omega arith; steady = tt; until = tt }
+sound-none k = record { numbered = tt; short = omega arith }
 
 -- any arrival keeps it so
 pub sound-with : (k : ℕ) (account : List Arrival) (a : Arrival) → Sound k account → Sound k (accountWith k account a)

@@ -22,7 +22,7 @@ use Rattle.rfc4737.proofs.Arrivals.{count-more, has-firsts, firsts-more, with-d
 use Rattle.rfc4737.proofs.Folds.{next-more, answers-more, runs-more, answer-duplicate, answer-first, first-in-order, first-reordered}
 use Rattle.rfc4737.proofs.Jumps.{jumps-more}
 use Rattle.rfc4737.proofs.Packets.{OfPackets, all-firsts}
-use Rattle.rfc4737.specs.Times.{nextReference}
+use Rattle.rfc4737.proofs.Times.{greatest-more}
 use Rattle.receiver.specs.declared.Stream.{Stream}
 use Rattle.receiver.specs.declared.Receiver.{Receiver}
 use Rattle.receiver.specs.declared.Noted.{Noted}
@@ -37,7 +37,7 @@ use Rattle.receiver.specs.Account.{standsIn, refusalIn, accountWith, ans
 use Rattle.receiver.proofs.Window.{lastNumber}
 use Rattle.receiver.proofs.HeldJumps.{Holds}
 use Rattle.receiver.proofs.Marks.{marksOf, marks-more, marked-is-arrived}
-use Rattle.receiver.proofs.Accepted.{last-time-more, goes-back, Accepted, accepted-arrival, Sound}
+use Rattle.receiver.proofs.Accepted.{Accepted, accepted-arrival, Sound}
 use Rattle.receiver.proofs.Late.{Split, WindowSearch, search-late}
 use Rattle.receiver.proofs.State.{stateWith}
 use Rattle.receiver.proofs.Fitness.{accepted-count, state-fit}
@@ -176,14 +176,14 @@ module _ (k : ℕ) (account : List Arrival) (a : Arrival) (ds ws : List Placed) 
   said-late d false e = rw e
 
   -- it is what the account says
-  late-agrees : Sound k account → OfPackets k a → has (a .number) account ≡ false → a .number < nextExp (firsts account)
+  late-agrees : OfPackets k a → has (a .number) account ≡ false → a .number < nextExp (firsts account)
       → reorderedOutcome ws (lastNumber ds) (length (firsts account) + 1) (a .number) (a .time) (firstAbove (a .number) ws)
       ≡ accepted (inForm ws account a (answerIn account a))
   unfolding lateForm
-  late-agrees h n e g = go (ltb (a .number) (lastNumber ds)) refl
+  late-agrees n e g = go (ltb (a .number) (lastNumber ds)) refl
     where
       search : WindowSearch account ds ws (a .number)
-      search = search-late account ds ws sp (h .steady) (a .number) (n .low) e g
+      search = search-late account ds ws sp (a .number) (n .low) e g
 
       formed : inForm ws account a (answerIn account a) ≡ lateForm ws account a (inWindow ws account (a .number)) (discontinuity (firsts account) (a .number))
       formed = ap (inForm ws account a) (answer-late account a e g) ∙ form-late ws account a (discontinuity (firsts account) (a .number))
@@ -215,13 +215,13 @@ stream-path : (r s : Stream)
     → r .duplicates ≡ s .duplicates
     → r .inorder ≡ s .inorder
     → r .next ≡ s .next
-    → r .last ≡ s .last
+    → r .greatest ≡ s .greatest
     → r .runs ≡ s .runs
     → r .kept ≡ s .kept
     → r .dropped ≡ s .dropped
     → r ≡ s
 stream-path r s e1 e2 e3 e4 e5 e6 e7 e8 e9 =
-    λ i. record { sent = e1 i; arrived = e2 i; duplicates = e3 i; inorder = e4 i; next = e5 i; kept = e8 i; last = e6 i; runs = e7 i; dropped = e9 i }
+    λ i. record { sent = e1 i; arrived = e2 i; duplicates = e3 i; inorder = e4 i; next = e5 i; kept = e8 i; greatest = e6 i; runs = e7 i; dropped = e9 i }
 
 -- states are equal by their parts
 state-path : (r s : Receiver) → r .stream ≡ s .stream → r .marks ≡ s .marks → r .places ≡ s .places → r ≡ s
@@ -231,7 +231,7 @@ module _ (room : Bool) (h : Held) (k : ℕ) (account : List Arrival) (a : Arriva
   -- after a duplicate
   duplicate-state : has (a .number) account ≡ true
       → notedState room (stateWith k account h) (a .number) (a .time) Duplicate ≡ stateWith k (account ++ (a ∷ [])) h
-  unfolding notedState duplicateStream nextReference stateWith runsAfter
+  unfolding notedState duplicateStream stateWith runsAfter
   duplicate-state e =
       let ans = answer-again account a e in
       let fs = sym (firsts-duplicate account a e) in
@@ -240,7 +240,7 @@ module _ (room : Bool) (h : Held) (k : ℕ) (account : List Arrival) (a : Arriva
       (sym (rw ans at (countIn-more account a isDuplicate)))
       (sym (rw ans at (countIn-more account a isInOrderAnswer)))
       (ap nextExp fs)
-      (sym (last-time-more account a))
+      (sym (greatest-more account a))
       (sym (rw ans at (runsIn-more account a)))
       refl refl)
       (ap marksOf fs) refl
@@ -249,7 +249,7 @@ module _ (room : Bool) (h : Held) (k : ℕ) (account : List Arrival) (a : Arriva
   in-order-state : has (a .number) account ≡ false → nextExp (firsts account) ≤ a .number
       → inOrderState room (stateWith k account h) (a .number - nextExp (firsts account)) (a .number) (a .time)
       ≡ stateWith k (account ++ (a ∷ [])) (foldl (withJump room) h (jumpAfter (firsts account) a))
-  unfolding inOrderState inOrderStream nextReference stateWith inOrderAnswer runsAfter
+  unfolding inOrderState inOrderStream stateWith inOrderAnswer runsAfter
   in-order-state e g =
       let ans = answer-in-order account a e g in
       let held = held-in-order room h (firsts account) a g in
@@ -259,7 +259,7 @@ module _ (room : Bool) (h : Held) (k : ℕ) (account : List Arrival) (a : Arriva
       (sym (rw ans at (countIn-more account a isDuplicate)))
       (sym (rw ans at (countIn-more account a isInOrderAnswer)))
       (next-first account a e)
-      (sym (last-time-more account a))
+      (sym (greatest-more account a))
       (sym (rw ans at (runsIn-more account a)))
       (ap (λ (h : Held). h .kept) held)
       (ap (λ (h : Held). h .dropped) held))
@@ -269,7 +269,7 @@ module _ (room : Bool) (h : Held) (k : ℕ) (account : List Arrival) (a : Arriva
   -- after a reordered packet
   late-state : has (a .number) account ≡ false → a .number < nextExp (firsts account)
       → reorderedState (stateWith k account h) (a .number) (a .time) ≡ stateWith k (account ++ (a ∷ [])) h
-  unfolding reorderedStream nextReference stateWith reorderedAnswer runsAfter
+  unfolding reorderedStream stateWith reorderedAnswer runsAfter
   late-state e g =
       let ans = answer-late account a e g in
       state-path _ _
@@ -278,7 +278,7 @@ module _ (room : Bool) (h : Held) (k : ℕ) (account : List Arrival) (a : Arriva
       (sym (rw ans at (countIn-more account a isDuplicate)))
       (sym (rw ans at (countIn-more account a isInOrderAnswer)))
       (next-first account a e)
-      (sym (last-time-more account a))
+      (sym (greatest-more account a))
       (sym (rw ans at (runsIn-more account a)))
       refl refl)
       (marks-first account a e) refl
@@ -290,7 +290,7 @@ module _ (k : ℕ) (low : 1 ≤ k) (high : k ≤ packets) (account : List Arriva
   -- the refusals agree
   refusal-agrees : refusalOf (stateWith k account h) (a .number) (a .time) ≡ refusalIn k account a
   unfolding refusalOf refusalIn stateWith
-  refusal-agrees = rw (state-fit k low high account sound ds ws sp h o few, accepted-count, goes-back)
+  refusal-agrees = rw (state-fit k low high account sound ds ws sp h o few, accepted-count)
 
   -- so do the marks and the arrivals
   mark-agrees : OfPackets k a → markAt (marksOf (firsts account)) (a .number) ≡ has (a .number) account
@@ -318,7 +318,7 @@ module _ (k : ℕ) (low : 1 ≤ k) (high : k ≤ packets) (account : List Arriva
           → firstOutcome before (a .number) (a .time) ≡ accepted noted
       order true t e = rw t (sym (ap (λ (b : Answer). accepted (inForm ws account a b)) (answer-in-order account a e (leb-true _ _ t))))
       order false t e =
-          rw (t, o .kept, o .dropped) (late-agrees k account a ds ws sp sound (n .numbered) e (leb-false _ _ t))
+          rw (t, o .kept, o .dropped) (late-agrees k account a ds ws sp (n .numbered) e (leb-false _ _ t))
 
       go : (t : Bool) → has (a .number) account ≡ t → lookedAt before (a .number) (a .time) ≡ accepted noted
       go true e =

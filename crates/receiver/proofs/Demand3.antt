@@ -15,15 +15,14 @@ use Rattle.rfc4737.specs.declared.Answer.{Answer}
 use Rattle.rfc4737.specs.declared.Answer.the-variants as answer
 use Rattle.rfc4737.specs.Arrivals.{has, firsts, each, eachAfter, count}
 use Rattle.rfc4737.specs.Order.{Placed, nextExp, jumps}
-use Rattle.rfc4737.specs.Extent.{discontinuity, extentFrom, lateFrom}
-use Rattle.rfc4737.specs.Times.{elapsed}
+use Rattle.rfc4737.specs.Extent.{discontinuity, extentFrom}
+use Rattle.rfc4737.specs.Times.{tooEarly, greatestTime}
 use Rattle.rfc4737.specs.Answer.{reorderedAnswer, inOrderAnswer}
 use Rattle.rfc4737.specs.Runs.{counts, arrived, isDuplicate, isInOrderAnswer}
 use Rattle.rfc4737.specs.Refusals.{within, sentOutside, numberOutside, timeBack, stateUnfit, stateFull}
-use Rattle.rfc4737.proofs.Lists.{snoc-ind, Ordered, each-same}
+use Rattle.rfc4737.proofs.Lists.{snoc-ind, each-same}
 use Rattle.rfc4737.proofs.Arrivals.{fold-more, count-each}
 use Rattle.rfc4737.proofs.Folds.{answer-duplicate, answer-first, first-in-order, in-order-or-reordered}
-use Rattle.rfc4737.proofs.Jumps.{NotLater}
 use Rattle.receiver.specs.declared.Receiver.{Receiver}
 use Rattle.receiver.specs.declared.Outcome.{Outcome}
 use Rattle.receiver.specs.declared.Stepped.{Stepped}
@@ -32,7 +31,7 @@ use Rattle.receiver.specs.Limits.{window, packets}
 use Rattle.receiver.specs.Said.{refused, accepted}
 use Rattle.receiver.specs.Kept.{Held, hasRoom, withJump}
 use Rattle.receiver.specs.Step.{freshStream, madeFor, freshOf}
-use Rattle.receiver.specs.Account.{lastIn, goesBack, refusalIn, accountWith, accountOf, answerIn, answersIn, windowIn, inWindow, beyondFigures, inForm, outcomeIn, accountOutcomes}
+use Rattle.receiver.specs.Account.{refusalIn, accountWith, accountOf, answerIn, answersIn, windowIn, inWindow, beyondFigures, inForm, outcomeIn, accountOutcomes}
 use Rattle.receiver.specs.Demand3.{fedTo, stateAfter, outcomeAfter, receiverOutcomes, Answered, Demand3}
 use Rattle.receiver.proofs.Window.{lastNumber}
 use Rattle.receiver.proofs.Fits.{within-true}
@@ -46,7 +45,7 @@ use Rattle.receiver.proofs.HeldJumps.{heldFrom, held-more, Holds, held-
 -- no refusal over the account is 10
 refusal-fit : (k : ℕ) (account : List Arrival) (a : Arrival) → eqb (refusalIn k account a) stateUnfit ≡ false
 unfolding refusalIn
-refusal-fit k account a = go (eqb (length account) packets) (within 1 k (a .number)) (goesBack (lastIn account) (a .time))
+refusal-fit k account a = go (eqb (length account) packets) (within 1 k (a .number)) (tooEarly (greatestTime account) (a .time))
   where
     go : (t u v : Bool) → eqb (cond t stateFull (cond (not u) numberOutside (cond v timeBack 0))) stateUnfit ≡ false
     go true u v = refl
@@ -102,54 +101,49 @@ module _ (account : List Arrival) (a : Arrival) (d : ReorderedFigures) (q : answ
           absurd (omega arith)
       go false e = leb-false _ _ e
 
-  -- its figures are those of its discontinuity p
-  late-figures : (p : Placed) → discontinuity (firsts account) (a .number) ≡ some p
-      → (d .extent ≡ length (firsts account) + 1 - p .position) × (d .late ≡ a .time - p .time)
-  unfolding reorderedAnswer extentFrom lateFrom elapsed
-  late-figures p e =
+  -- its extent is that from its discontinuity p
+  late-extent : (p : Placed) → discontinuity (firsts account) (a .number) ≡ some p
+      → d .extent ≡ length (firsts account) + 1 - p .position
+  unfolding reorderedAnswer extentFrom
+  late-extent p e =
       let w = rw e at (sym q ∙ answer-late account a late-new late-low) in
-      let s = ap (figuresOf d) w in
-      (ap (λ (f : ReorderedFigures). f .extent) s, ap (λ (f : ReorderedFigures). f .late) s)
+      ap (λ (f : ReorderedFigures). f .extent) (ap (figuresOf d) w)
 
-  -- beyond the window its true extent is above the figure, and its true late time not below it
-  late-above : (ds ws : List Placed) → Split account ds ws → Ordered NotLater account → 1 ≤ a .number → inWindow ws account (a .number) ≡ false
-      → (beyondFigures ws account a .extent < d .extent) × (beyondFigures ws account a .late ≤ d .late)
-  unfolding beyondFigures extentFrom lateFrom elapsed
-  late-above ds ws sp steady low w = go (ltb (a .number) (lastNumber ds)) refl
+  -- beyond the window its true extent is above the figure
+  late-above : (ds ws : List Placed) → Split account ds ws → 1 ≤ a .number → inWindow ws account (a .number) ≡ false
+      → beyondFigures ws account a .extent < d .extent
+  unfolding beyondFigures extentFrom
+  late-above ds ws sp low w = go (ltb (a .number) (lastNumber ds)) refl
     where
       search : WindowSearch account ds ws (a .number)
-      search = search-late account ds ws sp steady (a .number) low late-new late-low
+      search = search-late account ds ws sp (a .number) low late-new late-low
 
-      go : (t : Bool) → ltb (a .number) (lastNumber ds) ≡ t
-          → (beyondFigures ws account a .extent < d .extent) × (beyondFigures ws account a .late ≤ d .late)
+      go : (t : Bool) → ltb (a .number) (lastNumber ds) ≡ t → beyondFigures ws account a .extent < d .extent
       go true t =
           let k = search .dropped (ltb-true _ _ t) in
-          let f = late-figures (search .at) (search .is) in
+          let f = late-extent (search .at) (search .is) in
           let x : beyondFigures ws account a .extent ≡ length (firsts account) + 1 - search .oldest .position =
           ap (λ (ws : List Placed). extentFrom (length (firsts account) + 1) (head? ws)) (search .window) in
-          let l : beyondFigures ws account a .late ≡ a .time - search .oldest .time =
-          ap (λ (ws : List Placed). lateFrom (a .time) (head? ws)) (search .window) in
           let i : search .at .position < search .oldest .position = k .position in
-          let j : search .at .time ≤ search .oldest .time = k .time in
           let m : search .oldest .position ≤ length (firsts account) = search .high in
-          (omega arith, omega arith)
+          omega arith
       go false t =
           let k = search .kept (ltb-false _ _ t) in
           absurd (true≢false (sym (k .among) ∙ sym (search-window account ds ws a search) ∙ w))
 
 -- how a reordered packet that is added is answered, over any split of the jumps
-pub late-answered : (k : ℕ) (account : List Arrival) → Sound k account → (ds ws : List Placed) → Split account ds ws
+pub late-answered : (k : ℕ) (account : List Arrival) (ds ws : List Placed) → Split account ds ws
     → (a : Arrival) → refusalIn k account a ≡ 0 → (d : ReorderedFigures) → answerIn account a ≡ answer.Reordered d
     → Answered ws account a d (outcomeIn ws k account a .noted)
 unfolding inForm
-late-answered k account h ds ws sp a e d q =
+late-answered k account ds ws sp a e d q =
     let noted : outcomeIn ws k account a .noted ≡ inForm ws account a (answer.Reordered d) =
     outcome-added ws k account a e ∙ ap (inForm ws account a) q in
     let n = accepted-arrival k account a e in
     record {
       exact = λ w. rw w at noted;
       beyond = λ w. rw w at noted;
-      above = λ w. late-above account a d q ds ws sp (h .steady) (n .numbered .low) w;
+      above = λ w. late-above account a d q ds ws sp (n .numbered .low) w;
     }
 
 -- ---- the receiver's own rule
@@ -236,7 +230,7 @@ module _ (k : ℕ) (low : 1 ≤ k) (high : k ≤ packets) where
             (λ earlier a. rw outcome-after (outcome-fit (windowIn (accountOf k earlier)) k (accountOf k earlier) a)) fed;
         reordered = λ earlier a later split e d q.
             subst (Answered (windowIn (accountOf k earlier)) (accountOf k earlier) a d) (ap (λ (s : Outcome). s .noted) (sym (outcome-after earlier a)))
-            (late-answered k (accountOf k earlier) (account-sound k earlier) (droppedIn (accountOf k earlier)) (windowIn (accountOf k earlier)) (split-window (accountOf k earlier)) a e d q);
+            (late-answered k (accountOf k earlier) (droppedIn (accountOf k earlier)) (windowIn (accountOf k earlier)) (split-window (accountOf k earlier)) a e d q);
         arrived = arrived-eq;
         duplicates = duplicates-eq;
         inorder = inorder-eq;

@@ -8,10 +8,12 @@ use lib.ListN.{length}
 use Rattle.rfc4737.specs.declared.Arrival.{Arrival}
 use Rattle.rfc4737.specs.Arrivals.{firsts, count}
 use Rattle.rfc4737.specs.Order.{Placed, nextExp, jumps}
+use Rattle.rfc4737.specs.Times.{greatestTime}
 use Rattle.rfc4737.specs.Answer.{answers}
 use Rattle.rfc4737.specs.Runs.{isDuplicate, arrived}
 use Rattle.rfc4737.proofs.Lists.{snoc-ind, All, all-left, all-right, all-weaken, all-both}
 use Rattle.rfc4737.proofs.Folds.{next-positive, length-answers, arrived-answers, duplicate-or-first, in-order-or-reordered, closed-reordered, current-le, squares-le}
+use Rattle.rfc4737.proofs.Times.{until-greatest}
 use Rattle.rfc4737.proofs.Jumps.{Within, jumps-within, jumps-until}
 use Rattle.rfc4737.proofs.Packets.{all-firsts, next-high, firsts-most}
 use Rattle.receiver.specs.Limits.{window, packets}
@@ -23,7 +25,7 @@ use Rattle.receiver.specs.Account.{answersIn}
 use Rattle.receiver.proofs.Fits.{both, stream-pass, jump-passes, places-pass}
 use Rattle.receiver.proofs.Window.{lastNumber, last-more}
 use Rattle.receiver.proofs.HeldJumps.{Holds, holds-count}
-use Rattle.receiver.proofs.Accepted.{lastTime, Sound}
+use Rattle.receiver.proofs.Accepted.{Sound}
 use Rattle.receiver.proofs.State.{stateWith}
 use Rattle.receiver.proofs.Late.{Split}
 
@@ -94,7 +96,7 @@ module _ (k : ℕ) (low : 1 ≤ k) (high : k ≤ packets) (account : List Arriva
   jumps-fit =
       let n : nextExp (firsts account) ≤ k + 1 = next-high k (firsts account) (all-firsts _ account (h .numbered)) in
       all-both
-      (λ (p : Placed) (w : Within (firsts account) p) (t : p .time ≤ lastTime account).
+      (λ (p : Placed) (w : Within (firsts account) p) (t : p .time ≤ greatestTime account).
       record {
         position-low = w .position-low;
         position-high = w .position-high;
@@ -103,7 +105,7 @@ module _ (k : ℕ) (low : 1 ≤ k) (high : k ≤ packets) (account : List Arriva
         time-high = t;
       })
       (jumps (firsts account)) (jumps-within (firsts account))
-      (jumps-until (lastTime account) (firsts account) (all-firsts _ account (h .until)))
+      (jumps-until (greatestTime account) (firsts account) (all-firsts _ account (until-greatest account)))
 
   -- the places are fit
   places-fit : placesFit stream (held .places) ≡ true

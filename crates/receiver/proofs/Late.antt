@@ -13,8 +13,7 @@ use Rattle.rfc4737.specs.Order.{Placed, nextExp, isInOrder, jumps}
 use Rattle.rfc4737.specs.Extent.{discontinuity}
 use Rattle.rfc4737.proofs.Lists.{All, Ordered, all-right}
 use Rattle.rfc4737.proofs.Arrivals.{has-firsts}
-use Rattle.rfc4737.proofs.Jumps.{NotLater, NotLaterJump, Rises, Within, DiscontinuityJump, reordered-discontinuity, jumps-within, jumps-rise, jumps-times}
-use Rattle.rfc4737.proofs.Packets.{ordered-firsts}
+use Rattle.rfc4737.proofs.Jumps.{Rises, Within, DiscontinuityJump, reordered-discontinuity, jumps-within, jumps-rise}
 use Rattle.receiver.specs.Limits.{window}
 use Rattle.receiver.specs.Account.{windowIn}
 use Rattle.receiver.proofs.Window.{lastNumber, IsDropped, IsKept, discontinuity-before-window, discontinuity-in-window}
@@ -54,17 +53,16 @@ pub record WindowSearch (account : List Arrival) (ds ws : List Placed) (s : ℕ)
   pub dropped : s < lastNumber ds → IsDropped s ws oldest at
   pub kept : lastNumber ds ≤ s → IsKept s ws at
 
--- of a reordered packet, where times do not fall
+-- of a reordered packet
 pub search-late : (account : List Arrival) (ds ws : List Placed)
     → Split account ds ws
-    → Ordered NotLater account
     → (s : ℕ)
     → 1 ≤ s
     → has s account ≡ false
     → s < nextExp (firsts account)
     → WindowSearch account ds ws s
 unfolding isInOrder
-search-late account ds ws sp steady s low new late = go ws refl
+search-late account ds ws sp s low new late = go ws refl
   where
     found : DiscontinuityJump s (firsts account)
     found = reordered-discontinuity s low (firsts account) (has-firsts s account ∙ new) (lt-leb (nextExp (firsts account)) s late)
@@ -75,7 +73,6 @@ search-late account ds ws sp steady s low new late = go ws refl
         let parts : jumps (firsts account) ≡ ds ++ (o ∷ later) =
         sym (sp .parts) ∙ ap (λ (l : List Placed). ds ++ l) e in
         let rise = subst (Ordered Rises) parts (jumps-rise (firsts account)) in
-        let times = subst (Ordered NotLaterJump) parts (jumps-times (firsts account) (ordered-firsts NotLater account steady)) in
         let first = rw parts at (found .first) in
         let inside = all-right (Within (firsts account)) ds (o ∷ later) (subst (All (Within (firsts account))) parts (jumps-within (firsts account))) in
         record {
@@ -85,6 +82,6 @@ search-late account ds ws sp steady s low new late = go ws refl
           later = later;
           window = e;
           high = inside .0 .position-high;
-          dropped = λ h. rw e (discontinuity-before-window s ds o later rise times (found .at) first h);
-          kept = λ h. rw e (discontinuity-in-window s ds o later rise times (found .at) first h);
+          dropped = λ h. rw e (discontinuity-before-window s ds o later rise (found .at) first h);
+          kept = λ h. rw e (discontinuity-in-window s ds o later rise (found .at) first h);
         }

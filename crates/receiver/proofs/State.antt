@@ -7,13 +7,13 @@ use Rattle.rfc4737.specs.declared.Arrival.{Arrival}
 use Rattle.rfc4737.specs.Arrivals.{firsts, each, eachAfter, count}
 use Rattle.rfc4737.specs.Order.{nextExp}
 use Rattle.rfc4737.specs.Answer.{answers}
+use Rattle.rfc4737.specs.Times.{greatestTime}
 use Rattle.rfc4737.specs.Runs.{isDuplicate, isInOrderAnswer, runs}
 use Rattle.receiver.specs.declared.Receiver.{Receiver}
 use Rattle.receiver.specs.Kept.{Held}
 use Rattle.receiver.specs.Step.{freshStream, madeFor}
 use Rattle.receiver.specs.Account.{answersIn}
 use Rattle.receiver.proofs.Marks.{marksOf}
-use Rattle.receiver.proofs.Accepted.{lastTime}
 use Rattle.receiver.proofs.HeldJumps.{noneHeld}
 
 -- what a receiver made for K holds, of the account and of its jumps
@@ -28,7 +28,7 @@ stateWith k account h =
             inorder = count isInOrderAnswer (answersIn account);
             next = nextExp (firsts account);
             kept = h .kept;
-            last = lastTime account;
+            greatest = greatestTime account;
             runs = runs (answersIn account);
             dropped = h .dropped;
           };
@@ -38,5 +38,5 @@ stateWith k account h =
 
 -- fresh, of the empty account and no jump
 pub state-fresh : (k : ℕ) → madeFor k ≡ stateWith k [] noneHeld
-unfolding stateWith madeFor freshStream firsts count answersIn answers each eachAfter nextExp lastTime marksOf runs noneHeld flatten
+unfolding stateWith madeFor freshStream firsts count answersIn answers each eachAfter nextExp greatestTime marksOf runs noneHeld flatten
 state-fresh k = refl

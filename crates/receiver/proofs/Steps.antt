@@ -5,7 +5,7 @@ use mathlib.Core.List.{head?}
 use mathlib.Core.Option.{none, some}
 use mathlib.Core.Path.{_≡_, refl, sym, ap, _∙_}
 use native.Mathlib.Omega.{arith}
-use lib.Dec.{ltb, eqb, lit<}
+use lib.Dec.{eqb, lit<}
 use borrow.Author.Tests.{ne-eqb, lt-ltb, le-ltb, le-leb, lt-leb, eqb-true, not-false}
 use Rattle.rfc4737.specs.Order.{Placed}
 use Rattle.rfc4737.specs.Extent.{firstAbove}
@@ -66,10 +66,10 @@ oldest-kept h k = first (h .kept) k
 module _ (r : Receiver) (number time : ℕ) where
   -- what holds where an arrival meets no refusal before it is looked at
   pub accepted-facts : refusalOf r number time ≡ 0 → Unrefused r number
-  unfolding refusalOf fit tooEarly
+  unfolding refusalOf fit
   accepted-facts e =
       let s = r .stream in
-      let early = cond (ltb time (s .last)) timeBack 0 in
+      let early = cond (tooEarly (s .greatest) time) timeBack 0 in
       let wrong = cond (not (within 1 (s .sent) number)) numberOutside early in
       let full = cond (eqb (s .arrived + s .duplicates) packets) stateFull wrong in
       let a = cond-zero (not (fit r)) stateUnfit full (lit< tt) e in

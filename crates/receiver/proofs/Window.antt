@@ -13,7 +13,7 @@ use borrow.Author.Tests.{ltb-false, lt-ltb, eq-eqb, ne-eqb}
 use Rattle.rfc4737.specs.Order.{Placed}
 use Rattle.rfc4737.specs.Extent.{firstAbove}
 use Rattle.rfc4737.proofs.Lists.{snoc-ind, All, Ordered, all-weaken, all-append, all-member, ordered-left, ordered-across}
-use Rattle.rfc4737.proofs.Jumps.{Rises, NotLaterJump, orElse, firstAbove-append, firstAbove-member, firstAbove-none}
+use Rattle.rfc4737.proofs.Jumps.{Rises, orElse, firstAbove-append, firstAbove-member, firstAbove-none}
 use Rattle.receiver.specs.Account.{standsIn}
 
 -- the number of the last of some jumps, 0 for none
@@ -79,7 +79,6 @@ pub record IsDropped (s : ℕ) (kept : List Placed) (o d : Placed) : Type 0 wher
   pub apart : standsIn (d .position) kept ≡ false
   pub oldest : firstAbove s kept ≡ some o
   pub position : d .position < o .position
-  pub time : d .time ≤ o .time
 
 -- a discontinuity d that is kept: the search among the kept jumps finds it
 pub record IsKept (s : ℕ) (kept : List Placed) (d : Placed) : Type 0 where
@@ -88,7 +87,6 @@ pub record IsKept (s : ℕ) (kept : List Placed) (d : Placed) : Type 0 where
 
 module _ (s : ℕ) (dropped : List Placed) (o : Placed) (later : List Placed)
     (rise : Ordered Rises (dropped ++ (o ∷ later)))
-    (times : Ordered NotLaterJump (dropped ++ (o ∷ later)))
     (d : Placed)
     (found : firstAbove s (dropped ++ (o ∷ later)) ≡ some d) where
   -- what the search among all the jumps finds, where it finds one among the dropped
@@ -98,13 +96,11 @@ module _ (s : ℕ) (dropped : List Placed) (o : Placed) (later : List Placed)
       let same : p ≡ d = cc (rw e at (firstAbove-append s dropped (o ∷ later))) in
       let m = firstAbove-member s dropped d (e ∙ ap some same) in
       let after : All (Rises d) (o ∷ later) = all-member (λ (a : Placed). All (Rises a) (o ∷ later)) (m .0) (ordered-across Rises dropped (o ∷ later) rise) in
-      let until : All (NotLaterJump d) (o ∷ later) = all-member (λ (a : Placed). All (NotLaterJump a) (o ∷ later)) (m .0) (ordered-across NotLaterJump dropped (o ∷ later) times) in
       let above : s < o .number = let r : Rises d o = after .0 in let a : s < d .number = m .1 in omega arith in
       record {
         apart = after-stands d (o ∷ later) after;
         oldest = simp (lt-ltb _ _ above);
         position = after .0 .position;
-        time = until .0;
       }
 
   -- the packet's number is below that of the last dropped jump

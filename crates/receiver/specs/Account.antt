@@ -14,7 +14,7 @@ use Rattle.rfc4737.specs.Arrivals.{firsts, each}
 use Rattle.rfc4737.specs.Order.{Placed, jumps}
 use Rattle.rfc4737.specs.Extent.{discontinuity, extentFrom, lateFrom}
 use Rattle.rfc4737.specs.Answer.{answerTo, answers}
-use Rattle.rfc4737.specs.Times.{tooEarly}
+use Rattle.rfc4737.specs.Times.{tooEarly, greatestTime}
 use Rattle.rfc4737.specs.Refusals.{within, numberOutside, timeBack, stateFull}
 use Rattle.receiver.specs.declared.Lateness.{Lateness}
 use Rattle.receiver.specs.declared.Noted.{Noted}
@@ -23,22 +23,13 @@ use Rattle.receiver.specs.declared.Outcome.{Outcome}
 use Rattle.receiver.specs.Limits.{window, packets}
 use Rattle.receiver.specs.Said.{refused, accepted}
 
--- the last arrival of the account, if there is one
-unfoldable pub lastIn : List Arrival → Option Arrival
-lastIn account = foldl (λ _ (a : Arrival). some a) none account
-
--- whether a time goes back behind the last arrival, if there is one
-unfoldable pub goesBack : Option Arrival → ℕ → Bool
-goesBack none time = false
-goesBack (some a) time = tooEarly (a .time) time
-
 -- the refusal of an arrival, 0 for none: 11 if the account has 4,096; else 6 in its case; else 7 in its case, judged against
--- the account's last arrival if there is one
+-- the greatest time of the account, 0 at first
 unfoldable pub refusalIn : ℕ → List Arrival → Arrival → ℕ
 refusalIn k account a =
     cond (eqb (length account) packets) stateFull
     (cond (not (within 1 k (a .number))) numberOutside
-    (cond (goesBack (lastIn account) (a .time)) timeBack 0))
+    (cond (tooEarly (greatestTime account) (a .time)) timeBack 0))
 
 -- the account after an arrival: refused it stays, any other arrival is added
 unfoldable pub accountWith : ℕ → List Arrival → Arrival → List Arrival
@@ -78,8 +69,8 @@ inWindow kept account s = isIn (discontinuity (firsts account) s) kept
 abbrev pub trueFigures : ReorderedFigures → Lateness
 trueFigures d = record { extent = d .extent; late = d .late }
 
--- the figures beyond a window: L, this arrival counted, less the position of the window's oldest jump, and this arrival's
--- time less that jump's
+-- the figures beyond a window: L, this arrival counted, less the position of the window's oldest jump, and the time from
+-- that jump's arrival to this one, after or before it
 unfoldable pub beyondFigures : List Placed → List Arrival → Arrival → Lateness
 beyondFigures kept account a =
     record {

@@ -1,6 +1,6 @@
 -- Demand 3: a fresh receiver for K, 1 to 4,096, that is fed any list of arrivals answers each as the account does.
 -- Assumes nothing.
-use Prim.Native.Nat.{ℕ, _+_, _≤_, _<_}
+use Prim.Native.Nat.{ℕ, _+_, _<_}
 use mathlib.Core.Path.{_≡_}
 use mathlib.Core.Bool.{true, false}
 use mathlib.Core.List.{List, _∷_, _++_, foldl}
@@ -44,9 +44,10 @@ pub record Answered (kept : List Placed) (account : List Arrival) (a : Arrival) 
   pub exact : inWindow kept account (a .number) ≡ true → noted ≡ Exact (trueFigures d)
   -- it is not: beyond the window,
   pub beyond : inWindow kept account (a .number) ≡ false → noted ≡ Beyond (beyondFigures kept account a)
-  -- with the true extent above the figure and the true late time not below it
-  pub above : inWindow kept account (a .number) ≡ false
-      → (beyondFigures kept account a .extent < d .extent) × (beyondFigures kept account a .late ≤ d .late)
+  -- with the true extent above the figure. The late time answered is the one from the arrival of the window's oldest jump, with
+  -- its direction. The bound on it, that the true late time is not below it, is dropped: clocks may step back, so a dropped
+  -- jump may be stamped up to 1,000 later than the oldest kept one
+  pub above : inWindow kept account (a .number) ≡ false → beyondFigures kept account a .extent < d .extent
 
 -- the counts of the account
 abbrev pub countsIn : ℕ → List Arrival → Counts

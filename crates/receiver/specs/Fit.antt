@@ -1,6 +1,6 @@
 -- Fit states. "A state is unfit if K is outside 1 to 4,096, L > K, L and duplicates together > 4,096, in-order > L, open
 -- run > in-order, closed runs > L, squares > 16,777,216, NextExp outside 1 to K + 1, more than 64 kept jumps, a kept jump
--- with position outside 1 to L, number outside 1 to K or time after the last, or a dropped number > K." Fit and unfit are
+-- with position outside 1 to L, number outside 1 to K or time after the greatest, or a dropped number > K." Fit and unfit are
 -- terms of the scope. Assumes nothing.
 use Prim.Native.Nat.{_+_}
 use mathlib.Core.Bool.{Bool, true, _&&_}
@@ -33,10 +33,10 @@ streamFit s =
     ∷ within 1 (s .sent + 1) (s .next)
     ∷ [])
 
--- whether a kept jump is fit, under K, L and the last time
+-- whether a kept jump is fit, under K, L and the greatest time
 unfoldable pub jumpFit : Stream → Placed → Bool
 jumpFit s p =
-    every (within 1 (s .arrived) (p .position) ∷ within 1 (s .sent) (p .number) ∷ leb (p .time) (s .last) ∷ [])
+    every (within 1 (s .arrived) (p .position) ∷ within 1 (s .sent) (p .number) ∷ leb (p .time) (s .greatest) ∷ [])
 
 -- whether the kept jumps in some places are fit, and the dropped number
 unfoldable pub placesFit : Stream → Places → Bool

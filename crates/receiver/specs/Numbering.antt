@@ -1,16 +1,21 @@
--- The number of each case of what a receiver notes: those of an answer, and one more for its own case. Assumes nothing.
+-- The number of each case of what a receiver notes: those of an answer, and two more for its own case, one for each direction
+-- of its late time. Assumes nothing.
 use Prim.Native.Nat.{ℕ}
-use Rattle.rfc4737.specs.Numbering.{inOrderNumber, reorderedNumber, duplicateNumber}
+use Rattle.rfc4737.specs.Numbering.{inOrderNumber, reorderedNumber, duplicateNumber, directed}
 use Rattle.receiver.specs.declared.Noted.{Noted}
 use Rattle.receiver.specs.declared.Noted.the-variants.{Duplicate, InOrder, Exact, Beyond}
 
--- 4: reordered beyond the window
-abbrev pub beyondNumber : ℕ
-beyondNumber = 4
+-- 4: reordered beyond the window, and late after the arrival of the window's oldest jump
+abbrev pub beyondAfterNumber : ℕ
+beyondAfterNumber = 4
+
+-- 5: reordered beyond the window, and late before that arrival
+abbrev pub beyondBeforeNumber : ℕ
+beyondBeforeNumber = 5
 
 -- the number of the case of what is noted
 abbrev pub notedNumber : Noted → ℕ
 notedNumber (InOrder jump) = inOrderNumber
-notedNumber (Exact l) = reorderedNumber
+notedNumber (Exact l) = reorderedNumber (l .late)
 notedNumber Duplicate = duplicateNumber
-notedNumber (Beyond l) = beyondNumber
+notedNumber (Beyond l) = directed beyondAfterNumber beyondBeforeNumber (l .late)

@@ -35,7 +35,7 @@ freshStream k =
       inorder = 0;
       next = 1;
       kept = 0;
-      last = 0;
+      greatest = 0;
       runs = record { closed = 0; squares = 0; current = 0 };
       dropped = 0;
     }
@@ -63,7 +63,7 @@ refusalOf r number time =
     cond (not (fit r)) stateUnfit
     (cond (eqb (r .stream .arrived + r .stream .duplicates) packets) stateFull
     (cond (not (within 1 (r .stream .sent) number)) numberOutside
-    (cond (tooEarly (r .stream .last) time) timeBack 0)))
+    (cond (tooEarly (r .stream .greatest) time) timeBack 0)))
 
 -- extent and late time of the packet that arrives at a position and a time, from a jump
 unfoldable pub latenessFrom : ℕ → ℕ → Option Placed → Lateness
@@ -100,7 +100,7 @@ outcomeOf r number time =
 
 -- ---- the state after it
 
--- a duplicate changes the duplicates and the last time only
+-- a duplicate changes the duplicates and the greatest time only
 unfoldable pub duplicateStream : Stream → ℕ → Stream
 duplicateStream s time =
     record {
@@ -110,7 +110,7 @@ duplicateStream s time =
       inorder = s .inorder;
       next = s .next;
       kept = s .kept;
-      last = nextReference (s .last) time;
+      greatest = nextReference (s .greatest) time;
       runs = s .runs;
       dropped = s .dropped;
     }
@@ -125,7 +125,7 @@ inOrderStream s h number time =
       inorder = s .inorder + 1;
       next = nextAfter (s .next) number;
       kept = h .kept;
-      last = nextReference (s .last) time;
+      greatest = nextReference (s .greatest) time;
       runs = lengthened (s .runs);
       dropped = h .dropped;
     }
@@ -140,7 +140,7 @@ reorderedStream s number time =
       inorder = s .inorder;
       next = nextAfter (s .next) number;
       kept = s .kept;
-      last = nextReference (s .last) time;
+      greatest = nextReference (s .greatest) time;
       runs = ended (s .runs);
       dropped = s .dropped;
     }

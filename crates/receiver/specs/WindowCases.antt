@@ -7,6 +7,7 @@ use mathlib.Core.List.{List, [], _∷_, map}
 use Rattle.rfc4737.specs.declared.Arrival.{Arrival}
 use Rattle.rfc4737.specs.declared.Answer.{Answer}
 use Rattle.rfc4737.specs.declared.Answer.the-variants as answer
+use Rattle.rfc4737.specs.declared.LateTime.the-variants.{After}
 use Rattle.receiver.specs.declared.Noted.{Noted}
 use Rattle.receiver.specs.declared.Noted.the-variants.{Exact, Beyond}
 use Rattle.receiver.specs.declared.Outcome.{Outcome}
@@ -62,8 +63,8 @@ case1 =
     record {
       evens = 64;
       late = 1;
-      noted = Exact (record { extent = 64; late = 640 });
-      truth = answer.Reordered (record { position = 65; extent = 64; late = 640; offset = 0; largest = 64 });
+      noted = Exact (record { extent = 64; late = After 640 });
+      truth = answer.Reordered (record { position = 65; extent = 64; late = After 640; offset = 0; largest = 64 });
     }
 
 -- 2, 4, .. 130, then 1: beyond the window, 64, where the true extent is 65
@@ -72,8 +73,8 @@ case2 =
     record {
       evens = 65;
       late = 1;
-      noted = Beyond (record { extent = 64; late = 640 });
-      truth = answer.Reordered (record { position = 66; extent = 65; late = 650; offset = 0; largest = 65 });
+      noted = Beyond (record { extent = 64; late = After 640 });
+      truth = answer.Reordered (record { position = 66; extent = 65; late = After 650; offset = 0; largest = 65 });
     }
 
 -- 2, 4, .. 130, then 3: exact extent 64
@@ -82,8 +83,8 @@ case3 =
     record {
       evens = 65;
       late = 3;
-      noted = Exact (record { extent = 64; late = 640 });
-      truth = answer.Reordered (record { position = 66; extent = 64; late = 640; offset = 0; largest = 64 });
+      noted = Exact (record { extent = 64; late = After 640 });
+      truth = answer.Reordered (record { position = 66; extent = 64; late = After 640; offset = 0; largest = 64 });
     }
 
 -- the table

@@ -49,7 +49,7 @@ fn refusal_of<'a>(
     if s.sent < number {
         return refusal::NUMBER_OUTSIDE;
     }
-    if too_early(s.last, time) {
+    if too_early(s.greatest, time) {
         return refusal::TIME_BACK;
     }
     0

@@ -82,21 +82,21 @@ fn all_within(places: &[u16; Receiver::WINDOW], count: usize, most: u16) -> bool
     fit
 }
 
-// Whether none of the first times is after the last. All are looked at, several at a time.
-fn none_after(times: &[u64; Receiver::WINDOW], count: usize, last: u64) -> bool
+// Whether none of the first times is after the greatest. All are looked at, several at a time.
+fn none_after(times: &[u64; Receiver::WINDOW], count: usize, greatest: u64) -> bool
     requires { ⌜ count ≤ window ⌝ }
-    ensures { λ r. ⌜ r ≡ firstPass (upTo last) (now (times .entry)) count ⌝ }
+    ensures { λ r. ⌜ r ≡ firstPass (upTo greatest) (now (times .entry)) count ⌝ }
 {
     let mut fit = true;
     let mut i = 0;
     while i < count {
-        fit = both(fit, times[i] <= last);
+        fit = both(fit, times[i] <= greatest);
         i += 1;
     }
     fit
 }
 
-// Whether the kept places are fit, under K, L and the last time.
+// Whether the kept places are fit, under K, L and the greatest time.
 pub(crate) fn places_fit<'a>(
     s: Stream,
     positions: &'a [u16; Receiver::WINDOW],
@@ -119,5 +119,5 @@ pub(crate) fn places_fit<'a>(
     if !all_within(numbers, kept, s.sent as u16) {
         return false;
     }
-    none_after(times, kept, s.last)
+    none_after(times, kept, s.greatest)
 }

@@ -10,6 +10,7 @@ pub mod numbering;
 mod numbers;
 
 use advance::advance;
+use rfc4737::LateTime;
 use rfc4737::Runs;
 use rfc4737::refusal;
 ghost use mathlib.Core.Path.{_≡_};
@@ -21,8 +22,8 @@ ghost use Rattle.receiver.specs.Demand3.{Demand3};
 ghost use Rattle.receiver.specs.WindowCases.{WindowCasesHold};
 
 // The numbers that a step decides by: the packets sent (K), the first arrivals (L), the duplicates, the in-order count,
-// NextExp, how many jumps are kept, the time of the last accepted arrival (0 at first), the runs, and the number of the last
-// jump dropped (0 for none).
+// NextExp, how many jumps are kept, the greatest time of an accepted arrival (0 at first), the runs, and the number of the
+// last jump dropped (0 for none).
 #[repr(C)]
 pub struct Stream {
     pub sent: u32,
@@ -31,7 +32,7 @@ pub struct Stream {
     pub inorder: u32,
     pub next: u32,
     pub kept: u32,
-    pub last: u64,
+    pub greatest: u64,
     pub runs: Runs,
     pub dropped: u16,
 }
@@ -55,7 +56,7 @@ pub struct Receiver {
 // Of a reordered packet: its extent and late time.
 pub struct Lateness {
     pub extent: u32,
-    pub late: u64,
+    pub late: LateTime,
 }
 
 // What a receiver notes of an arrival: a duplicate; in order, with the jump size; reordered, with exact extent
@@ -181,7 +182,7 @@ fn made_for(k: u32) -> Receiver
             inorder: 0,
             next: 1,
             kept: 0,
-            last: 0,
+            greatest: 0,
             runs: Runs {
                 closed: 0,
                 squares: 0,

@@ -1,4 +1,8 @@
-// The number of the one case of what is noted that an answer does not have; rfc4737::numbering has the others.
+// The numbers of the one case of what is noted that an answer does not have, by the direction of its late time;
+// rfc4737::numbering has the others.
 
-// Reordered beyond the window.
-pub const BEYOND: u32 = 4;
+// Reordered beyond the window, and late after the arrival of the window's oldest jump.
+pub const BEYOND_AFTER: u32 = 4;
+
+// Reordered beyond the window, and late before that arrival.
+pub const BEYOND_BEFORE: u32 = 5;

@@ -31,7 +31,7 @@ pub(crate) fn after_duplicate(s: Stream, time: u64) -> Stream
         inorder: s.inorder,
         next: s.next,
         kept: s.kept,
-        last: next_reference(s.last, time),
+        greatest: next_reference(s.greatest, time),
         runs,
         dropped: s.dropped,
     }
@@ -56,7 +56,7 @@ pub(crate) fn after_in_order(
         inorder: s.inorder + 1,
         next: next_after(s.next, number),
         kept: kept_after(s.kept, size),
-        last: next_reference(s.last, time),
+        greatest: next_reference(s.greatest, time),
         runs,
         dropped: dropped_after(s.dropped, s.kept, size, numbers),
     }
@@ -75,7 +75,7 @@ pub(crate) fn after_reordered(s: Stream, number: u32, time: u64) -> Stream
         inorder: s.inorder,
         next: next_after(s.next, number),
         kept: s.kept,
-        last: next_reference(s.last, time),
+        greatest: next_reference(s.greatest, time),
         runs,
         dropped: s.dropped,
     }

@@ -38,7 +38,7 @@ fn same_stream(a: Stream, b: Stream) -> bool {
     if a.sent != b.sent || a.arrived != b.arrived || a.duplicates != b.duplicates {
         return false;
     }
-    if a.inorder != b.inorder || a.next != b.next || a.last != b.last {
+    if a.inorder != b.inorder || a.next != b.next || a.greatest != b.greatest {
         return false;
     }
     if a.kept != b.kept || a.dropped != b.dropped {

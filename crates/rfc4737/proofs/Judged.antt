@@ -1,5 +1,5 @@
 -- The judge: one arrival more, and what it says of arrivals, and of K and lists, that none is refused. Assumes nothing.
-use Prim.Native.Nat.{ℕ, zero, suc, _+_, _≤_, _<_}
+use Prim.Native.Nat.{ℕ, zero, suc, _+_, _-_, _≤_, _<_}
 use native.Mathlib.Numerals.{add-one}
 use native.Mathlib.Omega.{arith}
 use mathlib.Core.Bool.{false, not}
@@ -11,9 +11,10 @@ use lib.ListN.{length, getD, drop, drop-of-length-le}
 use lib.Seq.{drop-cons}
 use Rattle.rfc4737.specs.declared.Arrival.{Arrival}
 use Rattle.rfc4737.specs.Refusals.{outside, inCase, sentOutside, manyArrivals, numberOutside, timeBack, listsDiffer}
-use Rattle.rfc4737.specs.Times.{tooEarly, nextReference}
+use Rattle.rfc4737.specs.Times.{backMost, tooEarly, nextReference}
 use Rattle.rfc4737.specs.Judge.{sentMost, arrivalsMost, arrivalsOf, judgeSent, judgeArrivals, judgeOne, judge, refusalOfLists}
 use Rattle.rfc4737.proofs.Due.{first-none, first-due, first-next, first-one, case-none, between, not-outside}
+use Rattle.rfc4737.proofs.Times.{reference-above}
 use Rattle.rfc4737.proofs.Pairs.{arrivals-length, arrivals-getD}
 
 -- a number that is not 0
@@ -76,27 +77,31 @@ judged-number k reference (a ∷ l) e zero z h = one-split k reference a (judge-
 judged-number k reference (a ∷ l) e (suc i) z h =
     judged-number k (nextReference reference (a .time)) l (judge-split k reference a l e .1) i z (omega arith)
 
--- no time is before the reference
-pub judged-reference : (k reference : ℕ) (l : List Arrival) → judge k reference l ≡ 0 → (i : ℕ) (z : Arrival) → i < length l
-    → reference ≤ getD l i z .time
-unfolding tooEarly nextReference
+-- no time is over 1,000 below the reference
+judged-reference : (k reference : ℕ) (l : List Arrival) → judge k reference l ≡ 0 → (i : ℕ) (z : Arrival) → i < length l
+    → reference ≤ getD l i z .time + backMost
+unfolding tooEarly
 judged-reference k reference [] e i z h = absurd (omega arith)
-judged-reference k reference (a ∷ l) e zero z h = ltb-false (a .time) reference (one-split k reference a (judge-split k reference a l e .0) .1)
-judged-reference k reference (a ∷ l) e (suc i) z h =
-    let p = judge-split k reference a l e in
-    let q : reference ≤ a .time = ltb-false (a .time) reference (one-split k reference a (p .0) .1) in
-    let r : a .time ≤ getD l i z .time = judged-reference k (a .time) l (p .1) i z (omega arith) in
+judged-reference k reference (a ∷ l) e zero z h =
+    let q : reference - a .time ≤ backMost = ltb-false backMost (reference - a .time) (one-split k reference a (judge-split k reference a l e .0) .1) in
     omega arith
+judged-reference k reference (a ∷ l) e (suc i) z h =
+    let r : nextReference reference (a .time) ≤ getD l i z .time + backMost =
+    judged-reference k (nextReference reference (a .time)) l (judge-split k reference a l e .1) i z (omega arith) in
+    omega (arith, reference-above reference (a .time))
 
--- times never fall
+-- no time is over 1,000 below an earlier one
 pub judged-times : (k reference : ℕ) (l : List Arrival) → judge k reference l ≡ 0 → (i j : ℕ) (z : Arrival) → i ≤ j → j < length l
-    → getD l i z .time ≤ getD l j z .time
-unfolding nextReference
+    → getD l i z .time ≤ getD l j z .time + backMost
 judged-times k reference [] e i j z p h = absurd (omega arith)
 judged-times k reference (a ∷ l) e zero zero z p h = omega arith
-judged-times k reference (a ∷ l) e zero (suc j) z p h = judged-reference k (a .time) l (judge-split k reference a l e .1) j z (omega arith)
+judged-times k reference (a ∷ l) e zero (suc j) z p h =
+    let r : nextReference reference (a .time) ≤ getD l j z .time + backMost =
+    judged-reference k (nextReference reference (a .time)) l (judge-split k reference a l e .1) j z (omega arith) in
+    omega (arith, reference-above reference (a .time))
 judged-times k reference (a ∷ l) e (suc i) zero z p h = absurd (omega arith)
-judged-times k reference (a ∷ l) e (suc i) (suc j) z p h = judged-times k (a .time) l (judge-split k reference a l e .1) i j z (omega arith) (omega arith)
+judged-times k reference (a ∷ l) e (suc i) (suc j) z p h =
+    judged-times k (nextReference reference (a .time)) l (judge-split k reference a l e .1) i j z (omega arith) (omega arith)
 
 -- ---- K and lists of which nothing is refused
 

@@ -15,7 +15,7 @@ use Rattle.rfc4737.specs.Order.{nextAfter, nextExp, isInOrder, jumpSize,
 use Rattle.rfc4737.specs.Extent.{firstAbove, discontinuity}
 use Rattle.rfc4737.proofs.Arrivals.{has-more}
 use Rattle.rfc4737.proofs.Folds.{next-more}
-use Rattle.rfc4737.proofs.Lists.{snoc-ind, All, Ordered, all-weaken, all-append, ordered-more, all-left, all-right, ordered-left, ordered-across, flatten-more, each-more}
+use Rattle.rfc4737.proofs.Lists.{snoc-ind, All, Ordered, all-weaken, all-append, all-member, ordered-more, all-left, all-right, flatten-more, each-more}
 
 -- a packet that is not among a list with one arrival more is not among the list, and is not that of the arrival
 pub has-more-false : (s : ℕ) (l : List Arrival) (a : Arrival) → has s (l ++ (a ∷ [])) ≡ false → (has s l ≡ false) × (a .number ≡ s → ⊥)
@@ -272,23 +272,23 @@ jumps-until t = snoc-ind (λ (fs : List Arrival). All (λ (a : Arrival). a .time
         (h (all-left (λ (a : Arrival). a .time ≤ t) fs (a ∷ []) g))
         (all-jumpAfter (λ (p : Placed). p .time ≤ t) fs a (λ j. r .0)))
 
--- one arrival not later than another
-abbrev pub NotLater : Arrival → Arrival → Type 0
-NotLater a b = a .time ≤ b .time
-
--- one jump not later than another
-abbrev pub NotLaterJump : Placed → Placed → Type 0
-NotLaterJump p q = p .time ≤ q .time
-
--- jumps do not fall in time where the arrivals do not
-pub jumps-times : (fs : List Arrival) → Ordered NotLater fs → Ordered NotLaterJump (jumps fs)
-unfolding jumps each eachAfter flatten
-jumps-times = snoc-ind (λ (fs : List Arrival). Ordered NotLater fs → Ordered NotLaterJump (jumps fs)) more (λ n. tt)
+-- first arrivals up to a time are up to that time at their positions
+placed-until : (t : ℕ) (fs : List Arrival) → All (λ (a : Arrival). a .time ≤ t) fs → All (λ (p : Placed). p .time ≤ t) (placed fs)
+unfolding placed each eachAfter
+placed-until t = snoc-ind (λ (fs : List Arrival). All (λ (a : Arrival). a .time ≤ t) fs → All (λ (p : Placed). p .time ≤ t) (placed fs)) more (λ n. tt)
   where
     more : (fs : List Arrival) (a : Arrival)
-        → (Ordered NotLater fs → Ordered NotLaterJump (jumps fs))
-        → Ordered NotLater (fs ++ (a ∷ []))
-        → Ordered NotLaterJump (jumps (fs ++ (a ∷ [])))
+        → (All (λ (a : Arrival). a .time ≤ t) fs → All (λ (p : Placed). p .time ≤ t) (placed fs))
+        → All (λ (a : Arrival). a .time ≤ t) (fs ++ (a ∷ []))
+        → All (λ (p : Placed). p .time ≤ t) (placed (fs ++ (a ∷ [])))
     more fs a h g =
-        ordered-jumps-more NotLaterJump fs a (h (ordered-left NotLater fs (a ∷ []) g))
-        (λ j. jumps-until (a .time) fs (all-weaken (λ (b : Arrival) (k : NotLater b a × Unit). k .0) fs (ordered-across NotLater fs (a ∷ []) g)))
+        rw placed-more
+        (all-append (λ (p : Placed). p .time ≤ t) (placed fs) (placeAfter fs a ∷ [])
+        (h (all-left (λ (a : Arrival). a .time ≤ t) fs (a ∷ []) g)) (all-right (λ (a : Arrival). a .time ≤ t) fs (a ∷ []) g .0, tt))
+
+-- so is a discontinuity among them
+pub discontinuity-until : (t : ℕ) (fs : List Arrival) → All (λ (a : Arrival). a .time ≤ t) fs → (s : ℕ) (p : Placed)
+    → discontinuity fs s ≡ some p → p .time ≤ t
+unfolding discontinuity
+discontinuity-until t fs h s p e =
+    all-member (λ (q : Placed). q .time ≤ t) (firstAbove-member s (placed fs) p e .0) (placed-until t fs h)

@@ -2,6 +2,7 @@
 pub mod Lists
 pub mod Arrivals
 pub mod Folds
+pub mod Times
 pub mod Jumps
 pub mod Skipped
 pub mod Packets

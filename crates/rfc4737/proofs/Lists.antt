@@ -1,5 +1,8 @@
 -- Laws of lists of any elements: induction by one element more at the end, what holds of every element, what holds of every
 -- element and each that follows it, and the lists that `each` and `flatten` make of one element more. Assumes nothing.
+use Prim.Native.Nat.{ℕ, zero, suc, _<_}
+use native.Mathlib.Omega.{arith}
+use lib.ListN.{getD, take}
 use mathlib.Core.Path.{_≡_, refl}
 use mathlib.Core.List.{List, [], _∷_, _++_, List·Memᴰ, append-nil, append-assoc, flatten}
 use Rattle.rfc4737.specs.Arrivals.{eachAfter, each}
@@ -55,6 +58,12 @@ module _ {ℓ} {A : Type ℓ} where
     pub all-member : {a : A} {l : List A} → List·Memᴰ a l → All P l → P a
     all-member (List·Memᴰ.List·Memᴰ·head e) h = rw e (h .0)
     all-member (List·Memᴰ.List·Memᴰ·tail m) h = all-member m (h .1)
+
+    -- what holds at each of the first places holds of every element of the first part
+    pub all-take : (z : A) (l : List A) (i : ℕ) → ((j : ℕ) → j < i → P (getD l j z)) → All P (take i l)
+    all-take z l zero h = tt
+    all-take z [] (suc i) h = tt
+    all-take z (a ∷ l) (suc i) h = (h 0 (omega arith), all-take z l i (λ j k. h (suc j) (omega arith)))
 
   module _ (R : A → A → Type 0) where
     -- one element more at the end, of which R holds after each before it

@@ -1,7 +1,7 @@
--- The cases P1 to P9 of the scope and P10, which request 2 brings, as data: what is sent, what arrives and the figures that
--- must come of it, and the statement that the definitions give these figures. Unless a case says otherwise, K is the
--- greatest number that arrives, every size is 100, and record r arrives at 10 times r. The ratios stand as f64 in the kit's
--- form: `fin false m e` is m times 2 to the e. Assumes nothing.
+-- The cases P1 to P9 of the scope, P10, which request 2 brings, and P11, which request 5 brings, as data: what is sent, what
+-- arrives and the figures that must come of it, and the statement that the definitions give these figures. Unless a case says
+-- otherwise, K is the greatest number that arrives, every size is 100, and record r arrives at 10 times r. The ratios stand as
+-- f64 in the kit's form: `fin false m e` is m times 2 to the e. Assumes nothing.
 use Prim.Native.Nat.{ℕ, _+_, _-_, _*_}
 use mathlib.Core.Path.{_≡_}
 use mathlib.Core.Bool.{false, cond}
@@ -12,6 +12,7 @@ use lib.ListN.{length, set, replicate}
 use Rattle.rfc4737.specs.declared.Arrival.{Arrival}
 use Rattle.rfc4737.specs.declared.Answer.{Answer}
 use Rattle.rfc4737.specs.declared.Answer.the-variants.{Duplicate, InOrder, Reordered}
+use Rattle.rfc4737.specs.declared.LateTime.the-variants.{After, Before}
 use Rattle.rfc4737.specs.declared.Counts.{Counts}
 use Rattle.rfc4737.specs.declared.Gap.{Gap}
 use Rattle.rfc4737.specs.declared.Gap.the-variants.{None, Positions}
@@ -80,7 +81,11 @@ inOrder position jump = InOrder (record { position = position; jump = jump })
 
 abbrev late : ℕ → ℕ → ℕ → ℕ → ℕ → Answer
 late position extent time offset largest =
-    Reordered (record { position = position; extent = extent; late = time; offset = offset; largest = largest })
+    Reordered (record { position = position; extent = extent; late = After time; offset = offset; largest = largest })
+
+abbrev lateBefore : ℕ → ℕ → ℕ → ℕ → ℕ → Answer
+lateBefore position extent time offset largest =
+    Reordered (record { position = position; extent = extent; late = Before time; offset = offset; largest = largest })
 
 -- the gaps of n records, of which these have these and all others none
 unfoldable pub withGaps : ℕ → List (ℕ × ℕ) → List Gap
@@ -306,8 +311,28 @@ p10 =
           };
     }
 
+-- P11 (request 5): a clock that steps. Late times before by 1,000, after by 0, before by 1. The ratio figures: 3 / 6, 3 / 6, 0 / 6
+unfoldable pub p11 : Case
+p11 =
+    record {
+      sent = 6;
+      arrivals = timed (2 ∷ 1 ∷ 4 ∷ 3 ∷ 6 ∷ 5 ∷ []) (2000 ∷ 1000 ∷ 2000 ∷ 2000 ∷ 2000 ∷ 1999 ∷ []);
+      given =
+          record {
+            answers =
+                inOrder 1 1 ∷ lateBefore 2 1 1000 100 1 ∷ inOrder 3 1 ∷ late 4 1 0 100 1 ∷ inOrder 5 1
+                ∷ lateBefore 6 1 1 100 1 ∷ [];
+            discontinuities = 1 ∷ 3 ∷ 5 ∷ [];
+            gaps = withGaps 6 ((3, 2) ∷ (5, 2) ∷ []);
+            lengths = 1 ∷ 1 ∷ 1 ∷ [];
+            tally = tallied ((1, 3) ∷ []);
+            counts = totals 6 3 0 3 3 3 0;
+            ratios = known (fin false 1 (negsuc 0)) (fin false 1 (negsuc 0)) (fin false 0 (pos 0));
+          };
+    }
+
 unfoldable pub table : List Case
-table = p1 ∷ p2 ∷ p3 ∷ p4 ∷ p5 ∷ p6 ∷ p7 ∷ p8 ∷ p9 ∷ p10 ∷ []
+table = p1 ∷ p2 ∷ p3 ∷ p4 ∷ p5 ∷ p6 ∷ p7 ∷ p8 ∷ p9 ∷ p10 ∷ p11 ∷ []
 
 -- every case of the table has the figures given for it
 abbrev pub CasesHold : Type 0

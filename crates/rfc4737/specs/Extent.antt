@@ -7,6 +7,8 @@ use mathlib.Core.Option.{Option, none, some}
 use lib.Dec.{ltb}
 use lib.ListN.{getD}
 use Rattle.rfc4737.specs.declared.Arrival.{Arrival}
+use Rattle.rfc4737.specs.declared.LateTime.{LateTime}
+use Rattle.rfc4737.specs.declared.LateTime.the-variants.{After}
 use Rattle.rfc4737.specs.Order.{Placed, placed}
 use Rattle.rfc4737.specs.Times.{elapsed}
 
@@ -24,9 +26,9 @@ unfoldable pub extentFrom : ℕ → Option Placed → ℕ
 extentFrom i none = 0
 extentFrom i (some j) = i - j .position
 
--- the late time of a packet that arrives at time t: t less the arrival time of j
-unfoldable pub lateFrom : ℕ → Option Placed → ℕ
-lateFrom t none = 0
+-- the late time of a packet that arrives at time t: after or before the arrival time of j, and by how much
+unfoldable pub lateFrom : ℕ → Option Placed → LateTime
+lateFrom t none = After 0
 lateFrom t (some j) = elapsed (j .time) t
 
 -- the payload size of packet s: the first size belongs to packet 1

@@ -1,22 +1,43 @@
--- The number of each case of an answer, wherever an answer is told as a number: for C, and in lists of flags. Assumes nothing.
+-- The number of each case of an answer, wherever an answer is told as a number: for C, and in lists of flags. Beside it
+-- stands the amount of a late time. Assumes nothing.
 use Prim.Native.Nat.{ℕ}
 use Rattle.rfc4737.specs.declared.Answer.{Answer}
 use Rattle.rfc4737.specs.declared.Answer.the-variants.{Duplicate, InOrder, Reordered}
+use Rattle.rfc4737.specs.declared.LateTime.{LateTime}
+use Rattle.rfc4737.specs.declared.LateTime.the-variants.{After, Before}
 
 -- 0: in order; so a refused answer, "in order" with zeros, is all zeros
 abbrev pub inOrderNumber : ℕ
 inOrderNumber = 0
 
--- 1: reordered
-abbrev pub reorderedNumber : ℕ
-reorderedNumber = 1
+-- 1: reordered, and late after its discontinuity's arrival
+abbrev pub reorderedAfterNumber : ℕ
+reorderedAfterNumber = 1
 
--- 3: a duplicate, the copy of an earlier arrival; 2 is not used
+-- 2: reordered, and late before its discontinuity's arrival
+abbrev pub reorderedBeforeNumber : ℕ
+reorderedBeforeNumber = 2
+
+-- 3: a duplicate, the copy of an earlier arrival
 abbrev pub duplicateNumber : ℕ
 duplicateNumber = 3
+
+-- of two numbers the one for a late time's direction
+abbrev pub directed : ℕ → ℕ → LateTime → ℕ
+directed after before (After t) = after
+directed after before (Before t) = before
+
+-- the number of a reordered packet with this late time
+abbrev pub reorderedNumber : LateTime → ℕ
+reorderedNumber late = directed reorderedAfterNumber reorderedBeforeNumber late
 
 -- the number of an answer's case
 abbrev pub answerNumber : Answer → ℕ
 answerNumber (InOrder d) = inOrderNumber
-answerNumber (Reordered d) = reorderedNumber
+answerNumber (Reordered d) = reorderedNumber (d .late)
 answerNumber (Duplicate d) = duplicateNumber
+
+-- the amount of a late time, in either direction
+abbrev pub amountOf : LateTime → ℕ
+amountOf (After t) = t
+amountOf (Before t) = t

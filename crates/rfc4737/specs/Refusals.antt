@@ -29,7 +29,7 @@ manyArrivals = 5
 abbrev pub numberOutside : ℕ
 numberOutside = 6
 
--- 7: arrival time before that of the arrival before
+-- 7: arrival time over 1,000 below the greatest earlier time
 abbrev pub timeBack : ℕ
 timeBack = 7
 

@@ -1,16 +1,29 @@
--- What is asked of arrival times, which may be equal and never go back. Each rule stands behind one name. Assumes nothing.
+-- What is asked of arrival times, which may be equal and go back a little. Each rule stands behind one name. Assumes nothing.
 use Prim.Native.Nat.{ℕ, _-_}
-use mathlib.Core.Bool.{Bool}
+use mathlib.Core.Bool.{Bool, cond}
+use mathlib.Core.List.{List, foldl}
 use lib.Dec.{ltb}
+use Rattle.rfc4737.specs.declared.Arrival.{Arrival}
+use Rattle.rfc4737.specs.declared.LateTime.{LateTime}
+use Rattle.rfc4737.specs.declared.LateTime.the-variants.{After, Before}
 
--- whether an arrival time goes back: it is before the reference
+-- how far below the greatest earlier time an arrival may be stamped, in microseconds
+abbrev pub backMost : ℕ
+backMost = 1000
+
+-- whether an arrival time goes back too far: it is over 1,000 below the reference, the greatest earlier time
 unfoldable pub tooEarly : ℕ → ℕ → Bool
-tooEarly reference time = ltb time reference
+tooEarly reference time = ltb backMost (reference - time)
 
--- the reference for the arrival after one of this time: that arrival's time; before the first arrival it is 0
+-- the reference for the arrival after one of this time: the greater of both; before the first arrival it is 0
 unfoldable pub nextReference : ℕ → ℕ → ℕ
-nextReference reference time = time
+nextReference reference time = cond (ltb reference time) time reference
 
--- the time from one arrival to a later one
-unfoldable pub elapsed : ℕ → ℕ → ℕ
-elapsed earlier later = later - earlier
+-- the greatest time of some arrivals, 0 for none
+unfoldable pub greatestTime : List Arrival → ℕ
+greatestTime l = foldl (λ (t : ℕ) (a : Arrival). nextReference t (a .time)) 0 l
+
+-- the time from one arrival, of the time `past`, to another, of the time `own`: after it or before it; equal times are
+-- after, by 0
+unfoldable pub elapsed : ℕ → ℕ → LateTime
+elapsed past own = cond (ltb own past) (Before (past - own)) (After (own - past))

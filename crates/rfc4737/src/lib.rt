@@ -32,11 +32,18 @@ pub struct InOrderFigures {
     pub jump: u32,
 }
 
+// A late time in microseconds, with its direction: after the discontinuity's arrival, or before it. Equal times
+// are after, by 0.
+pub enum LateTime {
+    After(u64),
+    Before(u64),
+}
+
 // Of a reordered packet: its position, extent, late time, byte offset and largest n.
 pub struct ReorderedFigures {
     pub position: u32,
     pub extent: u32,
-    pub late: u64,
+    pub late: LateTime,
     pub offset: u32,
     pub largest: u32,
 }

@@ -9,6 +9,7 @@ use Rattle.octets.specs.Below.{Below, Octets}
 use Rattle.octets.specs.BigEndian.{beValue}
 use Rattle.octets.specs.Memory.{part}
 use Rattle.rfc4737.specs.declared.Arrival.{Arrival}
+use Rattle.rfc4737.specs.Times.{backMost}
 use Rattle.sample.specs.Format.{Sample, fileOf, longest}
 use Rattle.sample.specs.Judge.{Fit}
 use Rattle.sample.specs.Decode.{labelCount, sentAt, sentCount, arrivedAt, arrivalCount, sampleIn, decode, accepted, sampleOf, layoutOf}
@@ -105,9 +106,9 @@ module _ (file : List ℕ) (s : Sample) (e : decode file ≡ accepted s) where
       pub number-within : (i : ℕ) → i < length (s .arrivals) → (1 ≤ getD (s .arrivals) i z .number) × (getD (s .arrivals) i z .number ≤ length (s .sizes))
       number-within i h = judged-number (length (s .sizes)) 0 (s .arrivals) (accepted-limits .judged) i z h
 
-      -- arrival times never go back
-      pub times-rise : (i j : ℕ) → i ≤ j → j < length (s .arrivals) → getD (s .arrivals) i z .time ≤ getD (s .arrivals) j z .time
-      times-rise i j p h = judged-times (length (s .sizes)) 0 (s .arrivals) (accepted-limits .judged) i j z p h
+      -- no arrival time is over 1,000 below an earlier one
+      pub times-back : (i j : ℕ) → i ≤ j → j < length (s .arrivals) → getD (s .arrivals) i z .time ≤ getD (s .arrivals) j z .time + backMost
+      times-back i j p h = judged-times (length (s .sizes)) 0 (s .arrivals) (accepted-limits .judged) i j z p h
 
     -- every arrival time fits eight octets
     pub time-fits : (i : ℕ) → getD (s .arrivals) i (record { number = 0; time = 0 }) .time < 2 ^ 64

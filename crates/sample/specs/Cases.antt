@@ -10,6 +10,11 @@ abbrev pub twoArrivals : ℕ → ℕ → ℕ → ℕ → List ℕ
 twoArrivals n t m u =
     fileOf (record { label = []; sizes = 100 ∷ 100 ∷ []; arrivals = record { number = n; time = t } ∷ record { number = m; time = u } ∷ [] })
 
+-- a file of two sent packets with packet 1 and two copies of it, by their times
+abbrev pub threeTimes : ℕ → ℕ → ℕ → List ℕ
+threeTimes t u v =
+    fileOf (record { label = []; sizes = 100 ∷ 100 ∷ []; arrivals = record { number = 1; time = t } ∷ record { number = 1; time = u } ∷ record { number = 1; time = v } ∷ [] })
+
 -- files, each with the refusal that it is due
 abbrev pub table : List (List ℕ × ℕ)
 table =
@@ -27,10 +32,13 @@ table =
     ∷ (0 ∷ 0 ∷ 0 ∷ 1 ∷ 0 ∷ 100 ∷ 16 ∷ 1 ∷ [], 5)
     -- no arrivals; and an octet that follows
     ∷ (0 ∷ 0 ∷ 0 ∷ 1 ∷ 0 ∷ 100 ∷ 0 ∷ 0 ∷ [], 0) ∷ (0 ∷ 0 ∷ 0 ∷ 1 ∷ 0 ∷ 100 ∷ 0 ∷ 0 ∷ 9 ∷ [], 2)
-    -- arrivals: fit with equal times, a number that is 0 or over K, a time that goes back
-    ∷ (twoArrivals 1 10 2 10, 0) ∷ (twoArrivals 1 10 0 10, 6) ∷ (twoArrivals 1 10 3 10, 6) ∷ (twoArrivals 1 10 2 9, 7)
+    -- arrivals: fit with equal times, a number that is 0 or over K, a time that goes back by 1,000 and by 1,001
+    ∷ (twoArrivals 1 10 2 10, 0) ∷ (twoArrivals 1 10 0 10, 6) ∷ (twoArrivals 1 10 3 10, 6)
+    ∷ (twoArrivals 1 2000 2 1000, 0) ∷ (twoArrivals 1 2000 2 999, 7)
+    -- a time is held to the greatest earlier one, and not to the one before; it may be that of a copy
+    ∷ (threeTimes 2000 1500 1000, 0) ∷ (threeTimes 2000 1500 999, 7) ∷ (threeTimes 1500 2000 999, 7)
     -- 6 before 7 in one arrival; 2 before both
-    ∷ (twoArrivals 1 10 3 9, 6) ∷ (twoArrivals 1 10 3 9 ++ (0 ∷ []), 2)
+    ∷ (twoArrivals 1 2000 3 999, 6) ∷ (twoArrivals 1 2000 3 999 ++ (0 ∷ []), 2)
     ∷ []
 
 -- each is refused as it is due

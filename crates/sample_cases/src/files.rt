@@ -100,6 +100,18 @@ fn run_changed(name: &[u8], at: usize, width: usize, v: u64) {
     run(name, &file);
 }
 
+// Runs a case on a file of three sizes and three arrivals: packet 1, a packet and packet 3, at three times. The number
+// of the second record stands at octet 24, the times at 16, 28 and 40.
+fn run_times(name: &[u8], second: u64, t: u64, u: u64, v: u64) {
+    let mut file = [b'x'; 48];
+    put_file(&mut file, 0, 3, 3);
+    octets::put_number(&mut file, 24, 4, second);
+    octets::put_number(&mut file, 16, 8, t);
+    octets::put_number(&mut file, 28, 8, u);
+    octets::put_number(&mut file, 40, 8, v);
+    run(name, &file);
+}
+
 // Runs a case on the first octets of the file of five arrivals, and octets after it.
 fn run_cut(name: &[u8], n: usize) {
     let mut file = [b'x'; 80];
@@ -172,6 +184,31 @@ pub(crate) fn edges_of_arrivals() {
     run_changed(b"equal times", 68, 8, 40);
     run_changed(b"time less by 1", 68, 8, 39);
     run_changed(b"the greatest time", 68, 8, 18_446_744_073_709_551_615);
+}
+
+// Times that go back: each is held to the greatest earlier one, which may be that of a copy.
+pub(crate) fn times_back() {
+    run_times(b"time less by 1000", 2, 1000, 1000, 0);
+    run_times(b"time less by 1001", 2, 1001, 1001, 0);
+    run_times(b"second time less by 1001", 2, 2000, 999, 2000);
+    run_times(b"times 2000, 1500 and 1000", 2, 2000, 1500, 1000);
+    run_times(b"times 2000, 1500 and 999", 2, 2000, 1500, 999);
+    run_times(b"times 1500, 2000 of a copy and 1000", 1, 1500, 2000, 1000);
+    run_times(b"times 1500, 2000 of a copy and 999", 1, 1500, 2000, 999);
+    run_times(
+        b"the greatest time, then less by 1000",
+        2,
+        0,
+        18_446_744_073_709_551_615,
+        18_446_744_073_709_550_615,
+    );
+    run_times(
+        b"the greatest time, then less by 1001",
+        2,
+        0,
+        18_446_744_073_709_551_615,
+        18_446_744_073_709_550_614,
+    );
 }
 
 // The file of five arrivals, 76 octets, that ends early or goes on.

@@ -14,11 +14,13 @@ use files::edges_of_arrivals;
 use files::label_octets;
 use files::label_octets_in_order;
 use files::short_lists;
+use files::times_back;
 use writer::arrival_lists;
 use writer::edges_of_lists;
 use writer::short_output;
 use writer::written_label_octets;
 use writer::written_label_octets_in_order;
+use writer::written_times_back;
 
 // Runs all cases.
 fn main() {
@@ -26,11 +28,13 @@ fn main() {
     label_octets();
     label_octets_in_order();
     edges_of_arrivals();
+    times_back();
     damaged();
     short_lists();
     edges_of_lists();
     written_label_octets();
     written_label_octets_in_order();
     arrival_lists();
+    written_times_back();
     short_output();
 }

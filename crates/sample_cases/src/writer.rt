@@ -106,7 +106,62 @@ pub(crate) fn arrival_lists() {
     run_last(b"write number 0", 0, 50);
     run_last(b"write equal times", 5, 40);
     run_last(b"write time less by 1", 5, 39);
-    run_last(b"write number K + 1 and time less by 1", 6, 39);
+}
+
+// Runs a case on three sizes and three arrivals: packet 1, a packet and another, at three times.
+fn run_times(name: &[u8], second: u32, third: u32, t: u64, u: u64, v: u64) {
+    let mut out = [OCTET; 80];
+    write_word(name);
+    write_into(b"", &[100u16; 3], &[1, second, third], &[t, u, v], &mut out);
+    write_word(b"\n");
+}
+
+// Times that go back, K being 3.
+pub(crate) fn written_times_back() {
+    run_times(b"write time less by 1000", 2, 3, 1000, 1000, 0);
+    run_times(b"write time less by 1001", 2, 3, 1001, 1001, 0);
+    run_times(
+        b"write number K + 1 and time less by 1001",
+        2,
+        4,
+        1001,
+        1001,
+        0,
+    );
+    run_times(
+        b"write second time less by 1001, then number K + 1",
+        2,
+        4,
+        2000,
+        999,
+        2000,
+    );
+    run_times(b"write times 2000, 1500 and 1000", 2, 3, 2000, 1500, 1000);
+    run_times(b"write times 2000, 1500 and 999", 2, 3, 2000, 1500, 999);
+    run_times(
+        b"write times 1500, 2000 of a copy and 1000",
+        1,
+        3,
+        1500,
+        2000,
+        1000,
+    );
+    run_times(
+        b"write times 1500, 2000 of a copy and 999",
+        1,
+        3,
+        1500,
+        2000,
+        999,
+    );
+    run_times(
+        b"write the greatest time, then less by 1001",
+        2,
+        3,
+        0,
+        18_446_744_073_709_551_615,
+        18_446_744_073_709_550_614,
+    );
 }
 
 // Runs a case on a label of so many octets, of which one is put at a place, no size or one, and one arrival. Where a

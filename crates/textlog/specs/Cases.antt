@@ -26,9 +26,13 @@ logTable =
     -- no line; `1;1` and `2;1,5`
     ([], record { refusal = 0; arrivals = 0; line = 0 })
     ∷ (49 ∷ 59 ∷ 49 ∷ 10 ∷ 50 ∷ 59 ∷ 49 ∷ 44 ∷ 53 ∷ 10 ∷ [], record { refusal = 0; arrivals = 2; line = 0 })
-    -- `1;1` and `3;0`: 6 before 7; `1;1` and `2;0`: 7
-    ∷ (49 ∷ 59 ∷ 49 ∷ 10 ∷ 51 ∷ 59 ∷ 48 ∷ 10 ∷ [], record { refusal = 6; arrivals = 0; line = 2 })
-    ∷ (49 ∷ 59 ∷ 49 ∷ 10 ∷ 50 ∷ 59 ∷ 48 ∷ 10 ∷ [], record { refusal = 7; arrivals = 0; line = 2 })
+    -- `1;2`, then `2;1` or `2;0,999`: it may go back by 1,000 microseconds, and not by 1,001; `3;0,999`: 6 before 7
+    ∷ (49 ∷ 59 ∷ 50 ∷ 10 ∷ 50 ∷ 59 ∷ 49 ∷ 10 ∷ [], record { refusal = 0; arrivals = 2; line = 0 })
+    ∷ (49 ∷ 59 ∷ 50 ∷ 10 ∷ 50 ∷ 59 ∷ 48 ∷ 44 ∷ 57 ∷ 57 ∷ 57 ∷ 10 ∷ [], record { refusal = 7; arrivals = 0; line = 2 })
+    ∷ (49 ∷ 59 ∷ 50 ∷ 10 ∷ 51 ∷ 59 ∷ 48 ∷ 44 ∷ 57 ∷ 57 ∷ 57 ∷ 10 ∷ [], record { refusal = 6; arrivals = 0; line = 2 })
+    -- `1;2` and `2;1,5`, then `1;1` or `1;0,999`: a time is held to the greatest of the lines before
+    ∷ (49 ∷ 59 ∷ 50 ∷ 10 ∷ 50 ∷ 59 ∷ 49 ∷ 44 ∷ 53 ∷ 10 ∷ 49 ∷ 59 ∷ 49 ∷ 10 ∷ [], record { refusal = 0; arrivals = 3; line = 0 })
+    ∷ (49 ∷ 59 ∷ 50 ∷ 10 ∷ 50 ∷ 59 ∷ 49 ∷ 44 ∷ 53 ∷ 10 ∷ 49 ∷ 59 ∷ 48 ∷ 44 ∷ 57 ∷ 57 ∷ 57 ∷ 10 ∷ [], record { refusal = 7; arrivals = 0; line = 3 })
     -- an empty line
     ∷ (49 ∷ 59 ∷ 49 ∷ 10 ∷ 10 ∷ [], record { refusal = 14; arrivals = 0; line = 2 })
     ∷ []

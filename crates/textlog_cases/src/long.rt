@@ -5,7 +5,7 @@ use crate::lists::TIME;
 use crate::lists::first_octets;
 use crate::lists::import_and_sum;
 
-// The octets of each line: line n is n in four digits, and `;1`.
+// The octets of each line: line n is n in four digits, and `;2`.
 const LINE: usize = 7;
 
 // The most lines, and their octets.
@@ -30,7 +30,7 @@ fn lines_in_turn() -> [u8; MOST] {
             last_digit(n / 10),
             last_digit(n),
             b';',
-            b'1',
+            b'2',
             b'\n',
         ];
         octets::put_octets(&mut log, i * LINE, &line);
@@ -72,13 +72,13 @@ pub(crate) fn many_lines() {
         b"4097 lines, the last malformed",
         4097,
         4096 * LINE,
-        b"4097,1\n",
+        b"4097,2\n",
     );
     run(
         b"4097 lines, the last of number 0",
         4097,
         4096 * LINE,
-        b"0000;1\n",
+        b"0000;2\n",
     );
     run(
         b"4097 lines, the last early",
@@ -96,7 +96,7 @@ pub(crate) fn many_lines() {
         b"4097 lines, line 4096 of number 0",
         4097,
         4095 * LINE,
-        b"0000;1\n",
+        b"0000;2\n",
     );
     run_short(b"4097 lines into too few places", 4097);
     run_short(b"4096 lines into too few places", 4096);

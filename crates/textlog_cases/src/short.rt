@@ -130,27 +130,36 @@ fn sent() {
 // The order of the refusals of one line.
 fn one_line() {
     run(b"14 before 6", 1, b"9;x\n");
-    run(b"14 before 7", 1, b"1;5\n1;4,\n");
+    run(b"14 before 7", 1, b"1;5\n1;3,\n");
     run(
         b"14 for the time before 6 for the number",
         1,
         b"9;18446744073709551,616\n",
     );
-    run(b"6 before 7", 1, b"1;5\n9;4\n");
+    run(b"6 before 7", 1, b"1;5\n9;3\n");
+}
+
+// Times that go back: each is held to the greatest of the lines before, which may be that of a copy.
+fn times_back() {
     run(b"less by a microsecond", 1, b"1;5\n1;4,999\n");
+    run(b"less by 1000 microseconds", 1, b"1;5\n1;4\n");
+    run(b"less by 1001 microseconds", 1, b"1;5\n1;3,999\n");
+    run(b"times 2, 1,5 and 1", 3, b"1;2\n2;1,5\n3;1\n");
+    run(b"times 2, 1,5 and 0,999", 3, b"1;2\n2;1,5\n3;0,999\n");
+    run(b"times 1,5, 2 of a copy and 1", 3, b"1;1,5\n1;2\n3;1\n");
+    run(
+        b"times 1,5, 2 of a copy and 0,999",
+        3,
+        b"1;1,5\n1;2\n3;0,999\n",
+    );
 }
 
 // The lines are judged in turn.
 fn lines() {
-    run(b"7 at line 2 before 14 at line 3", 1, b"1;5\n1;4\nx\n");
-    run(b"7 at line 2 before 6 at line 3", 1, b"1;5\n1;4\n9;9\n");
+    run(b"7 at line 2 before 14 at line 3", 1, b"1;5\n1;3\nx\n");
+    run(b"7 at line 2 before 6 at line 3", 1, b"1;5\n1;3\n9;9\n");
     run(b"6 at line 1 before 14 at line 2", 1, b"0;5\nx\n");
     run(b"14 at line 3", 1, b"1;5\n1;6\nx\n");
-    run(
-        b"7 against the line before, not the greatest",
-        1,
-        b"1;5\n1;6\n1;5,5\n",
-    );
 }
 
 // Lists that suffice, and that are too short.
@@ -218,7 +227,7 @@ fn short_last() {
     import_into(
         b"7 at line 3 before 8",
         1,
-        b"1;1\n1;2\n1;1\n",
+        b"1;1\n1;3\n1;1\n",
         &mut [NUMBER; 1],
         &mut [TIME; 1],
     );
@@ -246,6 +255,7 @@ pub(crate) fn refused() {
 pub(crate) fn in_order() {
     sent();
     one_line();
+    times_back();
     lines();
     places();
     short_last();

@@ -90,6 +90,38 @@ fn arrivals() {
     );
 }
 
+// Times that go back.
+fn times_back() {
+    run(
+        b"write time less by 1000",
+        1,
+        &[1u32, 1],
+        &[1000u64, 0],
+        &mut [OCTET; 20],
+    );
+    run(
+        b"write times 2000, 1500 and 1000",
+        3,
+        &[1u32, 2, 3],
+        &[2000u64, 1500, 1000],
+        &mut [OCTET; 26],
+    );
+    run(
+        b"write times 2000, 1500 and 999",
+        3,
+        &[1u32, 2, 3],
+        &[2000u64, 1500, 999],
+        &mut [OCTET; 26],
+    );
+    run(
+        b"write times 1500, 2000 of a copy and 999",
+        3,
+        &[1u32, 1, 3],
+        &[1500u64, 2000, 999],
+        &mut [OCTET; 26],
+    );
+}
+
 // Refusals before the arrivals are judged, and 8.
 fn lists_refused() {
     run(
@@ -129,31 +161,31 @@ fn arrivals_refused() {
     run(b"write number K + 1", 1, &[2u32], &[1u64], &mut [OCTET; 9]);
     run(b"write number 0", 1, &[0u32], &[1u64], &mut [OCTET; 9]);
     run(
-        b"write time less by 1",
+        b"write time less by 1001",
         1,
         &[1u32, 1],
-        &[2u64, 1],
+        &[1001u64, 0],
         &mut [OCTET; 20],
     );
     run(
         b"write 6 before 7",
         1,
         &[1u32, 2],
-        &[2u64, 1],
+        &[1001u64, 0],
         &mut [OCTET; 20],
     );
     run(
         b"write 7 at 2 before 6 at 3",
         1,
         &[1u32, 1, 2],
-        &[2u64, 1, 3],
+        &[1001u64, 0, 3],
         &mut [OCTET; 20],
     );
     run(
         b"write 7 before 8",
         1,
         &[1u32, 1],
-        &[2u64, 1],
+        &[1001u64, 0],
         &mut [OCTET; 0],
     );
 }
@@ -180,6 +212,7 @@ fn many_arrivals() {
 // Runs the cases of writing.
 pub(crate) fn written() {
     arrivals();
+    times_back();
     lists_refused();
     arrivals_refused();
     many_arrivals();

@@ -26,7 +26,7 @@ returns : tie.Need-returns
 returns c =
     let a = c .before .before .before .before .before .before .before .args in
     let w = c .before .before .write-record .ensures in
-    let room : a .at + 92 ≤ length (a .out .now) = leb-true _ _ (sym (c .before .before .before .before .before .has-room .ensures) ∙ c .before .before .before .before .if1 .taken) in
+    let room : a .at + 93 ≤ length (a .out .now) = leb-true _ _ (sym (c .before .before .before .before .before .has-room .ensures) ∙ c .before .before .before .before .if1 .taken) in
     (omega (arith, w .place), whole room w)
 
 slice-aggregate-write-record : tie.Need-slice-aggregate-write-record

@@ -28,21 +28,21 @@ same-length c = search needs
 
 returns : tie.Need-returns
 returns c =
-    rw (c .before .before .before .before .before .answer .given .1) (weaken 70 (omega arith) (c .before .before .write-copy .ensures))
+    rw (c .before .before .before .before .before .answer .given .1) (weaken 71 (omega arith) (c .before .before .write-copy .ensures))
 
 same-length-2 : tie.Need-same-length-2
 same-length-2 c = search needs
 
 returns-2 : tie.Need-returns-2
 returns-2 c =
-    rw (c .before .before .before .before .before .answer2 .given .1) (weaken 70 (omega arith) (c .before .before .write-in .ensures))
+    rw (c .before .before .before .before .before .answer2 .given .1) (weaken 71 (omega arith) (c .before .before .write-in .ensures))
 
 same-length-3 : tie.Need-same-length-3
 same-length-3 c = search needs
 
 returns-3 : tie.Need-returns-3
 returns-3 c =
-    rw (c .before .before .before .before .before .answer3 .given .1) (weaken 70 (omega arith) (c .before .before .write-late .ensures))
+    rw (c .before .before .before .before .before .answer3 .given .1) (weaken 71 (omega arith) (c .before .before .write-late .ensures))
 
 pub write-answer-spec : {M : Type 1} → statement M
 write-answer-spec =

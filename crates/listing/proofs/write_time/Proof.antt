@@ -1,19 +1,40 @@
--- `listing::write_time` meets its contract: a number of 64 bits has at most 20 digits. Assumes nothing.
+-- `listing::write_time` meets its contract: a number of 64 bits has at most 20 digits, and before them may be a minus. Assumes
+-- nothing.
+use Prim.Native.Nat.{_≤_}
 use native.Mathlib.Omega.{arith}
+use lib.ListN.{length}
 use borrow.Author.Needs.{needs}
 use Rattle.decimal.proofs.Laws.{at-most-20}
-use Rattle.listing.proofs.Parts.{weaken}
+use Rattle.listing.proofs.Parts.{weaken, then, time-parts}
 use Rattle.listing.proofs.write_time.Statement.{statement}
 use Rattle.listing.proofs.write_time.Tie as tie
 
+write-sign-requires : tie.Need-write-sign-requires
+write-sign-requires c κs = search needs
+
+amount-requires : tie.Need-amount-requires
+amount-requires c κs = search needs
+
 write-digits-requires : tie.Need-write-digits-requires
-write-digits-requires c κs = omega (arith, at-most-20 (c .before .before .args .t) (omega arith))
+write-digits-requires c κs =
+    let w = c .before .before .before .before .write-sign .ensures in
+    omega (arith, w .place, w .within, at-most-20 (c .amount .result) (omega arith))
 
 same-length : tie.Need-same-length
 same-length c = search needs
 
 returns : tie.Need-returns
-returns c = weaken 21 (omega (arith, at-most-20 (c .before .before .before .before .before .args .t) (omega arith))) (c .before .before .write-digits .ensures)
+returns c =
+    let e2 = c .before .before in
+    let e1 = e2 .before .before .before .before .before in
+    let s = e1 .before .before .before in
+    let h : s .args .at ≤ length (s .args .out .now) = omega arith in
+    let amount = e2 .before .amount in
+    rw (time-parts (s .args .late) (amount .result) (s .args .after) (amount .ensures))
+    (weaken 22 (omega (arith, at-most-20 (amount .result) (omega arith)))
+    (then h (e1 .write-sign .ensures) (e2 .write-digits .ensures)))
 
 pub write-time-spec : {M : Type 1} → statement M
-write-time-spec = tie.close (tie.spec write-digits-requires same-length returns)
+write-time-spec =
+    tie.close
+    (tie.spec write-sign-requires amount-requires write-digits-requires same-length returns)

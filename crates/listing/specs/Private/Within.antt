@@ -1,21 +1,28 @@
 -- How many digits the figures of a sample can have. Assumes nothing.
-use Prim.Native.Nat.{ℕ, _^_, _<_}
+use Prim.Native.Nat.{ℕ, _^_, _<_, _≤_}
 use Rattle.rfc4737.specs.declared.Answer.{Answer}
 use Rattle.rfc4737.specs.declared.Answer.the-variants.{Duplicate, InOrder, Reordered}
 use Rattle.rfc4737.specs.declared.Counts.{Counts}
+use Rattle.rfc4737.specs.declared.LateTime.{LateTime}
+use Rattle.rfc4737.specs.declared.LateTime.the-variants.{After, Before}
 use Rattle.rfc4737.specs.declared.ReorderedFigures.{ReorderedFigures}
+use Rattle.rfc4737.specs.Times.{backMost}
 
 -- at most four digits, as have K, A and every record, number, position, extent, jump size, largest n and count of a sample:
 -- none is over 4,096
 abbrev pub Small : ℕ → Type 0
 Small n = n < 10 ^ 4
 
--- the figures of a reordered packet: the late time is one of 64 bits, of at most 20 digits; the byte offset, which is at most
--- 268,365,825, has at most nine
+-- a late time: after, it is one of 64 bits, of at most 20 digits; before, it is at most 1,000
+abbrev pub TimeWithin : LateTime → Type 0
+TimeWithin (After t) = t < 2 ^ 64
+TimeWithin (Before t) = t ≤ backMost
+
+-- the figures of a reordered packet: the byte offset, which is at most 268,365,825, has at most nine digits
 pub record LateWithin (f : ReorderedFigures) : Type 0 where
   pub position : Small (f .position)
   pub extent : Small (f .extent)
-  pub late : f .late < 2 ^ 64
+  pub late : TimeWithin (f .late)
   pub offset : f .offset < 10 ^ 9
   pub largest : Small (f .largest)
 

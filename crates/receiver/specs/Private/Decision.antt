@@ -28,9 +28,9 @@ pub record After (positions : List ℕ) (place position : ℕ) : Type 0 where
   pub place-high : place < window
   pub position-high : getD positions place 0 ≤ position
 
--- whether a time is at most the last
+-- whether a time is at most the greatest
 abbrev pub upTo : ℕ → ℕ → Bool
-upTo last time = leb time last
+upTo greatest time = leb time greatest
 
 -- whether each of the first n of some values passes a test
 unfoldable pub firstPass : (ℕ → Bool) → List ℕ → ℕ → Bool

@@ -29,7 +29,7 @@ pub record JumpFit (s : Stream) (p : Placed) : Type 0 where
   pub position-high : p .position ≤ s .arrived
   pub number-low : 1 ≤ p .number
   pub number-high : p .number ≤ s .sent
-  pub time-high : p .time ≤ s .last
+  pub time-high : p .time ≤ s .greatest
 
 -- what fit places say
 pub record PlacesFit (s : Stream) (places : Places) : Type 0 where

@@ -1,12 +1,12 @@
 -- `receiver_cases::fed` is safe and ends: neither number nor time wraps.
--- Invariant: i is at most the count, and the number at most 2 and 2 for each arrival fed. Measure: count - i.
+-- Invariant: i is at most the count, and the number at most 4 and 2 for each arrival fed. Measure: count - i.
 use borrow.Author.Needs.{needs}
 use Prim.Native.Nat.{_+_, _*_, _-_, _≤_}
 use Rattle.receiver_cases.proofs.fed.Statement.{statement}
 use Rattle.receiver_cases.proofs.fed.Tie as tie
 
 abbrev Inv-loop : tie.InvT-loop
-Inv-loop first rise count r₀ number₀ i₀ r number i = (i ≤ count) × ((count ≤ 4096) × ((rise ≤ 2) × (number ≤ 2 + 2 * i)))
+Inv-loop first rise count r₀ number₀ i₀ r number i = (i ≤ count) × ((count ≤ 4096) × ((rise ≤ 2) × (number ≤ 4 + 2 * i)))
 
 abbrev μ-loop : tie.MeasureT-loop
 μ-loop first rise count r₀ number₀ i₀ r number i = count - i

@@ -13,6 +13,12 @@ enum-known-answer-2 c = search needs
 enum-known-answer-3 : tie.Need-enum-known-answer-3
 enum-known-answer-3 c = search needs
 
+directed-requires : tie.Need-directed-requires
+directed-requires c κs = search needs
+
+amount-requires : tie.Need-amount-requires
+amount-requires c κs = search needs
+
 returns : tie.Need-returns
 returns c = rw (c .before .answer .given .1) refl
 
@@ -20,7 +26,7 @@ returns-2 : tie.Need-returns-2
 returns-2 c = rw (c .before .answer2 .given .1) refl
 
 returns-3 : tie.Need-returns-3
-returns-3 c = rw (c .before .answer3 .given .1) refl
+returns-3 c = rw (c .before .directed .ensures, c .amount .ensures, c .before .before .before .answer3 .given .1) refl
 
 pub answer-figures-spec : {M : Type 1} → statement M
 answer-figures-spec =
@@ -29,6 +35,8 @@ answer-figures-spec =
     enum-known-answer
     enum-known-answer-2
     enum-known-answer-3
+    directed-requires
+    amount-requires
     returns
     returns-2
     returns-3)

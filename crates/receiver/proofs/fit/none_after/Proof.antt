@@ -10,10 +10,10 @@ use Rattle.receiver.proofs.fit.none_after.Statement.{statement}
 use Rattle.receiver.proofs.fit.none_after.Tie as tie
 
 abbrev Inv-loop : tie.InvT-loop
-Inv-loop times count last fit₀ i₀ fit i = (i ≤ count) × (fit ≡ firstPass (upTo last) times i)
+Inv-loop times count greatest fit₀ i₀ fit i = (i ≤ count) × (fit ≡ firstPass (upTo greatest) times i)
 
 abbrev μ-loop : tie.MeasureT-loop
-μ-loop times count last fit₀ i₀ fit i = count - i
+μ-loop times count greatest fit₀ i₀ fit i = count - i
 
 loop-holds : tie.Need-loop-holds Inv-loop μ-loop
 loop-holds c = (search needs, pass-none _ _)

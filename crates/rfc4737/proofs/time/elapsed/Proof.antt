@@ -1,17 +1,20 @@
--- `rfc4737::time::elapsed` meets its contract: where the later time is not later the difference is 0. Assumes nothing.
-use native.Mathlib.Omega.{arith}
+-- `rfc4737::time::elapsed` meets its contract: the test says the direction. Assumes nothing.
 use borrow.Author.Needs.{needs}
+use borrow.Author.Tests.{lt-ltb, le-ltb}
 use Rattle.rfc4737.specs.Times.{elapsed}
 use Rattle.rfc4737.proofs.time.elapsed.Statement.{statement}
 use Rattle.rfc4737.proofs.time.elapsed.Tie as tie
 
+sub-t4 : tie.Need-sub-t4
+sub-t4 c = search needs
+
 returns : tie.Need-returns
 unfolding elapsed
-returns c = omega arith
+returns c = simp (lt-ltb _ _ (c .if1 .taken))
 
 returns-2 : tie.Need-returns-2
 unfolding elapsed
-returns-2 c = omega arith
+returns-2 c = simp (le-ltb _ _ (c .if1 .left))
 
 pub elapsed-spec : {M : Type 1} → statement M
-elapsed-spec = tie.close (tie.spec returns returns-2)
+elapsed-spec = tie.close (tie.spec sub-t4 returns returns-2)
