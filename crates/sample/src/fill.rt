@@ -7,6 +7,7 @@ ghost use Rattle.octets.specs.Memory.{over};
 ghost use Rattle.rfc4737.specs.Judge.{numbersOf, timesOf};
 ghost use Rattle.sample.specs.Format.{itemsIn};
 ghost use Rattle.sample.specs.Decode.{arrivalIn};
+use crate::sections::time_of;
 
 // Fills the payload sizes: so many, which stand from a place on.
 pub(crate) fn fill_sizes(file: &[u8], at: usize, count: usize, sizes: &mut [u16])
@@ -41,7 +42,7 @@ pub(crate) fn fill_arrivals(
         let end = start + 12;
         let arrival = &file[start..end];
         numbers[i] = octets::number_at(arrival, 0, 4) as u32;
-        times[i] = octets::number_at(arrival, 4, 8);
+        times[i] = time_of(arrival);
         i += 1;
     }
 }

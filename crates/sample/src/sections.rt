@@ -2,7 +2,8 @@
 ghost use mathlib.Core.Path.{_≡_};
 ghost use Prim.Native.Nat.{_+_, _*_, _≤_, _<_};
 ghost use lib.ListN.{length};
-ghost use Rattle.octets.specs.Memory.{splice};
+ghost use Rattle.octets.specs.BigEndian.{beValue};
+ghost use Rattle.octets.specs.Memory.{part, splice};
 ghost use Rattle.rfc4737.specs.Judge.{arrivalsOf};
 ghost use Rattle.sample.specs.Format.{section, sizeOctets, arrivalOctets, itemOctets};
 ghost use Rattle.sample.specs.Private.Readings.{countReading, placeReading, sectionReading, refusalOfSection};
@@ -64,6 +65,14 @@ pub(crate) fn section_at(
         return Section::Refused(ENDS_EARLY);
     };
     Section::Whole(count, end)
+}
+
+// The time in an arrival's twelve octets. It is a function by itself so that the compiler reads the eight octets as one
+// number wherever it is called.
+pub(crate) fn time_of(arrival: &[u8]) -> u64
+    ensures { λ r. ⌜ r ≡ beValue (part 4 8 (now (arrival .entry))) ⌝ }
+{
+    octets::number_at(arrival, 4, 8)
 }
 
 // The refusal of a section, 0 for a whole one.

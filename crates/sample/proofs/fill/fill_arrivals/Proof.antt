@@ -93,8 +93,8 @@ slice-write-numbers c =
     let s = kept-numbers (c .before .before .before) in
     omega arith
 
-number-at-requires-2 : tie.Need-number-at-requires-2 Inv-loop μ-loop
-number-at-requires-2 c κs = search needs
+time-of-requires : tie.Need-time-of-requires Inv-loop μ-loop
+time-of-requires c κs = search needs
 
 mul-times : tie.Need-mul-times Inv-loop μ-loop
 mul-times c = search needs
@@ -120,7 +120,7 @@ loop-again c =
       fill-next (numbersOf (arrivalsFrom (now (a .file)) (a .at) (a .count))) (now (a .numbers)) (l .loop .i) 0 (omega arith) (omega arith) (l .loop .inv .1)
           (number-found (a .count) (a .at) (now (a .file)) (l .loop .i) (c .before .number-at .result) (c .before .before .before .loop-test .taken) (c .before .number-at .ensures)),
       fill-next (timesOf (arrivalsFrom (now (a .file)) (a .at) (a .count))) (now (a .times)) (l .loop .i) 0 (omega arith) (omega arith) (l .loop .inv .2)
-          (time-found (a .count) (a .at) (now (a .file)) (l .loop .i) (c .number-at2 .result) (c .before .before .before .loop-test .taken) (c .number-at2 .ensures)),
+          (time-found (a .count) (a .at) (now (a .file)) (l .loop .i) (c .time-of .result) (c .before .before .before .loop-test .taken) (c .time-of .ensures)),
     )
 
 same-length : tie.Need-same-length Inv-loop μ-loop
@@ -157,7 +157,7 @@ fill-arrivals-spec =
     cast-numbers
     mul-numbers
     slice-write-numbers
-    number-at-requires-2
+    time-of-requires
     mul-times
     slice-write-times
     add-i

@@ -40,13 +40,13 @@ turn c =
     omega arith
 
 -- it is the one whose number and time were read
-found : (c : tie.After-number-at2 Inv-loop μ-loop)
-    → record { number = c .before .number-at .result; time = c .number-at2 .result }
+found : (c : tie.After-time-of Inv-loop μ-loop)
+    → record { number = c .before .number-at .result; time = c .time-of .result }
     ≡ getD (arrivalsFrom (now (c .before .before .before .before .before .before .args .file)) (c .before .before .before .before .before .before .args .at) (c .before .before .before .before .before .before .args .count)) (c .before .before .before .before .loop .i) none
 found c =
     let a = c .before .before .before .before .before .before .args in
-    arrival-taken (a .count) (a .at) (now (a .file)) (c .before .before .before .before .loop .i) (c .before .number-at .result) (c .number-at2 .result) none
-    (c .before .before .before .loop-test .taken) (c .before .number-at .ensures) (c .number-at2 .ensures)
+    arrival-taken (a .count) (a .at) (now (a .file)) (c .before .before .before .before .loop .i) (c .before .number-at .result) (c .time-of .result) none
+    (c .before .before .before .loop-test .taken) (c .before .number-at .ensures) (c .time-of .ensures)
 
 loop-holds : tie.Need-loop-holds Inv-loop μ-loop
 loop-holds c =
@@ -73,8 +73,8 @@ part-arrival-end c = search needs
 number-at-requires : tie.Need-number-at-requires Inv-loop μ-loop
 number-at-requires c κs = search needs
 
-number-at-requires-2 : tie.Need-number-at-requires-2 Inv-loop μ-loop
-number-at-requires-2 c κs = search needs
+time-of-requires : tie.Need-time-of-requires Inv-loop μ-loop
+time-of-requires c κs = search needs
 
 judge-one-requires : tie.Need-judge-one-requires Inv-loop μ-loop
 judge-one-requires c κs = search needs
@@ -84,7 +84,7 @@ returns c =
     let l = c .before .before .before .before .before .before in
     let a = l .before .before .args in
     judge-stop (a .sent) (arrivalsFrom (now (a .file)) (a .at) (a .count)) (l .loop .reference) (l .loop .i) none
-    (record { number = c .before .before .before .number-at .result; time = c .before .before .number-at2 .result })
+    (record { number = c .before .before .before .number-at .result; time = c .before .before .time-of .result })
     (turn (c .before .before .before .before .before)) (found (c .before .before)) (l .loop .inv .1)
     (c .before .judge-one .result) (c .before .judge-one .ensures) (c .if1 .taken)
 
@@ -103,7 +103,7 @@ loop-again c =
     let a = l .before .before .args in (
       search needs,
       judge-next (a .sent) (arrivalsFrom (now (a .file)) (a .at) (a .count)) (l .loop .reference) (l .loop .i) none
-          (record { number = c .before .before .before .before .number-at .result; time = c .before .before .before .number-at2 .result })
+          (record { number = c .before .before .before .before .number-at .result; time = c .before .before .before .time-of .result })
           (turn (c .before .before .before .before .before .before)) (found (c .before .before .before)) (l .loop .inv .1)
           (c .before .before .judge-one .result) (c .before .before .judge-one .ensures) (c .before .if1 .left)
           ∙ ap (λ (r : ℕ). judge (a .sent) r (drop (l .loop .i + 1) (arrivalsFrom (now (a .file)) (a .at) (a .count)))) (sym (c .next-reference .ensures)),
@@ -129,7 +129,7 @@ judge-file-spec =
     part-arrival-start
     part-arrival-end
     number-at-requires
-    number-at-requires-2
+    time-of-requires
     judge-one-requires
     returns
     next-reference-requires
