@@ -64,8 +64,8 @@ fn run_short(name: &[u8], lines: u16) {
     );
 }
 
-// 4,096 lines and 4,097, with another line in place of one near the end, and lists that are too short.
-pub(crate) fn many_lines() {
+// 4,096 lines and 4,097, with another line in place of the last.
+fn last_lines() {
     run(b"4096 lines", 4096, 0, b"");
     run(b"4097 lines", 4097, 0, b"");
     run(
@@ -86,6 +86,10 @@ pub(crate) fn many_lines() {
         4096 * LINE,
         b"4096;0\n",
     );
+}
+
+// Another line in place of line 4,096, and lists that are too short.
+fn lines_before_last() {
     run(
         b"4097 lines, line 4096 malformed",
         4097,
@@ -108,6 +112,12 @@ pub(crate) fn many_lines() {
     );
 }
 
+// Runs the cases of 4,096 lines and more.
+pub(crate) fn many_lines() {
+    last_lines();
+    lines_before_last();
+}
+
 // Imports the first octets of a log, after others are put at its start and at a place.
 fn import_first(name: &[u8], log: &mut [u8], first: &[u8], at: usize, last: &[u8], end: usize) {
     octets::put_octets(log, 0, first);
@@ -127,8 +137,8 @@ fn run_digits(name: &[u8], digit: u8, first: &[u8], at: usize, last: &[u8], end:
     import_first(name, &mut log, first, at, last, end);
 }
 
-// A million digits.
-pub(crate) fn many_digits() {
+// A million digits of a number.
+fn digits_of_number() {
     run_digits(
         b"a number of a million zeros and a 1",
         b'0',
@@ -145,6 +155,10 @@ pub(crate) fn many_digits() {
         b"9;1\n",
         1_000_004,
     );
+}
+
+// A million digits of a time, and no more.
+fn digits_of_time() {
     run_digits(
         b"a time of a million zeros and a 5",
         b'0',
@@ -185,4 +199,10 @@ pub(crate) fn many_digits() {
         b"",
         1_000_000,
     );
+}
+
+// Runs the cases of a million digits.
+pub(crate) fn many_digits() {
+    digits_of_number();
+    digits_of_time();
 }

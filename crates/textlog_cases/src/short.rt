@@ -162,7 +162,7 @@ fn lines() {
     run(b"14 at line 3", 1, b"1;5\n1;6\nx\n");
 }
 
-// Lists that suffice, and that are too short.
+// Lists of as many places as there are lines, and of one place less.
 fn places() {
     import_into(
         b"3 lines into 3 and 3 places",
@@ -185,6 +185,10 @@ fn places() {
         &mut [NUMBER; 3],
         &mut [TIME; 2],
     );
+}
+
+// Lists of more places, and of none.
+fn more_and_no_places() {
     import_into(
         b"3 lines into 5 and 4 places",
         1,
@@ -258,5 +262,6 @@ pub(crate) fn in_order() {
     times_back();
     lines();
     places();
+    more_and_no_places();
     short_last();
 }

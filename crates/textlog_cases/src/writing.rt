@@ -30,8 +30,8 @@ fn run(name: &[u8], k: u32, numbers: &[u32], times: &[u64], out: &mut [u8]) {
     write_word(b"\n");
 }
 
-// Arrivals that are written.
-fn arrivals() {
+// Times that are written.
+fn times() {
     run(
         b"write the request's own",
         3,
@@ -60,6 +60,10 @@ fn arrivals() {
         &[18446744073709551615u64],
         &mut [OCTET; 32],
     );
+}
+
+// Logs of no arrival, of one that fills what is lent, and of a copy.
+fn lengths() {
     run(
         b"write no arrival",
         1,
@@ -156,10 +160,14 @@ fn lists_refused() {
     );
 }
 
-// Refusals of arrivals.
-fn arrivals_refused() {
+// Refusals of numbers.
+fn numbers_refused() {
     run(b"write number K + 1", 1, &[2u32], &[1u64], &mut [OCTET; 9]);
     run(b"write number 0", 1, &[0u32], &[1u64], &mut [OCTET; 9]);
+}
+
+// Refusals of times.
+fn times_refused() {
     run(
         b"write time less by 1001",
         1,
@@ -211,9 +219,11 @@ fn many_arrivals() {
 
 // Runs the cases of writing.
 pub(crate) fn written() {
-    arrivals();
+    times();
+    lengths();
     times_back();
     lists_refused();
-    arrivals_refused();
+    numbers_refused();
+    times_refused();
     many_arrivals();
 }
