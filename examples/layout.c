@@ -25,6 +25,9 @@ int main(void) {
     FIELD(imported, refusal);
     FIELD(imported, arrivals);
     FIELD(imported, line);
+    SIZE(records);
+    FIELD(records, refusal);
+    FIELD(records, arrivals);
     SIZE(runs);
     FIELD(runs, closed);
     FIELD(runs, squares);

@@ -34,7 +34,9 @@ enum {
     KRAKOBRAN_STATE_FULL = 11,     /* receiver has accepted 4,096 arrivals */
     KRAKOBRAN_LISTS_DIFFER = 12,   /* the writer's lists of numbers and of times differ in length */
     KRAKOBRAN_OCTET_OUTSIDE = 13,  /* a label octet outside hexadecimal 20 to 7E */
-    KRAKOBRAN_LINE_MALFORMED = 14  /* a line not of the form, or a value over the field's range */
+    KRAKOBRAN_LINE_MALFORMED = 14, /* a line not of the form, or a value over the field's range */
+    KRAKOBRAN_RECORD_CUT = 15,     /* a length that is no multiple of 25 */
+    KRAKOBRAN_SECONDS_OVER = 18    /* a written time whose seconds don't fit 32 bits */
 };
 
 /* Cases of an answer; the last two are a receiver's only. A late time is told by the case, which has its direction, and
@@ -54,6 +56,7 @@ enum {
     KRAKOBRAN_SENT_MOST = 4096,        /* sent packets of a sample (K), at most */
     KRAKOBRAN_ARRIVALS_MOST = 4096,    /* arrivals of a sample (A), at most */
     KRAKOBRAN_FILE_OCTETS = 57414,     /* octets of the longest sample file */
+    KRAKOBRAN_RECORD_OCTETS = 25,      /* octets of an OWAMP packet record */
     KRAKOBRAN_TALLY_PLACES = 101,      /* places of an extent tally */
     KRAKOBRAN_DEGREE_MOST = 100,       /* the greatest n of a degree of n-reordering */
     KRAKOBRAN_LISTING_OCTETS = 262144, /* octets that suffice for any listing */
@@ -123,6 +126,24 @@ krakobran_imported krakobran_import_text(const uint8_t *log, size_t octets, uint
 /* Writes the text log of arrivals of K sent packets from the start of out: three decimals after a comma. */
 krakobran_written krakobran_write_text(uint32_t sent, const uint32_t *numbers, size_t number_count,
                                        const uint64_t *times, size_t time_count, uint8_t *out, size_t room);
+
+/* ---- OWAMP packet records */
+
+/* What was imported: the number of arrivals, 0 with a refusal. */
+typedef struct {
+    uint32_t refusal;
+    uint32_t arrivals;
+} krakobran_records;
+
+/* Imports the OWAMP packet records (RFC 4656, section 3.9, 25 octets each) of K sent packets into lists of sequence numbers
+ * and arrival times in microseconds, from their start and in the order of the receive times; lost packets are left out.
+ * Lists of KRAKOBRAN_ARRIVALS_MOST places suffice for any records. */
+krakobran_records krakobran_import_records(const uint8_t *records, size_t octets, uint32_t sent, uint32_t *numbers,
+                                           size_t number_places, uint64_t *times, size_t time_places);
+
+/* Writes the records of a sample file's arrivals from the start of out, KRAKOBRAN_RECORD_OCTETS for each. A time is written
+ * one second later, its fraction rounded down; the send time is 0. */
+krakobran_written krakobran_write_records(const uint8_t *file, size_t octets, uint8_t *out, size_t room);
 
 /* ---- figures of a sample file */
 

@@ -1,6 +1,7 @@
 #!/usr/bin/env bash
-# Runs ./krakobran-import on accepted and refused logs, on what is no file and with bad arguments, and compares standard
-# output, standard error and the exit status with what is expected. A line for each case; status 1 if one fails.
+# Runs ./krakobran-import on accepted and refused logs and OWAMP records, on what is no file and with bad arguments, and
+# compares standard output, standard error and the exit status with what is expected. A line for each case; status 1 if one
+# fails.
 set -u
 
 root=$(cd -- "$(dirname -- "${BASH_SOURCE[0]}")/.." && pwd) || exit 2
@@ -37,12 +38,18 @@ words() {
     sed -n "s/^-- $1: //p" "$root/crates/rfc4737/specs/Refusals.antt"
 }
 
-# NAME REFUSAL PLACE K: the log of standard input is refused at a line, if PLACE has one.
+# NAME REFUSAL PLACE ARGUMENT..: the input is refused at a line, if PLACE has one, with the arguments and a size of 100.
 refused() {
-    local words
+    local name=$1 place=$3 words
     words=$(words "$2")
+    shift 3
     : > "$dir/expected"
-    try "$1" 1 "$3${words:?no words}" "$4" 100
+    try "$name" 1 "$place${words:?no words}" "$@" 100
+}
+
+# SEQUENCE SECONDS FRACTION: an OWAMP record by octets of its sequence number and receive time.
+record() {
+    printf "\\0\\0\\0\\$1************\\0\\0\\0\\$2\\$3\\0\\0\\0*"
 }
 
 # Samples by their octets: the request's own log, and no arrivals.
@@ -56,6 +63,23 @@ try 'a log by its name' 0 '' 3 100 "$dir/log"
 try 'arguments with leading zeros' 0 '' 0003 0100 "$dir/log"
 printf '\0\0\0\1\377\377\0\0' > "$dir/expected"
 try 'an empty log, and the greatest size' 0 '' 1 65535 < /dev/null
+
+# OWAMP records: packets 2 and 1 in the order of their times, half a second apart, with a lost one of packet 8 between.
+printf '\0\0\0\2\0\144\0\144\0\2\0\0\0\1\0\0\0\0\0\0\0\0\0\0\0\2\0\0\0\0\0\7\241\40' > "$dir/expected"
+{
+    record 1 2 200
+    record 7 0 0
+    record 0 2 0
+} > "$dir/records"
+try 'records on standard input' 0 '' records 2 100 < "$dir/records"
+try 'records by their name' 0 '' records 2 100 "$dir/records"
+printf '\0\0\0\1\377\377\0\0' > "$dir/expected"
+try 'no record, and the greatest size' 0 '' records 1 65535 < /dev/null
+refused 'records, K of 0' 4 '' records 0 < "$dir/records"
+refused 'records, number K + 1' 6 '' records 1 < "$dir/records"
+refused 'records, one octet more' 15 '' records 0 < <(cat "$dir/records"; printf 1)
+: > "$dir/expected"
+try 'records, over 262144 octets' 1 'the input has over 262144 octets' records 1 100 < <(head -c 262145 /dev/zero)
 
 # The report of a log, in one line of shell.
 run=$((run + 1))
@@ -80,14 +104,16 @@ refused 'a time less by 1001 than the greatest' 7 'line 3: ' 2 < <(printf '1;2\n
 refused 'a carriage return' 14 'line 1: ' 2 < <(printf '1;5\r\n')
 refused 'no last line feed' 14 'line 2: ' 2 < <(printf '1;5\n2;6')
 refused 'octet 0' 14 'line 1: ' 2 < <(printf '\0')
-try 'over 262144 octets' 1 'the log has over 262144 octets' 1 100 < <(head -c 262145 /dev/zero)
+try 'over 262144 octets' 1 'the input has over 262144 octets' 1 100 < <(head -c 262145 /dev/zero)
 
 # What is no file, and bad usage.
 try 'a missing file' 1 'there is no such file' 1 100 "$dir/missing"
 try 'a directory' 1 'this is a directory' 1 100 "$dir"
-try 'no arguments' 2 'usage: krakobran-import K SIZE [LOG]'
-try 'one argument' 2 'usage: krakobran-import K SIZE [LOG]' 1
-try 'four arguments' 2 'usage: krakobran-import K SIZE [LOG]' 1 2 3 4
+try 'no arguments' 2 'usage: krakobran-import [records] K SIZE [FILE]'
+try 'one argument' 2 'usage: krakobran-import [records] K SIZE [FILE]' 1
+try 'four arguments' 2 'usage: krakobran-import [records] K SIZE [FILE]' 1 2 3 4
+try 'another word first' 2 'usage: krakobran-import [records] K SIZE [FILE]' record 1 2 3
+try 'the word records alone' 2 'usage: krakobran-import [records] K SIZE [FILE]' records
 try 'K that is no number' 2 'K is no number from 0 to 4294967295' 5x 100 < "$dir/log"
 try 'an empty K' 2 'K is no number from 0 to 4294967295' '' 100 < "$dir/log"
 try 'K with a sign' 2 'K is no number from 0 to 4294967295' -1 100 < "$dir/log"

@@ -5,6 +5,7 @@ use std::hint::black_box;
 
 use crate::boundary::{Meter, Place};
 use crate::receiver::Jumps;
+use crate::records::Records;
 use crate::reference::{
     Answer, Answered, Counts, Degree, DegreeCounts, Figures, Fresh, Gap, LateTime, Ratios, Read, Receiver, RecordAnswer,
     Step, Stepped, Tally, Written,
@@ -438,6 +439,7 @@ pub fn layout() {
         "part" c::Part: start length;
         "written" c::Written: refusal length;
         "imported" Imported: refusal arrivals line;
+        "records" Records: refusal arrivals;
         "runs" c::Runs: closed squares current;
         "stream" c::Stream: sent arrived duplicates inorder next kept greatest runs dropped;
         "places" c::Places: positions numbers times;

@@ -9,6 +9,7 @@ pub mod definition;
 pub mod diff;
 pub mod generate;
 pub mod receiver;
+pub mod records;
 pub mod reference;
 pub mod text;
 pub mod time;

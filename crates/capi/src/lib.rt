@@ -7,6 +7,7 @@ mod figures;
 pub mod held;
 mod label;
 mod noted;
+mod records;
 mod text;
 
 use figures::AnswerFigures;

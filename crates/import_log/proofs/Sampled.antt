@@ -1,28 +1,34 @@
--- The sample file of a log: what is answered where the log is refused, and where its sample is written. Assumes nothing.
-use Prim.Native.Nat.{ℕ, zero, suc, _+_, _^_, _≤_, _<_}
+-- The sample file of a log or of records: what is imported, and what is answered where it is refused and where its sample is written.
+-- Assumes nothing.
+use Prim.Native.Nat.{ℕ, zero, suc, _+_, _≤_}
 use native.Mathlib.Omega.{arith}
 use mathlib.Core.Path.{_≡_, refl, sym, ap, ap₂, _∙_, subst}
 use mathlib.Core.List.{List, [], _∷_}
 use lib.Dec.{ltb}
-use lib.ListN.{length, take, drop, replicate, length-map, length-append}
+use lib.ListN.{length, take, drop, replicate, length-map, length-append, length-replicate}
 use Rattle.octets.specs.Memory.{over}
 use Rattle.octets.proofs.Memory.{over-read}
 use Rattle.rfc4737.specs.declared.Arrival.{Arrival}
-use Rattle.rfc4737.specs.Judge.{arrivalsMost, sentMost, numbersOf, timesOf, arrivalsOf}
-use Rattle.rfc4737.specs.Refusals.{inCase, outputShort}
-use Rattle.rfc4737.proofs.Due.{first-next, first-one}
+use Rattle.rfc4737.specs.Judge.{arrivalsMost, sentMost, numbersOf, timesOf, arrivalsOf, refusalOfLists}
+use Rattle.rfc4737.specs.Refusals.{outside, inCase, firstOf, outputShort}
+use Rattle.rfc4737.proofs.Due.{first-one}
 use Rattle.rfc4737.proofs.Pairs.{arrivals-back}
 use Rattle.sample.specs.Format.{fileOf}
-use Rattle.sample.specs.Calls.{unlessRefused, WrittenTo}
+use Rattle.sample.specs.Judge.{someUnshown}
+use Rattle.sample.specs.Calls.{unlessRefused, refusalFrom, refusalInto, WrittenTo}
 use Rattle.sample.specs.declared.Written.{Written}
 use Rattle.textlog.specs.Decode.{lines, arrivalsIn, judgeLog}
 use Rattle.textlog.specs.Calls.{arrivalsUnless, ImportedFrom}
-use Rattle.textlog.specs.RoundTrip.{sampleFrom}
 use Rattle.textlog.specs.declared.Imported.{Imported}
 use Rattle.textlog.proofs.Filling.{lines-length}
-use Rattle.textlog.proofs.Accepted.{accepted-log, fit-log}
+use Rattle.textlog.proofs.Accepted.{accepted-log, accepted-lists}
 use Rattle.textlog.proofs.Answers.{import-room}
-use Rattle.import_log.specs.Convert.{refusalInto, ConvertedTo}
+use Rattle.owamp.specs.Judge.{refusalIn}
+use Rattle.owamp.specs.Calls.{imported, importRefusal}
+use Rattle.owamp.specs.Calls.{ImportedFrom as RecordsImported}
+use Rattle.owamp.specs.declared.Imported.{Imported as Records}
+use Rattle.owamp.proofs.Answers.{none-refused, import-room as records-room}
+use Rattle.import_log.specs.Convert.{sampleWith, convertRefusal, ConvertedTo}
 use Rattle.import_log.specs.declared.convert.Converted.{Converted}
 
 -- ---- what is imported
@@ -32,6 +38,11 @@ pub take-equal : (k n size : ℕ) → k ≤ n → take k (replicate n size) ≡ 
 take-equal zero n size h = refl
 take-equal (suc k) zero size h = absurd (omega arith)
 take-equal (suc k) (suc n) size h = ap (λ (l : List ℕ). size ∷ l) (take-equal k n size (omega arith))
+
+-- what is written of them
+pub first-sizes : (k size : ℕ) (numbers times out : List ℕ) (written : Written) (out′ : List ℕ) → k ≤ 4096
+    → WrittenTo [] (take k (replicate 4096 size)) numbers times out written out′ → WrittenTo [] (replicate k size) numbers times out written out′
+first-sizes k size numbers times out written out′ h = subst (λ (x : List ℕ). WrittenTo [] x numbers times out written out′) (take-equal k 4096 size h)
 
 -- the first places of a list that was filled
 first-filled : (xs old : List ℕ) {l : List ℕ} {n : ℕ} → n ≡ length xs → l ≡ over xs old → (n ≤ length l) × (take n l ≡ xs)
@@ -52,6 +63,13 @@ module _ (k : ℕ) (log numbers times : List ℕ) (y : Imported) (numbers′ tim
     pub log-sent : k ≤ sentMost
     log-sent = accepted-log k log log-none .most
 
+    pub log-lists : refusalOfLists k (numbersOf (arrivalsIn log)) (timesOf (arrivalsIn log)) ≡ 0
+    log-lists = accepted-lists k log log-none
+
+    -- no line is refused
+    pub log-line : 0 ≡ judgeLog k log .line
+    log-line = sym (ap (λ (x : Imported). x .line) (accepted-log k log log-none .answer))
+
     many : y .arrivals ≡ length (arrivalsIn log)
     many = ap (λ (x : Imported). x .arrivals) (log-answer ∙ accepted-log k log log-none .answer) ∙ sym (lines-length (lines log))
 
@@ -66,51 +84,88 @@ module _ (k : ℕ) (log numbers times : List ℕ) (y : Imported) (numbers′ tim
         first-filled (timesOf (arrivalsIn log)) times (many ∙ sym (length-map (arrivalsIn log) _))
         (f .filledTimes ∙ ap (λ (r : ℕ). over (timesOf (arrivalsUnless r (arrivalsIn log))) times) z)
 
+module _ (k : ℕ) (os numbers times : List ℕ) (y : Records) (numbers′ times′ : List ℕ)
+    (f : RecordsImported k os numbers times y numbers′ times′) (n : arrivalsMost ≤ length numbers) (t : arrivalsMost ≤ length times) where
+  -- where there are places for 4,096 arrivals, the refusal is the records' own
+  pub records-refusal : y .refusal ≡ refusalIn k os
+  records-refusal = f .refusal ∙ records-room k (length numbers) (length times) os n t
+
+  module _ (z : y .refusal ≡ 0) where
+    pub records-none : refusalIn k os ≡ 0
+    records-none = sym records-refusal ∙ z
+
+    pub records-sent : k ≤ sentMost
+    records-sent = none-refused k os records-none .most
+
+    into : importRefusal k (length numbers) (length times) os ≡ 0
+    into = sym (f .refusal) ∙ z
+
+    many-records : y .arrivals ≡ length (imported os)
+    many-records = f .arrivals ∙ ap (λ (r : ℕ). length (unlessRefused r (numbersOf (imported os)))) into ∙ length-map (imported os) _
+
+    -- the first places hold the arrivals
+    pub records-numbers : (y .arrivals ≤ length numbers′) × (take (y .arrivals) numbers′ ≡ numbersOf (imported os))
+    records-numbers =
+        first-filled (numbersOf (imported os)) numbers (many-records ∙ sym (length-map (imported os) _))
+        (f .filledNumbers ∙ ap (λ (r : ℕ). over (unlessRefused r (numbersOf (imported os))) numbers) into)
+
+    pub records-times : (y .arrivals ≤ length times′) × (take (y .arrivals) times′ ≡ timesOf (imported os))
+    records-times =
+        first-filled (timesOf (imported os)) times (many-records ∙ sym (length-map (imported os) _))
+        (f .filledTimes ∙ ap (λ (r : ℕ). over (unlessRefused r (timesOf (imported os))) times) into)
+
 -- ---- what is answered
 
-module _ (k size : ℕ) (log out : List ℕ) where
+-- with no label, and nothing of K and the lists refused, the sample's writer refuses by 8 alone
+label-none : (sizes numbers times : List ℕ) → refusalOfLists (length sizes) numbers times ≡ 0 → refusalFrom [] sizes numbers times ≡ 0
+unfolding refusalFrom outside someUnshown
+label-none sizes numbers times e = rw e
+
+room-alone : (room : ℕ) (sizes numbers times : List ℕ) → refusalOfLists (length sizes) numbers times ≡ 0
+    → refusalInto room [] sizes numbers times ≡ inCase (ltb room (length (fileOf (record { label = []; sizes = sizes; arrivals = arrivalsOf numbers times })))) outputShort
+unfolding refusalInto
+room-alone room sizes numbers times e = rw (label-none sizes numbers times e) (first-one _)
+
+module _ (k size refusal line : ℕ) (l : List Arrival) (out : List ℕ) where
   -- by the refusal
-  by-refusal : (y : Converted) {out′ : List ℕ} → y .refusal ≡ refusalInto k size (length out) log → y .line ≡ judgeLog k log .line
-      → y .length ≡ length (unlessRefused (y .refusal) (fileOf (sampleFrom k size log)))
-      → out′ ≡ over (unlessRefused (y .refusal) (fileOf (sampleFrom k size log))) out → ConvertedTo k size log out y out′
-  by-refusal y e l n f =
+  by-refusal : (y : Converted) {out′ : List ℕ} → y .refusal ≡ convertRefusal refusal (length out) (sampleWith k size l) → y .line ≡ line
+      → y .length ≡ length (unlessRefused (y .refusal) (fileOf (sampleWith k size l)))
+      → out′ ≡ over (unlessRefused (y .refusal) (fileOf (sampleWith k size l))) out → ConvertedTo refusal line (sampleWith k size l) out y out′
+  by-refusal y e m n f =
       record {
-        refusal = e;
-        line = l;
-        octets = n ∙ ap (λ (r : ℕ). length (unlessRefused r (fileOf (sampleFrom k size log)))) e;
-        filled = f ∙ ap (λ (r : ℕ). over (unlessRefused r (fileOf (sampleFrom k size log))) out) e;
+        refused = e;
+        atLine = m;
+        octets = n ∙ ap (λ (r : ℕ). length (unlessRefused r (fileOf (sampleWith k size l)))) e;
+        filled = f ∙ ap (λ (r : ℕ). over (unlessRefused r (fileOf (sampleWith k size l))) out) e;
       }
 
-  -- the log is refused
-  pub convert-refused : (y : Imported) → y ≡ judgeLog k log → (y .refusal ≡ 0 → ⊥)
-      → ConvertedTo k size log out (record { refusal = y .refusal; line = y .line; length = 0 }) out
-  unfolding refusalInto
-  convert-refused y e z = go (y .refusal) refl z
-    where
-      go : (r : ℕ) → y .refusal ≡ r → (r ≡ 0 → ⊥)
-          → ConvertedTo k size log out (record { refusal = y .refusal; line = y .line; length = 0 }) out
-      go zero f z = absurd (z refl)
-      go (suc r) f z =
-          let g : judgeLog k log .refusal ≡ suc r = ap (λ (x : Imported). x .refusal) (sym e) ∙ f in
-          by-refusal (record { refusal = y .refusal; line = y .line; length = 0 }) (f ∙ sym (rw g)) (ap (λ (x : Imported). x .line) e)
-          (rw f) (rw f)
+  -- the input is refused
+  pub convert-refused : (r m : ℕ) → r ≡ refusal → m ≡ line → (r ≡ 0 → ⊥)
+      → ConvertedTo refusal line (sampleWith k size l) out (record { refusal = r; line = m; length = 0 }) out
+  unfolding convertRefusal
+  convert-refused zero m e f z = absurd (z refl)
+  convert-refused (suc r) m e f z =
+      by-refusal (record { refusal = suc r; line = m; length = 0 })
+      (ap (λ (x : ℕ). firstOf (x ∷ inCase (ltb (length out) (length (fileOf (sampleWith k size l)))) outputShort ∷ [])) e) f refl refl
 
   -- its sample is written, or there is no room
-  pub convert-written : (written : Written) (out′ : List ℕ) {sizes numbers times : List ℕ} → judgeLog k log .refusal ≡ 0 → size < 2 ^ 16
-      → sizes ≡ replicate k size → numbers ≡ numbersOf (arrivalsIn log) → times ≡ timesOf (arrivalsIn log)
-      → WrittenTo [] sizes numbers times out written out′
-      → ConvertedTo k size log out (record { refusal = written .refusal; line = 0; length = written .length }) out′
-  unfolding refusalInto
-  convert-written written out′ {sizes} {numbers} {times} z h es en et w₀ =
-      let w : WrittenTo [] (replicate k size) (numbersOf (arrivalsIn log)) (timesOf (arrivalsIn log)) out written out′ =
-      subst (λ (x : List ℕ). WrittenTo [] (replicate k size) (numbersOf (arrivalsIn log)) x out written out′) et
-      (subst (λ (x : List ℕ). WrittenTo [] (replicate k size) x times out written out′) en
-      (subst (λ (x : List ℕ). WrittenTo [] x numbers times out written out′) es w₀)) in
-      let short : ℕ = inCase (ltb (length out) (length (fileOf (sampleFrom k size log)))) outputShort in
-      let same : fileOf (record { label = []; sizes = replicate k size; arrivals = arrivalsOf (numbersOf (arrivalsIn log)) (timesOf (arrivalsIn log)) }) ≡ fileOf (sampleFrom k size log) =
-      ap (λ (l : List Arrival). fileOf (record { label = []; sizes = replicate k size; arrivals = l })) (arrivals-back (arrivalsIn log)) in
+  pub convert-written : (written : Written) (out′ : List ℕ) {numbers times : List ℕ} → refusal ≡ 0 → 0 ≡ line
+      → refusalOfLists k (numbersOf l) (timesOf l) ≡ 0 → numbers ≡ numbersOf l → times ≡ timesOf l
+      → WrittenTo [] (replicate k size) numbers times out written out′
+      → ConvertedTo refusal line (sampleWith k size l) out (record { refusal = written .refusal; line = 0; length = written .length }) out′
+  unfolding convertRefusal
+  convert-written written out′ {numbers} {times} z m j en et w₀ =
+      let w : WrittenTo [] (replicate k size) (numbersOf l) (timesOf l) out written out′ =
+      subst (λ (x : List ℕ). WrittenTo [] (replicate k size) (numbersOf l) x out written out′) et
+      (subst (λ (x : List ℕ). WrittenTo [] (replicate k size) x times out written out′) en w₀) in
+      let short : ℕ = inCase (ltb (length out) (length (fileOf (sampleWith k size l)))) outputShort in
+      let same : fileOf (record { label = []; sizes = replicate k size; arrivals = arrivalsOf (numbersOf l) (timesOf l) }) ≡ fileOf (sampleWith k size l) =
+      ap (λ (x : List Arrival). fileOf (sampleWith k size x)) (arrivals-back l) in
+      let alone : written .refusal ≡ short =
+      w .refusal
+      ∙ room-alone (length out) (replicate k size) (numbersOf l) (timesOf l) (ap (λ (n : ℕ). refusalOfLists n (numbersOf l) (timesOf l)) (length-replicate k size) ∙ j)
+      ∙ ap (λ (os : List ℕ). inCase (ltb (length out) (length os)) outputShort) same in
       by-refusal (record { refusal = written .refusal; line = 0; length = written .length })
-      (fit-log k log size h z .refusal out out′ written w ∙ sym (first-next (judgeLog k log .refusal) (short ∷ []) z ∙ first-one short))
-      (sym (ap (λ (x : Imported). x .line) (accepted-log k log z .answer)))
+      (alone ∙ sym (ap (λ (x : ℕ). firstOf (x ∷ short ∷ [])) z ∙ first-one short)) m
       (w .octets ∙ ap length (ap₂ unlessRefused (sym (w .refusal)) same))
       (w .filled ∙ ap (λ (x : List ℕ). over x out) (ap₂ unlessRefused (sym (w .refusal)) same))

@@ -1,9 +1,14 @@
-// An argument of the program that is a number in decimal.
+// The arguments of the program: numbers in decimal, and the word `records`.
 ghost use mathlib.Core.Path.{_≡_};
-ghost use Rattle.import_log.specs.Arguments.{argumentIn};
+ghost use Rattle.import_log.specs.Arguments.{argumentIn, isRecords};
 
 // The greatest number that an argument may be.
 const MOST: u64 = 4_294_967_295;
+
+// The octets of the word `records`, and their value as a big-endian number.
+const RECORDS_OCTETS: usize = 7;
+
+const RECORDS_VALUE: u64 = 32199625090950259;
 
 // What an argument gives: its number, or that it is none, or too great.
 pub(crate) enum Argument {
@@ -27,4 +32,14 @@ pub(crate) fn number_in(word: &[u8]) -> Argument
         return Argument::Bad;
     }
     Argument::Given(value as u32)
+}
+
+// Whether a word is `records`.
+pub(crate) fn is_records(word: &[u8]) -> bool
+    ensures { λ r. ⌜ r ≡ isRecords (now (word .entry)) ⌝ }
+{
+    if word.len() != RECORDS_OCTETS {
+        return false;
+    }
+    octets::number_at(word, 0, RECORDS_OCTETS) == RECORDS_VALUE
 }

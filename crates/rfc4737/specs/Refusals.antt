@@ -61,6 +61,14 @@ octetOutside = 13
 abbrev pub lineMalformed : ℕ
 lineMalformed = 14
 
+-- 15: a length that is no multiple of 25
+abbrev pub recordCut : ℕ
+recordCut = 15
+
+-- 18: a written time whose seconds don't fit 32 bits
+abbrev pub secondsOver : ℕ
+secondsOver = 18
+
 -- whether a number lies in low to high
 abbrev pub within : ℕ → ℕ → ℕ → Bool
 within low high n = leb low n && leb n high

@@ -29,3 +29,7 @@ pub const LISTS_DIFFER: u32 = 12;
 pub const OCTET_OUTSIDE: u32 = 13;
 
 pub const LINE_MALFORMED: u32 = 14;
+
+pub const RECORD_CUT: u32 = 15;
+
+pub const SECONDS_OVER: u32 = 18;

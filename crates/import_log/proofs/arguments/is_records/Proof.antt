@@ -1,0 +1,30 @@
+-- `import_log::arguments::is_records` meets its contract. Assumes nothing.
+use mathlib.Core.Bool.{_&&_}
+use mathlib.Core.Path.{_≡_, ap, _∙_}
+use borrow.Author.Needs.{needs}
+use borrow.Author.Tests.{eq-eqb, ne-eqb}
+use lib.Dec.{eqb}
+use lib.ListN.{length}
+use Prim.Native.Nat.{ℕ}
+use denote.Ref.{now}
+use Rattle.octets.specs.BigEndian.{beValue}
+use Rattle.octets.specs.Memory.{part}
+use Rattle.import_log.specs.Arguments.{isRecords}
+use Rattle.import_log.proofs.arguments.is_records.Statement.{statement}
+use Rattle.import_log.proofs.arguments.is_records.Tie as tie
+
+returns : tie.Need-returns
+unfolding isRecords
+returns c = rw (ne-eqb (length (now (c .before .before .args .word))) 7 (c .if1 .taken))
+
+number-at-requires : tie.Need-number-at-requires
+number-at-requires c κs = search needs
+
+returns-2 : tie.Need-returns-2
+unfolding isRecords beValue
+returns-2 c =
+    let word = now (c .before .before .before .args .word) in
+    rw (eq-eqb (length word) 7 (c .before .if1 .left)) (ap (λ (v : ℕ). eqb v 32199625090950259) (c .number-at .ensures))
+
+pub is-records-spec : {M : Type 1} → statement M
+is-records-spec = tie.close (tie.spec returns number-at-requires returns-2)

@@ -1,0 +1,36 @@
+-- The clock: rounding down, its distance from the exact time, and that it keeps the order. Assumes nothing.
+use Prim.Native.Nat.{ℕ, _+_, _*_, _/_, _%_, _≤_, min}
+use native.Mathlib.Omega.{arith}
+use mathlib.Core.List.{List, [], _∷_, foldl, map}
+use mathlib.Core.Path.{_≡_, refl, ap, _∙_}
+use Rattle.rfc4737.specs.declared.Arrival.{Arrival}
+use Rattle.rfc4737.specs.Judge.{timesOf}
+use Rattle.owamp.specs.Order.{NotBefore, Rising}
+use Rattle.owamp.specs.Clock.{fractions, micros, microseconds, takenOff, Distance, smallest}
+
+-- the distance from the exact time
+pub distance : (stamp : ℕ) → Distance stamp
+unfolding microseconds takenOff
+distance stamp = record { exact = omega arith; under = omega arith }
+
+-- by seconds and fractions
+pub by-halves : (stamp : ℕ) → stamp / fractions * micros + stamp % fractions * micros / fractions ≡ microseconds stamp
+unfolding microseconds
+by-halves stamp = omega arith
+
+-- a time that is not before another is not before it in microseconds
+pub micro-rising : (s t : ℕ) → s ≤ t → microseconds s ≤ microseconds t
+unfolding microseconds
+micro-rising s t h = omega arith
+
+-- the smallest where none is before the first
+first-smallest : (t : ℕ) (l : List Arrival) → NotBefore t l → foldl min (microseconds t) (map microseconds (timesOf l)) ≡ microseconds t
+first-smallest t [] n = refl
+first-smallest t (a ∷ l) n =
+    let k = micro-rising t (a .time) (n .0) in
+    let e : min (microseconds t) (microseconds (a .time)) ≡ microseconds t = omega arith in
+    ap (λ (x : ℕ). foldl min x (map microseconds (timesOf l))) e ∙ first-smallest t l (n .1)
+
+-- where no time goes back the smallest is the first
+pub rising-smallest : (a : Arrival) (l : List Arrival) → Rising (a ∷ l) → smallest (map microseconds (timesOf (a ∷ l))) ≡ microseconds (a .time)
+rising-smallest a l r = first-smallest (a .time) l (r .0)

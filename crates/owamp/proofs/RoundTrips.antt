@@ -1,0 +1,156 @@
+-- Records written and read again. Assumes nothing.
+use Prim.Native.Nat.{ℕ, _+_, _-_, _*_, _%_, _^_, _≤_, _<_}
+use native.Mathlib.Omega.{arith}
+use mathlib.Core.Bool.{false, not}
+use mathlib.Core.List.{List, [], _∷_, _++_, append-assoc, map}
+use mathlib.Core.Path.{_≡_, refl, sym, ap, _∙_}
+use lib.Dec.{ltb, eqb}
+use lib.ListN.{length, take, drop, length-append, length-map}
+use lib.Seq.{take-at, drop-at}
+use borrow.Author.Tests.{ltb-false, ne-eqb, eq-eqb}
+use Rattle.octets.specs.BigEndian.{beValue, beOctets}
+use Rattle.octets.specs.Memory.{part}
+use Rattle.octets.proofs.BigEndian.{octets-length, value-octets, value-append}
+use Rattle.rfc4737.specs.declared.Arrival.{Arrival}
+use Rattle.rfc4737.specs.Refusals.{outside, firstOf, numberOutside, secondsOver}
+use Rattle.rfc4737.specs.Judge.{numbersOf}
+use Rattle.sample.specs.Format.{itemsIn, itemOctets}
+use Rattle.owamp.specs.Record.{recordIn, recordCount, passing, arrived, arrivalsIn}
+use Rattle.owamp.specs.Order.{NotBefore, Rising, inOrder}
+use Rattle.owamp.specs.Clock.{fromSmallest, writtenSeconds, writtenFraction}
+use Rattle.owamp.specs.Judge.{judgeNumber, judgeNumbers, refusalIn, secondsMost, judgeTime, judgeSeconds}
+use Rattle.owamp.specs.Calls.{imported, recordOctets, recordsOf}
+use Rattle.rfc4737.proofs.Due.{first-none, case-none, between, not-outside}
+use Rattle.sample.proofs.Items.{octets-many}
+use Rattle.owamp.proofs.Sorted.{order-rising}
+use Rattle.owamp.proofs.Converted.{smallest-numbers}
+
+-- a written receive time as the number of 64 bits that it is
+abbrev pub stampOf : ℕ → ℕ
+stampOf t = writtenSeconds t * 4294967296 + writtenFraction t
+
+-- it keeps the order
+pub stamp-rising : (s t : ℕ) → s ≤ t → stampOf s ≤ stampOf t
+stamp-rising s t h = omega arith
+
+-- an arrival with it
+abbrev pub stamped : Arrival → Arrival
+stamped a = record { number = a .number; time = stampOf (a .time) }
+
+-- ---- one record
+
+-- up to the receive timestamp
+abbrev before : Arrival → List ℕ
+before a = beOctets 4 (a .number - 1) ++ (beOctets 2 1 ++ (beOctets 2 1 ++ beOctets 8 0))
+
+abbrev received : Arrival → List ℕ
+received a = beOctets 4 (writtenSeconds (a .time)) ++ beOctets 4 (writtenFraction (a .time))
+
+regroup : (a b c d e f g : List ℕ) → a ++ (b ++ (c ++ (d ++ (e ++ (f ++ g))))) ≡ (a ++ (b ++ (c ++ d))) ++ ((e ++ f) ++ g)
+regroup a b c d e f g = simp append-assoc
+
+parts : (a : Arrival) → recordOctets a ≡ before a ++ (received a ++ beOctets 1 255)
+unfolding recordOctets
+parts a = regroup (beOctets 4 (a .number - 1)) (beOctets 2 1) (beOctets 2 1) (beOctets 8 0) (beOctets 4 (writtenSeconds (a .time))) (beOctets 4 (writtenFraction (a .time))) (beOctets 1 255)
+
+-- 25 octets
+pub record-long : (a : Arrival) → length (recordOctets a) ≡ 25
+unfolding recordOctets
+record-long a = simp (length-append, octets-length)
+
+-- what is read from it
+pub record-read : (a : Arrival) → 1 ≤ a .number → a .number ≤ 4096 → writtenSeconds (a .time) < 256 ^ 4 → recordIn (recordOctets a) ≡ stamped a
+unfolding recordIn recordOctets
+record-read a h k s =
+    let u : length (before a) ≡ 16 = simp (length-append, octets-length) in
+    let v : length (received a) ≡ 8 = simp (length-append, octets-length) in
+    let p : part 0 4 (recordOctets a) ≡ beOctets 4 (a .number - 1) = take-at (beOctets 4 (a .number - 1)) _ 4 (octets-length 4 (a .number - 1)) in
+    let q : part 16 8 (recordOctets a) ≡ received a =
+    ap (λ (l : List ℕ). take 8 (drop 16 l)) (parts a) ∙ ap (take 8) (drop-at (before a) (received a ++ beOctets 1 255) 16 u) ∙ take-at (received a) (beOctets 1 255) 8 v in
+    let m : beValue (beOctets 4 (a .number - 1)) ≡ a .number - 1 = value-octets 4 (a .number - 1) (omega arith) in
+    let f : writtenFraction (a .time) < 256 ^ 4 = omega arith in
+    let n : beValue (part 0 4 (recordOctets a)) + 1 ≡ a .number = ap (λ (l : List ℕ). beValue l + 1) p ∙ (let w : beValue (beOctets 4 (a .number - 1)) + 1 ≡ a .number = omega arith in w) in
+    let t : beValue (part 16 8 (recordOctets a)) ≡ stampOf (a .time) =
+    ap beValue q ∙ value-append (beOctets 4 (writtenSeconds (a .time))) (beOctets 4 (writtenFraction (a .time)))
+    ∙ rw (octets-length 4 (writtenFraction (a .time)), value-octets 4 (writtenSeconds (a .time)) s, value-octets 4 (writtenFraction (a .time)) f) in
+    (λ j. record { number = n j; time = t j })
+
+-- ---- all of them
+
+-- what is known of arrivals that are not refused
+judged : (k : ℕ) (a : Arrival) (l : List Arrival) → judgeNumbers k (a ∷ l) ≡ 0 → ((1 ≤ a .number) × (a .number ≤ k)) × (judgeNumbers k l ≡ 0)
+unfolding judgeNumbers judgeNumber
+judged k a l e =
+    let p = first-none (judgeNumber k a) (map (judgeNumber k) l) e in
+    (between 1 k (a .number) (case-none (outside 1 k (a .number)) numberOutside (omega arith) (p .0)), p .1)
+
+timed : (a : Arrival) (l : List Arrival) → judgeSeconds (a ∷ l) ≡ 0 → (writtenSeconds (a .time) < 256 ^ 4) × (judgeSeconds l ≡ 0)
+unfolding judgeSeconds judgeTime
+timed a l e =
+    let p = first-none (judgeTime (a .time)) (map (λ (a : Arrival). judgeTime (a .time)) l) e in
+    let q = ltb-false secondsMost (writtenSeconds (a .time)) (case-none (ltb secondsMost (writtenSeconds (a .time))) secondsOver (omega arith) (p .0)) in
+    (omega arith, p .1)
+
+items-read : (k : ℕ) (l : List Arrival) → k ≤ 4096 → judgeNumbers k l ≡ 0 → judgeSeconds l ≡ 0 → itemsIn 25 recordIn (length l) (itemOctets recordOctets l) ≡ map stamped l
+unfolding itemsIn itemOctets
+items-read k [] h e s = refl
+items-read k (a ∷ l) h e s =
+    let p = judged k a l e in
+    let q = timed a l s in
+    let r : recordIn (recordOctets a) ≡ stamped a = record-read a (p .0 .0) (omega (arith, p .0 .1)) (q .0) in
+    rw (take-at (recordOctets a) (itemOctets recordOctets l) 25 (record-long a), drop-at (recordOctets a) (itemOctets recordOctets l) 25 (record-long a), r, items-read k l h (p .1) (q .1))
+
+pub records-many : (l : List Arrival) → length (recordsOf l) ≡ 25 * length l
+unfolding recordsOf
+records-many l = octets-many recordOctets 25 record-long l
+
+all-arrived : (l : List Arrival) → passing arrived (map stamped l) ≡ map stamped l
+unfolding passing
+all-arrived [] = refl
+all-arrived (a ∷ l) =
+    let e : eqb (stampOf (a .time)) 0 ≡ false = ne-eqb (stampOf (a .time)) 0 (λ q. omega arith) in
+    rw (e, all-arrived l)
+
+pub arrivals-read : (k : ℕ) (l : List Arrival) → k ≤ 4096 → judgeNumbers k l ≡ 0 → judgeSeconds l ≡ 0 → arrivalsIn (recordsOf l) ≡ map stamped l
+unfolding arrivalsIn recordsOf
+arrivals-read k l h e s =
+    let n : recordCount (itemOctets recordOctets l) ≡ length l = omega (arith, octets-many recordOctets 25 record-long l) in
+    ap (λ (c : ℕ). passing arrived (itemsIn 25 recordIn c (itemOctets recordOctets l))) n ∙ ap (passing arrived) (items-read k l h e s) ∙ all-arrived l
+
+stamped-before : (t : ℕ) (l : List Arrival) → NotBefore t l → NotBefore (stampOf t) (map stamped l)
+stamped-before t [] n = tt
+stamped-before t (a ∷ l) n = (stamp-rising t (a .time) (n .0), stamped-before t l (n .1))
+
+stamped-rising : (l : List Arrival) → Rising l → Rising (map stamped l)
+stamped-rising [] r = tt
+stamped-rising (a ∷ l) r = (stamped-before (a .time) l (r .0), stamped-rising l (r .1))
+
+stamped-numbers : (l : List Arrival) → numbersOf (map stamped l) ≡ numbersOf l
+stamped-numbers [] = refl
+stamped-numbers (a ∷ l) = ap (λ (m : List ℕ). a .number ∷ m) (stamped-numbers l)
+
+stamped-each : (k : ℕ) (l : List Arrival) → map (judgeNumber k) (map stamped l) ≡ map (judgeNumber k) l
+unfolding judgeNumber
+stamped-each k [] = refl
+stamped-each k (a ∷ l) = ap (λ (rs : List ℕ). judgeNumber k a ∷ rs) (stamped-each k l)
+
+stamped-judged : (k : ℕ) (l : List Arrival) → judgeNumbers k (map stamped l) ≡ judgeNumbers k l
+unfolding judgeNumbers
+stamped-judged k l = ap firstOf (stamped-each k l)
+
+-- arrivals of packets 1 to K whose times can be written and do not go back, written as records and read again: none is refused, and they
+-- have the same numbers in the same order
+pub records-again : (k : ℕ) (l : List Arrival) → 1 ≤ k → k ≤ 4096 → length l ≤ 4096 → judgeNumbers k l ≡ 0 → judgeSeconds l ≡ 0 → Rising l
+    → (refusalIn k (recordsOf l) ≡ 0) × (numbersOf (imported (recordsOf l)) ≡ numbersOf l)
+unfolding refusalIn imported
+records-again k l h₁ h₂ m e s r =
+    let q : arrivalsIn (recordsOf l) ≡ map stamped l = arrivals-read k l h₂ e s in
+    let n : length (recordsOf l) % 25 ≡ 0 = omega (arith, records-many l) in
+    let c : length (arrivalsIn (recordsOf l)) ≡ length l = ap length q ∙ length-map l stamped in
+    let j : judgeNumbers k (arrivalsIn (recordsOf l)) ≡ 0 = ap (judgeNumbers k) q ∙ stamped-judged k l ∙ e in
+    let o : outside 0 4096 (length (arrivalsIn (recordsOf l))) ≡ false = not-outside 0 4096 _ (omega arith) (omega arith) in (
+      simp (eq-eqb _ _ n, not-outside 1 4096 k h₁ h₂, o, j),
+      ap (λ (x : List Arrival). numbersOf (fromSmallest (inOrder x))) q
+          ∙ ap (λ (x : List Arrival). numbersOf (fromSmallest x)) (order-rising (map stamped l) (stamped-rising l r))
+          ∙ sym (smallest-numbers (map stamped l)) ∙ stamped-numbers l,
+    )

@@ -1,0 +1,157 @@
+-- The writer: its judge, one record into lent octets, and its answers. Assumes nothing.
+use Prim.Native.Nat.{ℕ, zero, suc, _+_, _-_, _≤_, _<_}
+use native.Mathlib.Omega.{arith}
+use mathlib.Core.List.{List, [], _∷_, _++_, append-assoc}
+use mathlib.Core.Path.{_≡_, refl, sym, ap, subst, _∙_}
+use lib.Dec.{ltb}
+use lib.ListN.{length, getD, take, length-append, length-map}
+use borrow.Author.Tests.{lt-ltb, le-ltb}
+use Rattle.octets.specs.Below.{Octets}
+use Rattle.octets.specs.BigEndian.{beOctets}
+use Rattle.octets.specs.Memory.{over, splice, put}
+use Rattle.octets.proofs.BigEndian.{octets-length}
+use Rattle.octets.proofs.Memory.{put-next, over-splice, over-read}
+use Rattle.rfc4737.specs.declared.Arrival.{Arrival}
+use Rattle.rfc4737.specs.Refusals.{inCase, firstOf, outputShort}
+use Rattle.rfc4737.specs.Judge.{numbersOf}
+use Rattle.sample.specs.Decode.{decode, sampleOf, refusalOf, layoutOf, accepted}
+use Rattle.sample.specs.Calls.{unlessRefused}
+use Rattle.owamp.specs.Record.{arrivalsIn}
+use Rattle.owamp.specs.Clock.{writtenSeconds, writtenFraction}
+use Rattle.owamp.specs.Judge.{judgeNumber, judgeNumbers, refusalIn, judgeSeconds}
+use Rattle.owamp.specs.Calls.{importRefusal, imported, ImportedFrom, recordOctets, recordsOf, arrivalsOfFile, writeRefusal, WrittenFrom}
+use Rattle.owamp.specs.RoundTrip.{ReadAgain}
+use Rattle.owamp.specs.Private.Reading.{noArrival, Found}
+use Rattle.sample.specs.declared.Layout.{Layout}
+use Rattle.rfc4737.proofs.Due.{first-none, not-outside}
+use Rattle.sample.proofs.Accepted.{found-sample, accepted-limits, number-within}
+use Rattle.owamp.proofs.RoundTrips.{records-again, arrivals-read, stamped}
+
+-- ---- one record into 25 octets
+
+regroup : (a b c d e f g : List ℕ) → (((((a ++ b) ++ c) ++ d) ++ e) ++ f) ++ g ≡ a ++ (b ++ (c ++ (d ++ (e ++ (f ++ g)))))
+regroup a b c d e f g = simp append-assoc
+
+-- so many octets more
+chain : (at w : ℕ) (xs : List ℕ) (v : ℕ) (old : List ℕ) {d d′ : List ℕ} → length xs ≡ at → at + w ≤ length old → d ≡ put 0 xs old → d′ ≡ put at (beOctets w v) d
+    → d′ ≡ put 0 (xs ++ beOctets w v) old
+chain at w xs v old e h p q =
+    let l : length (beOctets w v) ≡ w = octets-length w v in
+    q ∙ ap (put at (beOctets w v)) p ∙ put-next 0 at xs (beOctets w v) old (omega arith) (omega arith)
+
+longer : (at w : ℕ) (xs : List ℕ) (v : ℕ) → length xs ≡ at → length (xs ++ beOctets w v) ≡ at + w
+longer at w xs v e = length-append xs (beOctets w v) ∙ (let l = octets-length w v in let q : length xs + length (beOctets w v) ≡ at + w = omega arith in q)
+
+pub record-put : (n t : ℕ) (old : List ℕ) {d₁ d₂ d₃ d₄ d₅ d₆ d₇ : List ℕ} {s f : ℕ} → length old ≡ 25
+    → d₁ ≡ put 0 (beOctets 4 (n - 1)) old → d₂ ≡ put 4 (beOctets 2 1) d₁ → d₃ ≡ put 6 (beOctets 2 1) d₂ → d₄ ≡ put 8 (beOctets 8 0) d₃
+    → s ≡ writtenSeconds t → d₅ ≡ put 16 (beOctets 4 s) d₄ → f ≡ writtenFraction t → d₆ ≡ put 20 (beOctets 4 f) d₅ → d₇ ≡ put 24 (beOctets 1 255) d₆
+    → d₇ ≡ put 0 (recordOctets (record { number = n; time = t })) old
+unfolding recordOctets
+record-put n t old {s = s} {f = f} l p₁ p₂ p₃ p₄ es p₅ ef p₆ p₇ =
+    let a : List ℕ = beOctets 4 (n - 1) in
+    let b : List ℕ = a ++ beOctets 2 1 in
+    let c : List ℕ = b ++ beOctets 2 1 in
+    let d : List ℕ = c ++ beOctets 8 0 in
+    let e : List ℕ = d ++ beOctets 4 s in
+    let g : List ℕ = e ++ beOctets 4 f in
+    let la : length a ≡ 4 = octets-length 4 (n - 1) in
+    let lb : length b ≡ 6 = longer 4 2 a 1 la in
+    let lc : length c ≡ 8 = longer 6 2 b 1 lb in
+    let ld : length d ≡ 16 = longer 8 8 c 0 lc in
+    let le : length e ≡ 20 = longer 16 4 d s ld in
+    let lg : length g ≡ 24 = longer 20 4 e f le in
+    chain 24 1 g 255 old lg (omega arith)
+    (chain 20 4 e f old le (omega arith)
+    (chain 16 4 d s old ld (omega arith)
+    (chain 8 8 c 0 old lc (omega arith)
+    (chain 6 2 b 1 old lb (omega arith)
+    (chain 4 2 a 1 old la (omega arith) p₁ p₂) p₃) p₄) p₅) p₆) p₇
+    ∙ ap (λ (x : List ℕ). put 0 x old) (regroup a (beOctets 2 1) (beOctets 2 1) (beOctets 8 0) (beOctets 4 s) (beOctets 4 f) (beOctets 1 255) ∙ rw (es, ef))
+
+-- ---- the file
+
+-- the layout of an accepted file has the number of its arrivals
+pub found-many : (file : List ℕ) (y : Layout) → Found file y → y .arrivals ≡ length (arrivalsOfFile file)
+found-many file y f = ap (λ (x : Layout). x .arrivals) (f .layout)
+
+-- the refusal of the layout is the file's
+pub found-refusal : (file : List ℕ) (y : Layout) → y ≡ layoutOf (decode file) → y .refusal ≡ refusalOf (decode file)
+found-refusal file y e = ap (λ (x : Layout). x .refusal) e
+
+-- ---- the answers
+
+module _ (file out : List ℕ) where
+  due : (r : ℕ) → writeRefusal (length out) file ≡ suc r → WrittenFrom file out (record { refusal = suc r; length = 0 }) out
+  due r e = record {
+    refusal = sym e;
+    octets = ap (λ (x : ℕ). length (unlessRefused x (recordsOf (arrivalsOfFile file)))) (sym e);
+    filled = ap (λ (x : ℕ). over (unlessRefused x (recordsOf (arrivalsOfFile file))) out) (sym e);
+  }
+
+  -- the sample's own
+  pub write-refused : (r : ℕ) → r ≡ refusalOf (decode file) → (r ≡ 0 → ⊥) → WrittenFrom file out (record { refusal = r; length = 0 }) out
+  unfolding writeRefusal
+  write-refused zero e n = absurd (n refl)
+  write-refused (suc r) e n =
+      due r (ap (λ (x : ℕ). firstOf (x ∷ judgeSeconds (arrivalsOfFile file) ∷ inCase (ltb (length out) (length (recordsOf (arrivalsOfFile file)))) outputShort ∷ [])) (sym e))
+
+  -- 18
+  pub write-over : (r : ℕ) → refusalOf (decode file) ≡ 0 → r ≡ judgeSeconds (arrivalsOfFile file) → (r ≡ 0 → ⊥) → WrittenFrom file out (record { refusal = r; length = 0 }) out
+  unfolding writeRefusal
+  write-over zero z e n = absurd (n refl)
+  write-over (suc r) z e n = due r (simp (z, sym e))
+
+  -- 8
+  pub write-short : refusalOf (decode file) ≡ 0 → judgeSeconds (arrivalsOfFile file) ≡ 0 → length out < length (recordsOf (arrivalsOfFile file))
+      → WrittenFrom file out (record { refusal = 8; length = 0 }) out
+  unfolding writeRefusal
+  write-short z e h = due 7 (simp (z, e, lt-ltb _ _ h))
+
+  -- written
+  pub write-filled : (n : ℕ) {out′ : List ℕ} → refusalOf (decode file) ≡ 0 → judgeSeconds (arrivalsOfFile file) ≡ 0 → length (recordsOf (arrivalsOfFile file)) ≤ length out
+      → n ≡ length (recordsOf (arrivalsOfFile file)) → out′ ≡ splice 0 (recordsOf (arrivalsOfFile file)) out
+      → WrittenFrom file out (record { refusal = 0; length = n }) out′
+  unfolding writeRefusal
+  write-filled n z e h c f =
+      let q : writeRefusal (length out) file ≡ 0 = simp (z, e, le-ltb _ _ h) in
+      record {
+        refusal = sym q;
+        octets = c ∙ ap (λ (x : ℕ). length (unlessRefused x (recordsOf (arrivalsOfFile file)))) (sym q);
+        filled = f ∙ sym (over-splice (recordsOf (arrivalsOfFile file)) out) ∙ ap (λ (x : ℕ). over (unlessRefused x (recordsOf (arrivalsOfFile file))) out) (sym q);
+      }
+
+-- ---- read again
+
+-- numbers that lie in 1 to K
+numbers-within : (k : ℕ) (l : List Arrival) → ((i : ℕ) → i < length l → (1 ≤ getD l i noArrival .number) × (getD l i noArrival .number ≤ k)) → judgeNumbers k l ≡ 0
+unfolding judgeNumbers judgeNumber
+numbers-within k [] h = refl
+numbers-within k (a ∷ l) h =
+    let p = h 0 (omega arith) in
+    rw (not-outside 1 k (a .number) (p .0) (p .1)) (numbers-within k l (λ i q. h (suc i) (omega arith)))
+
+pub read-again : (file : List ℕ) → Octets file → ReadAgain file
+unfolding writeRefusal importRefusal imported
+read-again file o out out′ numbers times numbers′ times′ written read w z r hn ht i =
+    let l : List Arrival = arrivalsOfFile file in
+    let k : ℕ = length (sampleOf (decode file) .sizes) in
+    let rs : List ℕ = recordsOf l in
+    let q : writeRefusal (length out) file ≡ 0 = sym (w .refusal) ∙ z in
+    let p₁ = first-none (refusalOf (decode file)) (judgeSeconds l ∷ inCase (ltb (length out) (length rs)) outputShort ∷ []) q in
+    let p₂ = first-none (judgeSeconds l) (inCase (ltb (length out) (length rs)) outputShort ∷ []) (p₁ .1) in
+    let d : decode file ≡ accepted (sampleOf (decode file)) = found-sample file (layoutOf (decode file)) refl (p₁ .0) in
+    let m = accepted-limits file (sampleOf (decode file)) d o in
+    let j : judgeNumbers k l ≡ 0 = numbers-within k l (number-within file (sampleOf (decode file)) d o noArrival) in
+    let n : written .length ≡ length rs = w .octets ∙ ap (λ (x : ℕ). length (unlessRefused x rs)) q in
+    let f : out′ ≡ over rs out = w .filled ∙ ap (λ (x : ℕ). over (unlessRefused x rs) out) q in
+    let t : take (written .length) out′ ≡ rs = ap (λ (x : List ℕ). take (written .length) x) f ∙ ap (λ (x : ℕ). take x (over rs out)) n ∙ over-read rs out in
+    let g : ImportedFrom k rs numbers times read numbers′ times′ = subst (λ (x : List ℕ). ImportedFrom k x numbers times read numbers′ times′) t i in
+    let a = records-again k l (m .sentSome) (m .sentFits) (m .arrivalsFit) j (p₂ .0) r in
+    let c : length (arrivalsIn rs) ≡ length l = ap length (arrivals-read k l (m .sentFits) j (p₂ .0)) ∙ length-map l stamped in
+    let b : importRefusal k (length numbers) (length times) rs ≡ 0 = simp (a .0, c, le-ltb _ _ hn, le-ltb _ _ ht) in
+    let x : read .refusal ≡ 0 = g .refusal ∙ b in
+    let f′ : unlessRefused (importRefusal k (length numbers) (length times) rs) (numbersOf (imported rs)) ≡ numbersOf l = ap (λ (x : ℕ). unlessRefused x (numbersOf (imported rs))) b ∙ a .1 in
+    let y : read .arrivals ≡ length l = g .arrivals ∙ ap length f′ ∙ length-map l (λ (x : Arrival). x .number) in (
+      (λ v. record { refusal = x v; arrivals = y v }),
+      g .filledNumbers ∙ ap (λ (x : List ℕ). over x numbers) f′,
+    )

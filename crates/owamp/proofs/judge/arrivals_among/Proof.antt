@@ -1,0 +1,62 @@
+-- `owamp::judge::arrivals_among` meets its contract: The loop's invariant: n is the number of arrivals among the first i records. Assumes nothing.
+use borrow.Author.Needs.{needs}
+use native.Mathlib.Omega.{arith}
+use Prim.Native.Nat.{_-_, _≤_}
+use mathlib.Core.Path.{_≡_, refl}
+use lib.ListN.{length, take}
+use denote.Ref.{now}
+use Rattle.owamp.specs.Record.{recordCount, recordsIn, passing, arrived}
+use Rattle.owamp.proofs.Reading.{count-next, count-done, arrived-at-most}
+use Rattle.owamp.proofs.judge.arrivals_among.Statement.{statement}
+use Rattle.owamp.proofs.judge.arrivals_among.Tie as tie
+
+abbrev Inv-loop : tie.InvT-loop
+Inv-loop records count n₀ i₀ n i = (i ≤ recordCount records) × (n ≤ i) × (n ≡ length (passing arrived (take i (recordsIn records))))
+
+abbrev μ-loop : tie.MeasureT-loop
+μ-loop records count n₀ i₀ n i = recordCount records - i
+
+loop-holds : tie.Need-loop-holds Inv-loop μ-loop
+unfolding passing
+loop-holds c = (search needs, search needs, refl)
+
+time-of-requires : tie.Need-time-of-requires Inv-loop μ-loop
+time-of-requires c κs = search needs
+
+one-if-arrived-requires : tie.Need-one-if-arrived-requires Inv-loop μ-loop
+one-if-arrived-requires c κs = search needs
+
+add-n : tie.Need-add-n Inv-loop μ-loop
+add-n c = omega (arith, c .one-if-arrived .ensures, arrived-at-most (c .before .time-of .result))
+
+add-i : tie.Need-add-i Inv-loop μ-loop
+add-i c = search needs
+
+loop-less : tie.Need-loop-less Inv-loop μ-loop
+loop-less c = search needs
+
+loop-again : tie.Need-loop-again Inv-loop μ-loop
+loop-again c =
+    let l = c .before .before .before in
+    let a = l .before .before .args in
+    let w = arrived-at-most (c .before .time-of .result) in
+    let v = c .one-if-arrived .ensures in
+    (omega arith, omega arith, count-next (now (a .records)) (l .loop .i) (l .loop .n) (search needs) (l .loop .inv .2) (c .before .time-of .ensures) v)
+
+returns : tie.Need-returns Inv-loop μ-loop
+returns c = count-done (now (c .before .before .before .args .records)) (c .before .loop .i) (c .before .loop .n) (search needs) (c .before .loop .inv .2)
+
+pub arrivals-among-spec : {M : Type 1} → statement M
+arrivals-among-spec =
+    tie.close
+    (tie.spec
+    Inv-loop
+    μ-loop
+    loop-holds
+    time-of-requires
+    one-if-arrived-requires
+    add-n
+    add-i
+    loop-less
+    loop-again
+    returns)

@@ -1,0 +1,25 @@
+-- `owamp::judge::judge_record` meets its contract: each test settles its case. Assumes nothing.
+use borrow.Author.Needs.{needs}
+use borrow.Author.Tests.{eq-eqb, ne-eqb}
+use Rattle.owamp.specs.Judge.{judgeNumber}
+use Rattle.owamp.specs.Private.Reading.{judgeRecord}
+use Rattle.owamp.proofs.judge.judge_record.Statement.{statement}
+use Rattle.owamp.proofs.judge.judge_record.Tie as tie
+
+returns : tie.Need-returns
+unfolding judgeRecord judgeNumber
+returns c = simp (eq-eqb _ _ (c .if1 .taken))
+
+outside-requires : tie.Need-outside-requires
+outside-requires c κs = search needs
+
+returns-2 : tie.Need-returns-2
+unfolding judgeRecord judgeNumber
+returns-2 c = simp (ne-eqb _ _ (c .before .before .if1 .left), ← c .before .outside .ensures, c .if2 .taken)
+
+returns-3 : tie.Need-returns-3
+unfolding judgeRecord judgeNumber
+returns-3 c = simp (ne-eqb _ _ (c .before .before .if1 .left), ← c .before .outside .ensures, c .if2 .left)
+
+pub judge-record-spec : {M : Type 1} → statement M
+judge-record-spec = tie.close (tie.spec returns outside-requires returns-2 returns-3)

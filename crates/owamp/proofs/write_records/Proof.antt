@@ -1,0 +1,152 @@
+-- `owamp::write_records` meets its contract: The loop's invariant: the records of the first i arrivals stand from the start on. Assumes nothing.
+use borrow.Author.Needs.{needs}
+use native.Mathlib.Omega.{arith}
+use Prim.Native.Nat.{_+_, _-_, _*_, _≤_}
+use native.Mathlib.Nat.{zero-add}
+use mathlib.Core.Path.{_≡_, ap, _∙_}
+use lib.ListN.{length, getD, take, length-take, length-drop}
+use mir.Syntax.{w8}
+use denote.Ref.{now}
+use Rattle.octets.specs.Memory.{splice, put}
+use Rattle.octets.proofs.Below.{below-fits}
+use Rattle.octets.proofs.Memory.{taken}
+use Rattle.rfc4737.specs.declared.Arrival.{Arrival}
+use Rattle.sample.specs.Format.{itemOctets}
+use Rattle.sample.specs.Decode.{decode, sampleOf}
+use Rattle.owamp.specs.Calls.{recordOctets, recordsOf, arrivalsOfFile}
+use Rattle.owamp.specs.Private.Reading.{noArrival}
+use Rattle.sample.proofs.Accepted.{found-sample, arrival-found, number-within}
+use Rattle.sample.proofs.Writing.{write-start, write-length, write-next, write-done}
+use Rattle.owamp.proofs.RoundTrips.{record-long}
+use Rattle.owamp.proofs.Writing.{found-many}
+use Rattle.owamp.proofs.write_records.Statement.{statement}
+use Rattle.owamp.proofs.write_records.Tie as tie
+
+abbrev Inv-loop : tie.InvT-loop
+Inv-loop file found out₀ count i₀ out i = (i ≤ count) × (out ≡ splice 0 (itemOctets recordOctets (take i (arrivalsOfFile file))) out₀)
+
+abbrev μ-loop : tie.MeasureT-loop
+μ-loop file found out₀ count i₀ out i = count - i
+
+-- the length stays
+kept : (c : tie.At-loop Inv-loop μ-loop) → length (c .loop .out) ≡ length (now (c .before .before .before .args .out))
+kept c =
+    let a = c .before .before .before in
+    let m = found-many (now (a .args .file)) (a .args .found) (a .pre .0) in
+    let xs = arrivalsOfFile (now (a .args .file)) in
+    let r : 0 + 25 * length xs ≤ length (now (a .args .out)) = omega (arith, a .pre .1) in
+    write-length recordOctets 25 record-long xs 0 (now (a .args .out)) r (c .loop .i) (c .loop .inv .1) (omega arith)
+
+-- the arrival that was read
+there : (c : tie.After-arrival-time Inv-loop μ-loop) → record { number = c .before .arrival-number .result; time = c .arrival-time .result } ≡ getD (arrivalsOfFile (now (c .before .before .before .before .before .before .args .file))) (c .before .before .before .loop .i) noArrival
+there c =
+    let a = c .before .before .before .before .before .before in
+    let f = now (a .args .file) in
+    let p = c .before .arrival-number .ensures in
+    let q = c .arrival-time .ensures in
+    (λ j. record { number = p j; time = q j })
+    ∙ arrival-found f (sampleOf (decode f)) (found-sample f (a .args .found) (a .pre .0 .layout) (a .pre .0 .accepted)) (a .args .found) (a .pre .0 .layout) (c .before .before .before .loop .i) noArrival (search needs)
+
+loop-holds : tie.Need-loop-holds Inv-loop μ-loop
+loop-holds c =
+    let a = c .before .before in
+    let m = found-many (now (a .args .file)) (a .args .found) (a .pre .0) in
+    let xs = arrivalsOfFile (now (a .args .file)) in
+    let r : 0 + 25 * length xs ≤ length (now (a .args .out)) = omega (arith, a .pre .1) in
+    (search needs, write-start recordOctets 25 record-long xs 0 (now (a .args .out)) r)
+
+arrival-number-requires : tie.Need-arrival-number-requires Inv-loop μ-loop
+arrival-number-requires c κs = search needs
+
+arrival-time-requires : tie.Need-arrival-time-requires Inv-loop μ-loop
+arrival-time-requires c κs = search needs
+
+cast-start : tie.Need-cast-start Inv-loop μ-loop
+cast-start c = search needs
+
+mul-start : tie.Need-mul-start Inv-loop μ-loop
+mul-start c = search needs
+
+add-end : tie.Need-add-end Inv-loop μ-loop
+add-end c = search needs
+
+sub-lent : tie.Need-sub-lent Inv-loop μ-loop
+sub-lent c = search needs
+
+part-lent-start : tie.Need-part-lent-start Inv-loop μ-loop
+part-lent-start c = search needs
+
+part-lent-end : tie.Need-part-lent-end Inv-loop μ-loop
+part-lent-end c =
+    let k = kept (c .before .before .before) in
+    let p = c .before .before .before .before .before .before .pre .1 in
+    omega arith
+
+put-record-requires : tie.Need-put-record-requires Inv-loop μ-loop
+put-record-requires c κs =
+    let l = c .before .before .before .before in
+    let a = c .before .before .before .before .before .before .before in
+    let m = found-many (now (a .args .file)) (a .args .found) (a .pre .0) in
+    let xs = arrivalsOfFile (now (a .args .file)) in
+    let r : 0 + 25 * length xs ≤ length (now (a .args .out)) = omega (arith, a .pre .1) in
+    let f = now (a .args .file) in
+    let k = kept l in
+    let e = ap (λ (x : Arrival). x .number) (there (c .before)) in
+    let o = below-fits w8 f (l .before .before .shared-slice-known .given) in
+    let w = number-within f (sampleOf (decode f)) (found-sample f (a .args .found) (a .pre .0 .layout) (a .pre .0 .accepted)) o noArrival (l .loop .i) (omega arith) .0 in
+    (omega arith, simp (length-take, length-drop) (omega arith))
+
+add-i : tie.Need-add-i Inv-loop μ-loop
+add-i c = search needs
+
+loop-less : tie.Need-loop-less Inv-loop μ-loop
+loop-less c = search needs
+
+loop-again : tie.Need-loop-again Inv-loop μ-loop
+loop-again c =
+    let l = c .before .before .before .before .before .before .before in
+    let a = c .before .before .before .before .before .before .before .before .before .before in
+    let m = found-many (now (a .args .file)) (a .args .found) (a .pre .0) in
+    let xs = arrivalsOfFile (now (a .args .file)) in
+    let r : 0 + 25 * length xs ≤ length (now (a .args .out)) = omega (arith, a .pre .1) in
+    let i = l .loop .i in
+    let z : 0 + 25 * i ≡ 25 * i = zero-add (25 * i) in
+    let q : c .before .before .put-record .last .0 ≡ put 0 (recordOctets (getD xs i noArrival)) (taken (0 + 25 * i) 25 (l .loop .out)) =
+    rw z (c .before .before .put-record .ensures ∙ ap (λ (x : Arrival). put 0 (recordOctets x) (taken (25 * i) 25 (l .loop .out))) (there (c .before .before .before .before))) in
+    let n = write-next recordOctets 25 record-long xs 0 (now (a .args .out)) r i (l .loop .inv .1) noArrival (omega arith) q in
+    (search needs, rw z at n)
+
+same-length : tie.Need-same-length Inv-loop μ-loop
+same-length c = kept (c .before)
+
+returns : tie.Need-returns Inv-loop μ-loop
+unfolding recordsOf
+returns c =
+    let l = c .before in
+    let a = c .before .before .before .before in
+    let m = found-many (now (a .args .file)) (a .args .found) (a .pre .0) in
+    let xs = arrivalsOfFile (now (a .args .file)) in
+    let r : 0 + 25 * length xs ≤ length (now (a .args .out)) = omega (arith, a .pre .1) in
+    write-done recordOctets 25 record-long xs 0 (now (a .args .out)) r (l .loop .i) (l .loop .inv .1) (omega arith)
+
+pub write-records-spec : {M : Type 1} → statement M
+write-records-spec =
+    tie.close
+    (tie.spec
+    Inv-loop
+    μ-loop
+    loop-holds
+    arrival-number-requires
+    arrival-time-requires
+    cast-start
+    mul-start
+    add-end
+    sub-lent
+    part-lent-start
+    part-lent-end
+    put-record-requires
+    add-i
+    loop-less
+    loop-again
+    same-length
+    returns)

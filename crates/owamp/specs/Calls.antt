@@ -1,0 +1,89 @@
+-- What the calls answer, and what lent memory holds after them. Assumes nothing.
+use Prim.Native.Nat.{ℕ, _-_}
+use mathlib.Core.Bool.{_||_}
+use mathlib.Core.List.{List, [], _∷_, _++_}
+use mathlib.Core.Path.{_≡_}
+use lib.Dec.{ltb}
+use lib.ListN.{length}
+use Rattle.octets.specs.Memory.{over}
+use Rattle.rfc4737.specs.declared.Arrival.{Arrival}
+use Rattle.rfc4737.specs.Judge.{numbersOf, timesOf}
+use Rattle.rfc4737.specs.Refusals.{inCase, firstOf, outputShort}
+use Rattle.sample.specs.Format.{itemOctets}
+use Rattle.sample.specs.Decode.{decode, sampleOf, refusalOf}
+use Rattle.sample.specs.Calls.{unlessRefused}
+use Rattle.sample.specs.declared.Written.{Written}
+use Rattle.owamp.specs.Record.{sequenceNumber, sendError, receiveError, sendTime, receiveSeconds, receiveFraction, ttl, fieldOctets, arrivalsIn}
+use Rattle.owamp.specs.Order.{inOrder}
+use Rattle.owamp.specs.Clock.{fromSmallest, writtenSeconds, writtenFraction}
+use Rattle.owamp.specs.Judge.{refusalIn, judgeSeconds}
+use Rattle.owamp.specs.declared.Imported.{Imported}
+
+-- ---- the importer
+
+-- the arrivals of records: in order, in whole microseconds from the smallest
+unfoldable pub imported : List ℕ → List Arrival
+imported os = fromSmallest (inOrder (arrivalsIn os))
+
+-- the first refusal that is due where lists of so many places are filled: 8 comes last
+unfoldable pub importRefusal : (k numbers times : ℕ) (os : List ℕ) → ℕ
+importRefusal k numbers times os =
+    firstOf
+    (refusalIn k os
+    ∷ inCase (ltb numbers (length (arrivalsIn os)) || ltb times (length (arrivalsIn os))) outputShort
+    ∷ [])
+
+-- the numbers that are filled in where lists have so many places, or none with a refusal
+abbrev pub numbersInto : (k numbers times : ℕ) (os : List ℕ) → List ℕ
+numbersInto k numbers times os = unlessRefused (importRefusal k numbers times os) (numbersOf (imported os))
+
+-- the times
+abbrev pub timesInto : (k numbers times : ℕ) (os : List ℕ) → List ℕ
+timesInto k numbers times os = unlessRefused (importRefusal k numbers times os) (timesOf (imported os))
+
+-- the importer's answer, and the two lists after it: the arrivals' values from their start, all else as it was
+pub record ImportedFrom (k : ℕ) (os numbers times : List ℕ) (answer : Imported) (numbers′ times′ : List ℕ) : Type 0 where
+  pub refusal : answer .refusal ≡ importRefusal k (length numbers) (length times) os
+  pub arrivals : answer .arrivals ≡ length (numbersInto k (length numbers) (length times) os)
+  pub filledNumbers : numbers′ ≡ over (numbersInto k (length numbers) (length times) os) numbers
+  pub filledTimes : times′ ≡ over (timesInto k (length numbers) (length times) os) times
+
+-- ---- the writer
+
+-- the record of an arrival: send time 0, both error estimates 1, the last octet 255
+unfoldable pub recordOctets : Arrival → List ℕ
+recordOctets a =
+    fieldOctets sequenceNumber (a .number - 1)
+    ++ (fieldOctets sendError 1
+    ++ (fieldOctets receiveError 1
+    ++ (fieldOctets sendTime 0
+    ++ (fieldOctets receiveSeconds (writtenSeconds (a .time))
+    ++ (fieldOctets receiveFraction (writtenFraction (a .time))
+    ++ fieldOctets ttl 255)))))
+
+-- the records of arrivals
+unfoldable pub recordsOf : List Arrival → List ℕ
+recordsOf l = itemOctets recordOctets l
+
+-- the arrivals of a sample's file; none with a refusal
+abbrev pub arrivalsOfFile : List ℕ → List Arrival
+arrivalsOfFile file = sampleOf (decode file) .arrivals
+
+-- the first refusal that is due of a sample's file where so many octets can be written: the sample's own, 18, 8
+unfoldable pub writeRefusal : ℕ → List ℕ → ℕ
+writeRefusal room file =
+    firstOf
+    (refusalOf (decode file)
+    ∷ judgeSeconds (arrivalsOfFile file)
+    ∷ inCase (ltb room (length (recordsOf (arrivalsOfFile file)))) outputShort
+    ∷ [])
+
+-- the octets that are written where there is room for so many: those of the records, or none with a refusal
+abbrev pub octetsInto : ℕ → List ℕ → List ℕ
+octetsInto room file = unlessRefused (writeRefusal room file) (recordsOf (arrivalsOfFile file))
+
+-- the writer's answer, and the lent octets after it: those of the records from their start, all else as it was
+pub record WrittenFrom (file out : List ℕ) (answer : Written) (out′ : List ℕ) : Type 0 where
+  pub refusal : answer .refusal ≡ writeRefusal (length out) file
+  pub octets : answer .length ≡ length (octetsInto (length out) file)
+  pub filled : out′ ≡ over (octetsInto (length out) file) out

@@ -1,0 +1,58 @@
+-- Receive times, 32 bits of seconds and 32 of fractions of 2 to the 32, and whole microseconds. A receive time is taken as one number
+-- of 64 bits: it counts fractions. Assumes nothing.
+use Prim.Native.Nat.{ℕ, _+_, _-_, _*_, _/_, _%_, _<_, min}
+use mathlib.Core.List.{List, [], _∷_, foldl, map}
+use mathlib.Core.Path.{_≡_}
+use Rattle.rfc4737.specs.declared.Arrival.{Arrival}
+use Rattle.rfc4737.specs.Judge.{timesOf}
+
+-- fractions to a second: 2 to the 32
+abbrev pub fractions : ℕ
+fractions = 4294967296
+
+-- microseconds to a second
+abbrev pub micros : ℕ
+micros = 1000000
+
+-- ---- from receive times
+
+-- a receive time in whole microseconds, rounded down
+unfoldable pub microseconds : ℕ → ℕ
+microseconds stamp = stamp * micros / fractions
+
+-- what rounding takes off, in microseconds: this number over 2 to the 32
+unfoldable pub takenOff : ℕ → ℕ
+takenOff stamp = stamp * micros % fractions
+
+-- the exact time is stamp * 10^6 over 2^32 microseconds: the whole microseconds are below it by takenOff over 2^32, a fraction of two
+-- whole numbers that is at least 0 and under 1
+pub record Distance (stamp : ℕ) : Type 0 where
+  pub exact : microseconds stamp * fractions + takenOff stamp ≡ stamp * micros
+  pub under : takenOff stamp < fractions
+
+-- this holds of every receive time
+abbrev pub RoundedDown : Type 0
+RoundedDown = (stamp : ℕ) → Distance stamp
+
+-- the smallest of some numbers; 0 if there are none
+abbrev pub smallest : List ℕ → ℕ
+smallest [] = 0
+smallest (t ∷ ts) = foldl min t ts
+
+-- an arrival in whole microseconds, `base` taken off
+abbrev pub since : ℕ → Arrival → Arrival
+since base a = record { number = a .number; time = microseconds (a .time) - base }
+
+-- arrivals in whole microseconds, from each the smallest of them taken off
+unfoldable pub fromSmallest : List Arrival → List Arrival
+fromSmallest l = map (since (smallest (map microseconds (timesOf l)))) l
+
+-- ---- to receive times
+
+-- the seconds of a written receive time: those of the sample's time, and one more
+abbrev pub writtenSeconds : ℕ → ℕ
+writtenSeconds t = t / micros + 1
+
+-- its fraction, rounded down
+abbrev pub writtenFraction : ℕ → ℕ
+writtenFraction t = t % micros * fractions / micros

@@ -1,0 +1,35 @@
+-- One record at a time, the place of a time among times in order, and the layout of an accepted file. Assumes nothing.
+use Prim.Native.Nat.{ℕ, _+_, _≤_, _<_}
+use mathlib.Core.Bool.{cond}
+use mathlib.Core.List.{List}
+use mathlib.Core.Path.{_≡_}
+use lib.Dec.{eqb}
+use lib.ListN.{getD}
+use Rattle.rfc4737.specs.declared.Arrival.{Arrival}
+use Rattle.sample.specs.Decode.{decode, layoutOf}
+use Rattle.sample.specs.declared.Layout.{Layout}
+use Rattle.owamp.specs.Record.{arrived}
+use Rattle.owamp.specs.Judge.{judgeNumber}
+
+-- what stands where there is no record
+abbrev pub noArrival : Arrival
+noArrival = record { number = 0; time = 0 }
+
+-- 1 for an arrival, 0 for a lost packet, by the receive time
+abbrev pub oneIfArrived : ℕ → ℕ
+oneIfArrived t = cond (eqb t 0) 0 1
+
+-- one record by 6; nothing of a lost one is judged
+unfoldable pub judgeRecord : ℕ → Arrival → ℕ
+judgeRecord k a = cond (arrived a) (judgeNumber k a) 0
+
+-- the place of a time among the first n of some times: those from there on are later, and the one before it is not
+pub record Place (t : ℕ) (ts : List ℕ) (n at : ℕ) : Type 0 where
+  pub inside : at ≤ n
+  pub later : (k : ℕ) → at ≤ k → k < n → t < getD ts k 0
+  pub notLater : (k : ℕ) → k + 1 ≡ at → getD ts k 0 ≤ t
+
+-- the layout of an accepted file
+pub record Found (file : List ℕ) (found : Layout) : Type 0 where
+  pub layout : found ≡ layoutOf (decode file)
+  pub accepted : found .refusal ≡ 0

@@ -1,0 +1,87 @@
+-- The packet record of RFC 4656, section 3.9: 25 octets, all numbers big-endian. The places of its fields stand here and nowhere else.
+-- Assumes nothing.
+use Prim.Native.Nat.{ℕ, _+_, _/_}
+use mathlib.Core.Bool.{Bool, true, false, not}
+use mathlib.Core.List.{List, [], _∷_}
+use lib.Dec.{eqb}
+use lib.ListN.{length}
+use Rattle.octets.specs.BigEndian.{beValue, beOctets}
+use Rattle.octets.specs.Memory.{part}
+use Rattle.rfc4737.specs.declared.Arrival.{Arrival}
+use Rattle.sample.specs.Format.{itemsIn}
+
+-- ---- the layout
+
+-- the octets of a record
+abbrev pub recordWidth : ℕ
+recordWidth = 25
+
+-- a field of a record: where it begins, and how many octets it has
+pub record Field : Type 0 where
+  pub at : ℕ
+  pub width : ℕ
+
+abbrev pub sequenceNumber : Field
+sequenceNumber = record { at = 0; width = 4 }
+
+abbrev pub sendError : Field
+sendError = record { at = 4; width = 2 }
+
+abbrev pub receiveError : Field
+receiveError = record { at = 6; width = 2 }
+
+abbrev pub sendTime : Field
+sendTime = record { at = 8; width = 8 }
+
+abbrev pub receiveTime : Field
+receiveTime = record { at = 16; width = 8 }
+
+-- the two halves of the receive time: seconds, and fractions of 2 to the 32
+abbrev pub receiveSeconds : Field
+receiveSeconds = record { at = 16; width = 4 }
+
+abbrev pub receiveFraction : Field
+receiveFraction = record { at = 20; width = 4 }
+
+abbrev pub ttl : Field
+ttl = record { at = 24; width = 1 }
+
+-- the number that a field of a record holds
+abbrev pub fieldIn : Field → List ℕ → ℕ
+fieldIn f os = beValue (part (f .at) (f .width) os)
+
+-- the octets of a field that holds a number
+abbrev pub fieldOctets : Field → ℕ → List ℕ
+fieldOctets f v = beOctets (f .width) v
+
+-- ---- the records of a file
+
+-- a record as an arrival, its time as recorded: sequence number 0 is packet 1
+unfoldable pub recordIn : List ℕ → Arrival
+recordIn os = record { number = fieldIn sequenceNumber os + 1; time = fieldIn receiveTime os }
+
+-- how many records there are
+abbrev pub recordCount : List ℕ → ℕ
+recordCount os = length os / recordWidth
+
+-- the records in file order
+abbrev pub recordsIn : List ℕ → List Arrival
+recordsIn os = itemsIn recordWidth recordIn (recordCount os) os
+
+-- an element before a list if a test passes
+abbrev pub keptIf {ℓ} : {A : Type ℓ} → Bool → A → List A → List A
+keptIf true a l = a ∷ l
+keptIf false a l = l
+
+-- the elements that pass a test, in their order
+unfoldable pub passing {ℓ} : {A : Type ℓ} → (A → Bool) → List A → List A
+passing p [] = []
+passing p (a ∷ l) = keptIf (p a) a (passing p l)
+
+-- whether a record is an arrival; one with a receive time of zero is a lost packet
+abbrev pub arrived : Arrival → Bool
+arrived a = not (eqb (a .time) 0)
+
+-- the arrivals in file order, their times as recorded
+unfoldable pub arrivalsIn : List ℕ → List Arrival
+arrivalsIn os = passing arrived (recordsIn os)

@@ -1,0 +1,30 @@
+// Receive times and whole microseconds.
+ghost use mathlib.Core.Path.{_≡_};
+ghost use Rattle.owamp.specs.Clock.{microseconds, writtenSeconds, writtenFraction};
+
+// Fractions to a second.
+const FRACTIONS: u64 = 4_294_967_296;
+
+// Microseconds to a second.
+const MICROS: u64 = 1_000_000;
+
+// A receive time in whole microseconds, rounded down.
+pub(crate) fn microseconds(stamp: u64) -> u64
+    ensures { λ r. ⌜ r ≡ microseconds stamp ⌝ }
+{
+    stamp / FRACTIONS * MICROS + stamp % FRACTIONS * MICROS / FRACTIONS
+}
+
+// The seconds of a written receive time.
+pub(crate) fn seconds_of(time: u64) -> u64
+    ensures { λ r. ⌜ r ≡ writtenSeconds time ⌝ }
+{
+    time / MICROS + 1
+}
+
+// Its fraction, rounded down.
+pub(crate) fn fraction_of(time: u64) -> u64
+    ensures { λ r. ⌜ r ≡ writtenFraction time ⌝ }
+{
+    time % MICROS * FRACTIONS / MICROS
+}

@@ -1,0 +1,122 @@
+// OWAMP packet records (RFC 4656, section 3.9): imported into the two lent lists of a sample, and written from one. Every
+// public call takes all input there is.
+ghost use mathlib.Core.Path.{_≡_};
+ghost use Prim.Native.Nat.{_*_, _≤_};
+ghost use lib.ListN.{length};
+ghost use Rattle.octets.specs.Memory.{splice};
+ghost use Rattle.owamp.specs.Record.{arrivalsIn};
+ghost use Rattle.owamp.specs.Order.{OnlyOne};
+ghost use Rattle.owamp.specs.Clock.{RoundedDown};
+ghost use Rattle.owamp.specs.Calls.{ImportedFrom, recordsOf, arrivalsOfFile, WrittenFrom};
+ghost use Rattle.owamp.specs.RoundTrip.{AcceptedLists, ReadAgain};
+ghost use Rattle.owamp.specs.Cases.{ReadAsGiven, WrittenAsGiven};
+ghost use Rattle.owamp.specs.Private.Reading.{Found};
+
+mod clock;
+mod fill;
+mod judge;
+mod records;
+
+use fill::convert;
+use fill::fill;
+use judge::arrivals_among;
+use judge::judge_seconds;
+use judge::refusal_in;
+use records::WIDTH;
+use records::put_record;
+use rfc4737::refusal::OUTPUT_SHORT;
+use sample::Layout;
+use sample::Written;
+
+// What was imported: the refusal (0 for none), and the number of arrivals, 0 with a refusal.
+#[repr(C)]
+pub struct Imported {
+    pub refusal: u32,
+    pub arrivals: u32,
+}
+
+// Imports the records of K sent packets: fills the lists of numbers and times from their start, in the order of the receive
+// times as recorded. With a refusal they stay as they were.
+pub fn import(records: &[u8], k: u32, numbers: &mut [u32], times: &mut [u64]) -> Imported
+    ensures { λ r. ⌜ ImportedFrom k (now (records .entry)) (now (numbers .entry)) (now (times .entry)) r (now (numbers .exit)) (now (times .exit)) ⌝ }
+    ensures order { λ _. ⌜ OnlyOne (arrivalsIn (now (records .entry))) ⌝ }
+    ensures clock { λ _. ⌜ RoundedDown ⌝ }
+    ensures accepted { λ _. ⌜ AcceptedLists k (now (records .entry)) ⌝ }
+    ensures cases { λ _. ⌜ ReadAsGiven ⌝ }
+{
+    let count = arrivals_among(records);
+    let refusal = refusal_in(records, k, count);
+    if refusal != 0 {
+        return Imported {
+            refusal,
+            arrivals: 0,
+        };
+    }
+    if numbers.len() < count {
+        return Imported {
+            refusal: OUTPUT_SHORT,
+            arrivals: 0,
+        };
+    }
+    if times.len() < count {
+        return Imported {
+            refusal: OUTPUT_SHORT,
+            arrivals: 0,
+        };
+    }
+    fill(records, numbers, times);
+    convert(times, count);
+    Imported {
+        refusal: 0,
+        arrivals: count as u32,
+    }
+}
+
+// Writes the records of an accepted file's arrivals from the start of `out`.
+fn write_records(file: &[u8], found: Layout, out: &mut [u8])
+    requires { ⌜ Found (now file) found × (25 * (found .arrivals) ≤ length (now out)) ⌝ }
+    ensures { λ _. ⌜ now (out .exit) ≡ splice 0 (recordsOf (arrivalsOfFile (now (file .entry)))) (now (out .entry)) ⌝ }
+{
+    let count = found.arrivals;
+    let mut i: u32 = 0;
+    while i < count {
+        let number = sample::arrival_number(file, found, i);
+        let time = sample::arrival_time(file, found, i);
+        let start = WIDTH * (i as usize);
+        let end = start + WIDTH;
+        let lent = &mut out[start..end];
+        put_record(lent, number, time);
+        i += 1;
+    }
+}
+
+// Writes the records of a sample's file from the start of `out`. With a refusal `out` stays as it was.
+pub fn write(file: &[u8], out: &mut [u8]) -> Written
+    ensures { λ r. ⌜ WrittenFrom (now (file .entry)) (now (out .entry)) r (now (out .exit)) ⌝ }
+    ensures again { λ _. ⌜ ReadAgain (now (file .entry)) ⌝ }
+    ensures cases { λ _. ⌜ WrittenAsGiven ⌝ }
+{
+    let found = sample::check(file);
+    if found.refusal != 0 {
+        return Written {
+            refusal: found.refusal,
+            length: 0,
+        };
+    }
+    let refusal = judge_seconds(file, found);
+    if refusal != 0 {
+        return Written { refusal, length: 0 };
+    }
+    let end = WIDTH * (found.arrivals as usize);
+    if out.len() < end {
+        return Written {
+            refusal: OUTPUT_SHORT,
+            length: 0,
+        };
+    }
+    write_records(file, found, out);
+    Written {
+        refusal: 0,
+        length: end as u32,
+    }
+}

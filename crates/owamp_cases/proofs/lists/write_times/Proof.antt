@@ -1,0 +1,63 @@
+-- `owamp_cases::lists::write_times` is safe and ends. Invariant: i is at most the length. Measure: the places from i on.
+use borrow.Author.Needs.{needs}
+use Prim.Native.Nat.{_-_, _≤_}
+use lib.ListN.{length}
+use Rattle.owamp_cases.proofs.lists.write_times.Statement.{statement}
+use Rattle.owamp_cases.proofs.lists.write_times.Tie as tie
+
+abbrev Inv-loop : tie.InvT-loop
+Inv-loop s i₀ t4 i = i ≤ length s
+
+abbrev μ-loop : tie.MeasureT-loop
+μ-loop s i₀ t4 i = length s - i
+
+slice-aggregate-write-word : tie.Need-slice-aggregate-write-word Inv-loop μ-loop
+slice-aggregate-write-word c = search needs
+
+write-word-requires : tie.Need-write-word-requires Inv-loop μ-loop
+write-word-requires c κs = search needs
+
+loop-holds : tie.Need-loop-holds Inv-loop μ-loop
+loop-holds c = search needs
+
+slice-aggregate-write-number : tie.Need-slice-aggregate-write-number Inv-loop μ-loop
+slice-aggregate-write-number c = search needs
+
+mul-write-number : tie.Need-mul-write-number Inv-loop μ-loop
+mul-write-number c = search needs
+
+shared-slice-read-write-number : tie.Need-shared-slice-read-write-number Inv-loop μ-loop
+shared-slice-read-write-number c = search needs
+
+write-number-requires : tie.Need-write-number-requires Inv-loop μ-loop
+write-number-requires c κs = search needs
+
+add-i : tie.Need-add-i Inv-loop μ-loop
+add-i c = search needs
+
+loop-less : tie.Need-loop-less Inv-loop μ-loop
+loop-less c = search needs
+
+loop-again : tie.Need-loop-again Inv-loop μ-loop
+loop-again c = search needs
+
+returns : tie.Need-returns Inv-loop μ-loop
+returns c = search needs
+
+pub write-times-spec : {M : Type 1} → statement M
+write-times-spec =
+    tie.close
+    (tie.spec
+    Inv-loop
+    μ-loop
+    slice-aggregate-write-word
+    write-word-requires
+    loop-holds
+    slice-aggregate-write-number
+    mul-write-number
+    shared-slice-read-write-number
+    write-number-requires
+    add-i
+    loop-less
+    loop-again
+    returns)
