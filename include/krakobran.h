@@ -2,10 +2,10 @@
  *
  * Every function takes all input there is. An answer carries a refusal, which is KRAKOBRAN_NONE or one of the
  * numbers below; with a refusal every other part of the answer is as the comment at its struct says, lent memory is
- * untouched, and a receiver comes back equal. A list is passed as a pointer and its number of places, not of octets.
- * No pointer is NULL, also where there are no places; each is aligned for its type; and what a call writes to does not
- * overlap anything else that is passed to it. No function allocates, keeps a pointer, or has a state of its own, so all
- * may be called from many threads. */
+ * untouched, and a receiver or a meter comes back equal. A list is passed as a pointer and its number of places, not of
+ * octets. No pointer is NULL, also where there are no places; each is aligned for its type; and what a call writes to does
+ * not overlap anything else that is passed to it. No function allocates, keeps a pointer, or has a state of its own, so
+ * all may be called from many threads. */
 
 #ifndef KRAKOBRAN_H
 #define KRAKOBRAN_H
@@ -30,17 +30,18 @@ enum {
     KRAKOBRAN_TIME_BACK = 7,       /* arrival time over 1,000 below the greatest earlier time */
     KRAKOBRAN_OUTPUT_SHORT = 8,    /* lent output too short */
     KRAKOBRAN_ASKED_OUTSIDE = 9,   /* record outside 1 to A, or n outside 1 to 100 */
-    KRAKOBRAN_STATE_UNFIT = 10,    /* receiver state unfit, or a reordered packet with no greater kept jump */
-    KRAKOBRAN_STATE_FULL = 11,     /* receiver has accepted 4,096 arrivals */
+    KRAKOBRAN_STATE_UNFIT = 10,    /* state unfit, or a reordered packet with no greater kept jump */
+    KRAKOBRAN_STATE_FULL = 11,     /* receiver, or stream of a meter, has accepted 4,096 arrivals */
     KRAKOBRAN_LISTS_DIFFER = 12,   /* the writer's lists of numbers and of times differ in length */
     KRAKOBRAN_OCTET_OUTSIDE = 13,  /* a label octet outside hexadecimal 20 to 7E */
     KRAKOBRAN_LINE_MALFORMED = 14, /* a line not of the form, or a value over the field's range */
     KRAKOBRAN_RECORD_CUT = 15,     /* a length that is no multiple of 25 */
+    KRAKOBRAN_NO_STREAM = 16,      /* a stream other than 1 or 2 */
     KRAKOBRAN_SECONDS_OVER = 18    /* a written time whose seconds don't fit 32 bits */
 };
 
-/* Cases of an answer; the last two are a receiver's only. A late time is told by the case, which has its direction, and
- * by its amount; equal times are after, by 0. A refused answer is in order, with zeros. */
+/* Cases of an answer; the last two are a receiver's or a meter's only. A late time is told by the case, which has its
+ * direction, and by its amount; equal times are after, by 0. A refused answer is in order, with zeros. */
 enum {
     KRAKOBRAN_IN_ORDER = 0,         /* the number is at least the next expected */
     KRAKOBRAN_REORDERED_AFTER = 1,  /* it is not, and the packet is stamped at or after its discontinuity */
@@ -61,7 +62,8 @@ enum {
     KRAKOBRAN_DEGREE_MOST = 100,       /* the greatest n of a degree of n-reordering */
     KRAKOBRAN_LISTING_OCTETS = 262144, /* octets that suffice for any listing */
     KRAKOBRAN_PACKETS = 4096,          /* packets a receiver is made for at most, and arrivals it accepts */
-    KRAKOBRAN_WINDOW = 64,             /* jumps that a receiver keeps */
+    KRAKOBRAN_WINDOW = 64,             /* jumps that a receiver keeps, and places that the streams of a meter share */
+    KRAKOBRAN_MOST_KEPT = 48,          /* jumps that one stream of a meter keeps, at most */
     KRAKOBRAN_BACK_MOST = 1000         /* how far below the greatest earlier time an arrival may be stamped */
 };
 
@@ -318,6 +320,53 @@ krakobran_stepped krakobran_step(krakobran_receiver state, uint32_t number, uint
 
 /* The same, with the new state left in the lent receiver: it is written where it stands, and nothing is copied. */
 krakobran_said krakobran_step_lent(krakobran_receiver *state, uint32_t number, uint64_t time);
+
+/* ---- a meter: two streams that share the places of their kept jumps */
+
+/* What a stream has for itself: its numbers, and a bit for each packet that has arrived, as a receiver has them. */
+typedef struct {
+    krakobran_stream stream;
+    uint64_t marks[KRAKOBRAN_PACKETS / 64];
+} krakobran_stream_state;
+
+/* What a meter holds: streams 1 and 2, and the places that they share. Stream 1 has the places from the first up, stream 2
+ * those from the last down, the oldest jump first; those between are free. A new jump takes a free place if its stream keeps
+ * fewer than KRAKOBRAN_MOST_KEPT; else, or with no free place, its own oldest kept jump is dropped for it. */
+typedef struct {
+    krakobran_stream_state first;
+    krakobran_stream_state second;
+    krakobran_places places;
+} krakobran_meter;
+
+/* A meter after a fresh start of a stream. */
+typedef struct {
+    uint32_t refusal;
+    krakobran_meter state;
+} krakobran_meter_started;
+
+/* The answer of a step on a stream by value: what is noted, and the meter after it. */
+typedef struct {
+    uint32_t refusal;
+    krakobran_noted noted;
+    krakobran_meter state;
+} krakobran_meter_stepped;
+
+/* A new meter: both streams fresh for a single packet, and all places free. */
+krakobran_meter krakobran_meter_new(void);
+
+/* A stream started afresh for sent packets; its places are free then. Refusals in order: 16; 10, which judges both streams,
+ * over KRAKOBRAN_MOST_KEPT jumps of one and over KRAKOBRAN_WINDOW in all among it; 4. */
+krakobran_meter_started krakobran_meter_start(krakobran_meter meter, uint32_t stream, uint32_t sent);
+
+/* The answer to an arrival on a stream, and the meter after it. Refusals in order: 16; 10 as for a start; then as a
+ * receiver's of the stream: 11, 6, 7, and 10 for a reordered packet with no greater kept jump. */
+krakobran_meter_stepped krakobran_meter_step(krakobran_meter meter, uint32_t stream, uint32_t number, uint64_t time);
+
+/* The start, with the new state left in the lent meter; gives back the refusal. */
+uint32_t krakobran_meter_start_lent(krakobran_meter *meter, uint32_t stream, uint32_t sent);
+
+/* The step, with the new state left in the lent meter. Unlike a receiver's, it is the step by value, and the state is copied. */
+krakobran_said krakobran_meter_step_lent(krakobran_meter *meter, uint32_t stream, uint32_t number, uint64_t time);
 
 #ifdef __cplusplus
 }

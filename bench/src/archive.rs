@@ -64,7 +64,7 @@ pub mod c {
     }
 
     #[repr(C)]
-    #[derive(Clone, Copy)]
+    #[derive(Clone, Copy, PartialEq, Eq, Debug)]
     pub struct Runs {
         pub closed: u32,
         pub squares: u32,
@@ -111,7 +111,7 @@ pub mod c {
     }
 
     #[repr(C)]
-    #[derive(Clone, Copy)]
+    #[derive(Clone, Copy, PartialEq, Eq, Debug)]
     pub struct Stream {
         pub sent: u32,
         pub arrived: u32,
@@ -125,7 +125,7 @@ pub mod c {
     }
 
     #[repr(C)]
-    #[derive(Clone, Copy)]
+    #[derive(Clone, Copy, PartialEq, Eq, Debug)]
     pub struct Places {
         pub positions: [u16; Receiver::WINDOW],
         pub numbers: [u16; Receiver::WINDOW],
@@ -168,6 +168,34 @@ pub mod c {
         pub noted: Noted,
     }
 
+    #[repr(C)]
+    #[derive(Clone, Copy, PartialEq, Eq, Debug)]
+    pub struct StreamState {
+        pub stream: Stream,
+        pub marks: [u64; Receiver::PACKETS / 64],
+    }
+
+    #[repr(C)]
+    #[derive(Clone, Copy, PartialEq, Eq, Debug)]
+    pub struct Meter {
+        pub first: StreamState,
+        pub second: StreamState,
+        pub places: Places,
+    }
+
+    #[repr(C)]
+    pub struct MeterStarted {
+        pub refusal: u32,
+        pub state: Meter,
+    }
+
+    #[repr(C)]
+    pub struct MeterStepped {
+        pub refusal: u32,
+        pub noted: Noted,
+        pub state: Meter,
+    }
+
     #[rustfmt::skip]
     extern "C" {
         pub fn krakobran_check(file: *const u8, octets: usize) -> Layout;
@@ -194,11 +222,16 @@ pub mod c {
         pub fn krakobran_fresh(sent: u32) -> Started;
         pub fn krakobran_step(state: State, number: u32, time: u64) -> Stepped;
         pub fn krakobran_step_lent(state: *mut State, number: u32, time: u64) -> Said;
+        pub fn krakobran_meter_new() -> Meter;
+        pub fn krakobran_meter_start(meter: Meter, stream: u32, sent: u32) -> MeterStarted;
+        pub fn krakobran_meter_step(meter: Meter, stream: u32, number: u32, time: u64) -> MeterStepped;
+        pub fn krakobran_meter_start_lent(meter: *mut Meter, stream: u32, sent: u32) -> u32;
+        pub fn krakobran_meter_step_lent(meter: *mut Meter, stream: u32, number: u32, time: u64) -> Said;
     }
 }
 
 /// The archive's state of a receiver.
-fn to_archive(r: &Receiver) -> c::State {
+pub fn to_archive(r: &Receiver) -> c::State {
     c::State {
         stream: c::Stream {
             sent: r.sent,
@@ -250,7 +283,7 @@ fn late_time(after: bool, amount: u64) -> LateTime {
 }
 
 /// What is noted, by the number of its case; figures that the case does not have are 0.
-fn noted(n: c::Noted) -> Step {
+pub fn noted(n: c::Noted) -> Step {
     match n {
         c::Noted { kind: DUPLICATE, jump: 0, extent: 0, late: 0 } => Step::Duplicate,
         c::Noted { kind: IN_ORDER, jump, extent: 0, late: 0 } => Step::InOrder { jump },
@@ -448,6 +481,10 @@ pub fn layout() {
         "noted" c::Noted: kind jump extent late;
         "stepped" c::Stepped: refusal noted state;
         "said" c::Said: refusal noted;
+        "stream_state" c::StreamState: stream marks;
+        "meter" c::Meter: first second places;
+        "meter_started" c::MeterStarted: refusal state;
+        "meter_stepped" c::MeterStepped: refusal noted state;
         "record" c::Answer: refusal kind first position jump extent offset largest late;
         "counted" c::Counts: refusal arrived reordered duplicates inorder runs;
         "tallied" c::Tally: refusal places;

@@ -24,7 +24,7 @@ impl Seen {
         *self.refusals.entry((name, refusal)).or_default() += 1;
     }
 
-    fn kind(&mut self, name: &'static str) {
+    pub fn kind(&mut self, name: &'static str) {
         *self.kinds.entry(name).or_default() += 1;
     }
 

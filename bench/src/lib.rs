@@ -8,6 +8,7 @@ pub mod compare;
 pub mod definition;
 pub mod diff;
 pub mod generate;
+pub mod meter;
 pub mod receiver;
 pub mod records;
 pub mod reference;

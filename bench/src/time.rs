@@ -5,7 +5,7 @@ use std::hint::black_box;
 use crate::boundary::{Meter, Reference, LIBRARY, LIBRARY_NAME};
 use crate::generate::{measured, Order};
 use crate::reference::*;
-use crate::{records, text};
+use crate::{meter, records, text};
 
 const AMOUNTS: [usize; 3] = [256, 1024, 4096];
 const ORDERS: [Order; 3] = [Order::InOrder, Order::Shuffled, Order::Reversed];
@@ -132,6 +132,8 @@ pub fn run() {
     }
     println!();
     println!("a receiver has {} octets; {} when a step gives it back", size_of::<Receiver>(), size_of::<Stepped>());
+    println!();
+    meter::time(&AMOUNTS);
 }
 
 /// Figures that the reference makes by narrow scans, and as folds over whole answers.
@@ -224,7 +226,7 @@ pub enum Kind {
 
 pub const KINDS: [Kind; 2] = [Kind::InOrder, Kind::Window];
 
-fn name(kind: Kind) -> &'static str {
+pub fn name(kind: Kind) -> &'static str {
     match kind {
         Kind::InOrder => "in order",
         Kind::Window => "window full",

@@ -1,4 +1,4 @@
--- What C is given of a receiver's step: a number for each case of what is noted, and the values of that case, 0 where it has none.
+-- What C is given of a step of a receiver or of a meter: a number for each case of what is noted, and the values of that case, 0 where it has none.
 -- Assumes nothing.
 use Prim.Native.Nat.{ℕ}
 use Rattle.receiver.specs.declared.Lateness.{Lateness}
@@ -6,8 +6,10 @@ use Rattle.receiver.specs.declared.Noted.{Noted}
 use Rattle.receiver.specs.declared.Noted.the-variants.{Duplicate, InOrder, Exact, Beyond}
 use Rattle.receiver.specs.declared.Outcome.{Outcome}
 use Rattle.receiver.specs.declared.Stepped.{Stepped}
+use Rattle.meter.specs.declared.MeterStepped.{MeterStepped}
 use Rattle.rfc4737.specs.Numbering.{amountOf}
 use Rattle.receiver.specs.Numbering.{notedNumber}
+use Rattle.capi.specs.declared.meters.MeterStepAnswer.{MeterStepAnswer}
 use Rattle.capi.specs.declared.noted.NotedFigures.{NotedFigures}
 use Rattle.capi.specs.declared.noted.SaidAnswer.{SaidAnswer}
 use Rattle.capi.specs.declared.noted.StepAnswer.{StepAnswer}
@@ -31,3 +33,7 @@ stepAnswer s = record { refusal = s .outcome .refusal; noted = notedFigures (s .
 -- the answer of a step by reference: its refusal and what it notes
 abbrev pub saidAnswer : Outcome → SaidAnswer
 saidAnswer o = record { refusal = o .refusal; noted = notedFigures (o .noted) }
+
+-- the answer of a meter's step: its refusal, what it notes, and the meter after it
+abbrev pub meterStepAnswer : MeterStepped → MeterStepAnswer
+meterStepAnswer s = record { refusal = s .outcome .refusal; noted = notedFigures (s .outcome .noted); state = s .state }

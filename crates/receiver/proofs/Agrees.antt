@@ -33,7 +33,7 @@ use Rattle.receiver.specs.Marks.{markAt, withMark}
 use Rattle.receiver.specs.Said.{refused, accepted}
 use Rattle.receiver.specs.Kept.{Held, withJump, heldAfter}
 use Rattle.receiver.specs.Step.{refusalOf, latenessFrom, reorderedOutcome, firstOutcome, lookedAt, outcomeOf, duplicateStream, inOrderStream, reorderedStream, inOrderState, reorderedState, notedState, stepWith}
-use Rattle.receiver.specs.Account.{standsIn, refusalIn, accountWith, answerIn, answersIn, isIn, inWindow, beyondFigures, inForm, outcomeIn}
+use Rattle.receiver.specs.Account.{standsIn, refusalIn, accountWith, jumpIn, answerIn, answersIn, isIn, inWindow, beyondFigures, inForm, outcomeIn}
 use Rattle.receiver.proofs.Window.{lastNumber}
 use Rattle.receiver.proofs.HeldJumps.{Holds}
 use Rattle.receiver.proofs.Marks.{marksOf, marks-more, marked-is-arrived}
@@ -99,11 +99,6 @@ held-in-order room h fs a g = rw (jump-in-order fs a g) (go (eqb (a .number - ne
 no-jump : (fs : List Arrival) (a : Arrival) → a .number < nextExp fs → jumpAfter fs a ≡ []
 unfolding jumpAfter isJump isInOrder
 no-jump fs a h = rw (lt-leb _ _ h)
-
--- the jump that an arrival is, if it is accepted and is one
-unfoldable pub jumpIn : ℕ → List Arrival → Arrival → List Placed
-jumpIn k account a =
-    cond (eqb (refusalIn k account a) 0) (cond (has (a .number) account) [] (jumpAfter (firsts account) a)) []
 
 -- there is no new jump or one
 pub jump-cases : (P : List Placed → Type 0) → P [] → ((p : Placed) → P (p ∷ [])) → (k : ℕ) (account : List Arrival) (a : Arrival) → P (jumpIn k account a)

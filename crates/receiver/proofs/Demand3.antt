@@ -31,7 +31,7 @@ use Rattle.receiver.specs.Limits.{window, packets}
 use Rattle.receiver.specs.Said.{refused, accepted}
 use Rattle.receiver.specs.Kept.{Held, hasRoom, withJump}
 use Rattle.receiver.specs.Step.{freshStream, madeFor, freshOf}
-use Rattle.receiver.specs.Account.{refusalIn, accountWith, accountOf, answerIn, answersIn, windowIn, inWindow, beyondFigures, inForm, outcomeIn, accountOutcomes}
+use Rattle.receiver.specs.Account.{refusalIn, accountWith, accountOf, jumpIn, answerIn, answersIn, windowIn, inWindow, beyondFigures, inForm, outcomeIn, accountOutcomes}
 use Rattle.receiver.specs.Demand3.{fedTo, stateAfter, outcomeAfter, receiverOutcomes, Answered, Demand3}
 use Rattle.receiver.proofs.Window.{lastNumber}
 use Rattle.receiver.proofs.Fits.{within-true}
@@ -39,7 +39,7 @@ use Rattle.receiver.proofs.Accepted.{Sound, accepted-arrival, account-s
 use Rattle.receiver.proofs.Late.{droppedIn, Split, split-window, WindowSearch, search-late}
 use Rattle.receiver.proofs.State.{stateWith, state-fresh}
 use Rattle.receiver.proofs.Fitness.{arrived-in, accepted-count}
-use Rattle.receiver.proofs.Agrees.{answer-late, search-window, jumpIn, jump-cases, jumps-with, step-agrees}
+use Rattle.receiver.proofs.Agrees.{answer-late, search-window, jump-cases, jumps-with, step-agrees}
 use Rattle.receiver.proofs.HeldJumps.{heldFrom, held-more, Holds, held-last}
 
 -- no refusal over the account is 10
@@ -168,9 +168,9 @@ window-few account = simp length-drop (omega arith)
 
 -- what is held under one arrival more
 held-with : (k : ℕ) (account : List Arrival) (a : Arrival)
-    → foldl (withJump (hasRoom (heldIn account))) (heldIn account) (jumpIn k account a) ≡ heldIn (accountWith k account a)
+    → foldl (withJump (hasRoom window (heldIn account))) (heldIn account) (jumpIn k account a) ≡ heldIn (accountWith k account a)
 held-with k account a =
-    jump-cases (λ (l : List Placed). foldl (withJump (hasRoom (heldIn account))) (heldIn account) l ≡ heldFrom (jumps (firsts account) ++ l))
+    jump-cases (λ (l : List Placed). foldl (withJump (hasRoom window (heldIn account))) (heldIn account) l ≡ heldFrom (jumps (firsts account) ++ l))
     (rw append-nil) (λ p. sym (held-more (jumps (firsts account)) p)) k account a
     ∙ sym (ap heldFrom (jumps-with k account a))
 
@@ -182,7 +182,7 @@ module _ (k : ℕ) (low : 1 ≤ k) (high : k ≤ packets) where
   unfolding stateOf stateWith
   step-of account a h =
       step-agrees k low high account a h (droppedIn account) (windowIn account) (split-window account)
-      (heldIn account) (holds-window account) (window-few account) (hasRoom (heldIn account))
+      (heldIn account) (holds-window account) (window-few account) (hasRoom window (heldIn account))
       ∙ ap (λ (h : Held). record { outcome = outcomeIn (windowIn account) k account a; state = stateWith k (accountWith k account a) h })
       (held-with k account a)
 

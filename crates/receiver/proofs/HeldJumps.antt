@@ -10,7 +10,7 @@ use native.Mathlib.Numerals.{add-one}
 use native.Mathlib.Omega.{arith}
 use lib.Dec.{ltb}
 use lib.ListN.{length, getD, take, drop, replicate, length-append, length-drop, length-set, List·getD-append}
-use lib.Seq.{getD-set-same, getD-set-other, getD-take, getD-drop, getD-at, length-take-le, drop-append-le, take-append-le, take-suc, drop-cons}
+use lib.Seq.{getD-set-same, getD-set-other, getD-take, getD-drop, getD-at, getD-append-add, length-take-le, drop-append-le, take-append-le, take-suc, drop-cons}
 use borrow.Author.Tests.{ltb-true, ltb-false}
 use Rattle.rfc4737.specs.Order.{Placed}
 use Rattle.rfc4737.proofs.Lists.{snoc-ind}
@@ -116,6 +116,18 @@ module _ (xs : List ℕ) (x n : ℕ) (long : n < length xs) where
   unfolding pushed
   moved-last = getD-at (drop 1 (take (suc n) xs)) x (drop (suc n) xs) 0 n part-long
 
+  -- those after it hold what they held
+  moved-after : (k : ℕ) → suc n ≤ k → getD (pushed false (suc n) xs x) k 0 ≡ getD xs k 0
+  unfolding pushed
+  moved-after k h =
+      let i : ℕ = k - suc n in
+      let e : k ≡ length (drop 1 (take (suc n) xs)) + suc i = rw part-long (omega arith) in
+      let f : suc n + i ≡ k = omega arith in
+      ap (λ (m : ℕ). getD (drop 1 (take (suc n) xs) ++ (x ∷ drop (suc n) xs)) m 0) e
+      ∙ getD-append-add (drop 1 (take (suc n) xs)) (x ∷ drop (suc n) xs) (suc i) 0
+      ∙ getD-drop (suc n) xs i 0
+      ∙ ap (λ (m : ℕ). getD xs m 0) f
+
 -- as many places are kept as before
 shifted-places : (h : Held) (p : Placed) (n : ℕ) → h .kept ≡ suc n → keptOf (withJump false h p) ≡ placesFrom (withJump false h p .places) 0 (suc n)
 unfolding keptOf withJump
@@ -217,6 +229,27 @@ holds-shifted ds q ws h p o le =
       dropped = rw last-more (ap (λ (q : Placed). q .number) oldest);
     }
 
+-- under one jump more the places after the kept ones hold what they held
+pub jump-frame : (room : Bool) (h : Held) (p : Placed) → Long (h .places) → (room ≡ false → (1 ≤ h .kept) × (h .kept ≤ window))
+    → (k : ℕ) → withJump room h p .kept ≤ k → placeAt (withJump room h p .places) k ≡ placeAt (h .places) k
+unfolding withJump pushed placeAt
+jump-frame true h p l g k le =
+    let n : k ≢ h .kept = omega arith in
+    placed-path _ _
+    (getD-set-other (h .places .positions) (h .kept) k (p .position) 0 n)
+    (getD-set-other (h .places .numbers) (h .kept) k (p .number) 0 n)
+    (getD-set-other (h .places .times) (h .kept) k (p .time) 0 n)
+jump-frame false h p l g k le =
+    let w = g refl in
+    let n : ℕ = h .kept - 1 in
+    let e : h .kept ≡ suc n = omega arith in
+    let m : suc n ≤ k = omega arith in
+    rw e
+    (placed-path _ _
+    (moved-after (h .places .positions) (p .position) n (omega (arith, l .positions)) k m)
+    (moved-after (h .places .numbers) (p .number) n (omega (arith, l .numbers)) k m)
+    (moved-after (h .places .times) (p .time) n (omega (arith, l .times)) k m))
+
 -- ---- the receiver's own rule: the last 64
 
 -- at first nothing is held
@@ -230,18 +263,18 @@ noneHeld =
 
 -- what is held after some jumps, one after the other
 unfoldable pub heldFrom : List Placed → Held
-heldFrom js = foldl (λ (h : Held) (p : Placed). withJump (hasRoom h) h p) noneHeld js
+heldFrom js = foldl (λ (h : Held) (p : Placed). withJump (hasRoom window h) h p) noneHeld js
 
 -- under one jump more
-pub held-more : (js : List Placed) (p : Placed) → heldFrom (js ++ (p ∷ [])) ≡ withJump (hasRoom (heldFrom js)) (heldFrom js) p
+pub held-more : (js : List Placed) (p : Placed) → heldFrom (js ++ (p ∷ [])) ≡ withJump (hasRoom window (heldFrom js)) (heldFrom js) p
 unfolding heldFrom
-held-more js p = fold-more (λ (h : Held) (p : Placed). withJump (hasRoom h) h p) noneHeld js p
+held-more js p = fold-more (λ (h : Held) (p : Placed). withJump (hasRoom window h) h p) noneHeld js p
 
 -- of these the last are kept
 abbrev HoldsLast : List Placed → Held → Type 0
 HoldsLast js h = Holds (take (length js - window) js) (drop (length js - window) js) h
 
-holds-more : (js : List Placed) (h : Held) (p : Placed) → HoldsLast js h → HoldsLast (js ++ (p ∷ [])) (withJump (hasRoom h) h p)
+holds-more : (js : List Placed) (h : Held) (p : Placed) → HoldsLast js h → HoldsLast (js ++ (p ∷ [])) (withJump (hasRoom window h) h p)
 holds-more js h p o = go (ltb (h .kept) window) refl
   where
     c : h .kept ≡ length js - (length js - window)

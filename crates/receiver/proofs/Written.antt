@@ -15,7 +15,6 @@ use Rattle.receiver.specs.declared.Stream.{Stream}
 use Rattle.receiver.specs.declared.Receiver.{Receiver}
 use Rattle.receiver.specs.declared.Noted.{Noted}
 use Rattle.receiver.specs.declared.Noted.the-variants.{Duplicate, InOrder, Exact, Beyond}
-use Rattle.receiver.specs.Limits.{window}
 use Rattle.receiver.specs.Marks.{withMark}
 use Rattle.receiver.specs.Kept.{Held, heldOf, pushed, withJump, heldAfter}
 use Rattle.receiver.specs.Step.{placedAt, duplicateStream, inOrderStream, reorderedStream, inOrderState, reorderedState, notedState}
@@ -43,14 +42,14 @@ module _ (room : Bool) (h : Held) (size : ℕ) (p : Placed) where
       go true = refl
       go false = refl
 
-module _ (s g : Stream) (marks positions numbers times : List ℕ) (number time : ℕ) (v : Noted) where
+module _ (most : ℕ) (s g : Stream) (marks positions numbers times : List ℕ) (number time : ℕ) (v : Noted) where
   -- the receiver before
   abbrev r : Receiver
   r = whole s marks positions numbers times
 
   -- whether there is room for a new jump, and what is held after an in-order arrival with a jump size
   abbrev room : Bool
-  room = ltb (s .kept) window
+  room = ltb (s .kept) most
 
   abbrev held : ℕ → Held
   held size = heldAfter room (heldOf s (placesOf positions numbers times)) size (placedAt s number time)

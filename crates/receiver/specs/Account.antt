@@ -10,8 +10,8 @@ use Rattle.rfc4737.specs.declared.Arrival.{Arrival}
 use Rattle.rfc4737.specs.declared.ReorderedFigures.{ReorderedFigures}
 use Rattle.rfc4737.specs.declared.Answer.{Answer}
 use Rattle.rfc4737.specs.declared.Answer.the-variants as answer
-use Rattle.rfc4737.specs.Arrivals.{firsts, each}
-use Rattle.rfc4737.specs.Order.{Placed, jumps}
+use Rattle.rfc4737.specs.Arrivals.{has, firsts, each}
+use Rattle.rfc4737.specs.Order.{Placed, jumpAfter, jumps}
 use Rattle.rfc4737.specs.Extent.{discontinuity, extentFrom, lateFrom}
 use Rattle.rfc4737.specs.Answer.{answerTo, answers}
 use Rattle.rfc4737.specs.Times.{tooEarly, greatestTime}
@@ -38,6 +38,11 @@ accountWith k account a = cond (eqb (refusalIn k account a) 0) (account ++ (a �
 -- the account of the arrivals fed, empty at first
 unfoldable pub accountOf : ℕ → List Arrival → List Arrival
 accountOf k fed = foldl (accountWith k) [] fed
+
+-- the jump that an arrival is, if it is accepted and is one
+unfoldable pub jumpIn : ℕ → List Arrival → Arrival → List Placed
+jumpIn k account a =
+    cond (eqb (refusalIn k account a) 0) (cond (has (a .number) account) [] (jumpAfter (firsts account) a)) []
 
 -- the answer of "What is measured" over the account; sizes play no part in the receiver's fields
 unfoldable pub answerIn : List Arrival → Arrival → Answer

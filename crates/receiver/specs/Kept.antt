@@ -7,7 +7,6 @@ use lib.ListN.{getD, set, take, drop}
 use Rattle.rfc4737.specs.Order.{Placed}
 use Rattle.receiver.specs.declared.Stream.{Stream}
 use Rattle.receiver.specs.declared.Places.{Places}
-use Rattle.receiver.specs.Limits.{window}
 
 -- the jump that stands in a place
 unfoldable pub placeAt : Places → ℕ → Placed
@@ -56,9 +55,9 @@ withJump room h p =
           };
     }
 
--- a receiver has room for a new jump while it keeps fewer than 64
-abbrev pub hasRoom : Held → Bool
-hasRoom h = ltb (h .kept) window
+-- where at most so many jumps are kept, there is room for a new one while fewer are
+abbrev pub hasRoom : ℕ → Held → Bool
+hasRoom most h = ltb (h .kept) most
 
 -- what is held after an in-order arrival p with a jump size: it is a jump if this is not 0
 unfoldable pub heldAfter : Bool → Held → ℕ → Placed → Held

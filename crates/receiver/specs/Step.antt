@@ -1,6 +1,6 @@
 -- The receiver's step and its start, after the scope's "The receiver": what is said of an arrival, and the state after it.
 -- Assumes nothing.
-use Prim.Native.Nat.{ℕ, _+_, _-_}
+use Prim.Native.Nat.{ℕ, _+_, _-_, min, max}
 use mathlib.Core.Bool.{Bool, not, cond}
 use mathlib.Core.List.{List, head?}
 use mathlib.Core.Option.{Option, none, some}
@@ -178,6 +178,10 @@ stepWith room r number time =
     let o = outcomeOf r number time in
     record { outcome = o; state = cond (eqb (o .refusal) 0) (notedState room r number time (o .noted)) r }
 
--- the receiver's step, for every state and arrival
+-- the step of a receiver that keeps at most so many jumps: at least 1, and at most 64
+abbrev pub stepWithin : ℕ → Receiver → ℕ → ℕ → Stepped
+stepWithin most r number time = stepWith (hasRoom (max 1 (min most window)) (heldOf (r .stream) (r .places))) r number time
+
+-- the receiver's step, for every state and arrival: it keeps at most 64 jumps
 abbrev pub stepOf : Receiver → ℕ → ℕ → Stepped
-stepOf r number time = stepWith (hasRoom (heldOf (r .stream) (r .places))) r number time
+stepOf r number time = stepWithin window r number time

@@ -2,6 +2,7 @@
 // where they stand. Nothing else is copied.
 
 use crate::MARK_WORDS;
+use crate::MOST;
 use crate::Noted;
 use crate::Outcome;
 use crate::Receiver;
@@ -13,8 +14,9 @@ use crate::numbers::after_duplicate;
 use crate::numbers::after_in_order;
 use crate::numbers::after_reordered;
 ghost use mathlib.Core.Path.{_≡_};
-ghost use Rattle.receiver.specs.Step.{stepOf};
-ghost use Rattle.receiver.specs.Private.Parts.{Full, whole, steppedOf};
+ghost use lib.Dec.{ltb};
+ghost use Rattle.receiver.specs.Step.{stepWith, stepOf};
+ghost use Rattle.receiver.specs.Private.Parts.{Most, Full, whole, steppedOf};
 
 // What is said of an arrival, and the stream's numbers after it.
 pub struct Advanced {
@@ -22,10 +24,11 @@ pub struct Advanced {
     pub stream: Stream,
 }
 
-// The answer to an arrival, and the parts after it: first what is said is decided, which only reads; then the parts are
-// written. With a refusal they stay as they were.
-pub(crate) fn advance<'a>(
+// The answer to an arrival, and the parts after it, where at most so many jumps are kept: first what is said is decided, which
+// only reads; then the parts are written. With a refusal they stay as they were.
+pub(crate) fn advance_within<'a>(
     s: Stream,
+    most: u32,
     marks: &'a mut [u64; MARK_WORDS],
     positions: &'a mut [u16; Receiver::WINDOW],
     numbers: &'a mut [u16; Receiver::WINDOW],
@@ -33,9 +36,9 @@ pub(crate) fn advance<'a>(
     number: u32,
     time: u64,
 ) -> Advanced
-    requires { ⌜ Full (now positions) (now numbers) (now times) ⌝ }
+    requires { ⌜ Most most × Full (now positions) (now numbers) (now times) ⌝ }
     ensures { λ a. ⌜ steppedOf a (now (marks .exit)) (now (positions .exit)) (now (numbers .exit)) (now (times .exit))
-        ≡ stepOf (whole s (now (marks .entry)) (now (positions .entry)) (now (numbers .entry)) (now (times .entry))) number time ⌝ }
+        ≡ stepWith (ltb (s .kept) most) (whole s (now (marks .entry)) (now (positions .entry)) (now (numbers .entry)) (now (times .entry))) number time ⌝ }
 {
     let outcome = decide(s, marks, positions, numbers, times, number, time);
     if outcome.refusal != 0 {
@@ -48,7 +51,7 @@ pub(crate) fn advance<'a>(
             stream: after_duplicate(s, time),
         },
         Noted::InOrder(size) => {
-            let stream = after_in_order(s, numbers, size, number, time);
+            let stream = after_in_order(s, most, numbers, size, number, time);
             mark(marks, number);
             if size != 0 {
                 push(
@@ -56,6 +59,7 @@ pub(crate) fn advance<'a>(
                     numbers,
                     times,
                     s.kept,
+                    most,
                     (s.arrived + 1) as u16,
                     number as u16,
                     time,
@@ -71,4 +75,21 @@ pub(crate) fn advance<'a>(
             }
         }
     }
+}
+
+// The same for a receiver that keeps as many jumps as it has places.
+pub(crate) fn advance<'a>(
+    s: Stream,
+    marks: &'a mut [u64; MARK_WORDS],
+    positions: &'a mut [u16; Receiver::WINDOW],
+    numbers: &'a mut [u16; Receiver::WINDOW],
+    times: &'a mut [u64; Receiver::WINDOW],
+    number: u32,
+    time: u64,
+) -> Advanced
+    requires { ⌜ Full (now positions) (now numbers) (now times) ⌝ }
+    ensures { λ a. ⌜ steppedOf a (now (marks .exit)) (now (positions .exit)) (now (numbers .exit)) (now (times .exit))
+        ≡ stepOf (whole s (now (marks .entry)) (now (positions .entry)) (now (numbers .entry)) (now (times .entry))) number time ⌝ }
+{
+    advance_within(s, MOST, marks, positions, numbers, times, number, time)
 }

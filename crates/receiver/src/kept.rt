@@ -2,13 +2,13 @@
 
 use crate::Receiver;
 ghost use mathlib.Core.Path.{_≡_};
-ghost use mathlib.Core.Bool.{cond};
-ghost use Prim.Native.Nat.{_+_, _≤_};
+ghost use mathlib.Core.Bool.{false, cond};
+ghost use Prim.Native.Nat.{_+_, _≤_, _<_};
 ghost use lib.Dec.{eqb, ltb};
 ghost use lib.ListN.{getD};
 ghost use Rattle.receiver.specs.Limits.{window};
 ghost use Rattle.receiver.specs.Kept.{pushed};
-ghost use Rattle.receiver.specs.Private.Parts.{Full};
+ghost use Rattle.receiver.specs.Private.Parts.{Most, Full};
 ghost use Rattle.receiver.specs.Private.Decision.{Found};
 
 // The last place.
@@ -37,68 +37,92 @@ pub(crate) fn place_above(numbers: &[u16; Receiver::WINDOW], kept: u32, number: 
     count
 }
 
-// How many jumps are kept after an in-order arrival with a jump size.
-pub(crate) fn kept_after(kept: u32, size: u32) -> u32
-    requires { ⌜ kept ≤ window ⌝ }
-    ensures { λ r. ⌜ r ≡ cond (eqb size 0) kept (cond (ltb kept window) (kept + 1) kept) ⌝ }
+// How many jumps are kept after an in-order arrival with a jump size, where at most so many are.
+pub(crate) fn kept_after(kept: u32, most: u32, size: u32) -> u32
+    ensures { λ r. ⌜ r ≡ cond (eqb size 0) kept (cond (ltb kept most) (kept + 1) kept) ⌝ }
 {
     if size == 0 {
         return kept;
     }
-    if (kept as usize) < Receiver::WINDOW {
+    if kept < most {
         return kept + 1;
     }
     kept
 }
 
-// The number of the last jump dropped, after an in-order arrival with a jump size.
+// The number of the last jump dropped, after an in-order arrival with a jump size, where at most so many are kept.
 pub(crate) fn dropped_after(
     dropped: u16,
     kept: u32,
+    most: u32,
     size: u32,
     numbers: &[u16; Receiver::WINDOW],
 ) -> u16
-    ensures { λ r. ⌜ r ≡ cond (eqb size 0) dropped (cond (ltb kept window) dropped (getD (now (numbers .entry)) 0 0)) ⌝ }
+    ensures { λ r. ⌜ r ≡ cond (eqb size 0) dropped (cond (ltb kept most) dropped (getD (now (numbers .entry)) 0 0)) ⌝ }
 {
     if size == 0 {
         return dropped;
     }
-    if (kept as usize) < Receiver::WINDOW {
+    if kept < most {
         return dropped;
     }
     numbers[0]
 }
 
-// A new jump after the kept ones; if all places are taken, they move by one.
-pub(crate) fn push<'a>(
+// A new jump at a place, those up to it moved one place down: the first goes.
+fn put_last<'a>(
     positions: &'a mut [u16; Receiver::WINDOW],
     numbers: &'a mut [u16; Receiver::WINDOW],
     times: &'a mut [u64; Receiver::WINDOW],
-    kept: u32,
+    last: usize,
     position: u16,
     number: u16,
     time: u64,
 )
-    requires { ⌜ (kept ≤ window) × Full (now positions) (now numbers) (now times) ⌝ }
-    ensures { λ _. ⌜ (now (positions .exit) ≡ pushed (ltb kept window) kept (now (positions .entry)) position)
-        × ((now (numbers .exit) ≡ pushed (ltb kept window) kept (now (numbers .entry)) number)
-        × (now (times .exit) ≡ pushed (ltb kept window) kept (now (times .entry)) time)) ⌝ }
+    requires { ⌜ (last < window) × Full (now positions) (now numbers) (now times) ⌝ }
+    ensures { λ _. ⌜ (now (positions .exit) ≡ pushed false (last + 1) (now (positions .entry)) position)
+        × ((now (numbers .exit) ≡ pushed false (last + 1) (now (numbers .entry)) number)
+        × (now (times .exit) ≡ pushed false (last + 1) (now (times .entry)) time)) ⌝ }
 {
-    let count = kept as usize;
-    if count < Receiver::WINDOW {
-        positions[count] = position;
-        numbers[count] = number;
-        times[count] = time;
-        return;
-    }
     let mut i = 0;
-    while i < LAST {
+    while i < last {
         times[i] = times[i + 1];
         positions[i] = positions[i + 1];
         numbers[i] = numbers[i + 1];
         i += 1;
     }
-    positions[LAST] = position;
-    numbers[LAST] = number;
-    times[LAST] = time;
+    positions[last] = position;
+    numbers[last] = number;
+    times[last] = time;
+}
+
+// A new jump after the kept ones, where at most so many are kept; if there is no room for it, they move by one. That all places
+// are taken is a case of its own, since a loop over a fixed number of places costs less.
+pub(crate) fn push<'a>(
+    positions: &'a mut [u16; Receiver::WINDOW],
+    numbers: &'a mut [u16; Receiver::WINDOW],
+    times: &'a mut [u64; Receiver::WINDOW],
+    kept: u32,
+    most: u32,
+    position: u16,
+    number: u16,
+    time: u64,
+)
+    requires { ⌜ (kept ≤ window) × (Most most × Full (now positions) (now numbers) (now times)) ⌝ }
+    ensures { λ _. ⌜ (now (positions .exit) ≡ pushed (ltb kept most) kept (now (positions .entry)) position)
+        × ((now (numbers .exit) ≡ pushed (ltb kept most) kept (now (numbers .entry)) number)
+        × (now (times .exit) ≡ pushed (ltb kept most) kept (now (times .entry)) time)) ⌝ }
+{
+    let count = kept as usize;
+    if kept < most {
+        positions[count] = position;
+        numbers[count] = number;
+        times[count] = time;
+        return;
+    }
+    if count == Receiver::WINDOW {
+        put_last(positions, numbers, times, LAST, position, number, time);
+        return;
+    }
+    put_last(positions, numbers, times, count - 1, position, number, time);
 }

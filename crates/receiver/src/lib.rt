@@ -10,13 +10,19 @@ pub mod numbering;
 mod numbers;
 
 use advance::advance;
+use advance::advance_within;
+use fit::places_fit;
+use fit::stream_fit;
 use rfc4737::LateTime;
 use rfc4737::Runs;
 use rfc4737::refusal;
 ghost use mathlib.Core.Path.{_≡_};
 ghost use mathlib.Core.List.{List};
+ghost use Prim.Native.Nat.{min, max};
 ghost use Rattle.rfc4737.specs.declared.Arrival.{Arrival};
-ghost use Rattle.receiver.specs.Step.{madeFor, freshOf, stepOf};
+ghost use Rattle.receiver.specs.Limits.{window};
+ghost use Rattle.receiver.specs.Fit.{fit};
+ghost use Rattle.receiver.specs.Step.{madeFor, freshOf, stepWithin, stepOf};
 ghost use Rattle.receiver.specs.Lent.{AsStep};
 ghost use Rattle.receiver.specs.Demand3.{Demand3};
 ghost use Rattle.receiver.specs.WindowCases.{WindowCasesHold};
@@ -88,7 +94,7 @@ pub struct Started {
 }
 
 // The words that hold a bit for each of a receiver's packets.
-const MARK_WORDS: usize = (Receiver::PACKETS / 64) as usize;
+pub const MARK_WORDS: usize = (Receiver::PACKETS / 64) as usize;
 
 impl Receiver {
     // How many jumps are kept.
@@ -120,16 +126,25 @@ impl Receiver {
         }
     }
 
-    // The answer to an arrival, and the state after it: the state's parts are taken out, advanced, and put back.
-    pub fn step(mut self, number: u32, time: u64) -> Stepped
+    // The answer to an arrival, and the state after it.
+    pub fn step(self, number: u32, time: u64) -> Stepped
         ensures { λ r. ⌜ r ≡ stepOf self number time ⌝ }
     {
+        self.step_within(MOST, number, time)
+    }
+
+    // The same for a receiver that keeps at most so many jumps: the state's parts are taken out, advanced, and put back.
+    pub fn step_within(mut self, most: u32, number: u32, time: u64) -> Stepped
+        ensures { λ r. ⌜ r ≡ stepWithin most self number time ⌝ }
+    {
+        let kept = at_most(most);
         let mut marks = self.marks;
         let mut positions = self.places.positions;
         let mut numbers = self.places.numbers;
         let mut times = self.places.times;
-        let a = advance(
+        let a = advance_within(
             self.stream,
+            kept,
             &mut marks,
             &mut positions,
             &mut numbers,
@@ -151,6 +166,35 @@ impl Receiver {
             state: self,
         }
     }
+
+    // Whether the state is fit.
+    pub fn is_fit(self) -> bool
+        ensures { λ r. ⌜ r ≡ fit self ⌝ }
+    {
+        if !stream_fit(self.stream) {
+            return false;
+        }
+        let positions = self.places.positions;
+        let numbers = self.places.numbers;
+        let times = self.places.times;
+        places_fit(self.stream, &positions, &numbers, &times)
+    }
+}
+
+// The most jumps that a receiver keeps.
+const MOST: u32 = Receiver::WINDOW as u32;
+
+// How many jumps are kept at most, where so many are asked for.
+fn at_most(most: u32) -> u32
+    ensures { λ r. ⌜ r ≡ max 1 (min most window) ⌝ }
+{
+    if most == 0 {
+        return 1;
+    }
+    if MOST < most {
+        return MOST;
+    }
+    most
 }
 
 // The step in place: the numbers are read and stored, the arrays are lent on, and nothing else is copied.

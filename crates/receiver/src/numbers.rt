@@ -37,16 +37,17 @@ pub(crate) fn after_duplicate(s: Stream, time: u64) -> Stream
     }
 }
 
-// The numbers after an in-order arrival with a jump size, the kept jumps having these numbers.
+// The numbers after an in-order arrival with a jump size, the kept jumps having these numbers, where at most so many are kept.
 pub(crate) fn after_in_order(
     s: Stream,
+    most: u32,
     numbers: &[u16; Receiver::WINDOW],
     size: u32,
     number: u32,
     time: u64,
 ) -> Stream
     requires { ⌜ Small s × (number ≤ packets) ⌝ }
-    ensures { λ r. ⌜ ((positions times : List ℕ) → r ≡ inOrderStream s (heldAfter (ltb (s .kept) window) (heldOf s (placesOf positions (now (numbers .entry)) times)) size (placedAt s number time)) number time) ⌝ }
+    ensures { λ r. ⌜ ((positions times : List ℕ) → r ≡ inOrderStream s (heldAfter (ltb (s .kept) most) (heldOf s (placesOf positions (now (numbers .entry)) times)) size (placedAt s number time)) number time) ⌝ }
 {
     let runs = lengthened(s.runs);
     Stream {
@@ -55,10 +56,10 @@ pub(crate) fn after_in_order(
         duplicates: s.duplicates,
         inorder: s.inorder + 1,
         next: next_after(s.next, number),
-        kept: kept_after(s.kept, size),
+        kept: kept_after(s.kept, most, size),
         greatest: next_reference(s.greatest, time),
         runs,
-        dropped: dropped_after(s.dropped, s.kept, size, numbers),
+        dropped: dropped_after(s.dropped, s.kept, most, size, numbers),
     }
 }
 

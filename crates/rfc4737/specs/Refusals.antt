@@ -65,6 +65,10 @@ lineMalformed = 14
 abbrev pub recordCut : ℕ
 recordCut = 15
 
+-- 16: a stream other than 1 or 2
+abbrev pub noStream : ℕ
+noStream = 16
+
 -- 18: a written time whose seconds don't fit 32 bits
 abbrev pub secondsOver : ℕ
 secondsOver = 18

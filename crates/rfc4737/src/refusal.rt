@@ -32,4 +32,6 @@ pub const LINE_MALFORMED: u32 = 14;
 
 pub const RECORD_CUT: u32 = 15;
 
+pub const NO_STREAM: u32 = 16;
+
 pub const SECONDS_OVER: u32 = 18;

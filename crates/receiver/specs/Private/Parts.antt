@@ -1,5 +1,5 @@
 -- A receiver in parts: the numbers of its stream, its marks and the places of its kept jumps. Assumes nothing.
-use Prim.Native.Nat.{ℕ}
+use Prim.Native.Nat.{ℕ, _≤_}
 use mathlib.Core.List.{List}
 use mathlib.Core.Path.{_≡_}
 use lib.ListN.{length}
@@ -23,6 +23,10 @@ whole s marks positions numbers times =
 abbrev pub steppedOf : Advanced → List ℕ → List ℕ → List ℕ → List ℕ → Stepped
 steppedOf a marks positions numbers times =
     record { outcome = a .outcome; state = whole (a .stream) marks positions numbers times }
+
+-- a number of jumps that a receiver can keep at most: it has a place for a first one, and no more than its places
+abbrev pub Most : ℕ → Type 0
+Most most = (1 ≤ most) × (most ≤ window)
 
 -- the places are as many as an array of them has
 abbrev pub Full : List ℕ → List ℕ → List ℕ → Type 0

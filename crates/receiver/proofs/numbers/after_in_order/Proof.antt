@@ -8,11 +8,11 @@ use Rattle.receiver.proofs.numbers.after_in_order.Tie as tie
 lengthened-requires : tie.Need-lengthened-requires
 lengthened-requires c κs = search needs
 
-add-t7 : tie.Need-add-t7
-add-t7 c = search needs
-
 add-t8 : tie.Need-add-t8
 add-t8 c = search needs
+
+add-t9 : tie.Need-add-t9
+add-t9 c = search needs
 
 next-after-requires : tie.Need-next-after-requires
 next-after-requires c κs = search needs
@@ -36,8 +36,8 @@ after-in-order-spec =
     tie.close
     (tie.spec
     lengthened-requires
-    add-t7
     add-t8
+    add-t9
     next-after-requires
     kept-after-requires
     next-reference-requires

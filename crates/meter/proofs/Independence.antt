@@ -1,0 +1,243 @@
+-- Independence of the streams. Assumes nothing.
+use Prim.Native.Nat.{ℕ, suc}
+use mathlib.Core.Path.{_≡_, refl, sym, ap, ap₂, _∙_}
+use mathlib.Core.Bool.{Bool, true, false, cond}
+use mathlib.Core.List.{List, [], _∷_, _++_, map, map-append, foldl, flatten, append-nil}
+use mathlib.Core.Option.{Option, none, some}
+use native.Mathlib.Omega.{arith}
+use lib.Dec.{eqb}
+use lib.ListN.{length}
+use Rattle.rfc4737.specs.declared.Arrival.{Arrival}
+use Rattle.rfc4737.specs.declared.Answer.{Answer}
+use Rattle.rfc4737.specs.declared.Answer.the-variants as answer
+use Rattle.rfc4737.specs.Arrivals.{firsts, each, eachAfter, count}
+use Rattle.rfc4737.specs.Order.{Placed, jumps}
+use Rattle.rfc4737.specs.Runs.{isDuplicate, isInOrderAnswer, runs}
+use Rattle.rfc4737.specs.Refusals.{outside}
+use Rattle.rfc4737.proofs.Lists.{snoc-ind, each-more, flatten-more}
+use Rattle.rfc4737.proofs.Arrivals.{fold-more}
+use Rattle.receiver.specs.declared.Stream.{Stream}
+use Rattle.receiver.specs.declared.Receiver.{Receiver}
+use Rattle.receiver.specs.declared.Noted.the-variants.{Exact, Beyond}
+use Rattle.receiver.specs.declared.Outcome.{Outcome}
+use Rattle.receiver.specs.Limits.{packets}
+use Rattle.receiver.specs.Kept.{Held}
+use Rattle.receiver.specs.Said.{refused, accepted}
+use Rattle.receiver.specs.Account.{refusalIn, accountWith, answerIn, answersIn, inWindow, trueFigures, beyondFigures, inForm, jumpIn, outcomeIn}
+use Rattle.receiver.proofs.State.{stateWith}
+use Rattle.receiver.proofs.Agrees.{jump-cases}
+use Rattle.meter.specs.Streams.{Side, one, two, sideOf, receiverOf}
+use Rattle.meter.specs.Account.{Call, arrives, starts, numberOf, Reply, said, started, Part, freshPart, keptWith, partAfter, replyIn, Account, freeIn, accountAfter, accountOf, accountReply}
+use Rattle.meter.specs.Demand3.{meterAfter, meterReply, numbersOf}
+use Rattle.meter.specs.Independence.{isSide, ofOwn, ownCalls, ownReplies, Flag, flag, flagOf, Alone, freeAt, trace, Independence}
+use Rattle.meter.proofs.Sides.{accountFor, replyFor}
+use Rattle.meter.proofs.Carries.{heldIn}
+use Rattle.meter.proofs.Demand3.{calls-carry, reply-agrees}
+
+-- whether a call is on a stream
+abbrev isOn : Side → Call → Bool
+isOn s c = isSide s (sideOf (numberOf c))
+
+-- what is said of own calls, under one call more
+own-more {ℓ} : {B : Type ℓ} (s : Side) (f : List Call → Call → B) (calls : List Call) (c : Call)
+    → ofOwn s f (calls ++ (c ∷ [])) ≡ ofOwn s f calls ++ cond (isOn s c) (f calls c ∷ []) []
+unfolding ofOwn
+own-more s f calls c =
+    ap flatten (each-more (λ (earlier : List Call) (c : Call). cond (isOn s c) (f earlier c ∷ []) []) calls c)
+    ∙ flatten-more (each (λ (earlier : List Call) (c : Call). cond (isOn s c) (f earlier c ∷ []) []) calls) (cond (isOn s c) (f calls c ∷ []) [])
+
+-- a stream's part of the account, under one call more
+part-more : (s : Side) (calls : List Call) (c : Call)
+    → accountOf (calls ++ (c ∷ [])) s ≡ cond (isOn s c) (partAfter (freeIn (accountOf calls)) (accountOf calls s) c) (accountOf calls s)
+unfolding accountOf accountAfter
+part-more s calls c = ap (λ (account : Account). account s) (fold-more _ _ calls c) ∙ go s (sideOf (numberOf c))
+  where
+    go : (s : Side) (o : Option Side) → accountFor o (accountOf calls) c s ≡ cond (isSide s o) (partAfter (freeIn (accountOf calls)) (accountOf calls s) c) (accountOf calls s)
+    go one none = refl
+    go two none = refl
+    go one (some one) = refl
+    go one (some two) = refl
+    go two (some one) = refl
+    go two (some two) = refl
+
+-- what is said to a call on a stream
+reply-own : (s : Side) (calls : List Call) (c : Call) → isOn s c ≡ true → meterReply calls c ≡ replyIn (accountOf calls s) c
+unfolding accountReply
+reply-own s calls c e = reply-agrees calls c ∙ go s (sideOf (numberOf c)) e
+  where
+    go : (s : Side) (o : Option Side) → isSide s o ≡ true → replyFor o (accountOf calls) c ≡ replyIn (accountOf calls s) c
+    go s none e = absurd (let z : _≡_ {A = ℕ} 0 1 = cc in omega arith)
+    go one (some one) e = refl
+    go one (some two) e = absurd (let z : _≡_ {A = ℕ} 0 1 = cc in omega arith)
+    go two (some one) e = absurd (let z : _≡_ {A = ℕ} 0 1 = cc in omega arith)
+    go two (some two) e = refl
+
+-- ---- without the neighbour
+
+-- parts of the same K and arrivals
+record Same (h g : Part) : Type 0 where
+  sent : h .sent ≡ g .sent
+  accepted : h .accepted ≡ g .accepted
+
+same-after : (f e : ℕ) (h g : Part) (c : Call) → Same h g → Same (partAfter f h c) (partAfter e g c)
+unfolding partAfter
+same-after f e h g (arrives n a) q =
+    record { sent = q .sent; accepted = ap₂ (λ (k : ℕ) (l : List Arrival). accountWith k l a) (q .sent) (q .accepted) }
+same-after f e h g (starts n k) q = go (outside 1 packets k)
+  where
+    go : (t : Bool) → Same (cond t h (freshPart k)) (cond t g (freshPart k))
+    go true = q
+    go false = record { sent = refl; accepted = refl }
+
+-- the flag of an arrival does not hang on the window
+flag-window : (ws vs : List Placed) (k : ℕ) (account : List Arrival) (a : Arrival)
+    → flagOf (said (outcomeIn ws k account a)) ≡ flagOf (said (outcomeIn vs k account a))
+unfolding outcomeIn inForm
+flag-window ws vs k account a = go (eqb (refusalIn k account a) 0)
+  where
+    form : (x : Answer) → flag 0 (inForm ws account a x) ≡ flag 0 (inForm vs account a x)
+    form (answer.Duplicate d) = refl
+    form (answer.InOrder d) = refl
+    form (answer.Reordered d) = late (inWindow ws account (a .number)) (inWindow vs account (a .number))
+      where
+        late : (t u : Bool) → flag 0 (cond t (Exact (trueFigures d)) (Beyond (beyondFigures ws account a))) ≡ flag 0 (cond u (Exact (trueFigures d)) (Beyond (beyondFigures vs account a)))
+        late true true = refl
+        late true false = refl
+        late false true = refl
+        late false false = refl
+
+    go : (t : Bool)
+        → flagOf (said (cond {A = Outcome} t (accepted (inForm ws account a (answerIn account a))) (refused (refusalIn k account a))))
+        ≡ flagOf (said (cond {A = Outcome} t (accepted (inForm vs account a (answerIn account a))) (refused (refusalIn k account a))))
+    go true = form (answerIn account a)
+    go false = refl
+
+flag-same : (h g : Part) (c : Call) → Same h g → flagOf (replyIn h c) ≡ flagOf (replyIn g c)
+unfolding replyIn
+flag-same h g (arrives n a) q =
+    flag-window (h .window) (g .window) (h .sent) (h .accepted) a
+    ∙ ap₂ (λ (k : ℕ) (l : List Arrival). flagOf (said (outcomeIn (g .window) k l a))) (q .sent) (q .accepted)
+flag-same h g (starts n k) q = refl
+
+-- the account of a stream is that of its own calls
+same-alone : (s : Side) (calls : List Call) → Same (accountOf calls s) (accountOf (ownCalls s calls) s)
+unfolding ofOwn each eachAfter flatten
+same-alone s = snoc-ind (λ (calls : List Call). Same (accountOf calls s) (accountOf (ownCalls s calls) s)) more (record { sent = refl; accepted = refl })
+  where
+    more : (calls : List Call) (c : Call) → Same (accountOf calls s) (accountOf (ownCalls s calls) s)
+        → Same (accountOf (calls ++ (c ∷ [])) s) (accountOf (ownCalls s (calls ++ (c ∷ []))) s)
+    more calls c q = rw (part-more s calls c, own-more s (λ (earlier : List Call) (c : Call). c) calls c) (go (isOn s c) refl)
+      where
+        go : (t : Bool) → isOn s c ≡ t
+            → Same (cond t (partAfter (freeIn (accountOf calls)) (accountOf calls s) c) (accountOf calls s)) (accountOf (ownCalls s calls ++ cond t (c ∷ []) []) s)
+        go true e = rw (part-more s (ownCalls s calls) c, e) (same-after _ _ _ _ c q)
+        go false e = rw append-nil q
+
+-- so are its flags
+flags-alone : (s : Side) (calls : List Call) → map flagOf (ownReplies s calls) ≡ map flagOf (each meterReply (ownCalls s calls))
+unfolding ofOwn each eachAfter flatten
+flags-alone s = snoc-ind (λ (calls : List Call). map flagOf (ownReplies s calls) ≡ map flagOf (each meterReply (ownCalls s calls))) more refl
+  where
+    more : (calls : List Call) (c : Call) → map flagOf (ownReplies s calls) ≡ map flagOf (each meterReply (ownCalls s calls))
+        → map flagOf (ownReplies s (calls ++ (c ∷ []))) ≡ map flagOf (each meterReply (ownCalls s (calls ++ (c ∷ []))))
+    more calls c q = rw (own-more s meterReply calls c, own-more s (λ (earlier : List Call) (c : Call). c) calls c) (go (isOn s c) refl)
+      where
+        go : (t : Bool) → isOn s c ≡ t
+            → map flagOf (ownReplies s calls ++ cond t (meterReply calls c ∷ []) []) ≡ map flagOf (each meterReply (ownCalls s calls ++ cond t (c ∷ []) []))
+        go true e =
+            let f : flagOf (meterReply calls c) ≡ flagOf (meterReply (ownCalls s calls) c) =
+            ap flagOf (reply-own s calls c e) ∙ flag-same _ _ c (same-alone s calls) ∙ ap flagOf (sym (reply-own s (ownCalls s calls) c e)) in
+            map-append flagOf (ownReplies s calls) (meterReply calls c ∷ [])
+            ∙ ap₂ (λ (l : List Flag) (x : Flag). l ++ (x ∷ [])) q f
+            ∙ sym (map-append flagOf (each meterReply (ownCalls s calls)) (meterReply (ownCalls s calls) c ∷ []))
+            ∙ sym (ap (map flagOf) (each-more meterReply (ownCalls s calls) c))
+        go false e = rw (append-nil, append-nil) q
+
+-- numbers of a stream that its account gives
+known-alone {ℓ} : {A : Type ℓ} (f : Stream → A) (of : List Arrival → A)
+    → ((k : ℕ) (account : List Arrival) (h : Held) → f (stateWith k account h .stream) ≡ of account)
+    → (s : Side) (calls : List Call) → f (numbersOf s calls) ≡ f (numbersOf s (ownCalls s calls))
+known-alone f of e s calls = known calls ∙ ap of (same-alone s calls .accepted) ∙ sym (known (ownCalls s calls))
+  where
+    known : (l : List Call) → f (numbersOf s l) ≡ of (accountOf l s .accepted)
+    known l =
+        ap (λ (r : Receiver). f (r .stream)) (calls-carry l .streams s .state)
+        ∙ e (accountOf l s .sent) (accountOf l s .accepted) (heldIn (receiverOf s (meterAfter l)))
+
+alone : (s : Side) (calls : List Call) → Alone s calls
+unfolding stateWith
+alone s calls =
+    let q = same-alone s calls in
+    record {
+      flags = flags-alone s calls;
+      accepted = q .accepted;
+      jumps = ap (λ (l : List Arrival). jumps (firsts l)) (q .accepted);
+      runs = known-alone (λ (t : Stream). t .runs) (λ (l : List Arrival). runs (answersIn l)) (λ k account h. refl) s calls;
+      arrived = known-alone (λ (t : Stream). t .arrived) (λ (l : List Arrival). length (firsts l)) (λ k account h. refl) s calls;
+      duplicates = known-alone (λ (t : Stream). t .duplicates) (λ (l : List Arrival). count isDuplicate (answersIn l)) (λ k account h. refl) s calls;
+      inorder = known-alone (λ (t : Stream). t .inorder) (λ (l : List Arrival). count isInOrderAnswer (answersIn l)) (λ k account h. refl) s calls;
+    }
+
+-- ---- through the free places only
+
+-- the first of some numbers, 0 for none
+firstNumber : List ℕ → ℕ
+firstNumber [] = 0
+firstNumber (n ∷ ns) = n
+
+-- a stream's part after a call, with the number of free places where it is a jump
+partFrom : Part → Call × List ℕ → Part
+partFrom h t = partAfter (firstNumber (t .1)) h (t .0)
+
+-- the number of free places counts at a jump only
+free-counts : (h : Part) (free : ℕ) (c : Call) → partAfter free h c ≡ partFrom h (c, freeAt h free c)
+unfolding partAfter partFrom firstNumber
+free-counts h free (arrives n a) =
+    ap (λ (ws : List Placed). record { sent = h .sent; accepted = accountWith (h .sent) (h .accepted) a; window = ws })
+    (jump-cases (λ (l : List Placed). foldl (keptWith free) (h .window) l ≡ foldl (keptWith (firstNumber (map (λ (p : Placed). free) l))) (h .window) l)
+    refl (λ p. refl) (h .sent) (h .accepted) a)
+free-counts h free (starts n k) = refl
+
+-- a stream's part is known from its trace
+part-trace : (s : Side) (calls : List Call) → accountOf calls s ≡ foldl partFrom (freshPart 1) (trace s calls)
+unfolding accountOf ofOwn each eachAfter flatten accountAfter
+part-trace s = snoc-ind (λ (calls : List Call). accountOf calls s ≡ foldl partFrom (freshPart 1) (trace s calls)) more refl
+  where
+    more : (calls : List Call) (c : Call) → accountOf calls s ≡ foldl partFrom (freshPart 1) (trace s calls)
+        → accountOf (calls ++ (c ∷ [])) s ≡ foldl partFrom (freshPart 1) (trace s (calls ++ (c ∷ [])))
+    more calls c q = rw (part-more s calls c, own-more {B = Call × List ℕ} s (λ (earlier : List Call) (c : Call). (c, freeAt (accountOf earlier s) (freeIn (accountOf earlier)) c)) calls c) (go (isOn s c))
+      where
+        go : (t : Bool) → cond t (partAfter (freeIn (accountOf calls)) (accountOf calls s) c) (accountOf calls s)
+            ≡ foldl partFrom (freshPart 1) (trace s calls ++ cond t ((c, freeAt (accountOf calls s) (freeIn (accountOf calls)) c) ∷ []) [])
+        go true =
+            free-counts (accountOf calls s) (freeIn (accountOf calls)) c
+            ∙ ap (λ (h : Part). partFrom h (c, freeAt (accountOf calls s) (freeIn (accountOf calls)) c)) q
+            ∙ sym (fold-more partFrom (freshPart 1) (trace s calls) (c, freeAt (accountOf calls s) (freeIn (accountOf calls)) c))
+        go false = rw append-nil q
+
+-- what is said to a stream's calls, from its trace
+repliesFrom : List (Call × List ℕ) → List Reply
+repliesFrom l = each (λ (earlier : List (Call × List ℕ)) (t : Call × List ℕ). replyIn (foldl partFrom (freshPart 1) earlier) (t .0)) l
+
+replies-trace : (s : Side) (calls : List Call) → ownReplies s calls ≡ repliesFrom (trace s calls)
+unfolding repliesFrom ofOwn each eachAfter flatten
+replies-trace s = snoc-ind (λ (calls : List Call). ownReplies s calls ≡ repliesFrom (trace s calls)) more refl
+  where
+    more : (calls : List Call) (c : Call) → ownReplies s calls ≡ repliesFrom (trace s calls)
+        → ownReplies s (calls ++ (c ∷ [])) ≡ repliesFrom (trace s (calls ++ (c ∷ [])))
+    more calls c q = rw (own-more s meterReply calls c, own-more {B = Call × List ℕ} s (λ (earlier : List Call) (c : Call). (c, freeAt (accountOf earlier s) (freeIn (accountOf earlier)) c)) calls c) (go (isOn s c) refl)
+      where
+        go : (t : Bool) → isOn s c ≡ t → ownReplies s calls ++ cond t (meterReply calls c ∷ []) []
+            ≡ repliesFrom (trace s calls ++ cond t ((c, freeAt (accountOf calls s) (freeIn (accountOf calls)) c) ∷ []) [])
+        go true e =
+            ap₂ (λ (l : List Reply) (r : Reply). l ++ (r ∷ [])) q (reply-own s calls c e ∙ ap (λ (h : Part). replyIn h c) (part-trace s calls))
+            ∙ sym (each-more (λ (earlier : List (Call × List ℕ)) (t : Call × List ℕ). replyIn (foldl partFrom (freshPart 1) earlier) (t .0)) (trace s calls) (c, freeAt (accountOf calls s) (freeIn (accountOf calls)) c))
+        go false e = rw (append-nil, append-nil) q
+
+-- independence
+pub independence : Independence
+independence =
+    record {
+      alone = alone;
+      free = λ s calls others e. replies-trace s calls ∙ ap repliesFrom e ∙ sym (replies-trace s others);
+    }

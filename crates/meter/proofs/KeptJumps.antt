@@ -1,0 +1,133 @@
+-- The jumps that a stream keeps under a new one: by the rule for the shared places. Assumes nothing.
+use Prim.Native.Nat.{ℕ, suc, _+_, _-_, _≤_, _<_}
+use mathlib.Core.Path.{_≡_, refl, sym, ap, _∙_}
+use mathlib.Core.Bool.{Bool, true, false, cond, _&&_}
+use mathlib.Core.List.{List, [], _∷_, _++_, foldl, append-nil, append-assoc}
+use native.Mathlib.Omega.{arith}
+use lib.Dec.{ltb}
+use lib.ListN.{length, drop, length-append}
+use borrow.Author.Tests.{ltb-true, ltb-false}
+use Rattle.rfc4737.specs.declared.Arrival.{Arrival}
+use Rattle.rfc4737.specs.Order.{Placed}
+use Rattle.receiver.specs.Limits.{window}
+use Rattle.receiver.specs.Kept.{placeAt, Held, withJump}
+use Rattle.receiver.specs.Account.{jumpIn}
+use Rattle.receiver.proofs.Agrees.{jump-cases}
+use Rattle.receiver.proofs.Fits.{and-true}
+use Rattle.receiver.proofs.HeldJumps.{Long, Holds, holds-count, holds-appended, holds-shifted, jump-frame}
+use Rattle.meter.specs.Streams.{mostKept, freeBeside, takesPlace}
+use Rattle.meter.specs.Account.{keptWith}
+
+-- a test of two parts that fails
+and-false : (a b : Bool) → a && b ≡ false → (a ≡ true → b ≡ false)
+and-false true b e h = e
+and-false false b e h = let z : _≡_ {A = ℕ} 0 1 = cc in absurd (omega arith)
+
+-- what holds where a jump takes a place
+pub takes : (own beside : ℕ) → takesPlace own (freeBeside own beside) ≡ true → (own < mostKept) × (own + beside < window)
+takes own beside e =
+    let a = and-true _ _ e in
+    let l : own < mostKept = ltb-true _ _ (a .0) in
+    let m : 0 < window - (own + beside) = ltb-true _ _ (a .1) in
+    (l, omega arith)
+
+-- and where it takes none, beside a neighbour that keeps at most 48
+pub takes-none : (own beside : ℕ) → beside ≤ mostKept → takesPlace own (freeBeside own beside) ≡ false → 16 ≤ own
+takes-none own beside h e = go (ltb own mostKept) refl
+  where
+    go : (t : Bool) → ltb own mostKept ≡ t → 16 ≤ own
+    go true q = let m : window - (own + beside) ≤ 0 = ltb-false _ _ (and-false _ _ e q) in omega arith
+    go false q = let m : mostKept ≤ own = ltb-false _ _ q in omega arith
+
+-- what is kept of some jumps after new ones: those dropped and those kept are all of them, the places hold them, and no place
+-- after the kept ones is written
+pub record KeptOf (ds ws : List Placed) (j : Held) (beside : ℕ) (new : List Placed) (ws′ : List Placed) (j′ : Held) : Type 0 where
+  pub dropped : List Placed
+  pub parts : dropped ++ ws′ ≡ (ds ++ ws) ++ new
+  pub holds : Holds dropped ws′ j′
+  pub most : length ws′ ≤ mostKept
+  pub together : length ws′ + beside ≤ window
+  pub least : 1 ≤ length dropped → 16 ≤ length ws′
+  pub some : 1 ≤ length ((ds ++ ws) ++ new) → 1 ≤ length ws′
+  pub frame : (k : ℕ) → length ws′ ≤ k → placeAt (j′ .places) k ≡ placeAt (j .places) k
+
+-- as the rule for the shared places keeps them
+abbrev pub AfterJumps : List Placed → List Placed → Held → ℕ → List Placed → Type 0
+AfterJumps ds ws j beside new =
+    KeptOf ds ws j beside new (foldl (keptWith (freeBeside (length ws) beside)) ws new)
+    (foldl (withJump (takesPlace (length ws) (freeBeside (length ws) beside))) j new)
+
+module _ (ds ws : List Placed) (j : Held) (beside : ℕ)
+    (h : Holds ds ws j)
+    (most : length ws ≤ mostKept)
+    (low : beside ≤ mostKept)
+    (together : length ws + beside ≤ window)
+    (least : 1 ≤ length ds → 16 ≤ length ws)
+    (some : 1 ≤ length (ds ++ ws) → 1 ≤ length ws) where
+  -- of none
+  kept-none : KeptOf ds ws j beside [] ws j
+  kept-none =
+      record {
+        dropped = ds;
+        parts = sym (append-nil (ds ++ ws));
+        holds = h;
+        most = most;
+        together = together;
+        least = least;
+        some = rw append-nil some;
+        frame = λ k l. refl;
+      }
+
+  -- of one
+  kept-one : (p : Placed) (t : Bool) → takesPlace (length ws) (freeBeside (length ws) beside) ≡ t
+      → KeptOf ds ws j beside (p ∷ []) (cond t ws (drop 1 ws) ++ (p ∷ [])) (withJump t j p)
+  unfolding withJump
+  kept-one p true e =
+      let q = takes (length ws) beside e in
+      let l : length (ws ++ (p ∷ [])) ≡ length ws + 1 = length-append ws (p ∷ []) in
+      let c : j .kept ≡ length ws = holds-count ds ws j h in
+      let a : length ws < mostKept = q .0 in
+      let b : length ws + beside < window = q .1 in
+      record {
+        dropped = ds;
+        parts = sym (append-assoc ds ws (p ∷ []));
+        holds = holds-appended ds ws j p h (omega arith);
+        most = omega arith;
+        together = omega arith;
+        least = λ n. let m : 16 ≤ length ws = least n in omega arith;
+        some = λ n. omega arith;
+        frame = λ k n. jump-frame true j p (h .long) (λ z. absurd (let y : _≡_ {A = ℕ} 0 1 = cc in omega arith)) k (omega arith);
+      }
+  kept-one p false e = go ws refl
+    where
+      go : (vs : List Placed) → ws ≡ vs → KeptOf ds ws j beside (p ∷ []) (drop 1 ws ++ (p ∷ [])) (withJump false j p)
+      go [] v =
+          let n : 16 ≤ length ws = takes-none (length ws) beside low e in
+          let z : length ws ≡ 0 = ap length v in
+          absurd (omega arith)
+      go (o ∷ vs) v =
+          let n : 16 ≤ length ws = takes-none (length ws) beside low e in
+          let z : length ws ≡ suc (length vs) = ap length v in
+          let c : j .kept ≡ length ws = holds-count ds ws j h in
+          let l : length (vs ++ (p ∷ [])) ≡ length vs + 1 = length-append vs (p ∷ []) in
+          let k : Holds ds (o ∷ vs) j = rw v at h in
+          let r : length (drop 1 ws ++ (p ∷ [])) ≡ length vs + 1 = ap (λ (us : List Placed). length (drop 1 us ++ (p ∷ []))) v ∙ l in
+          record {
+            dropped = ds ++ (o ∷ []);
+            parts =
+                rw v
+                (append-assoc ds (o ∷ []) (vs ++ (p ∷ [])) ∙ sym (append-assoc ds (o ∷ vs) (p ∷ [])));
+            holds = rw v (holds-shifted ds o vs j p k (omega arith));
+            most = omega arith;
+            together = omega arith;
+            least = λ m. omega arith;
+            some = λ m. omega arith;
+            frame = λ i m. jump-frame false j p (h .long) (λ _. (omega arith, omega arith)) i (omega arith);
+          }
+
+  -- under the jump that an arrival is, if it is one
+  pub kept-arrival : (k : ℕ) (account : List Arrival) (a : Arrival) → AfterJumps ds ws j beside (jumpIn k account a)
+  unfolding keptWith
+  kept-arrival k account a =
+      jump-cases (AfterJumps ds ws j beside) kept-none
+      (λ p. kept-one p (takesPlace (length ws) (freeBeside (length ws) beside)) refl) k account a

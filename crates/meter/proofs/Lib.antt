@@ -1,0 +1,9 @@
+-- Laws behind the meter's step, demand 3 and independence. Assumes nothing.
+pub mod Sides
+pub mod Facing
+pub mod KeptJumps
+pub mod Reversed
+pub mod Carries
+pub mod Demand3
+pub mod Independence
+pub mod Meters

@@ -1,0 +1,97 @@
+-- The account of a meter, made from the calls and from nothing that the meter holds: of each stream its K, its accepted
+-- arrivals since its last accepted start, and its window, which is the jumps that the rule for the shared places keeps.
+-- Refusals, answers and the account of the arrivals are the receiver's. Assumes nothing.
+use Prim.Native.Nat.{ℕ}
+use mathlib.Core.Bool.{cond}
+use mathlib.Core.List.{List, [], _∷_, _++_, foldl}
+use lib.ListN.{length, drop}
+use Rattle.rfc4737.specs.declared.Arrival.{Arrival}
+use Rattle.rfc4737.specs.Order.{Placed}
+use Rattle.rfc4737.specs.Refusals.{outside, inCase, sentOutside, noStream}
+use Rattle.receiver.specs.declared.Outcome.{Outcome}
+use Rattle.receiver.specs.Limits.{packets}
+use Rattle.receiver.specs.Said.{refused}
+use Rattle.receiver.specs.Account.{accountWith, jumpIn, outcomeIn}
+use Rattle.meter.specs.Streams.{Side, one, two, sideOf, onStream, freeBeside, takesPlace}
+
+-- a call: an arrival on a stream, or a fresh start of a stream for K
+pub data Call : Type 0 where
+  arrives : ℕ → Arrival → Call
+  starts : ℕ → ℕ → Call
+
+-- the stream number of a call
+abbrev pub numberOf : Call → ℕ
+numberOf (arrives n a) = n
+numberOf (starts n k) = n
+
+-- the reply to a call: what is said of an arrival, or the refusal of a start
+pub data Reply : Type 0 where
+  said : Outcome → Reply
+  started : ℕ → Reply
+
+-- ---- of one stream
+
+-- the part of the account for a stream
+pub record Part : Type 0 where
+  pub sent : ℕ
+  pub accepted : List Arrival
+  pub window : List Placed
+
+-- fresh for K
+abbrev pub freshPart : ℕ → Part
+freshPart k = record { sent = k; accepted = []; window = [] }
+
+-- the jumps kept under a new one: it takes a free place, or the oldest kept one is dropped for it
+unfoldable pub keptWith : ℕ → List Placed → Placed → List Placed
+keptWith free kept p = cond (takesPlace (length kept) free) kept (drop 1 kept) ++ (p ∷ [])
+
+-- a stream's part after a call on it, where so many places are free; refused, it stays
+unfoldable pub partAfter : ℕ → Part → Call → Part
+partAfter free h (arrives n a) =
+    record {
+      sent = h .sent;
+      accepted = accountWith (h .sent) (h .accepted) a;
+      window = foldl (keptWith free) (h .window) (jumpIn (h .sent) (h .accepted) a);
+    }
+partAfter free h (starts n k) = cond (outside 1 packets k) h (freshPart k)
+
+-- the reply to a call on a stream
+unfoldable pub replyIn : Part → Call → Reply
+replyIn h (arrives n a) = said (outcomeIn (h .window) (h .sent) (h .accepted) a)
+replyIn h (starts n k) = started (inCase (outside 1 packets k) sentOutside)
+
+-- the reply to a call on no stream
+abbrev pub noReply : Call → Reply
+noReply (arrives n a) = said (refused noStream)
+noReply (starts n k) = started noStream
+
+-- ---- of both
+
+-- the account: a part for each stream
+abbrev pub Account : Type 0
+Account = Side → Part
+
+-- how many places are free
+abbrev pub freeIn : Account → ℕ
+freeIn account = freeBeside (length (account one .window)) (length (account two .window))
+
+-- the account with another part for a stream
+abbrev pub withPart : Side → Part → Account → Account
+withPart one h account one = h
+withPart one h account two = account two
+withPart two h account one = account one
+withPart two h account two = h
+
+-- the account after a call
+unfoldable pub accountAfter : Account → Call → Account
+accountAfter account c =
+    onStream (sideOf (numberOf c)) account
+    (λ (s : Side). withPart s (partAfter (freeIn account) (account s) c) account)
+
+-- the account of the calls: at first both streams are fresh for K = 1
+unfoldable pub accountOf : List Call → Account
+accountOf calls = foldl accountAfter (λ s. freshPart 1) calls
+
+-- the account's reply to a call, after the calls before it
+unfoldable pub accountReply : List Call → Call → Reply
+accountReply earlier c = onStream (sideOf (numberOf c)) (noReply c) (λ (s : Side). replyIn (accountOf earlier s) c)

@@ -1,0 +1,87 @@
+-- Independence: one stream's calls change the other's later answers through the number of free places only. Assumes nothing.
+use Prim.Native.Nat.{ℕ, zero, suc}
+use mathlib.Core.Bool.{Bool, true, false, cond}
+use mathlib.Core.Path.{_≡_}
+use mathlib.Core.List.{List, [], _∷_, map, flatten}
+use mathlib.Core.Option.{Option, none, some}
+use Rattle.rfc4737.specs.Arrivals.{each}
+use Rattle.rfc4737.specs.Order.{Placed}
+use Rattle.receiver.specs.declared.Noted.{Noted}
+use Rattle.receiver.specs.declared.Noted.the-variants.{Duplicate, InOrder, Exact, Beyond}
+use Rattle.receiver.specs.Account.{jumpIn}
+use Rattle.meter.specs.Streams.{Side, one, two, sideOf}
+use Rattle.meter.specs.Account.{Call, arrives, starts, numberOf, Reply, said, started, Part, freeIn, accountOf}
+use Rattle.meter.specs.Demand3.{meterReply, numbersOf, jumpsOf}
+
+-- whether a stream is the one of a call, if that is on one
+abbrev pub isSide : Side → Option Side → Bool
+isSide s none = false
+isSide one (some one) = true
+isSide one (some two) = false
+isSide two (some one) = false
+isSide two (some two) = true
+
+-- of each call on a stream what f says, after the calls before it
+unfoldable pub ofOwn {ℓ} : {B : Type ℓ} → Side → (List Call → Call → B) → List Call → List B
+ofOwn s f calls =
+    flatten (each (λ (earlier : List Call) (c : Call). cond (isSide s (sideOf (numberOf c))) (f earlier c ∷ []) []) calls)
+
+-- the calls on a stream, without its neighbour's
+abbrev pub ownCalls : Side → List Call → List Call
+ownCalls s calls = ofOwn s (λ (earlier : List Call) (c : Call). c) calls
+
+-- the replies to them
+abbrev pub ownReplies : Side → List Call → List Reply
+ownReplies s calls = ofOwn s meterReply calls
+
+-- ---- without a neighbour
+
+-- a flag: refused, duplicate, in order with the jump size, reordered, or started afresh; without extent and late time
+pub data Flag : Type 0 where
+  refused : ℕ → Flag
+  duplicate : Flag
+  inOrder : ℕ → Flag
+  reordered : Flag
+  fresh : Flag
+
+-- of what is noted of an arrival, with its refusal
+abbrev pub flag : ℕ → Noted → Flag
+flag (suc n) w = refused (suc n)
+flag zero Duplicate = duplicate
+flag zero (InOrder size) = inOrder size
+flag zero (Exact l) = reordered
+flag zero (Beyond l) = reordered
+
+-- of a reply
+abbrev pub flagOf : Reply → Flag
+flagOf (said o) = flag (o .refusal) (o .noted)
+flagOf (started (suc n)) = refused (suc n)
+flagOf (started zero) = fresh
+
+-- "its flags, jumps, runs and counts stay what they'd be without a neighbour"
+pub record Alone (s : Side) (calls : List Call) : Type 0 where
+  pub flags : map flagOf (ownReplies s calls) ≡ map flagOf (each meterReply (ownCalls s calls))
+  pub accepted : accountOf calls s .accepted ≡ accountOf (ownCalls s calls) s .accepted
+  pub jumps : jumpsOf s calls ≡ jumpsOf s (ownCalls s calls)
+  pub runs : numbersOf s calls .runs ≡ numbersOf s (ownCalls s calls) .runs
+  pub arrived : numbersOf s calls .arrived ≡ numbersOf s (ownCalls s calls) .arrived
+  pub duplicates : numbersOf s calls .duplicates ≡ numbersOf s (ownCalls s calls) .duplicates
+  pub inorder : numbersOf s calls .inorder ≡ numbersOf s (ownCalls s calls) .inorder
+
+-- ---- through the number of free places
+
+-- the number of free places where a call is a jump of a stream
+abbrev pub freeAt : Part → ℕ → Call → List ℕ
+freeAt h free (arrives n a) = map (λ (p : Placed). free) (jumpIn (h .sent) (h .accepted) a)
+freeAt h free (starts n k) = []
+
+-- the calls on a stream, with the number of free places at each of its jumps
+abbrev pub trace : Side → List Call → List (Call × List ℕ)
+trace s calls =
+    ofOwn s (λ (earlier : List Call) (c : Call). (c, freeAt (accountOf earlier s) (freeIn (accountOf earlier)) c)) calls
+
+-- the claim. Of two lists of calls: with the same calls on a stream, and the same number of free places at each of its jumps,
+-- its replies are the same
+pub record Independence : Type 0 where
+  pub alone : (s : Side) (calls : List Call) → Alone s calls
+  pub free : (s : Side) (calls others : List Call) → trace s calls ≡ trace s others → ownReplies s calls ≡ ownReplies s others

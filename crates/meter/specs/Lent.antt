@@ -1,0 +1,21 @@
+-- The meter's calls over a meter that is lent. Assumes nothing.
+use Prim.Native.Nat.{ℕ}
+use mathlib.Core.Path.{_≡_}
+use Rattle.receiver.specs.declared.Outcome.{Outcome}
+use Rattle.meter.specs.declared.Meter.{Meter}
+use Rattle.meter.specs.Step.{meterStep, meterStart}
+
+-- what a step over a meter lent says and leaves: the outcome is the step's, the meter at exit holds the step's state, and with a
+-- refusal it is equal
+abbrev pub AsMeterStep : Meter → ℕ → ℕ → ℕ → Outcome → Meter → Type 0
+AsMeterStep m n number time outcome after =
+    (outcome ≡ meterStep m n number time .outcome)
+    × (after ≡ meterStep m n number time .state)
+    × ((outcome .refusal ≡ 0 → ⊥) → after ≡ m)
+
+-- the same of a fresh start
+abbrev pub AsMeterStart : Meter → ℕ → ℕ → ℕ → Meter → Type 0
+AsMeterStart m n k refusal after =
+    (refusal ≡ meterStart m n k .refusal)
+    × (after ≡ meterStart m n k .state)
+    × ((refusal ≡ 0 → ⊥) → after ≡ m)

@@ -1,0 +1,22 @@
+-- `receiver::Receiver::step_within` meets its contract: the parts are those of the state, and the state is put together of what
+-- they become. Assumes nothing.
+use native.Mathlib.Omega.{arith}
+use borrow.Author.Needs.{needs}
+use Rattle.receiver.proofs.Receiver.step_within.Statement.{statement}
+use Rattle.receiver.proofs.Receiver.step_within.Tie as tie
+
+at-most-requires : tie.Need-at-most-requires
+at-most-requires c κs = search needs
+
+advance-within-requires : tie.Need-advance-within-requires
+advance-within-requires c κs =
+    let e = c .before .before .before .before .before .before .before .before .at-most .ensures in
+    ((omega arith, omega arith), (search needs, (search needs, search needs)))
+
+returns : tie.Need-returns
+returns c =
+    rw (c .before .before .before .before .before .before .before .before .before .before .before .before .at-most .ensures) at
+    (c .before .before .before .advance-within .ensures)
+
+pub step-within-spec : {M : Type 1} → statement M
+step-within-spec = tie.close (tie.spec at-most-requires advance-within-requires returns)

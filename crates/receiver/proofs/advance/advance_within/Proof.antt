@@ -1,0 +1,136 @@
+-- `receiver::advance::advance_within` meets its contract: what is decided is the step's answer, and what is written makes its
+-- state. Assumes nothing.
+use Prim.Native.Nat.{ℕ}
+use mathlib.Core.Bool.{true}
+use native.Mathlib.Omega.{arith}
+use borrow.Author.Needs.{needs}
+use Rattle.receiver.specs.declared.Receiver.{Receiver}
+use Rattle.receiver.specs.Private.Parts.{whole}
+use Rattle.receiver.specs.Private.Decision.{Unrefused, Small}
+use Rattle.receiver.proofs.Steps.{said-accepted, step-refused, step-noted}
+use Rattle.receiver.proofs.Written.{duplicate-written, in-order-written, jump-written, late-written}
+use Rattle.receiver.proofs.advance.advance_within.Statement.{statement}
+use Rattle.receiver.proofs.advance.advance_within.Tie as tie
+
+-- the receiver of the parts at entry
+abbrev stateAt : tie.Start → Receiver
+stateAt c = whole (c .args .s) (c .args .marks .now) (c .args .positions .now) (c .args .numbers .now) (c .args .times .now)
+
+-- fit numbers are small
+small-stream : {r : Receiver} {number : ℕ} → Unrefused r number → Small (r .stream)
+small-stream a =
+    let f = a .stream in
+    record {
+      arrived-high = omega (arith, f .arrived-high, f .sent-high);
+      inorder-high = omega (arith, f .inorder-high, f .arrived-high, f .sent-high);
+      current-high = omega (arith, f .current-high, f .inorder-high, f .arrived-high, f .sent-high);
+      closed-high = omega (arith, f .closed-high, f .arrived-high, f .sent-high);
+      squares-high = f .squares-high;
+      kept-high = a .places .kept-high;
+    }
+
+-- an arrival that is not refused
+accepted : (c : tie.Else1) → Unrefused (stateAt (c .before .before .before .before .before .before .before)) (c .before .before .before .before .before .before .before .args .number)
+accepted c = said-accepted _ _ _ true _ (c .before .before .decide .ensures) (c .if1 .left)
+
+decide-requires : tie.Need-decide-requires
+decide-requires c κs = search needs
+
+returns : tie.Need-returns
+returns c = step-refused _ _ _ _ _ (c .before .before .decide .ensures) (c .if1 .taken)
+
+enum-told : tie.Need-enum-told
+enum-told c = search needs
+
+after-duplicate-requires : tie.Need-after-duplicate-requires
+after-duplicate-requires c κs =
+    let a = accepted (c .before .before) in
+    omega (arith, a .stream .accepted-high)
+
+enum-known-noted : tie.Need-enum-known-noted
+enum-known-noted c = search needs
+
+after-in-order-requires : tie.Need-after-in-order-requires
+after-in-order-requires c κs =
+    let a = accepted (c .before .before .before .before) in
+    (small-stream a, omega (arith, a .number-high, a .stream .sent-high))
+
+mark-requires : tie.Need-mark-requires
+mark-requires c κs =
+    let a = accepted (c .before .before .before .before .before .before) in
+    (a .number-low, omega (arith, a .number-high, a .stream .sent-high))
+
+add-push : tie.Need-add-push
+add-push c =
+    let a = accepted (c .before .before .before .before .before .before .before .before .before .before .before .before) in
+    record { fits = omega (arith, a .stream .arrived-high, a .stream .sent-high) }
+
+cast-push : tie.Need-cast-push
+cast-push c =
+    let a = accepted (c .before .before .before .before .before .before .before .before .before .before .before .before) in
+    record { fits = omega (arith, a .stream .arrived-high, a .stream .sent-high) }
+
+cast-push-2 : tie.Need-cast-push-2
+cast-push-2 c =
+    let a = accepted (c .before .before .before .before .before .before .before .before .before .before .before .before) in
+    record { fits = omega (arith, a .number-high, a .stream .sent-high) }
+
+push-requires : tie.Need-push-requires
+push-requires c κs =
+    (accepted (c .before .before .before .before .before .before .before .before .before .before .before .before) .places .kept-high, c .before .before .before .before .before .before .before .before .before .before .before .before .before .before .before .before .before .before .before .pre)
+
+mark-requires-2 : tie.Need-mark-requires-2
+mark-requires-2 c κs =
+    let a = accepted (c .before .before) in
+    (a .number-low, omega (arith, a .number-high, a .stream .sent-high))
+
+after-reordered-requires : tie.Need-after-reordered-requires
+after-reordered-requires c κs =
+    let a = accepted (c .before .before .before) in
+    (small-stream a, omega (arith, a .number-high, a .stream .sent-high))
+
+returns-2 : tie.Need-returns-2
+returns-2 c =
+    step-noted _ _ _ _ _ (c .before .before .before .before .before .decide .ensures) _ (c .before .before .before .if1 .left)
+    (duplicate-written _ _ _ _ _ _ _ _ _ _ (c .before .enum-told .given .1) (c .after-duplicate .ensures))
+
+returns-3 : tie.Need-returns-3
+returns-3 c =
+    let late = c .before .before .before .before .before .before .before .before in
+    let early = late .before .before .before .before .before in
+    step-noted _ _ _ _ _ (early .before .before .decide .ensures) _ (early .if1 .left)
+    (jump-written _ _ _ _ _ _ _ _ _ _ _ _ _ _ _ (late .before .before .before .noted .given .1) (c .before .before .before .before .before .if2 .taken) (late .after-in-order .ensures _ _)
+    (c .before .before .before .before .before .before .mark .ensures) (c .push .ensures))
+
+returns-4 : tie.Need-returns-4
+returns-4 c =
+    let early = c .before .before .before .before .before .before .before .before in
+    step-noted _ _ _ _ _ (early .before .before .decide .ensures) _ (early .if1 .left)
+    (in-order-written _ _ _ _ _ _ _ _ _ _ _ _ (c .before .before .before .before .before .before .noted .given .1) (c .if2 .left) (c .before .before .before .after-in-order .ensures _ _) (c .before .mark .ensures))
+
+returns-5 : tie.Need-returns-5
+returns-5 c =
+    step-noted _ _ _ _ _ (c .before .before .before .before .before .before .decide .ensures) _ (c .before .before .before .before .if1 .left)
+    (late-written _ _ _ _ _ _ _ _ _ _ _ (c .before .before .before .match .keys3) (c .after-reordered .ensures) (c .before .mark2 .ensures))
+
+pub advance-within-spec : {M : Type 1} → statement M
+advance-within-spec =
+    tie.close
+    (tie.spec
+    decide-requires
+    returns
+    enum-told
+    after-duplicate-requires
+    enum-known-noted
+    after-in-order-requires
+    mark-requires
+    add-push
+    cast-push
+    cast-push-2
+    push-requires
+    mark-requires-2
+    after-reordered-requires
+    returns-2
+    returns-3
+    returns-4
+    returns-5)
