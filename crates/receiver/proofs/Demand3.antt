@@ -204,7 +204,12 @@ module _ (k : ℕ) (low : 1 ≤ k) (high : k ≤ packets) where
           ∙ ap (λ (s : Stepped). s .state) (step-of (accountOf k fed) a (account-sound k fed))
           ∙ ap (stateOf k) (sym (fold-more (accountWith k) [] fed a))
 
-  -- so each arrival is answered as the account says
+  -- so NextExp is the account's
+  pub next-after : (fed : List Arrival) → stateAfter k fed .stream .next ≡ nextExp (firsts (accountOf k fed))
+  unfolding stateOf stateWith
+  next-after fed = ap (λ (r : Receiver). r .stream .next) (state-after fed)
+
+  -- and each arrival is answered as the account says
   outcome-after : (earlier : List Arrival) (a : Arrival) → outcomeAfter k earlier a ≡ outcomeIn (windowIn (accountOf k earlier)) k (accountOf k earlier) a
   unfolding outcomeAfter
   outcome-after earlier a =

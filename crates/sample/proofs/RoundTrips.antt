@@ -58,7 +58,7 @@ label-fit label sizes numbers times e =
     (l .1, case-none (someUnshown label) octetOutside (omega arith) (q .0), lists-fit (length sizes) numbers times (first-none r [] (q .1) .0))
 
 -- nothing of their sample is refused
-from-none : (label sizes numbers times : List ℕ) → refusalFrom label sizes numbers times ≡ 0 → judgeSample (sampleFrom label sizes numbers times) ≡ 0
+pub from-none : (label sizes numbers times : List ℕ) → refusalFrom label sizes numbers times ≡ 0 → judgeSample (sampleFrom label sizes numbers times) ≡ 0
 unfolding judgeSample
 from-none label sizes numbers times e =
     let f = label-fit label sizes numbers times e in

@@ -1,0 +1,9 @@
+-- The tables of numbers found, by computation. Assumes nothing.
+use mathlib.Core.Path.{refl}
+use Rattle.shortnumbers.specs.Number.{found}
+use Rattle.shortnumbers.specs.InTurn.{greatestOf, inTurn}
+use Rattle.shortnumbers.specs.Cases.{FoundAsGiven}
+
+pub found-as-given : FoundAsGiven
+unfolding found inTurn greatestOf
+found-as-given = record { one = refl; list = refl }

@@ -1,0 +1,44 @@
+-- `shortnumbers::full_numbers` meets its contract: K and the lists are refused, the list is too short, or it is filled. Assumes nothing.
+use native.Mathlib.Omega.{arith}
+use mathlib.Core.Path.{sym, _∙_}
+use borrow.Author.Needs.{needs}
+use denote.Ref.{now}
+use Rattle.rfc4737.proofs.Judged.{lists-fit}
+use Rattle.shortnumbers.specs.Lists.{numbersFound}
+use Rattle.shortnumbers.proofs.Lists.{found-length, filled-refused, filled-short, filled-whole}
+use Rattle.shortnumbers.proofs.full_numbers.Statement.{statement}
+use Rattle.shortnumbers.proofs.full_numbers.Tie as tie
+
+refusal-of-found-requires : tie.Need-refusal-of-found-requires
+refusal-of-found-requires c κs = search needs
+
+returns : tie.Need-returns
+returns c =
+    let a = c .before .before .before .before .before .args in
+    filled-refused (a .range) (a .k) (now (a .shorts)) (now (a .times)) (now (a .numbers)) (c .before .refusal-of-found .result) (c .before .refusal-of-found .ensures) (c .if1 .taken)
+
+returns-2 : tie.Need-returns-2
+returns-2 c =
+    let a = c .before .before .before .before .before .before .args in
+    filled-short (a .range) (a .k) (now (a .shorts)) (now (a .times)) (now (a .numbers))
+    (sym (c .before .before .refusal-of-found .ensures) ∙ c .before .if1 .left) (c .if2 .taken)
+
+fill-requires : tie.Need-fill-requires
+fill-requires c κs =
+    let a = c .before .before .before .before .before .before .before .args in
+    let f = lists-fit (a .k) (numbersFound (a .range) (now (a .shorts))) (now (a .times)) (sym (c .before .before .before .refusal-of-found .ensures) ∙ c .before .before .if1 .left) in
+    let m = found-length (a .range) (now (a .shorts)) in
+    (c .before .before .before .before .before .before .before .pre, omega (arith, f .few), c .before .if2 .left)
+
+same-length : tie.Need-same-length
+same-length c = search needs
+
+returns-3 : tie.Need-returns-3
+returns-3 c =
+    let a = c .before .before .before .before .before .before .before .before .before .before .args in
+    filled-whole (a .range) (a .k) (now (a .shorts)) (now (a .times)) (now (a .numbers)) _
+    (sym (c .before .before .before .before .before .before .refusal-of-found .ensures) ∙ c .before .before .before .before .before .if1 .left) (c .before .before .before .before .if2 .left) (c .before .before .fill .ensures)
+
+pub full-numbers-spec : {M : Type 1} → statement M
+full-numbers-spec =
+    tie.close (tie.spec refusal-of-found-requires returns returns-2 fill-requires same-length returns-3)

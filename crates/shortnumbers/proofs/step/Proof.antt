@@ -1,0 +1,25 @@
+-- `shortnumbers::step` meets its contract: the step is that with the number found. Assumes nothing.
+use mathlib.Core.Path.{_∙_}
+use borrow.Author.Needs.{needs}
+use Rattle.shortnumbers.proofs.Steps.{step-found}
+use Rattle.shortnumbers.proofs.step.Statement.{statement}
+use Rattle.shortnumbers.proofs.step.Tie as tie
+
+greatest-by-requires : tie.Need-greatest-by-requires
+greatest-by-requires c κs = search needs
+
+full-number-requires : tie.Need-full-number-requires
+full-number-requires c κs = search needs
+
+step-requires : tie.Need-step-requires
+step-requires c κs = search needs
+
+returns : tie.Need-returns
+returns c =
+    let a = c .before .before .before .args in
+    c .step .ensures
+    ∙ step-found (a .range) (a .state) (a .short) (a .time) (c .before .before .greatest-by .result) (c .before .full-number .result)
+    (c .before .before .greatest-by .ensures .1) (c .before .full-number .ensures .0)
+
+pub step-spec : {M : Type 1} → statement M
+step-spec = tie.close (tie.spec greatest-by-requires full-number-requires step-requires returns)

@@ -1,0 +1,36 @@
+-- The full number of a short one, by the idea of RFC 4737, section 6. A short number has the lowest w bits of its full number; r is their
+-- range, 2 to the w, and g the greatest full number accepted so far, 0 at the start. Assumes nothing.
+use Prim.Native.Nat.{ℕ, _+_, _-_, _*_, _^_, _/_, _%_, _≤_, _<_}
+use mathlib.Core.Bool.{cond}
+use mathlib.Core.Path.{_≡_}
+use lib.Dec.{ltb}
+
+-- the range of w bits
+abbrev pub rangeOf : ℕ → ℕ
+rangeOf w = 2 ^ w
+
+-- the short number of a full one: its lowest bits
+abbrev pub shortOf : ℕ → ℕ → ℕ
+shortOf r n = n % r
+
+-- n differs from g by at least minus half the range and less than half
+pub record Near (r g n : ℕ) : Type 0 where
+  pub from : g ≤ n + r / 2
+  pub below : n < g + r / 2
+
+-- n is the full number of x: it has those low bits and differs so from g
+pub record FullNumber (r g x n : ℕ) : Type 0 where
+  pub bits : shortOf r n ≡ x
+  pub near : Near r g n
+
+-- the number found: from g less half the range go up to the first number with those low bits. It is 0, which is no packet's number,
+-- where x is over its width or that number is below 0
+unfoldable pub found : (r g x : ℕ) → ℕ
+found r g x = cond (ltb x r) (g + (x + (r / 2 + (r - g % r))) % r - r / 2) 0
+
+-- the number found is the full number, and the only one, over a range
+pub record Exact (r : ℕ) : Type 0 where
+  -- wherever it is a packet's number, it is the full number
+  pub full : (g x : ℕ) → 1 ≤ found r g x → FullNumber r g x (found r g x)
+  -- any full number is the one found
+  pub only : (g x n : ℕ) → FullNumber r g x n → n ≡ found r g x

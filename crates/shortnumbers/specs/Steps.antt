@@ -1,0 +1,78 @@
+-- The receiver's step with a short number, and what its contract carries of lists of short numbers fed to a fresh receiver.
+-- Assumes nothing.
+use Prim.Native.Nat.{ℕ, _-_, _≤_}
+use mathlib.Core.List.{List, [], map, foldl}
+use mathlib.Core.Path.{_≡_}
+use Rattle.rfc4737.specs.declared.Arrival.{Arrival}
+use Rattle.rfc4737.specs.Arrivals.{each}
+use Rattle.rfc4737.specs.Judge.{numbersOf}
+use Rattle.receiver.specs.declared.Receiver.{Receiver}
+use Rattle.receiver.specs.declared.Outcome.{Outcome}
+use Rattle.receiver.specs.declared.Stepped.{Stepped}
+use Rattle.receiver.specs.Limits.{packets}
+use Rattle.receiver.specs.Step.{freshOf, stepOf}
+use Rattle.receiver.specs.Account.{accountOf}
+use Rattle.receiver.specs.Demand3.{stateAfter, receiverOutcomes, Demand3}
+use Rattle.shortnumbers.specs.Number.{rangeOf, shortOf, Near, found, Exact}
+use Rattle.shortnumbers.specs.InTurn.{greatestOf, inTurn, EachKeeps}
+
+-- the greatest full number accepted, as a receiver has it: NextExp less 1
+abbrev pub greatestBy : Receiver → ℕ
+greatestBy s = s .stream .next - 1
+
+-- the step with a short number: the step with the number found
+unfoldable pub shortStep : (r : ℕ) (s : Receiver) (short time : ℕ) → Stepped
+shortStep r s short time = stepOf s (found r (greatestBy s) short) time
+
+-- ---- short numbers fed to a fresh receiver for K
+
+-- the state after them
+unfoldable pub shortStateAfter : (r k : ℕ) → List Arrival → Receiver
+shortStateAfter r k fed = foldl (λ (s : Receiver) (a : Arrival). shortStep r s (a .number) (a .time) .state) (freshOf k .state) fed
+
+-- what is said of one, after those fed before it
+unfoldable pub shortOutcomeAfter : (r k : ℕ) → List Arrival → Arrival → Outcome
+shortOutcomeAfter r k earlier a = shortStep r (shortStateAfter r k earlier) (a .number) (a .time) .outcome
+
+-- what is said of each
+unfoldable pub shortOutcomes : (r k : ℕ) → List Arrival → List Outcome
+shortOutcomes r k fed = each (shortOutcomeAfter r k) fed
+
+-- an arrival with the number found, where g is the greatest
+abbrev pub withFound : (r g : ℕ) → Arrival → Arrival
+withFound r g a = record { number = found r g (a .number); time = a .time }
+
+-- the arrivals with the numbers found
+abbrev pub arrivalsFound : (r k : ℕ) → List Arrival → List Arrival
+arrivalsFound r k shorts = inTurn (λ (fed : List Arrival). greatestBy (stateAfter k fed)) (withFound r) [] shorts
+
+-- demand 3 reads the numbers found: all that comes of the short numbers is what comes of them
+pub record Demand3Reads (r k : ℕ) (shorts : List Arrival) : Type 0 where
+  pub outcomes : shortOutcomes r k shorts ≡ receiverOutcomes k (arrivalsFound r k shorts)
+  pub state : shortStateAfter r k shorts ≡ stateAfter k (arrivalsFound r k shorts)
+  pub demand3 : Demand3 k (arrivalsFound r k shorts)
+
+-- ---- true numbers
+
+-- an arrival with its short number
+abbrev pub shortened : ℕ → Arrival → Arrival
+shortened r a = record { number = shortOf r (a .number); time = a .time }
+
+-- the greatest number of the account of arrivals fed, 0 for none
+abbrev pub greatestAccepted : ℕ → List Arrival → ℕ
+greatestAccepted k fed = greatestOf (numbersOf (accountOf k fed))
+
+-- true numbers that each keep the distance from the greatest true one accepted before them are the numbers found
+abbrev pub TrueByReceiver : (r k : ℕ) → Type 0
+TrueByReceiver r k =
+    (l : List Arrival) → EachKeeps (greatestAccepted k) (λ (g : ℕ) (a : Arrival). Near r g (a .number)) l
+    → arrivalsFound r k (map (shortened r) l) ≡ l
+
+-- all of it, once over the width
+pub record StepsOfWidth (w : ℕ) : Type 0 where
+  pub exact : Exact (rangeOf w)
+  pub finds : (k : ℕ) → 1 ≤ k → k ≤ packets → TrueByReceiver (rangeOf w) k
+  pub demand3 : (k : ℕ) → 1 ≤ k → k ≤ packets → (shorts : List Arrival) → Demand3Reads (rangeOf w) k shorts
+
+abbrev pub EveryStep : Type 0
+EveryStep = (w : ℕ) → 1 ≤ w → StepsOfWidth w

@@ -1,0 +1,66 @@
+// What the cases are written with: words, numbers, lists, and what a receiver says, on standard output.
+use libc::STDOUT_FILENO;
+use receiver::Noted;
+use receiver::Outcome;
+
+// Writes a word.
+pub(crate) fn write_word(word: &[u8]) {
+    io::write_all(STDOUT_FILENO, word);
+}
+
+// Writes a word and a number.
+pub(crate) fn write_number(word: &[u8], n: u64) {
+    write_word(word);
+    io::print_decimal(STDOUT_FILENO, n);
+}
+
+// A number of 32 bits as one of 64.
+fn wide(n: u32) -> u64 {
+    n as u64
+}
+
+// Writes what a list call answers, and all numbers of the list after it.
+pub(crate) fn write_list(name: &[u8], refusal: u32, numbers: &[u32]) {
+    write_word(name);
+    write_number(b": refused ", refusal as u64);
+    write_word(b"; numbers");
+    let mut i: usize = 0;
+    while i < numbers.len() {
+        write_number(b" ", wide(numbers[i]));
+        i += 1;
+    }
+    write_word(b"\n");
+}
+
+// Writes what a receiver notes of an arrival.
+fn write_noted(noted: Noted) {
+    match noted {
+        Noted::Duplicate => {
+            write_word(b"duplicate");
+        }
+        Noted::InOrder(jump) => {
+            write_number(b"in order, jump ", jump as u64);
+        }
+        Noted::Exact(l) => {
+            write_number(b"reordered, extent ", l.extent as u64);
+        }
+        Noted::Beyond(l) => {
+            write_number(b"beyond the window, extent ", l.extent as u64);
+        }
+    }
+}
+
+// Writes what is said of an arrival, and NextExp and L after it.
+pub(crate) fn write_step(name: &[u8], outcome: Outcome, next: u32, arrived: u32) {
+    let noted = outcome.noted;
+    write_word(name);
+    if outcome.refusal != 0 {
+        write_number(b": refused ", outcome.refusal as u64);
+    } else {
+        write_word(b": ");
+        write_noted(noted);
+    }
+    write_number(b"; NextExp ", next as u64);
+    write_number(b", L ", arrived as u64);
+    write_word(b"\n");
+}
