@@ -59,6 +59,7 @@ enum {
     KRAKOBRAN_FILE_OCTETS = 57414,     /* octets of the longest sample file */
     KRAKOBRAN_RECORD_OCTETS = 25,      /* octets of an OWAMP packet record */
     KRAKOBRAN_TALLY_PLACES = 101,      /* places of an extent tally */
+    KRAKOBRAN_TABLE_PLACES = 4096,     /* places of the table that a sweep needs */
     KRAKOBRAN_DEGREE_MOST = 100,       /* the greatest n of a degree of n-reordering */
     KRAKOBRAN_LISTING_OCTETS = 262144, /* octets that suffice for any listing */
     KRAKOBRAN_PACKETS = 4096,          /* packets a receiver is made for at most, and arrivals it accepts */
@@ -250,6 +251,13 @@ krakobran_ratio_figures krakobran_ratios(const uint8_t *file, size_t octets);
 /* Writes the report of a sample from the start of out; KRAKOBRAN_OUTPUT_SHORT if it does not fit. Any report fits into
  * KRAKOBRAN_LISTING_OCTETS places. With a refusal nothing is written and the length is 0. */
 krakobran_written krakobran_listing(const uint8_t *file, size_t octets, uint8_t *out, size_t room);
+
+/* One sweep over a sample: fills four lists from their start with the case of every record, its position, extent and the
+ * amount of its late time; what a record does not have is 0. The table needs KRAKOBRAN_TABLE_PLACES places and may hold
+ * anything; those are 0 afterwards. KRAKOBRAN_OUTPUT_SHORT if it has fewer, or a list fewer than there are arrivals. */
+krakobran_layout krakobran_sweep(const uint8_t *file, size_t octets, uint16_t *table, size_t table_places,
+                                 uint8_t *cases, size_t case_places, uint32_t *positions, size_t position_places,
+                                 uint32_t *extents, size_t extent_places, uint64_t *lates, size_t late_places);
 
 /* ---- the receiver */
 

@@ -12,5 +12,6 @@ pub mod meter;
 pub mod receiver;
 pub mod records;
 pub mod reference;
+pub mod sweep;
 pub mod text;
 pub mod time;

@@ -141,7 +141,7 @@ pub struct Sample<'a> {
 }
 
 #[inline(always)]
-fn number_and_time(arrival: &[u8; 12]) -> (u32, u64) {
+pub fn number_and_time(arrival: &[u8; 12]) -> (u32, u64) {
     let (number, time) = arrival.split_at(4);
     (u32::from_be_bytes(number.try_into().unwrap()), u64::from_be_bytes(time.try_into().unwrap()))
 }
@@ -207,7 +207,7 @@ impl Read {
         Read { refusal, ..Read::default() }
     }
 
-    fn of(sample: &Sample) -> Read {
+    pub fn of(sample: &Sample) -> Read {
         let [label, sent, arrivals] =
             [sample.label.len(), sample.sizes.len(), sample.arrivals.len()].map(|count| count as u32);
         Read { refusal: 0, label, sent, arrivals }

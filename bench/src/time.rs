@@ -5,7 +5,7 @@ use std::hint::black_box;
 use crate::boundary::{Meter, Reference, LIBRARY, LIBRARY_NAME};
 use crate::generate::{measured, Order};
 use crate::reference::*;
-use crate::{meter, records, text};
+use crate::{meter, records, sweep, text};
 
 const AMOUNTS: [usize; 3] = [256, 1024, 4096];
 const ORDERS: [Order; 3] = [Order::InOrder, Order::Shuffled, Order::Reversed];
@@ -109,6 +109,7 @@ pub fn run() {
     text::time(&AMOUNTS);
     println!();
     records::time(&AMOUNTS);
+    sweep::time(&ORDERS, &AMOUNTS);
     println!();
     println!(
         "{:22} {:>5} {:>9} {:>9} {:>6} {:>9} {:>6} {:>9} {:>9} {:>6}",

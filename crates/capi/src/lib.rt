@@ -9,6 +9,7 @@ mod label;
 mod meters;
 mod noted;
 mod records;
+mod swept;
 mod text;
 
 use figures::AnswerFigures;

@@ -69,7 +69,7 @@ numbered-more fs a numbers count room h =
         ∙ sym (ap (λ (b : Arrival). b .number) (List·getD-append fs (a ∷ []) noArrival p below))
 
 -- the record of any packet under a copy of one that has arrived
-recorded-copy : (l : List Arrival) (a : Arrival) → has (a .number) l ≡ true → (s : ℕ) → firstRecord s (l ++ (a ∷ [])) ≡ firstRecord s l
+pub recorded-copy : (l : List Arrival) (a : Arrival) → has (a .number) l ≡ true → (s : ℕ) → firstRecord s (l ++ (a ∷ [])) ≡ firstRecord s l
 recorded-copy l a arrived s = record-more s l a ∙ go (has s l) refl
   where
     go : (t : Bool) → has s l ≡ t → cond t (firstRecord s l) (cond (eqb (a .number) s) (length l + 1) 0) ≡ firstRecord s l
@@ -97,18 +97,18 @@ recorded-more l a records room new h s low high = go (eqb (a .number) s) refl
         same false q = sym (record-none s l q)
 
 -- a discontinuity stays under first arrivals more
-discontinuity-stays : (fs : List Arrival) (a : Arrival) (s : ℕ) (p : Placed) → discontinuity fs s ≡ some p → discontinuity (fs ++ (a ∷ [])) s ≡ some p
+pub discontinuity-stays : (fs : List Arrival) (a : Arrival) (s : ℕ) (p : Placed) → discontinuity fs s ≡ some p → discontinuity (fs ++ (a ∷ [])) s ≡ some p
 unfolding discontinuity
 discontinuity-stays fs a s p e = rw (placed-more, firstAbove-append, e)
 
 -- a packet that is not among some first arrivals, and not below NextExp, has no discontinuity there
-discontinuity-none : (fs : List Arrival) (s : ℕ) → 1 ≤ s → has s fs ≡ false → nextExp fs ≤ s → discontinuity fs s ≡ none
+pub discontinuity-none : (fs : List Arrival) (s : ℕ) → 1 ≤ s → has s fs ≡ false → nextExp fs ≤ s → discontinuity fs s ≡ none
 discontinuity-none fs s low new h =
     search-agrees s low fs new .same
     ∙ firstAbove-none s (jumps fs) (all-weaken (λ (p : Placed) (w : Within fs p). omega arith) (jumps fs) (jumps-within fs))
 
 -- one that a first arrival more skips has that arrival as its own
-discontinuity-new : (fs : List Arrival) (a : Arrival) (s : ℕ) → 1 ≤ s → has s fs ≡ false → nextExp fs ≤ s → s < a .number
+pub discontinuity-new : (fs : List Arrival) (a : Arrival) (s : ℕ) → 1 ≤ s → has s fs ≡ false → nextExp fs ≤ s → s < a .number
     → discontinuity (fs ++ (a ∷ [])) s ≡ some (placeAfter fs a)
 unfolding discontinuity firstAbove
 discontinuity-new fs a s low new h g =

@@ -45,7 +45,7 @@ seen-start d =
 -- ---- one arrival more
 
 -- a packet among some first arrivals is below their NextExp
-has-below : (s : ℕ) (fs : List Arrival) → has s fs ≡ true → s < nextExp fs
+pub has-below : (s : ℕ) (fs : List Arrival) → has s fs ≡ true → s < nextExp fs
 unfolding has
 has-below s fs = snoc-ind (λ (fs : List Arrival). has s fs ≡ true → s < nextExp fs) more (λ e. absurd (true≢false (sym e))) fs
   where

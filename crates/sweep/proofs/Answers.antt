@@ -1,0 +1,160 @@
+-- What the call answers: by its own refusal, by 8, or after the pass. Assumes nothing.
+use mathlib.Core.Path.{_≡_, refl, sym, ap, _∙_}
+use mathlib.Core.Bool.{Bool, true, false, _||_, true≢false}
+use mathlib.Core.List.{List, _++_, map}
+use Prim.Native.Nat.{ℕ, zero, suc, _+_, _≤_, _<_}
+use native.Mathlib.Omega.{arith}
+use lib.Dec.{ltb}
+use lib.ListN.{length, getD, drop, replicate, length-replicate, getD-replicate, length-map, List·getD-append, List·getD-map}
+use lib.Seq.{drop-at}
+use borrow.Author.Tests.{ltb-false}
+use Rattle.octets.specs.Memory.{over}
+use Rattle.octets.proofs.Memory.{over-length}
+use Rattle.rfc4737.specs.declared.Answer.{Answer}
+use Rattle.rfc4737.specs.Answer.{answers}
+use Rattle.rfc4737.proofs.Folds.{length-answers}
+use Rattle.sample.specs.declared.Layout.{Layout}
+use Rattle.sample.specs.Decode.{Decoded, refused, accepted, sampleOf, refusalOf, layoutOf}
+use Rattle.metrics.specs.Sample.{sizeOf, arrivalsOf, answersOf}
+use Rattle.metrics.specs.Private.Sample.{Laid}
+use Rattle.metrics.specs.Figures.{recordAnswer, atRecord}
+use Rattle.metrics.proofs.Asked.{asked-within}
+use Rattle.sweep.specs.Figures.{figuresOf}
+use Rattle.sweep.specs.Swept.{places, Lent, lent, shortOf, short, decodedInto, SweptTo, figuresAt, EnginesAgree}
+use Rattle.sweep.specs.Private.Passes.{Ready, FilledWith}
+
+-- with its own refusal
+pub swept-refused : (d : Decoded) (y : Layout) → y ≡ layoutOf d → (y .refusal ≡ 0 → ⊥) → (old : Lent) → SweptTo d old y old × EnginesAgree d y old
+unfolding decodedInto answers Rattle.rfc4737.specs.Arrivals.each Rattle.rfc4737.specs.Arrivals.eachAfter
+swept-refused (refused zero) y e n old = absurd (n (ap (λ (y : Layout). y .refusal) e))
+swept-refused (refused (suc r)) y e n old = (
+  record { layout = e; table = refl; flags = refl; positions = refl; extents = refl; lates = refl },
+  record { at = λ z i h. absurd (n z) },
+)
+swept-refused (accepted s) y e n old = absurd (n (ap (λ (y : Layout). y .refusal) e))
+
+module _ (d : Decoded) (y : Layout) (e : y ≡ layoutOf d) (none : y .refusal ≡ 0) (old : Lent) where
+  -- none of its own
+  own : refusalOf d ≡ 0
+  own = sym (ap (λ (y : Layout). y .refusal) e) ∙ none
+
+  -- too short by the counts of the layout
+  short-is : (b : Bool) → b ≡ shortOf (y .arrivals) (length (old .table)) (length (old .flags)) (length (old .positions)) (length (old .extents)) (length (old .lates))
+      → short d old ≡ b
+  short-is b h = sym (h ∙ rw e)
+
+  into-short : true ≡ shortOf (y .arrivals) (length (old .table)) (length (old .flags)) (length (old .positions)) (length (old .extents)) (length (old .lates))
+      → decodedInto d old ≡ refused 8
+  unfolding decodedInto
+  into-short h = rw (own, short-is true h)
+
+  -- by 8
+  pub swept-short : true ≡ shortOf (y .arrivals) (length (old .table)) (length (old .flags)) (length (old .positions)) (length (old .extents)) (length (old .lates))
+      → (r : Layout) → r ≡ layoutOf (refused 8) → SweptTo d old r old × EnginesAgree d r old
+  unfolding answers Rattle.rfc4737.specs.Arrivals.each Rattle.rfc4737.specs.Arrivals.eachAfter
+  swept-short h r q =
+      let k = into-short h in (
+        record { layout = rw k q; table = rw k; flags = rw k; positions = rw k; extents = rw k; lates = rw k },
+        record { at = λ z i h. absurd (omega (arith, ap (λ (y : Layout). y .refusal) q)) },
+      )
+
+  -- no list is short
+  module _ (h : false ≡ shortOf (y .arrivals) (length (old .table)) (length (old .flags)) (length (old .positions)) (length (old .extents)) (length (old .lates))) where
+    -- then the sample is swept
+    into : decodedInto d old ≡ accepted (sampleOf d)
+    unfolding decodedInto
+    into = rw (own, short-is false h)
+
+    -- the room that there is
+    pub record Wide : Type 0 where
+      pub table : places ≤ length (old .table)
+      pub flags : y .arrivals ≤ length (old .flags)
+      pub positions : y .arrivals ≤ length (old .positions)
+      pub extents : y .arrivals ≤ length (old .extents)
+      pub lates : y .arrivals ≤ length (old .lates)
+
+    pub wide : Wide
+    unfolding shortOf
+    wide =
+        go (ltb (length (old .table)) places) refl (ltb (length (old .flags)) (y .arrivals)) refl (ltb (length (old .positions)) (y .arrivals)) refl
+        (ltb (length (old .extents)) (y .arrivals)) refl (ltb (length (old .lates)) (y .arrivals)) refl h
+      where
+        go : (a : Bool) → ltb (length (old .table)) places ≡ a → (b : Bool) → ltb (length (old .flags)) (y .arrivals) ≡ b
+            → (c : Bool) → ltb (length (old .positions)) (y .arrivals) ≡ c → (f : Bool) → ltb (length (old .extents)) (y .arrivals) ≡ f
+            → (g : Bool) → ltb (length (old .lates)) (y .arrivals) ≡ g → false ≡ (a || (b || (c || (f || g)))) → Wide
+        go false p false q false r false s false t z =
+            record { table = ltb-false _ _ p; flags = ltb-false _ _ q; positions = ltb-false _ _ r; extents = ltb-false _ _ s; lates = ltb-false _ _ t }
+        go true p b q c r f s g t z = absurd (true≢false (sym z))
+        go false p true q c r f s g t z = absurd (true≢false (sym z))
+        go false p false q true r f s g t z = absurd (true≢false (sym z))
+        go false p false q false r true s g t z = absurd (true≢false (sym z))
+        go false p false q false r false s true t z = absurd (true≢false (sym z))
+
+    module _ (laid : Laid d y) (table : List ℕ) (clear : table ≡ over (replicate places 0) (old .table)) where
+      zeros-length : length (replicate {A = ℕ} places 0) ≡ places
+      zeros-length = length-replicate {A = ℕ} places 0
+
+      -- after the table is cleared
+      pub ready : Ready d y (lent table (old .flags) (old .positions) (old .extents) (old .lates))
+      ready =
+          record {
+            file = laid;
+            table = omega (arith, ap length clear, over-length (replicate places 0) (old .table) (omega (arith, zeros-length, wide .table)), wide .table);
+            zeros = λ k g. ap (λ (l : List ℕ). getD l k 0) clear ∙ List·getD-append (replicate places 0) (drop (length (replicate {A = ℕ} places 0)) (old .table)) 0 k (omega (arith, zeros-length)) ∙ getD-replicate places k 0 0 g;
+            flags = wide .flags;
+            positions = wide .positions;
+            extents = wide .extents;
+            lates = wide .lates;
+          }
+
+      module _ (new : Lent) (f : FilledWith d (lent table (old .flags) (old .positions) (old .extents) (old .lates)) new)
+          (table′ : List ℕ) (clear′ : table′ ≡ over (replicate places 0) (new .table)) where
+        abbrev after : Lent
+        after = lent table′ (new .flags) (new .positions) (new .extents) (new .lates)
+
+        -- the table after it was cleared again
+        table-after : table′ ≡ over (replicate places 0) (old .table)
+        table-after =
+            clear′
+            ∙ ap (λ (n : ℕ). replicate places 0 ++ drop n (new .table)) zeros-length
+            ∙ ap (λ (l : List ℕ). replicate places 0 ++ l) (f .table ∙ ap (drop places) clear ∙ drop-at (replicate places 0) (drop (length (replicate {A = ℕ} places 0)) (old .table)) places zeros-length)
+
+        -- what stands in a list at a record
+        at-list : (g : Answer → ℕ) → g (Answer.InOrder (record { position = 0; jump = 0 })) ≡ 0 → (l l′ : List ℕ) → l′ ≡ over (map g (answersOf d)) l
+            → (asked : ℕ) → recordAnswer d asked .refusal ≡ 0 → atRecord 0 l′ asked ≡ g (recordAnswer d asked .answer)
+        unfolding recordAnswer atRecord
+        at-list g z l l′ q zero i = absurd (omega (arith, asked-within d 1 (length (arrivalsOf d)) zero i))
+        at-list g z l l′ q (suc i) inside =
+            let k = asked-within d 1 (length (arrivalsOf d)) (suc i) inside in
+            let n : i < length (map g (answersOf d)) = omega (arith, k, length-map (answersOf d) g, length-answers (sizeOf d) (arrivalsOf d)) in
+            ap (λ (m : List ℕ). getD m i 0) q
+            ∙ List·getD-append (map g (answersOf d)) (drop (length (map g (answersOf d))) l) 0 i n
+            ∙ ap (λ (m : ℕ). getD (map g (answersOf d)) i m) (sym z)
+            ∙ List·getD-map g (answersOf d) i (Answer.InOrder (record { position = 0; jump = 0 }))
+
+        -- after the pass
+        pub swept : SweptTo d old y after × EnginesAgree d y after
+        unfolding figuresOf
+        swept = (
+          record {
+            layout = rw into (e ∙ layout-is d own);
+            table = rw into table-after;
+            flags = rw into (f .flags);
+            positions = rw into (f .positions);
+            extents = rw into (f .extents);
+            lates = rw into (f .lates);
+          },
+          record { at = λ z asked h. at asked h },
+        )
+          where
+            layout-is : (d : Decoded) → refusalOf d ≡ 0 → layoutOf d ≡ layoutOf (accepted (sampleOf d))
+            layout-is (refused r) q = rw q
+            layout-is (accepted s) q = refl
+
+            at : (asked : ℕ) → recordAnswer d asked .refusal ≡ 0 → figuresAt after asked ≡ figuresOf (recordAnswer d asked .answer)
+            at i h =
+                let a = at-list (λ (a : Answer). figuresOf a .flag) refl (old .flags) (new .flags) (f .flags) i h in
+                let b = at-list (λ (a : Answer). figuresOf a .position) refl (old .positions) (new .positions) (f .positions) i h in
+                let c = at-list (λ (a : Answer). figuresOf a .extent) refl (old .extents) (new .extents) (f .extents) i h in
+                let g = at-list (λ (a : Answer). figuresOf a .late) refl (old .lates) (new .lates) (f .lates) i h in
+                rw (a, b, c, g)

@@ -1,0 +1,108 @@
+-- `sweep` meets its contract: with the file's refusal, with 8, and after the pass. Assumes nothing.
+use borrow.Author.Needs.{needs}
+use native.Mathlib.Omega.{arith}
+use mathlib.Core.Path.{sym, _∙_}
+use denote.Ref.{now}
+use Rattle.sample.specs.Decode.{decode}
+use Rattle.metrics.specs.Private.Sample.{Laid}
+use Rattle.metrics.proofs.Places.{laid}
+use Rattle.sweep.specs.Swept.{Lent, lent}
+use Rattle.sweep.proofs.Answers.{swept-refused, swept-short, wide, ready, swept}
+use Rattle.sweep.proofs.sweep.Statement.{statement}
+use Rattle.sweep.proofs.sweep.Tie as tie
+
+-- what is lent at the start
+abbrev lentAt : tie.Start → Lent
+lentAt c = lent (now (c .args .table)) (now (c .args .flags)) (now (c .args .positions)) (now (c .args .extents)) (now (c .args .lates))
+
+-- the start, from the place after the check
+abbrev start : tie.After-check → tie.Start
+start c = c .before .before .before .before .before .before .before
+
+-- the check lays the file out
+laid-of : (c : tie.After-check) → Laid (decode (now (c .before .before .before .before .before .before .before .args .file))) (c .check .result)
+laid-of c = rw (c .check .ensures .0) (laid _ (λ i. c .before .before .before .before .before .before .shared-slice-known .given i .fits))
+
+check-requires : tie.Need-check-requires
+check-requires c κs = search needs
+
+returns : tie.Need-returns
+returns c = swept-refused _ _ (c .before .before .check .ensures .0) (c .if1 .taken) _
+
+too-short-requires : tie.Need-too-short-requires
+too-short-requires c κs = search needs
+
+refused-with-requires : tie.Need-refused-with-requires
+refused-with-requires c κs = search needs
+
+returns-2 : tie.Need-returns-2
+returns-2 c =
+    swept-short _ _ (c .before .before .before .before .before .check .ensures .0) (c .before .before .before .if1 .left) _ (sym (c .before .if2 .taken) ∙ c .before .before .too-short .ensures) _
+    (c .refused-with .ensures)
+
+clear-requires : tie.Need-clear-requires
+clear-requires c κs =
+    let k = c .before in
+    let q = k .before .before .before .before in
+    wide (decode (now (start q .args .file))) _ (q .check .ensures .0) (k .before .before .if1 .left) (lentAt (start q))
+    (sym (k .if2 .left) ∙ k .before .too-short .ensures) .table
+
+pass-requires : tie.Need-pass-requires
+pass-requires c κs =
+    let k = c .before .before .before .before .before .before .before .before .before in
+    let q = k .before .before .before .before in
+    ready (decode (now (start q .args .file))) _ (q .check .ensures .0) (k .before .before .if1 .left) (lentAt (start q))
+    (sym (k .if2 .left) ∙ k .before .too-short .ensures) (laid-of q) _ (c .before .before .before .before .before .before .before .clear .ensures)
+
+clear-requires-2 : tie.Need-clear-requires-2
+clear-requires-2 c κs =
+    let a = c .before .before .before .before .before .before .before .before .before .before .before .before in
+    let k = a .before .before .before .before .before .before .before .before .before in
+    let q = k .before .before .before .before in
+    let r =
+    ready (decode (now (start q .args .file))) _ (q .check .ensures .0) (k .before .before .if1 .left) (lentAt (start q))
+    (sym (k .if2 .left) ∙ k .before .too-short .ensures) (laid-of q) _ (a .before .before .before .before .before .before .before .clear .ensures) in
+    omega (arith, r .table, c .before .before .before .before .before .before .before .before .before .before .before .pass .ensures .tableLength)
+
+same-length : tie.Need-same-length
+same-length c = search needs
+
+same-length-2 : tie.Need-same-length-2
+same-length-2 c = search needs
+
+same-length-3 : tie.Need-same-length-3
+same-length-3 c = search needs
+
+same-length-4 : tie.Need-same-length-4
+same-length-4 c = search needs
+
+same-length-5 : tie.Need-same-length-5
+same-length-5 c = search needs
+
+returns-3 : tie.Need-returns-3
+returns-3 c =
+    let a = c .before .before .before .before .before .before .before .before .before .before .before .before .before .before .before in
+    let k = a .before .before .before .before .before .before .before .before .before in
+    let q = k .before .before .before .before in
+    swept (decode (now (start q .args .file))) _ (q .check .ensures .0) (k .before .before .if1 .left) (lentAt (start q))
+    (sym (k .if2 .left) ∙ k .before .too-short .ensures) (laid-of q) _ (a .before .before .before .before .before .before .before .clear .ensures) _ (c .before .before .before .before .before .before .before .before .before .before .before .before .before .before .pass .ensures) _
+    (c .before .before .clear2 .ensures)
+
+pub sweep-spec : {M : Type 1} → statement M
+sweep-spec =
+    tie.close
+    (tie.spec
+    check-requires
+    returns
+    too-short-requires
+    refused-with-requires
+    returns-2
+    clear-requires
+    pass-requires
+    clear-requires-2
+    same-length
+    same-length-2
+    same-length-3
+    same-length-4
+    same-length-5
+    returns-3)

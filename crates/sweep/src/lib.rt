@@ -1,0 +1,99 @@
+// The second engine: after the checks one pass over the arrivals of a sample, with a lent table by packet number. It fills lent
+// lists with the flag, position, extent and late time of every record. The whole is linear in arrivals and packets.
+ghost use mathlib.Core.Path.{_≡_};
+ghost use Rattle.sample.specs.Decode.{decode, refused, layoutOf};
+ghost use Rattle.sweep.specs.Swept.{shortOf, lent, SweptTo, EnginesAgree};
+
+mod pass;
+mod table;
+
+use pass::pass;
+use rfc4737::refusal::NONE;
+use rfc4737::refusal::OUTPUT_SHORT;
+use sample::Layout;
+use table::PLACES;
+use table::clear;
+
+// The figures of a record: the number of its answer's case, its position, extent, and the amount of its late time; those
+// that it lacks are 0.
+pub struct Figures {
+    pub flag: u8,
+    pub position: u32,
+    pub extent: u32,
+    pub late: u64,
+}
+
+// The answer that a refusal has.
+fn refused_with(refusal: u32) -> Layout
+    ensures { λ r. ⌜ r ≡ layoutOf (refused refusal) ⌝ }
+{
+    Layout {
+        refusal,
+        label: 0,
+        sent: 0,
+        arrivals: 0,
+    }
+}
+
+// Whether a table or one of four lists, of so many places, is too short for so many arrivals.
+fn too_short(
+    arrivals: u32,
+    table: usize,
+    flags: usize,
+    positions: usize,
+    extents: usize,
+    lates: usize,
+) -> bool
+    ensures { λ r. ⌜ r ≡ shortOf arrivals table flags positions extents lates ⌝ }
+{
+    let count = arrivals as usize;
+    if table < PLACES {
+        return true;
+    }
+    if flags < count {
+        return true;
+    }
+    if positions < count {
+        return true;
+    }
+    if extents < count {
+        return true;
+    }
+    lates < count
+}
+
+// Fills the lists with the figures of every record of a file, and leaves the first 4,096 numbers of the table at 0,
+// whatever they were. With a refusal table and lists stay as they were. The answer is the check's, or 8.
+pub fn sweep(
+    file: &[u8],
+    table: &mut [u16],
+    flags: &mut [u8],
+    positions: &mut [u32],
+    extents: &mut [u32],
+    lates: &mut [u64],
+) -> Layout
+    ensures { λ r. ⌜ SweptTo (decode (now (file .entry)))
+        (lent (now (table .entry)) (now (flags .entry)) (now (positions .entry)) (now (extents .entry)) (now (lates .entry))) r
+        (lent (now (table .exit)) (now (flags .exit)) (now (positions .exit)) (now (extents .exit)) (now (lates .exit))) ⌝ }
+    ensures engines { λ r. ⌜ EnginesAgree (decode (now (file .entry))) r
+        (lent (now (table .exit)) (now (flags .exit)) (now (positions .exit)) (now (extents .exit)) (now (lates .exit))) ⌝ }
+{
+    let y = sample::check(file);
+    if y.refusal != NONE {
+        return y;
+    }
+    if too_short(
+        y.arrivals,
+        table.len(),
+        flags.len(),
+        positions.len(),
+        extents.len(),
+        lates.len(),
+    ) {
+        return refused_with(OUTPUT_SHORT);
+    }
+    clear(table);
+    pass(file, y, table, flags, positions, extents, lates);
+    clear(table);
+    y
+}

@@ -1,0 +1,44 @@
+// The table by packet number, packet s at place s - 1: 0 for a packet that no jump has skipped, the record of the jump that
+// did, or a number over 4,096 if the packet has arrived. Each place is written at most four times.
+ghost use mathlib.Core.Path.{_≡_};
+ghost use Prim.Native.Nat.{_≤_};
+ghost use lib.ListN.{length, replicate};
+ghost use Rattle.octets.specs.Memory.{over};
+ghost use Rattle.sweep.specs.Swept.{places};
+ghost use Rattle.sweep.specs.Private.Table.{Skipping};
+
+// The numbers of the table.
+pub(crate) const PLACES: usize = 4096;
+
+// What stands at a packet that has arrived.
+pub(crate) const ARRIVED: u16 = 4097;
+
+// Of the arrivals passed: how many are first arrivals, and NextExp.
+pub(crate) struct State {
+    pub count: u32,
+    pub next: u32,
+}
+
+// Sets the numbers of the table to 0.
+pub(crate) fn clear(table: &mut [u16])
+    requires { ⌜ places ≤ length (now table) ⌝ }
+    ensures { λ _. ⌜ now (table .exit) ≡ over (replicate places 0) (now (table .entry)) ⌝ }
+{
+    let mut k: usize = 0;
+    while k < PLACES {
+        table[k] = 0;
+        k += 1;
+    }
+}
+
+// Puts the record of a jump at the places from `from` to before `to`.
+pub(crate) fn skip(table: &mut [u16], from: usize, to: usize, jump: u16)
+    requires { ⌜ (from ≤ to) × (to ≤ length (now table)) ⌝ }
+    ensures { λ _. ⌜ Skipping from to jump (now (table .entry)) (now (table .exit)) ⌝ }
+{
+    let mut k = from;
+    while k < to {
+        table[k] = jump;
+        k += 1;
+    }
+}
