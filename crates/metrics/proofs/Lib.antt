@@ -11,3 +11,4 @@ pub mod Discovered
 pub mod Asked
 pub mod Within
 pub mod Listed
+pub mod Moved

@@ -2,4 +2,5 @@
 pub mod Sample
 pub mod Figures
 pub mod Report
+pub mod Moved
 pub mod Private

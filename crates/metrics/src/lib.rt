@@ -11,6 +11,7 @@ ghost use Rattle.metrics.specs.Figures.{recordAnswer, recordGap, sampleC
 ghost use Rattle.listing.specs.Example.{ExampleHolds};
 ghost use Rattle.listing.specs.Room.{listingOctets};
 ghost use Rattle.metrics.specs.Report.{sampleText, ListedTo};
+ghost use Rattle.metrics.specs.Moved.{ClockMoved};
 
 mod answers;
 mod figures;
@@ -181,6 +182,7 @@ pub fn listing(file: &[u8], out: &mut [u8]) -> SampleListing
     ensures { λ r. ⌜ ListedTo (decode (now (file .entry))) (now (out .entry)) r (now (out .exit)) ⌝ }
     ensures room { λ _. ⌜ length (sampleText (decode (now (file .entry)))) ≤ listingOctets ⌝ }
     ensures example { λ _. ⌜ ExampleHolds ⌝ }
+    ensures moved { λ _. ⌜ ClockMoved (now (file .entry)) ⌝ }
 {
     let y = layout(file);
     let refusal = refusal_into(file, y, out.len());

@@ -16,6 +16,7 @@ pub mod Fitness
 pub mod Agrees
 pub mod Demand3
 pub mod WindowCases
+pub mod Moved
 pub mod FieldLent
 pub mod Returned
 pub mod Local

@@ -10,4 +10,5 @@ pub mod Numbering
 pub mod Account
 pub mod Demand3
 pub mod WindowCases
+pub mod Moved
 pub mod Private

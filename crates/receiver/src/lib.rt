@@ -26,6 +26,7 @@ ghost use Rattle.receiver.specs.Step.{madeFor, freshOf, stepWithin, step
 ghost use Rattle.receiver.specs.Lent.{AsStep};
 ghost use Rattle.receiver.specs.Demand3.{Demand3};
 ghost use Rattle.receiver.specs.WindowCases.{WindowCasesHold};
+ghost use Rattle.receiver.specs.Moved.{MovedAnswers};
 
 // The numbers that a step decides by: the packets sent (K), the first arrivals (L), the duplicates, the in-order count,
 // NextExp, how many jumps are kept, the greatest time of an accepted arrival (0 at first), the runs, and the number of the
@@ -107,6 +108,7 @@ impl Receiver {
         ensures fresh { λ r. ⌜ r ≡ freshOf k ⌝ }
         ensures demand3 { λ r. ⌜ ((fed : List Arrival) → Demand3 (r .state .stream .sent) fed) ⌝ }
         ensures windowcases { λ _. ⌜ WindowCasesHold ⌝ }
+        ensures moved { λ r. ⌜ MovedAnswers (r .state .stream .sent) ⌝ }
     {
         if k == 0 {
             return Started {

@@ -10,3 +10,4 @@ pub mod Cases
 pub mod Due
 pub mod Pairs
 pub mod Judged
+pub mod Moved

@@ -1,10 +1,11 @@
 -- Laws of lists of any elements: induction by one element more at the end, what holds of every element, what holds of every
--- element and each that follows it, and the lists that `each` and `flatten` make of one element more. Assumes nothing.
+-- element and each that follows it, the lists that `each` and `flatten` make of one element more, and lists of the values of a
+-- function. Assumes nothing.
 use Prim.Native.Nat.{ℕ, zero, suc, _<_}
 use native.Mathlib.Omega.{arith}
-use lib.ListN.{getD, take}
-use mathlib.Core.Path.{_≡_, refl}
-use mathlib.Core.List.{List, [], _∷_, _++_, List·Memᴰ, append-nil, append-assoc, flatten}
+use lib.ListN.{getD, take, drop}
+use mathlib.Core.Path.{_≡_, refl, ap, _∙_}
+use mathlib.Core.List.{List, [], _∷_, _++_, List·Memᴰ, append-nil, append-assoc, map, map-append, foldl, flatten}
 use Rattle.rfc4737.specs.Arrivals.{eachAfter, each}
 
 module _ {ℓ κ} {A : Type ℓ} (P : List A → Type κ) (more : (l : List A) (a : A) → P l → P (l ++ (a ∷ []))) where
@@ -114,3 +115,45 @@ each-same {A} f g h = snoc-ind (λ (l : List A). each f l ≡ each g l) more ref
   where
     more : (l : List A) (a : A) → each f l ≡ each g l → each f (l ++ (a ∷ [])) ≡ each g (l ++ (a ∷ []))
     more l a e = rw (each-more f l a, each-more g l a, e, h l a)
+
+-- ---- lists of the values of a function
+
+-- a left fold over values of g, where each step from a value of h is a value of h
+pub fold-map {ℓ κ} : {A : Type ℓ} {B : Type κ} (g : A → A) (h : B → B) (f : B → A → B) → ((b : B) (a : A) → f (h b) (g a) ≡ h (f b a))
+    → (b : B) (l : List A) → foldl f (h b) (map g l) ≡ h (foldl f b l)
+fold-map g h f same b [] = refl
+fold-map {A} {B} g h f same b (a ∷ l) = ap (λ (x : B). foldl f x (map g l)) (same b a) ∙ fold-map g h f same (f b a) l
+
+-- all but the first n values of g
+pub drop-map {ℓ κ} : {A : Type ℓ} {B : Type κ} (g : A → B) (n : ℕ) (l : List A) → drop n (map g l) ≡ map g (drop n l)
+drop-map g zero l = refl
+drop-map g (suc n) [] = refl
+drop-map g (suc n) (a ∷ l) = drop-map g n l
+
+-- `each` over values of g, where f of these is h
+module _ {ℓ κ} {A : Type ℓ} {B : Type κ} (g : A → A) (f h : List A → A → B) (same : (l : List A) (a : A) → f (map g l) (g a) ≡ h l a) where
+  eachAfter-map : (before l : List A) → eachAfter f (map g before) (map g l) ≡ eachAfter h before l
+  unfolding eachAfter
+  eachAfter-map before [] = refl
+  eachAfter-map before (a ∷ l) = rw (same before a, ← map-append g before (a ∷ []), eachAfter-map (before ++ (a ∷ [])) l)
+
+  pub each-map : (l : List A) → each f (map g l) ≡ each h l
+  unfolding each
+  each-map l = eachAfter-map [] l
+
+-- g of each value that `each` gives
+module _ {ℓ κ μ} {A : Type ℓ} {B : Type κ} {C : Type μ} (g : B → C) (f : List A → A → B) where
+  map-eachAfter : (before l : List A) → map g (eachAfter f before l) ≡ eachAfter (λ (l : List A) (a : A). g (f l a)) before l
+  unfolding eachAfter
+  map-eachAfter before [] = refl
+  map-eachAfter before (a ∷ l) = ap (λ (m : List C). g (f before a) ∷ m) (map-eachAfter (before ++ (a ∷ [])) l)
+
+  pub map-each : (l : List A) → map g (each f l) ≡ each (λ (l : List A) (a : A). g (f l a)) l
+  unfolding each
+  map-each l = map-eachAfter [] l
+
+-- g of each element of the lists that `flatten` joins
+pub flatten-map {ℓ κ} : {A : Type ℓ} {B : Type κ} (g : A → B) (ls : List (List A)) → flatten (map (map g) ls) ≡ map g (flatten ls)
+unfolding flatten
+flatten-map g [] = refl
+flatten-map g (l ∷ ls) = rw (flatten-map g ls, map-append g l (flatten ls))

@@ -12,3 +12,4 @@ pub mod Ratios
 pub mod Cases
 pub mod Refusals
 pub mod Judge
+pub mod Moved

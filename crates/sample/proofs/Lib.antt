@@ -10,3 +10,4 @@ pub mod RoundTrips
 pub mod Answers
 pub mod Accepted
 pub mod Longer
+pub mod Moved

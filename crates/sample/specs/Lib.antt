@@ -6,4 +6,5 @@ pub mod Places
 pub mod Calls
 pub mod RoundTrip
 pub mod Cases
+pub mod Moved
 pub mod Private

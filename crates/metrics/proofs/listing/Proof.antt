@@ -1,23 +1,30 @@
--- `listing` meets its contract: with a refusal nothing is written, else the lines of the file's sample. Assumes nothing.
+-- `listing` meets its contract: with a refusal nothing is written, else the lines of the file's sample. What it carries are laws.
+-- Assumes nothing.
 use Prim.Native.Nat.{_≤_}
 use borrow.Author.Needs.{needs}
 use denote.Ref.{now}
 use lib.ListN.{length}
 use mir.Syntax.{w8}
 use Rattle.octets.proofs.Below.{below-fits}
+use Rattle.listing.specs.Example.{ExampleHolds}
 use Rattle.listing.specs.Room.{listingOctets}
 use Rattle.listing.proofs.Example.{example-holds}
 use Rattle.sample.specs.Decode.{decode}
 use Rattle.metrics.specs.Report.{sampleText}
+use Rattle.metrics.specs.Moved.{ClockMoved}
 use Rattle.metrics.proofs.Listed.{sample-within, listed-refused, listed-whole}
+use Rattle.metrics.proofs.Moved.{clock-moved}
 use Rattle.metrics.proofs.listing.Statement.{statement}
 use Rattle.metrics.proofs.listing.Tie as tie
 
--- any listing has room in LISTING_OCTETS
-enough : (c : tie.After-layout) → length (sampleText (decode (now (c .before .before .before .args .file)))) ≤ listingOctets
-enough c =
+-- what is carried: any listing has room in LISTING_OCTETS, the example, and moving the clock
+carries : (c : tie.After-layout)
+    → (length (sampleText (decode (now (c .before .before .before .args .file)))) ≤ listingOctets)
+    × (ExampleHolds × ClockMoved (now (c .before .before .before .args .file)))
+carries c =
     let file = now (c .before .before .before .args .file) in
-    sample-within file (c .layout .result) (c .layout .ensures) (below-fits w8 file (c .before .before .shared-slice-known .given))
+    let o = below-fits w8 file (c .before .before .shared-slice-known .given) in
+    (sample-within file (c .layout .result) (c .layout .ensures) o, (example-holds, clock-moved file o))
 
 layout-requires : tie.Need-layout-requires
 layout-requires c κs = search needs
@@ -26,7 +33,7 @@ refusal-into-requires : tie.Need-refusal-into-requires
 refusal-into-requires c κs = search needs
 
 returns : tie.Need-returns
-returns c = (listed-refused _ _ _ (c .before .refusal-into .ensures) (c .if1 .taken), (enough (c .before .before), example-holds))
+returns c = (listed-refused _ _ _ (c .before .refusal-into .ensures) (c .if1 .taken), carries (c .before .before))
 
 list-requires : tie.Need-list-requires
 list-requires c κs = search needs
@@ -38,7 +45,7 @@ returns-2 : tie.Need-returns-2
 returns-2 c =
     let r = c .before .before .before .before .before in
     let e = c .before .before .list .ensures in
-    (listed-whole _ _ _ _ (r .refusal-into .ensures) (c .before .before .before .before .if1 .left) (e .0) (e .1), (enough (r .before), example-holds))
+    (listed-whole _ _ _ _ (r .refusal-into .ensures) (c .before .before .before .before .if1 .left) (e .0) (e .1), carries (r .before))
 
 pub listing-spec : {M : Type 1} → statement M
 listing-spec =

@@ -1,6 +1,5 @@
--- `receiver::Receiver::fresh` meets its contract: each return is a case of the definition, and demand 3 and the
--- window cases are laws.
--- Assumes nothing.
+-- `receiver::Receiver::fresh` meets its contract: each return is a case of the definition, and demand 3, the
+-- window cases and the answers by a moved clock are laws. Assumes nothing.
 use Prim.Native.Nat.{ℕ, _≤_, _<_}
 use mathlib.Core.List.{List}
 use mathlib.Core.Path.{_≡_, sym, subst}
@@ -13,16 +12,23 @@ use Rattle.receiver.specs.Limits.{packets}
 use Rattle.receiver.specs.Step.{freshOf}
 use Rattle.receiver.specs.Demand3.{Demand3}
 use Rattle.receiver.specs.WindowCases.{WindowCasesHold}
+use Rattle.receiver.specs.Moved.{MovedAnswers}
 use Rattle.receiver.proofs.Demand3.{demand3-fresh}
 use Rattle.receiver.proofs.WindowCases.{window-cases-hold}
+use Rattle.receiver.proofs.Moved.{moved-answers}
 use Rattle.receiver.proofs.Receiver.fresh.Statement.{statement}
 use Rattle.receiver.proofs.Receiver.fresh.Tie as tie
 
--- what is carried: demand 3 of the receiver handed back, and the window cases
+-- what is carried: of the receiver handed back demand 3 and that it answers by a moved clock as before; and the window cases
 carries : (k : ℕ) (r : Started) → r ≡ freshOf k
-    → (r ≡ freshOf k) × (((fed : List Arrival) → Demand3 (r .state .stream .sent) fed) × WindowCasesHold)
-carries k r e =
-    (e, ((λ fed. subst (λ (s : Started). Demand3 (s .state .stream .sent) fed) (sym e) (demand3-fresh k fed)), window-cases-hold))
+    → (r ≡ freshOf k) × (((fed : List Arrival) → Demand3 (r .state .stream .sent) fed) × (WindowCasesHold × MovedAnswers (r .state .stream .sent)))
+carries k r e = (
+  e,
+  (
+    (λ fed. subst (λ (s : Started). Demand3 (s .state .stream .sent) fed) (sym e) (demand3-fresh k fed)),
+    (window-cases-hold, subst (λ (s : Started). MovedAnswers (s .state .stream .sent)) (sym e) (moved-answers k)),
+  ),
+)
 
 made-for-requires : tie.Need-made-for-requires
 made-for-requires c κs = search needs

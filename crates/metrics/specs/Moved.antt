@@ -1,0 +1,40 @@
+-- Moving the clock: adding one amount to all arrival times of an accepted sample, where no time passes the field's range, changes
+-- no figure of the report. Assumes nothing.
+use Prim.Native.Nat.{ℕ, _^_}
+use mathlib.Core.List.{List}
+use mathlib.Core.Path.{_≡_}
+use Rattle.octets.specs.Below.{Below}
+use Rattle.rfc4737.specs.Judge.{timesOf}
+use Rattle.sample.specs.Format.{Sample, fileOf}
+use Rattle.sample.specs.Decode.{Decoded, decode, accepted}
+use Rattle.sample.specs.Moved.{movedSample, MovedAccepted, SampleMovedTwice}
+use Rattle.metrics.specs.Figures.{recordAnswer, recordGap, sampleCounts, sampleTally, degreeCounts, sampleDegree, sampleRatios}
+use Rattle.metrics.specs.Report.{sampleText, ListedTo}
+use Rattle.metrics.specs.declared.SampleListing.{SampleListing}
+
+-- every call answers of one decoded file as of another
+pub record SameFigures (d e : Decoded) : Type 0 where
+  -- `listing`: its octets, and what it answers and leaves in any lent memory
+  pub text : sampleText d ≡ sampleText e
+  pub listing : (old : List ℕ) (r : SampleListing) (new : List ℕ) → ListedTo d old r new → ListedTo e old r new
+  -- `answer` and `gap`, of any record
+  pub answer : (asked : ℕ) → recordAnswer d asked ≡ recordAnswer e asked
+  pub gap : (asked : ℕ) → recordGap d asked ≡ recordGap e asked
+  -- `counts` and `tally`
+  pub counts : sampleCounts d ≡ sampleCounts e
+  pub tally : sampleTally d ≡ sampleTally e
+  -- `n_reordered` and `degree`, of any n
+  pub shares : (n : ℕ) → degreeCounts d n ≡ degreeCounts e n
+  pub degree : (n : ℕ) → sampleDegree d n ≡ sampleDegree e n
+  -- `ratios`
+  pub ratios : sampleRatios d ≡ sampleRatios e
+
+-- the claim, of a file
+pub record ClockMoved (file : List ℕ) : Type 0 where
+  -- the moved sample is accepted
+  pub accepts : MovedAccepted file
+  -- every call answers of its file as of this one
+  pub same : (s : Sample) (c : ℕ) → decode file ≡ accepted s → Below (2 ^ 64) (timesOf (movedSample c s .arrivals))
+      → SameFigures (decode (fileOf (movedSample c s))) (decode file)
+  -- moving by one amount and then by another is moving by their sum
+  pub twice : SampleMovedTwice
