@@ -57,53 +57,102 @@ fn list_tens(name: &[u8], sent: usize, numbers: &[u32]) {
     list(name, sent, numbers, first_times(&times, numbers.len()));
 }
 
-// The cases of the report and of RFC 4737, sections 7.3 and 7.4.
-fn longer_cases() {
-    let n1 = [1u32, 2, 4, 5, 3];
-    let t1 = [10u64, 20, 40, 50, 70];
-    let n2 = [1u32, 2, 3, 7, 8, 9, 10, 4, 5, 6, 11];
-    let t2 = [68u64, 88, 108, 188, 208, 228, 248, 250, 252, 256, 268];
-    let n3 = [1u32, 2, 3, 6, 7, 4, 5, 8, 9, 10, 12, 13, 11, 14, 15, 16];
-    list(b"P1\n", 5, &n1, &t1);
-    list(b"P2\n", 11, &n2, &t2);
-    list_tens(b"P3\n", 16, &n3);
+// The report's sample.
+fn p1() {
+    let numbers = [1u32, 2, 4, 5, 3];
+    let times = [10u64, 20, 40, 50, 70];
+    list(b"P1\n", 5, &numbers, &times);
 }
 
-// The other cases with records at 10 times r.
-fn shorter_cases() {
-    let n4 = [1u32, 2, 3, 7, 8, 9, 4, 5, 6];
-    let n5 = [1u32, 10, 5];
-    let n6 = [1u32, 2, 2, 3];
-    let n7 = [1u32, 3, 6, 5, 2];
-    let n8: [u32; 0] = [];
-    let n9 = [3u32];
-    let n10 = [2u32, 1, 4, 6, 5, 3];
-    list_tens(b"P4\n", 9, &n4);
-    list_tens(b"P5\n", 10, &n5);
-    list_tens(b"P6\n", 3, &n6);
-    list_tens(b"P7\n", 6, &n7);
-    list_tens(b"P8\n", 1, &n8);
-    list_tens(b"P9\n", 3, &n9);
-    list_tens(b"P10\n", 6, &n10);
+// RFC 4737, section 7.3.
+fn p2() {
+    let numbers = [1u32, 2, 3, 7, 8, 9, 10, 4, 5, 6, 11];
+    let times = [68u64, 88, 108, 188, 208, 228, 248, 250, 252, 256, 268];
+    list(b"P2\n", 11, &numbers, &times);
 }
 
-// A clock that steps: before by 1,000, after by 0, before by 1; a time 1,000 below the greatest but not below the one
-// before; and a copy that raises the greatest time.
-fn stepping_clocks() {
-    let n11 = [2u32, 1, 4, 3, 6, 5];
-    let t11 = [2000u64, 1000, 2000, 2000, 2000, 1999];
-    let steps = [1u32, 3, 2];
-    let down = [2000u64, 1500, 1000];
-    let copied = [1u32, 2, 2, 4, 3];
-    let raised = [1000u64, 1100, 2050, 1051, 1050];
-    list(b"P11\n", 6, &n11, &t11);
-    list(b"2000, 1500, 1000\n", 3, &steps, &down);
-    list(b"a copy at the greatest time\n", 4, &copied, &raised);
+// RFC 4737, section 7.4.
+fn p3() {
+    let numbers = [1u32, 2, 3, 6, 7, 4, 5, 8, 9, 10, 12, 13, 11, 14, 15, 16];
+    list_tens(b"P3\n", 16, &numbers);
+}
+
+// Largest n falls to 0 while the extent grows.
+fn p4() {
+    let numbers = [1u32, 2, 3, 7, 8, 9, 4, 5, 6];
+    list_tens(b"P4\n", 9, &numbers);
+}
+
+// A jump of size 8.
+fn p5() {
+    let numbers = [1u32, 10, 5];
+    list_tens(b"P5\n", 10, &numbers);
+}
+
+// A copy.
+fn p6() {
+    let numbers = [1u32, 2, 2, 3];
+    list_tens(b"P6\n", 3, &numbers);
+}
+
+// Two discontinuities, the earlier one discovered last.
+fn p7() {
+    let numbers = [1u32, 3, 6, 5, 2];
+    list_tens(b"P7\n", 6, &numbers);
+}
+
+// No arrivals.
+fn p8() {
+    let numbers: [u32; 0] = [];
+    list_tens(b"P8\n", 1, &numbers);
+}
+
+// The first arrival is a jump.
+fn p9() {
+    let numbers = [3u32];
+    list_tens(b"P9\n", 3, &numbers);
+}
+
+// Three discontinuities, of which one has a gap.
+fn p10() {
+    let numbers = [2u32, 1, 4, 6, 5, 3];
+    list_tens(b"P10\n", 6, &numbers);
+}
+
+// A clock that steps: before by 1,000, after by 0, before by 1.
+fn p11() {
+    let numbers = [2u32, 1, 4, 3, 6, 5];
+    let times = [2000u64, 1000, 2000, 2000, 2000, 1999];
+    list(b"P11\n", 6, &numbers, &times);
+}
+
+// A time 1,000 below the greatest and not that far below the one before.
+fn falling() {
+    let numbers = [1u32, 3, 2];
+    let times = [2000u64, 1500, 1000];
+    list(b"2000, 1500, 1000\n", 3, &numbers, &times);
+}
+
+// A copy that raises the greatest time.
+fn raised() {
+    let numbers = [1u32, 2, 2, 4, 3];
+    let times = [1000u64, 1100, 2050, 1051, 1050];
+    list(b"a copy at the greatest time\n", 4, &numbers, &times);
 }
 
 // All listings.
 pub(crate) fn cases() {
-    longer_cases();
-    shorter_cases();
-    stepping_clocks();
+    p1();
+    p2();
+    p3();
+    p4();
+    p5();
+    p6();
+    p7();
+    p8();
+    p9();
+    p10();
+    p11();
+    falling();
+    raised();
 }

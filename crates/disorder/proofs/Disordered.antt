@@ -1,0 +1,125 @@
+-- The total of disorder of a file. Assumes nothing.
+use mathlib.Core.Path.{_≡_, refl, sym, ap, _∙_}
+use mathlib.Core.Bool.{Bool, true, false, cond}
+use mathlib.Core.List.{List, [], _∷_, _++_}
+use Prim.Native.Nat.{ℕ, _+_, _-_, _≤_, _<_}
+use native.Mathlib.Omega.{arith}
+use lib.ListN.{length, getD, set, replicate, getD-replicate, length-append}
+use lib.Seq.{take-all}
+use borrow.Author.Tests.{lt-ltb}
+use Rattle.rfc4737.specs.declared.Arrival.{Arrival}
+use Rattle.rfc4737.specs.Arrivals.{firsts, withArrival, count}
+use Rattle.rfc4737.specs.Order.{nextExp}
+use Rattle.rfc4737.specs.Extent.{sizeIn, byteOffset}
+use Rattle.disorder.specs.Disorder.{pairs, wrongPairs}
+use Rattle.rfc4737.proofs.Lists.{All, all-take}
+use Rattle.disorder.proofs.Disorder.{SizeOne, sum-wrong, wrong-more}
+use Rattle.rfc4737.proofs.Arrivals.{has-firsts, firsts-more}
+use Rattle.rfc4737.proofs.Folds.{offset-more, offset-le}
+use Rattle.disorder.specs.Private.Tree.{rest, Roomy, Known, Added}
+use Rattle.disorder.proofs.Held.{summed-none, summed-more}
+use Rattle.sample.specs.declared.Layout.{Layout}
+use Rattle.sample.specs.Decode.{Decoded, sampleOf, decode}
+use Rattle.sample.specs.Places.{numberFound}
+use Rattle.metrics.specs.Sample.{sizeOf, arrivalsOf}
+use Rattle.metrics.specs.Private.Sample.{noArrival, arrivalAt, before, Laid, Has}
+use Rattle.disorder.specs.Sample.{disorderOf, SumsOffsets}
+use Rattle.disorder.specs.Private.Pairs.{Paired, Pairing}
+use Rattle.disorder.specs.declared.pairs.Pairs.{Pairs}
+use Rattle.metrics.proofs.Places.{number-stands}
+use Rattle.metrics.proofs.Seen.{Seen, seen-start, seen-next}
+use Rattle.metrics.proofs.Follow.{arrivals-laid, before-more}
+
+-- what holds at every place holds of every element
+all-at : (P : Arrival → Type 0) (l : List Arrival) → ((i : ℕ) → i < length l → P (getD l i noArrival)) → All P l
+all-at P l h = rw (take-all (length l) l (omega arith)) at (all-take P noArrival l (length l) h)
+
+-- every arrival's packet has one of the sizes
+sizes-one : (d : Decoded) (y : Layout) → Laid d y → sampleOf d .sizes ≡ replicate (length (sampleOf d .sizes)) 1 → All (SizeOne (sizeOf d)) (arrivalsOf d)
+unfolding sizeIn
+sizes-one d y h e = all-at (SizeOne (sizeOf d)) (arrivalsOf d) (λ i g. one i (h .numbers i (omega (arith, arrivals-laid d y h))))
+  where
+    one : (i : ℕ) → (1 ≤ arrivalAt d i .number) × (arrivalAt d i .number ≤ y .sent) → getD (sampleOf d .sizes) (arrivalAt d i .number - 1) 0 ≡ 1
+    one i n =
+        ap (λ (l : List ℕ). getD l (arrivalAt d i .number - 1) 0) e
+        ∙ getD-replicate (length (sampleOf d .sizes)) (arrivalAt d i .number - 1) 1 0 (omega (arith, n, ap (λ (y : Layout). y .sent) (h .laid)))
+
+-- if all its sizes are 1, the total is the sum of the byte offsets
+pub sums-offsets : (d : Decoded) (y : Layout) → Laid d y → SumsOffsets d
+unfolding disorderOf
+sums-offsets d y h ones = sum-wrong (sizeOf d) (arrivalsOf d) (sizes-one d y h ones)
+
+-- the number that stands in record i + 1
+pub number-known : (file : List ℕ) (y : Layout) (i n : ℕ) → Has (decode file) y i → n ≡ numberFound file y i
+    → (n ≡ arrivalAt (decode file) i .number) × (1 ≤ n) × (n ≤ 4096)
+number-known file y i n h e =
+    let q : n ≡ arrivalAt (decode file) i .number = e ∙ number-stands file y (h .file) i (h .inside) in
+    let w = h .file .numbers i (h .inside) in
+    (q, omega (arith, q, w), omega (arith, q, w, h .file .sentFew))
+
+-- ---- the pairs, one first arrival after the other
+
+-- of none
+pub paired-start : (d : Decoded) → Paired (firsts (before d 0)) (replicate 4097 0) (record { count = 0; wrong = 0 })
+unfolding firsts wrongPairs pairs count byteOffset
+paired-start d = record { summed = summed-none (λ _. 1); count = refl; whole = refl; wrong = refl; small = omega arith }
+
+-- the sums are small
+ones-few : (fs : List Arrival) (s : ℕ) → byteOffset (λ _. 1) fs s ≤ length fs
+ones-few fs s = omega (arith, offset-le (λ _. 1) 1 (λ _. omega arith) fs s)
+
+module _ (tree : List ℕ) (p : Pairs) (k : Pairing tree p) where
+  pub pairing-known : Known tree
+  pairing-known =
+      record { size = λ _. 1; fs = k .fs; summed = k .paired .summed; few = λ s. omega (arith, ones-few (k .fs) s, k .paired .count, k .few) }
+
+  pub pairing-room : Roomy tree 1
+  pairing-room =
+      record {
+        places = k .paired .summed .places;
+        fits = λ i low high. omega (arith, k .paired .summed .at i low high, ones-few (k .fs) (rest i), k .paired .count, k .few);
+      }
+
+-- of one more
+pub paired-more : (fs : List Arrival) (a : Arrival) (tree tree′ : List ℕ) (p : Pairs) (lower : ℕ) → 1 ≤ a .number → p .count < 4096 → Paired fs tree p
+    → Added (a .number) 1 tree tree′ → lower + byteOffset (λ _. 1) fs (a .number) ≡ byteOffset (λ _. 1) fs 0
+    → Paired (fs ++ (a ∷ [])) tree′ (record { count = p .count + 1; wrong = p .wrong + (p .count - lower) })
+paired-more fs a tree tree′ p lower low few h added e =
+    record {
+      summed = summed-more (λ _. 1) fs a tree tree′ (h .summed) added;
+      count = omega (arith, h .count, length-append fs (a ∷ []));
+      whole = sym (offset-more (λ _. 1) fs 0 a ∙ rw (lt-ltb 0 (a .number) low, ← h .whole));
+      wrong = omega (arith, wrong-more fs a, h .wrong, h .whole);
+      small = omega (arith, h .small);
+    }
+
+-- the table of the packets that have arrived before record i + 1
+abbrev pub Arrived : Decoded → ℕ → List Bool → Type 0
+Arrived d i seen = Seen (before d i) seen (nextExp (firsts (before d i)))
+
+-- of none
+pub arrived-start : (d : Decoded) → Arrived d 0 (replicate 4097 false)
+arrived-start d = let s = seen-start d in record { places = s .places; at = s .at; expected = refl }
+
+-- under one arrival more
+pub arrived-next : (d : Decoded) (y : Layout) (i : ℕ) → Has d y i → (seen : List Bool) → Arrived d i seen → (n : ℕ)
+    → n ≡ arrivalAt d i .number → n ≤ 4096 → Arrived d (i + 1) (set seen n true)
+arrived-next d y i h seen f n is high =
+    let s = seen-next d y i h seen _ f n is high in
+    record { places = s .places; at = s .at; expected = refl }
+
+-- the first arrivals under one arrival more, by the table of those that have arrived
+pub firsts-seen : (d : Decoded) (y : Layout) (i : ℕ) → Has d y i → (seen : List Bool) → Arrived d i seen → (n : ℕ)
+    → n ≡ arrivalAt d i .number → n ≤ 4096
+    → firsts (before d (i + 1)) ≡ cond (getD seen n false) (firsts (before d i)) (firsts (before d i) ++ (arrivalAt d i ∷ []))
+unfolding withArrival
+firsts-seen d y i h seen f n is high =
+    ap firsts (before-more d y i h) ∙ firsts-more (before d i) (arrivalAt d i)
+    ∙ rw (f .at n high, ← has-firsts n (before d i), is)
+
+-- all pairs
+pub disorder-end : (d : Decoded) (y : Layout) (i : ℕ) → Laid d y → y .arrivals ≤ i → (tree : List ℕ) (p : Pairs) → Paired (firsts (before d i)) tree p
+    → p .wrong ≡ disorderOf d
+unfolding disorderOf
+disorder-end d y i h end tree p k =
+    k .wrong ∙ ap (λ (l : List Arrival). wrongPairs (firsts l)) (take-all i (arrivalsOf d) (omega (arith, arrivals-laid d y h)))

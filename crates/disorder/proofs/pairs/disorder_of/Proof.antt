@@ -1,0 +1,102 @@
+-- `disorder_of` goes over the arrivals. The loop's invariant: the table has the packets that have arrived before record i + 1, the
+-- tree and the pairs are those of the first arrivals before it. The measure is what is left of the arrivals. Assumes nothing.
+use mathlib.Core.Path.{_≡_, sym}
+use Prim.Native.Nat.{_≤_, _-_}
+use native.Mathlib.Omega.{arith}
+use denote.Ref.{now}
+use borrow.Author.Needs.{needs}
+use Rattle.rfc4737.specs.Arrivals.{firsts}
+use Rattle.rfc4737.proofs.Arrivals.{length-firsts}
+use Rattle.sample.specs.Decode.{decode}
+use Rattle.metrics.specs.Private.Sample.{before, arrivalAt, Has}
+use Rattle.metrics.proofs.Follow.{before-length}
+use Rattle.disorder.specs.Private.Pairs.{Paired}
+use Rattle.disorder.proofs.Disordered.{number-known, paired-start, Arrived, arrived-start, arrived-next, firsts-seen, disorder-end}
+use Rattle.disorder.proofs.pairs.disorder_of.Statement.{statement}
+use Rattle.disorder.proofs.pairs.disorder_of.Tie as tie
+
+abbrev Inv-loop : tie.InvT-loop
+Inv-loop file y counts₀ seen₀ p₀ i₀ counts seen p i =
+    (i ≤ y .arrivals) × Arrived (decode file) i seen × Paired (firsts (before (decode file) i)) counts p
+
+abbrev μ-loop : tie.MeasureT-loop
+μ-loop file y counts₀ seen₀ p₀ i₀ counts seen p i = y .arrivals - i
+
+-- record i + 1 is there
+here : (c : tie.Then1 Inv-loop μ-loop) → Has (decode (now (c .before .before .before .before .before .args .file))) (c .before .before .before .before .before .args .y) (c .before .before .loop .i)
+here c = record { file = c .before .before .before .before .before .pre; inside = c .if1 .taken }
+
+-- its number
+known : (c : tie.After-arrival-number Inv-loop μ-loop)
+    → (c .arrival-number .result ≡ arrivalAt (decode (now (c .before .before .before .before .before .before .args .file))) (c .before .before .before .loop .i) .number)
+    × (1 ≤ c .arrival-number .result) × (c .arrival-number .result ≤ 4096)
+known c = number-known _ _ _ _ (here (c .before)) (c .arrival-number .ensures)
+
+no-pairs-requires : tie.Need-no-pairs-requires Inv-loop μ-loop
+no-pairs-requires c κs = search needs
+
+loop-holds : tie.Need-loop-holds Inv-loop μ-loop
+loop-holds c =
+    let d = decode (now (c .before .before .args .file)) in
+    (omega arith, arrived-start d, rw (c .no-pairs .ensures) (paired-start d))
+
+arrival-number-requires : tie.Need-arrival-number-requires Inv-loop μ-loop
+arrival-number-requires c κs = search needs
+
+cast-at : tie.Need-cast-at Inv-loop μ-loop
+cast-at c = omega (arith, known c .2)
+
+array-read-arrived : tie.Need-array-read-arrived Inv-loop μ-loop
+array-read-arrived c = omega (arith, known c .2)
+
+paired-requires : tie.Need-paired-requires Inv-loop μ-loop
+paired-requires c κs =
+    let n = known (c .before) in
+    let h = here (c .before .before) in
+    let d = decode (now (c .before .before .before .before .before .before .before .args .file)) in
+    let i = c .before .before .before .before .loop .i in
+    let k = c .before .before .before .before .loop .inv .2 in (
+      n .1,
+      n .2,
+      record { fs = _; paired = k; few = omega (arith, k .count, length-firsts (before d i), before-length _ _ _ h, h .inside, h .file .few) },
+    )
+
+array-write-seen : tie.Need-array-write-seen Inv-loop μ-loop
+array-write-seen c = omega (arith, known (c .before .before) .2)
+
+add-i : tie.Need-add-i Inv-loop μ-loop
+add-i c = let h = here (c .before .before .before) in omega (arith, h .inside, h .file .few)
+
+loop-less : tie.Need-loop-less Inv-loop μ-loop
+loop-less c = omega (arith, here (c .before .before .before) .inside)
+
+loop-again : tie.Need-loop-again Inv-loop μ-loop
+loop-again c =
+    let l = c .before .before .before .before .before .loop in
+    let h = here (c .before .before .before) in
+    let n = known (c .before .before) in (
+      omega (arith, h .inside),
+      arrived-next _ _ _ h _ (l .inv .1) _ (n .0) (n .2),
+      rw (firsts-seen _ _ _ h _ (l .inv .1) _ (n .0) (n .2)) (c .paired .ensures _ _ (sym (n .0)) (l .inv .2)),
+    )
+
+returns : tie.Need-returns Inv-loop μ-loop
+returns c = disorder-end _ _ _ (c .before .before .before .before .before .pre) (c .if1 .left) _ _ (c .before .before .loop .inv .2)
+
+pub disorder-of-spec : {M : Type 1} → statement M
+disorder-of-spec =
+    tie.close
+    (tie.spec
+    Inv-loop
+    μ-loop
+    no-pairs-requires
+    loop-holds
+    arrival-number-requires
+    cast-at
+    array-read-arrived
+    paired-requires
+    array-write-seen
+    add-i
+    loop-less
+    loop-again
+    returns)

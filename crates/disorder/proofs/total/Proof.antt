@@ -1,0 +1,30 @@
+-- `disorder::total` meets its contract by those of its callees, and the theorems hold. Assumes nothing.
+use denote.Ref.{now}
+use borrow.Author.Needs.{needs}
+use Rattle.sample.specs.Decode.{decode}
+use Rattle.metrics.specs.Private.Sample.{Laid}
+use Rattle.metrics.proofs.Places.{laid}
+use Rattle.disorder.specs.Sample.{sampleDisorder}
+use Rattle.disorder.proofs.Disorder.{offsets-count-pairs, wrong-least}
+use Rattle.disorder.proofs.Disordered.{sums-offsets}
+use Rattle.disorder.proofs.total.Statement.{statement}
+use Rattle.disorder.proofs.total.Tie as tie
+
+check-requires : tie.Need-check-requires
+check-requires c κs = search needs
+
+-- what the check finds lays the file out
+found : (c : tie.After-check) → Laid (decode (now (c .before .before .args .file))) (c .check .result)
+found c = rw (c .check .ensures .0) (laid _ (λ i. c .before .shared-slice-known .given i .fits))
+
+disorder-of-requires : tie.Need-disorder-of-requires
+disorder-of-requires c κs = found c
+
+returns : tie.Need-returns
+unfolding sampleDisorder
+returns c =
+    let h = found (c .before) in
+    (rw (h .laid, c .disorder-of .ensures), (sums-offsets _ _ h, (offsets-count-pairs, wrong-least)))
+
+pub total-spec : {M : Type 1} → statement M
+total-spec = tie.close (tie.spec check-requires disorder-of-requires returns)

@@ -1,0 +1,21 @@
+-- The total of disorder of a decoded file. Assumes nothing.
+use mathlib.Core.Path.{_≡_}
+use Prim.Native.Nat.{ℕ}
+use lib.ListN.{length, replicate}
+use Rattle.rfc4737.specs.Arrivals.{firsts}
+use Rattle.sample.specs.Decode.{Decoded, sampleOf, refusalOf}
+use Rattle.metrics.specs.Sample.{arrivalsOf, answersOf}
+use Rattle.disorder.specs.Disorder.{offsetSum, wrongPairs}
+use Rattle.disorder.specs.declared.SampleDisorder.{SampleDisorder}
+
+-- the total of disorder: how many pairs of first arrivals came in the wrong order, whatever the payload sizes
+unfoldable pub disorderOf : Decoded → ℕ
+disorderOf d = wrongPairs (firsts (arrivalsOf d))
+
+-- the answer of the call; with a refusal 0
+unfoldable pub sampleDisorder : Decoded → SampleDisorder
+sampleDisorder d = record { refusal = refusalOf d; total = disorderOf d }
+
+-- if every payload size of the sample is 1, the total is the sum of its byte offsets
+abbrev pub SumsOffsets : Decoded → Type 0
+SumsOffsets d = sampleOf d .sizes ≡ replicate (length (sampleOf d .sizes)) 1 → offsetSum (answersOf d) ≡ disorderOf d

@@ -1,0 +1,63 @@
+// The pairs of first arrivals that came in the wrong order.
+ghost use mathlib.Core.Path.{_≡_};
+ghost use mathlib.Core.Bool.{cond};
+ghost use mathlib.Core.List.{List, [], _∷_, _++_};
+ghost use Prim.Native.Nat.{_≤_};
+ghost use Rattle.rfc4737.specs.declared.Arrival.{Arrival};
+ghost use Rattle.sample.specs.Decode.{decode};
+ghost use Rattle.metrics.specs.Private.Sample.{Laid};
+ghost use Rattle.disorder.specs.Sample.{disorderOf};
+ghost use Rattle.disorder.specs.Private.Pairs.{Paired, Pairing};
+use crate::tree;
+use crate::tree::PLACES;
+use sample::Layout;
+
+// How many first arrivals there are, and how many pairs of them came in the wrong order.
+pub(crate) struct Pairs {
+    pub count: u32,
+    pub wrong: u32,
+}
+
+// Of no arrivals.
+fn no_pairs() -> Pairs
+    ensures { λ r. ⌜ r ≡ record { count = 0; wrong = 0 } ⌝ }
+{
+    Pairs { count: 0, wrong: 0 }
+}
+
+// Of one arrival more, whose packet has arrived or not: it is in a wrong pair with each greater number.
+fn paired(counts: &mut [u32; PLACES], arrived: bool, number: u32, p: Pairs) -> Pairs
+    requires { ⌜ (1 ≤ number) × (number ≤ 4096) × Pairing (now counts) p ⌝ }
+    ensures { λ r. ⌜ ((fs : List Arrival) (a : Arrival) → a .number ≡ number → Paired fs (now (counts .entry)) p
+        → Paired (cond arrived fs (fs ++ (a ∷ []))) (now (counts .exit)) r) ⌝ }
+{
+    if arrived {
+        return p;
+    }
+    let lower = tree::sum_to(counts, number);
+    tree::add(counts, number, 1);
+    Pairs {
+        count: p.count + 1,
+        wrong: p.wrong + (p.count - lower),
+    }
+}
+
+// The total of disorder of a sample.
+pub(crate) fn disorder_of(file: &[u8], y: Layout) -> u32
+    requires { ⌜ Laid (decode (now file)) y ⌝ }
+    ensures { λ r. ⌜ r ≡ disorderOf (decode (now (file .entry))) ⌝ }
+{
+    let mut counts = [0u32; PLACES];
+    let mut seen = [false; PLACES];
+    let mut p = no_pairs();
+    let mut i: u32 = 0;
+    while i < y.arrivals {
+        let number = sample::arrival_number(file, y, i);
+        let at = number as usize;
+        let arrived = seen[at];
+        p = paired(&mut counts, arrived, number, p);
+        seen[at] = true;
+        i += 1;
+    }
+    p.wrong
+}
