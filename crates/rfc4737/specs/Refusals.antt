@@ -69,6 +69,10 @@ recordCut = 15
 abbrev pub noStream : ℕ
 noStream = 16
 
+-- 17: a fragment of length 0, one with more to come and a length no multiple of 8, or one whose end is over 65,535
+abbrev pub fragmentUnfit : ℕ
+fragmentUnfit = 17
+
 -- 18: a written time whose seconds don't fit 32 bits
 abbrev pub secondsOver : ℕ
 secondsOver = 18

@@ -34,4 +34,6 @@ pub const RECORD_CUT: u32 = 15;
 
 pub const NO_STREAM: u32 = 16;
 
+pub const FRAGMENT_UNFIT: u32 = 17;
+
 pub const SECONDS_OVER: u32 = 18;

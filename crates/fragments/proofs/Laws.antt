@@ -1,0 +1,98 @@
+-- Laws of `some`, and a packet's completeness by its first uncovered octet. Assumes nothing.
+use Prim.Native.Nat.{ℕ, zero, suc, _+_, _≤_, _<_}
+use native.Mathlib.Omega.{arith}
+use mathlib.Core.Bool.{Bool, true, false, not, _&&_, _||_, or-assoc, or-false, or-true}
+use mathlib.Core.Path.{_≡_, refl, sym, ap, _∙_}
+use mathlib.Core.List.{List, [], _∷_, _++_}
+use borrow.Author.Tests.{le-leb, leb-true, leb-false, ne-eqb}
+use lib.Dec.{leb, eqb}
+use lib.ListN.{length, getD, drop}
+use lib.Seq.{getD-drop}
+use Rattle.fragments.specs.declared.Piece.{Piece}
+use Rattle.fragments.specs.Pieces.{piecesOf, some, isLast, end, copies}
+use Rattle.fragments.specs.Private.Engine.{noPiece, endsBy, Reach}
+use Rattle.fragments.specs.Usable.{hasOctet, everyBelow, covered, complete}
+
+module _ {ℓ} {A : Type ℓ} (p : A → Bool) where
+  -- an element that passes
+  pub some-at : (l : List A) (i : ℕ) (z : A) → i < length l → p (getD l i z) ≡ true → some p l ≡ true
+  unfolding some
+  some-at [] i z h e = absurd (omega arith)
+  some-at (a ∷ l) zero z h e = rw e
+  some-at (a ∷ l) (suc i) z h e = rw (some-at l i z (omega arith) e) (or-true (p a))
+
+  -- no element passes
+  pub some-none : (l : List A) (z : A) → ((i : ℕ) → i < length l → p (getD l i z) ≡ false) → some p l ≡ false
+  unfolding some
+  some-none [] z h = refl
+  some-none (a ∷ l) z h = rw (h 0 (omega arith), some-none l z (λ (i : ℕ) (k : i < length l). h (suc i) (omega arith)))
+
+  -- under one element more
+  pub some-more : (l : List A) (a : A) → some p (l ++ (a ∷ [])) ≡ (some p l || p a)
+  unfolding some
+  some-more [] a = or-false (p a)
+  some-more (b ∷ l) a = rw (some-more l a) (sym (or-assoc (p b) (some p l) (p a)))
+
+-- of two tests that agree
+pub some-same {ℓ} : {A : Type ℓ} (p q : A → Bool) → ((a : A) → p a ≡ q a) → (l : List A) → some p l ≡ some q l
+unfolding some
+some-same p q h [] = refl
+some-same p q h (a ∷ l) = rw (h a, some-same p q h l)
+
+-- a test that the numbers below r pass, and r does not, is passed by every number below n exactly if n is at most r
+pub below-reach : (p : ℕ → Bool) (r : ℕ) → ((o : ℕ) → o < r → p o ≡ true) → p r ≡ false → (n : ℕ) → everyBelow n p ≡ leb n r
+unfolding everyBelow
+below-reach p r h k zero = sym (le-leb 0 r (omega arith))
+below-reach p r h k (suc n) = go (below-reach p r h k n) (leb (suc n) r) refl
+  where
+    past : (t : Bool) → leb n r ≡ t → r ≤ n → (t && p n) ≡ false
+    past false e g = refl
+    past true e g = let q : n ≡ r = omega (arith, leb-true n r e) in rw q k
+
+    go : everyBelow n p ≡ leb n r → (t : Bool) → leb (suc n) r ≡ t → (everyBelow n p && p n) ≡ t
+    go b true e =
+        let g : suc n ≤ r = leb-true (suc n) r e in
+        rw (b, le-leb n r (omega arith), h n g)
+    go b false e = rw b (past (leb n r) refl (omega (arith, leb-false (suc n) r e)))
+
+-- packet s is complete exactly if one of its arrivals with no more to come ends by its first uncovered octet
+pub complete-reach : (l : List Piece) (s r : ℕ) → ((o : ℕ) → o < r → some (hasOctet s o) l ≡ true) → some (hasOctet s r) l ≡ false
+    → complete l s ≡ some (λ (a : Piece). eqb (a .number) s && (isLast a && leb (end a) r)) l
+unfolding complete covered
+complete-reach l s r h k =
+    some-same _ _ (λ (a : Piece). ap (λ (t : Bool). eqb (a .number) s && (isLast a && t)) (below-reach (λ (o : ℕ). some (hasOctet s o) l) r h k (end a))) l
+
+-- ---- the arrivals of lists
+
+pub pieces-length : (ns ts ls ms os : List ℕ) → length (piecesOf ns ts ls ms os) ≡ length ns
+unfolding piecesOf
+pieces-length [] ts ls ms os = refl
+pieces-length (n ∷ ns) ts ls ms os = ap suc (pieces-length ns (drop 1 ts) (drop 1 ls) (drop 1 ms) (drop 1 os))
+
+pub pieces-getD : (ns ts ls ms os : List ℕ) (i : ℕ) → i < length ns
+    → getD (piecesOf ns ts ls ms os) i noPiece ≡ record { number = getD ns i 0; time = getD ts i 0; length = getD ls i 0; more = getD ms i 0; offset = getD os i 0 }
+unfolding piecesOf
+pieces-getD [] ts ls ms os i h = absurd (omega arith)
+pieces-getD (n ∷ ns) ts ls ms os zero h = refl
+pieces-getD (n ∷ ns) ts ls ms os (suc i) h =
+    let e : 1 + i ≡ suc i = omega arith in
+    pieces-getD ns (drop 1 ts) (drop 1 ls) (drop 1 ms) (drop 1 os) i (omega arith)
+    ∙ simp (getD-drop, e)
+
+-- whether none of the arrivals is a copy, an octet's holder, or the like: those outside a packet's span are of other packets
+pub octet-of : (s o : ℕ) (a : Piece) → (a .number ≡ s → ⊥) → hasOctet s o a ≡ false
+unfolding hasOctet
+octet-of s o a h = rw ne-eqb
+
+pub ends-of : (s r : ℕ) (a : Piece) → (a .number ≡ s → ⊥) → endsBy s r a ≡ false
+unfolding endsBy
+ends-of s r a h = rw ne-eqb
+
+pub copy-of : (a b : Piece) → (b .number ≡ a .number → ⊥) → copies a b ≡ false
+unfolding copies
+copy-of a b h = rw ne-eqb
+
+-- the same, by the test for an arrival's end
+pub complete-ends : (l : List Piece) (s r : ℕ) → Reach l s r → complete l s ≡ some (endsBy s r) l
+unfolding endsBy
+complete-ends l s r h = complete-reach l s r (h .covered .below) (h .uncovered)

@@ -1,0 +1,223 @@
+-- A packet's arrivals stand in a part of the list: a search there is a search of the whole, and a packet's reach grows there.
+-- Assumes nothing.
+use Prim.Native.Nat.{ℕ, zero, suc, _+_, _-_, _≤_, _<_}
+use native.Mathlib.Omega.{arith}
+use mathlib.Core.Bool.{Bool, true, false, cond, not, _&&_}
+use mathlib.Core.Path.{_≡_, refl, sym, ap, _∙_, subst}
+use mathlib.Core.List.{List}
+use borrow.Author.Tests.{lt-ltb, ltb-true, ltb-false, le-leb, leb-true, eqb-true, eqb-false, eq-eqb}
+use lib.Dec.{leb, ltb, eqb}
+use lib.ListN.{length, getD, take, set, length-set, replicate}
+use lib.Seq.{getD-set-same, getD-set-other, getD-take, length-take-le}
+use Rattle.fragments.specs.declared.Piece.{Piece}
+use Rattle.fragments.specs.Pieces.{piecesOf, some, start, end}
+use Rattle.fragments.specs.Usable.{hasOctet, complete}
+use Rattle.fragments.specs.Private.Engine.{noPiece, Within, Covered, Grown, In, Zero, Lasts, Firsts, Completed, Numbered, Filled}
+use Rattle.fragments.proofs.Laws.{some-at, some-none, octet-of, pieces-length, pieces-getD}
+
+-- none of the first j passes a test
+pub record None (p : Piece → Bool) (l : List Piece) (j : ℕ) : Type 0 where
+  pub at : (m : ℕ) → m < j → m < length l → p (getD l m noPiece) ≡ false
+
+module _ (p : Piece → Bool) (l : List Piece) where
+  pub none-more : (j : ℕ) → None p l j → p (getD l j noPiece) ≡ false → None p l (j + 1)
+  none-more j h e = record { at = λ (m : ℕ) (k : m < j + 1) (g : m < length l). go m (ltb m j) refl k g }
+    where
+      go : (m : ℕ) (t : Bool) → ltb m j ≡ t → m < j + 1 → m < length l → p (getD l m noPiece) ≡ false
+      go m true q k g = h .at m (ltb-true m j q) g
+      go m false q k g = let o : m ≡ j = omega (arith, ltb-false m j q) in rw o e
+
+  module _ (s from to : ℕ) (only : (a : Piece) → (a .number ≡ s → ⊥) → p a ≡ false) (w : Within l s from to) where
+    pub none-start : None p l from
+    none-start = record { at = λ (m : ℕ) (k : m < from) (g : m < length l). only (getD l m noPiece) (λ q. absurd (omega (arith, w .low m g q))) }
+
+    pub none-done : (j : ℕ) → to ≤ j → None p l j → some p l ≡ false
+    none-done j h n = some-none p l noPiece (λ (m : ℕ) (g : m < length l). go m (ltb m j) refl g)
+      where
+        go : (m : ℕ) (t : Bool) → ltb m j ≡ t → m < length l → p (getD l m noPiece) ≡ false
+        go m true q g = n .at m (ltb-true m j q) g
+        go m false q g = only (getD l m noPiece) (λ e. absurd (omega (arith, w .high m g e, ltb-false m j q)))
+
+-- what it means that an arrival has an octet
+both : (a b : Bool) → (a && b) ≡ true → (a ≡ true) × (b ≡ true)
+both true b e = (refl, e)
+both false b e = absurd (let z : _≡_ {A = ℕ} 0 1 = cc in omega arith)
+
+octet-facts : (s o : ℕ) (a : Piece) → hasOctet s o a ≡ true → (a .number ≡ s) × ((start a ≤ o) × (o < end a))
+unfolding hasOctet
+octet-facts s o a e =
+    let p = both (eqb (a .number) s) (leb (start a) o && ltb o (end a)) e in
+    let q = both (leb (start a) o) (ltb o (end a)) (p .1) in
+    (eqb-true (a .number) s (p .0), (leb-true (start a) o (q .0), ltb-true o (end a) (q .1)))
+
+octet-has : (s o : ℕ) (a : Piece) → a .number ≡ s → start a ≤ o → o < end a → hasOctet s o a ≡ true
+unfolding hasOctet
+octet-has s o a e h g = rw (eq-eqb (a .number) s e, le-leb (start a) o h, lt-ltb o (end a) g)
+
+-- a pass from reach to r, over the first j
+pub record Going (l : List Piece) (s reach r j : ℕ) : Type 0 where
+  pub least : reach ≤ r
+  pub covered : Covered l s r
+  pub stays : r ≡ reach → None (hasOctet s reach) l j
+
+module _ (l : List Piece) (s reach : ℕ) where
+  pub going-start : (from to : ℕ) → Within l s from to → Covered l s reach → Going l s reach reach from
+  going-start from to w h =
+      record { least = omega arith; covered = h; stays = λ _. none-start (hasOctet s reach) l s from to (λ a n. octet-of s reach a n) w }
+
+  pub going-next : (r j r′ : ℕ) (a : Piece) → Going l s reach r j → j < length l → a ≡ getD l j noPiece
+      → r′ ≡ cond (hasOctet s r a) (end a) r
+      → r′ < 4294967296
+      → Going l s reach r′ (j + 1)
+  going-next r j r′ a g h here e f = go (hasOctet s r a) refl e
+    where
+      held : (o : ℕ) (t : Bool) → hasOctet s o a ≡ t → hasOctet s o (getD l j noPiece) ≡ t
+      held o t q = rw (← here) q
+
+      each : (o : ℕ) (t : Bool) → ltb o r ≡ t → o < r′ → hasOctet s r a ≡ true → r′ ≡ end a → some (hasOctet s o) l ≡ true
+      each o true q p k e = g .covered .below o (ltb-true o r q)
+      each o false q p k e =
+          let n : r ≤ o = ltb-false o r q in
+          let k = octet-facts s r a k in
+          some-at (hasOctet s o) l j noPiece h (held o true (octet-has s o a (k .0) (omega arith) (omega arith)))
+
+      go : (t : Bool) → hasOctet s r a ≡ t → r′ ≡ cond t (end a) r → Going l s reach r′ (j + 1)
+      go true q e =
+          let k = octet-facts s r a q in
+          let low : reach ≤ r = g .least in
+          let high : r < r′ = omega arith in
+          record {
+            least = omega arith;
+            covered = record { fits = f; below = λ (o : ℕ) (p : o < r′). each o (ltb o r) refl p q e };
+            stays = λ (p : r′ ≡ reach). absurd (omega arith);
+          }
+      go false q e =
+          rw e
+          (record {
+            least = g .least;
+            covered = g .covered;
+            stays = λ (p : r ≡ reach). none-more (hasOctet s reach) l j (g .stays p) (held reach false (subst (λ (o : ℕ). hasOctet s o a ≡ false) p q));
+          })
+
+  pub going-done : (from to r j : ℕ) → Within l s from to → to ≤ j → Going l s reach r j → Grown l s reach r
+  going-done from to r j w h g =
+      record { least = g .least; covered = g .covered; stays = λ (p : r ≡ reach). none-done (hasOctet s reach) l s from to (λ a n. octet-of s reach a n) w j h (g .stays p) }
+
+-- ---- the tables of the first and the last places
+
+-- an element after a store
+stored : (d : List ℕ) (p q v : ℕ) → p < length d → (P : ℕ → Type 0) → (q ≡ p → P v) → ((q ≡ p → ⊥) → P (getD d q 0)) → P (getD (set d p v) q 0)
+stored d p q v h P f g = go (eqb q p) refl
+  where
+    go : (t : Bool) → eqb q p ≡ t → P (getD (set d p v) q 0)
+    go true e = let k : q ≡ p = eqb-true q p e in rw (k, getD-set-same d p v 0 h) (f k)
+    go false e = rw (getD-set-other d p q v 0 (eqb-false q p e)) (g (eqb-false q p e))
+
+-- of two places of one list that hold different values, one is not the other
+pub apart : (numbers : List ℕ) (i j : ℕ) → (getD numbers j 0 - 1 ≡ getD numbers i 0 - 1 → ⊥) → j ≡ i → ⊥
+apart numbers i j n e = n (ap (λ (k : ℕ). getD numbers k 0 - 1) e)
+
+pub record LastsTo (numbers d : List ℕ) (i : ℕ) : Type 0 where
+  pub long : length d ≡ 4096
+  pub most : (p : ℕ) → getD d p 0 ≤ length numbers
+  pub high : (j : ℕ) → j < i → j < length numbers → j < getD d (getD numbers j 0 - 1) 0
+
+pub lasts-start : (numbers d : List ℕ) → length d ≡ 4096 → Zero d → LastsTo numbers d 0
+lasts-start numbers d e z =
+    record { long = e; most = λ (p : ℕ). omega (arith, z p); high = λ (j : ℕ) (h : j < 0) (k : j < length numbers). absurd (omega arith) }
+
+pub lasts-next : (numbers d : List ℕ) (i : ℕ) → In numbers → i < length numbers → LastsTo numbers d i → LastsTo numbers (set d (getD numbers i 0 - 1) (i + 1)) (i + 1)
+lasts-next numbers d i n h g =
+    let b : getD numbers i 0 - 1 < length d = omega (arith, n .low i h, n .high i h, g .long) in
+    record {
+      long = length-set d (getD numbers i 0 - 1) (i + 1) ∙ g .long;
+      most = λ (p : ℕ). stored d (getD numbers i 0 - 1) p (i + 1) b (λ (v : ℕ). v ≤ length numbers) (λ _. omega arith) (λ _. g .most p);
+      high = λ (j : ℕ) (k : j < i + 1) (m : j < length numbers).
+          stored d (getD numbers i 0 - 1) (getD numbers j 0 - 1) (i + 1) b (λ (v : ℕ). j < v) (λ _. k)
+          (λ (q : getD numbers j 0 - 1 ≡ getD numbers i 0 - 1 → ⊥). let o : j ≡ i → ⊥ = apart numbers i j q in g .high j (omega arith) m);
+    }
+
+pub lasts-done : (numbers d : List ℕ) (i : ℕ) → length numbers ≤ i → LastsTo numbers d i → Lasts numbers d
+lasts-done numbers d i h g = record { most = g .most; high = λ (j : ℕ) (k : j < length numbers). g .high j (omega arith) k }
+
+pub record FirstsFrom (numbers d : List ℕ) (i : ℕ) : Type 0 where
+  pub long : length d ≡ 4096
+  pub low : (j : ℕ) → i ≤ j → j < length numbers → getD d (getD numbers j 0 - 1) 0 ≤ j
+
+pub firsts-start : (numbers d : List ℕ) → length d ≡ 4096 → FirstsFrom numbers d (length numbers)
+firsts-start numbers d e = record { long = e; low = λ (j : ℕ) (h : length numbers ≤ j) (k : j < length numbers). absurd (omega arith) }
+
+pub firsts-next : (numbers d : List ℕ) (i : ℕ) → In numbers → i < length numbers → FirstsFrom numbers d (i + 1) → FirstsFrom numbers (set d (getD numbers i 0 - 1) i) i
+firsts-next numbers d i n h g =
+    let b : getD numbers i 0 - 1 < length d = omega (arith, n .low i h, n .high i h, g .long) in
+    record {
+      long = length-set d (getD numbers i 0 - 1) i ∙ g .long;
+      low = λ (j : ℕ) (k : i ≤ j) (m : j < length numbers).
+          stored d (getD numbers i 0 - 1) (getD numbers j 0 - 1) i b (λ (v : ℕ). v ≤ j) (λ _. k)
+          (λ (q : getD numbers j 0 - 1 ≡ getD numbers i 0 - 1 → ⊥). let o : j ≡ i → ⊥ = apart numbers i j q in g .low j (omega arith) m);
+    }
+
+pub firsts-done : (numbers d : List ℕ) → FirstsFrom numbers d 0 → Firsts numbers d
+firsts-done numbers d g = λ (j : ℕ) (k : j < length numbers). g .low j (omega arith) k
+
+-- ---- the arrivals of the lists
+
+pub pieces-number : (ns ts ls ms os : List ℕ) (j : ℕ) → j < length (piecesOf ns ts ls ms os) → getD (piecesOf ns ts ls ms os) j noPiece .number ≡ getD ns j 0
+pieces-number ns ts ls ms os j h =
+    let e = pieces-length ns ts ls ms os in
+    ap (λ (a : Piece). a .number) (pieces-getD ns ts ls ms os j (omega arith))
+
+-- a packet's arrivals stand between its places in the tables
+pub spans-within : (ns ts ls ms os firsts lasts : List ℕ) (p : ℕ) → Firsts ns firsts → Lasts ns lasts
+    → Within (piecesOf ns ts ls ms os) (p + 1) (getD firsts p 0) (getD lasts p 0)
+spans-within ns ts ls ms os firsts lasts p f l =
+    let e = pieces-length ns ts ls ms os in
+    record {
+      most = omega (arith, l .most p);
+      low = λ (j : ℕ) (h : j < length (piecesOf ns ts ls ms os)) (q : getD (piecesOf ns ts ls ms os) j noPiece .number ≡ p + 1).
+          let n = pieces-number ns ts ls ms os j h in
+          let k : getD ns j 0 - 1 ≡ p = omega arith in
+          subst (λ (x : ℕ). getD firsts x 0 ≤ j) k (f j (omega arith));
+      high = λ (j : ℕ) (h : j < length (piecesOf ns ts ls ms os)) (q : getD (piecesOf ns ts ls ms os) j noPiece .number ≡ p + 1).
+          let n = pieces-number ns ts ls ms os j h in
+          let k : getD ns j 0 - 1 ≡ p = omega arith in
+          subst (λ (x : ℕ). j < getD lasts x 0) k (l .high j (omega arith));
+    }
+
+-- and those among the first i from its first place on
+pub before-within : (ns ts ls ms os firsts : List ℕ) (i s : ℕ) → i ≤ length ns → Firsts ns firsts
+    → Within (take i (piecesOf ns ts ls ms os)) s (getD firsts (s - 1) 0) i
+before-within ns ts ls ms os firsts i s b f =
+    let e = pieces-length ns ts ls ms os in
+    let m : length (take i (piecesOf ns ts ls ms os)) ≡ i = length-take-le i (piecesOf ns ts ls ms os) (omega arith) in
+    record {
+      most = omega arith;
+      low = λ (j : ℕ) (h : j < length (take i (piecesOf ns ts ls ms os))) (q : getD (take i (piecesOf ns ts ls ms os)) j noPiece .number ≡ s).
+          let t = getD-take i (piecesOf ns ts ls ms os) j noPiece (omega arith) in
+          let n = pieces-number ns ts ls ms os j (omega arith) in
+          let k : getD ns j 0 ≡ s = sym n ∙ ap (λ (a : Piece). a .number) (sym t) ∙ q in
+          subst (λ (x : ℕ). getD firsts (x - 1) 0 ≤ j) k (f j (omega arith));
+      high = λ (j : ℕ) (h : j < length (take i (piecesOf ns ts ls ms os))) (q : getD (take i (piecesOf ns ts ls ms os)) j noPiece .number ≡ s). omega arith;
+    }
+
+-- one packet more
+pub completed-next : (l : List Piece) (d : List ℕ) (p v : ℕ) → p < length d → Completed p l d → v ≡ cond (complete l (p + 1)) 1 0 → Completed (p + 1) l (set d p v)
+completed-next l d p v h c e =
+    record { at = λ (q : ℕ) (k : q < p + 1). stored d p q v h (λ (x : ℕ). x ≡ cond (complete l (q + 1)) 1 0) (λ (r : q ≡ p). rw r e) (λ (r : q ≡ p → ⊥). c .at q (omega arith)) }
+
+-- a table of zeros
+pub zeros : (n p : ℕ) → _≡_ {A = ℕ} (getD (replicate n 0) p 0) 0
+zeros zero p = refl
+zeros (suc n) zero = refl
+zeros (suc n) (suc p) = zeros n p
+
+-- the table holds what is asked of every arrival's packet
+pub filled : (k : ℕ) (l : List Piece) (d : List ℕ) → Completed k l d → Numbered k l → Filled l d
+filled k l d c n =
+    record {
+      at = λ (j : ℕ) (h : j < length l).
+          let lo = n .low j h in
+          let hi = n .high j h in
+          let e : getD l j noPiece .number - 1 + 1 ≡ getD l j noPiece .number = omega arith in
+          c .at (getD l j noPiece .number - 1) (omega arith) ∙ ap (λ (s : ℕ). cond (complete l s) 1 0) e;
+    }

@@ -1,0 +1,20 @@
+-- `fragments::flags::flag_of` meets its contract. Assumes nothing.
+use mathlib.Core.Path.{sym}
+use borrow.Author.Needs.{needs}
+use Rattle.fragments.proofs.flags.flag_of.Statement.{statement}
+use Rattle.fragments.proofs.flags.flag_of.Tie as tie
+
+returns : tie.Need-returns
+returns c = search needs
+
+is-reordered-requires : tie.Need-is-reordered-requires
+is-reordered-requires c κs = search needs
+
+bit-requires : tie.Need-bit-requires
+bit-requires c κs = search needs
+
+returns-2 : tie.Need-returns-2
+returns-2 c = rw (c .before .before .if1 .left, sym (c .before .is-reordered .ensures)) (c .bit .ensures)
+
+pub flag-of-spec : {M : Type 1} → statement M
+flag-of-spec = tie.close (tie.spec returns is-reordered-requires bit-requires returns-2)

@@ -1,0 +1,36 @@
+-- What is refused of arrivals that may be fragments. Assumes nothing.
+use Prim.Native.Nat.{ℕ, _%_}
+use mathlib.Core.Bool.{Bool, not, _&&_, _||_}
+use mathlib.Core.List.{List, [], _∷_, map}
+use lib.Dec.{ltb, eqb}
+use Rattle.rfc4737.specs.Arrivals.{each}
+use Rattle.rfc4737.specs.Times.{tooEarly, greatestTime}
+use Rattle.rfc4737.specs.Refusals.{outside, inCase, firstOf, numberOutside, timeBack, fragmentUnfit}
+use Rattle.fragments.specs.declared.Piece.{Piece}
+use Rattle.fragments.specs.Pieces.{arrivalOf, isLast, isWhole, end}
+
+-- the greatest end of a fragment
+abbrev pub endMost : ℕ
+endMost = 65535
+
+-- a fragment of length 0, one with more to come and a length no multiple of 8, or one whose end is over 65,535
+unfoldable pub isUnfit : Piece → Bool
+isUnfit a =
+    not (isWhole a) && (eqb (a .length) 0 || (not (isLast a) && not (eqb (a .length % 8) 0) || ltb endMost (end a)))
+
+-- one arrival, by K and the reference for its time: 6, 17, 7
+unfoldable pub judgeOne : ℕ → ℕ → Piece → ℕ
+judgeOne k reference a =
+    firstOf
+    (inCase (outside 1 k (a .number)) numberOutside
+    ∷ inCase (isUnfit a) fragmentUnfit
+    ∷ inCase (tooEarly reference (a .time)) timeBack
+    ∷ [])
+
+-- one arrival, after those before it, whose greatest time is the reference
+unfoldable pub judgeAfter : ℕ → List Piece → Piece → ℕ
+judgeAfter k earlier a = judgeOne k (greatestTime (map arrivalOf earlier)) a
+
+-- the arrivals in turn
+unfoldable pub judge : ℕ → List Piece → ℕ
+judge k l = firstOf (each (judgeAfter k) l)

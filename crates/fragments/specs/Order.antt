@@ -1,0 +1,42 @@
+-- The order flag of fragments (RFC 4737, section B.3). Assumes nothing.
+use Prim.Native.Nat.{ℕ, _+_}
+use mathlib.Core.Bool.{Bool, cond, not, _&&_, _||_}
+use mathlib.Core.List.{List, foldl}
+use lib.Dec.{leb, ltb, eqb}
+use Rattle.rfc4737.specs.Arrivals.{each}
+use Rattle.fragments.specs.declared.Piece.{Piece}
+use Rattle.fragments.specs.declared.Expected.{Expected}
+use Rattle.fragments.specs.Pieces.{isLast, isCopy, firsts}
+
+-- what is expected at the start: NextExp 1, FragSeq# and NextExpFrag 0
+abbrev pub atStart : Expected
+atStart = record { next = 1; packet = 0; fragment = 0 }
+
+-- case 1: s < NextExp; case 2: s < FragSeq#; case 3: s >= NextExp and s = FragSeq# and FragOffset < NextExpFrag
+unfoldable pub isReordered : Expected → Piece → Bool
+isReordered e a =
+    ltb (a .number) (e .next) || (ltb (a .number) (e .packet)
+    || (leb (e .next) (a .number) && (eqb (a .number) (e .packet) && ltb (a .offset) (e .fragment))))
+
+-- in order with more to come, FragSeq# becomes the number and NextExpFrag the offset plus 1; without, NextExp becomes the
+-- number plus 1 and both 0
+unfoldable pub inOrderAfter : Expected → Piece → Expected
+inOrderAfter e a =
+    cond (isLast a) (record { next = a .number + 1; packet = 0; fragment = 0 })
+    (record { next = e .next; packet = a .number; fragment = a .offset + 1 })
+
+-- reordered, nothing changes
+unfoldable pub expectedAfter : Expected → Piece → Expected
+expectedAfter e a = cond (isReordered e a) e (inOrderAfter e a)
+
+-- what is expected after some arrivals, of which copies change nothing
+unfoldable pub expected : List Piece → Expected
+expected earlier = foldl expectedAfter atStart (firsts earlier)
+
+-- the flag: 0 in order, 1 reordered, 3 a copy
+unfoldable pub flagAfter : List Piece → Piece → ℕ
+flagAfter earlier a = cond (isCopy earlier a) 3 (cond (isReordered (expected earlier) a) 1 0)
+
+-- the flags of the arrivals
+unfoldable pub flags : List Piece → List ℕ
+flags l = each flagAfter l

@@ -1,0 +1,59 @@
+-- Arrivals of packets that may be cut on the way (RFC 4737, section B.2), and copies among them. Assumes nothing.
+use Prim.Native.Nat.{ℕ, _+_, _*_}
+use mathlib.Core.Bool.{Bool, false, cond, _&&_, _||_}
+use mathlib.Core.List.{List, [], _∷_, flatten}
+use lib.Dec.{eqb}
+use lib.ListN.{getD, drop}
+use Rattle.rfc4737.specs.declared.Arrival.{Arrival}
+use Rattle.rfc4737.specs.Arrivals.{each}
+use Rattle.fragments.specs.declared.Piece.{Piece}
+
+-- the arrivals of lists of numbers, times, lengths, more-fragments flags and fragment offsets
+unfoldable pub piecesOf : List ℕ → List ℕ → List ℕ → List ℕ → List ℕ → List Piece
+piecesOf [] times lengths mores offsets = []
+piecesOf (n ∷ ns) times lengths mores offsets =
+    record { number = n; time = getD times 0 0; length = getD lengths 0 0; more = getD mores 0 0; offset = getD offsets 0 0 }
+    ∷ piecesOf ns (drop 1 times) (drop 1 lengths) (drop 1 mores) (drop 1 offsets)
+
+-- the number and the time of an arrival
+abbrev pub arrivalOf : Piece → Arrival
+arrivalOf a = record { number = a .number; time = a .time }
+
+-- no more fragments are to come after it
+abbrev pub isLast : Piece → Bool
+isLast a = eqb (a .more) 0
+
+-- a whole packet: no more to come, and no offset; any other arrival is a fragment
+abbrev pub isWhole : Piece → Bool
+isWhole a = isLast a && eqb (a .offset) 0
+
+-- the place of its first octet in its packet; offsets are in units of 8 octets
+abbrev pub start : Piece → ℕ
+start a = 8 * a .offset
+
+-- the place after its last octet
+abbrev pub end : Piece → ℕ
+end a = 8 * a .offset + a .length
+
+module _ {ℓ} {A : Type ℓ} where
+  -- whether some element passes a test
+  unfoldable pub some : (A → Bool) → List A → Bool
+  some p [] = false
+  some p (a ∷ l) = p a || some p l
+
+-- whether an arrival is a copy of an earlier one: equal in number, fragment offset and length; of two whole packets the
+-- number alone decides
+unfoldable pub copies : Piece → Piece → Bool
+copies a b = eqb (b .number) (a .number) && (isWhole a && isWhole b || eqb (b .offset) (a .offset) && eqb (b .length) (a .length))
+
+-- a duplicate: a copy of any earlier arrival
+unfoldable pub isCopy : List Piece → Piece → Bool
+isCopy earlier a = some (copies a) earlier
+
+-- an arrival, if it is no copy
+unfoldable pub firstAfter : List Piece → Piece → List Piece
+firstAfter earlier a = cond (isCopy earlier a) [] (a ∷ [])
+
+-- the arrivals that are no copies
+unfoldable pub firsts : List Piece → List Piece
+firsts l = flatten (each firstAfter l)

@@ -1,0 +1,21 @@
+-- Whole packets: the flags are those of the answers of the base. Assumes nothing.
+use Prim.Native.Nat.{ℕ}
+use mathlib.Core.Bool.{false, not}
+use mathlib.Core.List.{List, map}
+use mathlib.Core.Path.{_≡_}
+use Rattle.rfc4737.specs.declared.Answer.{Answer}
+use Rattle.rfc4737.specs.declared.Answer.the-variants.{Duplicate, InOrder, Reordered}
+use Rattle.rfc4737.specs.Answer.{answers}
+use Rattle.fragments.specs.declared.Piece.{Piece}
+use Rattle.fragments.specs.Pieces.{arrivalOf, isWhole, some}
+use Rattle.fragments.specs.Order.{flags}
+
+-- the flag of an answer: 0 in order, 1 reordered, 3 a copy
+abbrev pub orderFlag : Answer → ℕ
+orderFlag (Duplicate d) = 3
+orderFlag (InOrder d) = 0
+orderFlag (Reordered d) = 1
+
+-- where no arrival is a fragment, the flags are those of the answers, whatever the payload sizes
+unfoldable pub WholeFlags : List Piece → Type 0
+WholeFlags l = some (λ (a : Piece). not (isWhole a)) l ≡ false → (size : ℕ → ℕ) → flags l ≡ map orderFlag (answers size (map arrivalOf l))

@@ -1,0 +1,45 @@
+// An arrival of the lists, and what is asked of it alone.
+ghost use mathlib.Core.Path.{_≡_};
+ghost use Prim.Native.Nat.{_<_};
+ghost use lib.ListN.{length, getD};
+ghost use Rattle.fragments.specs.Pieces.{piecesOf, isWhole, end};
+ghost use Rattle.fragments.specs.Private.Engine.{noPiece, Lists};
+use crate::Piece;
+
+// The arrival at a place of the lists.
+pub(crate) fn piece_at(
+    numbers: &[u32],
+    times: &[u64],
+    lengths: &[u16],
+    mores: &[u8],
+    offsets: &[u16],
+    i: usize,
+) -> Piece
+    requires { ⌜ (i < length (now numbers)) × Lists (now numbers) (now times) (now lengths) (now mores) (now offsets) ⌝ }
+    ensures { λ r. ⌜ r ≡ getD (piecesOf (now (numbers .entry)) (now (times .entry)) (now (lengths .entry)) (now (mores .entry)) (now (offsets .entry))) i noPiece ⌝ }
+{
+    Piece {
+        number: numbers[i],
+        time: times[i],
+        length: lengths[i],
+        more: mores[i],
+        offset: offsets[i],
+    }
+}
+
+// Whether it is a whole packet.
+pub(crate) fn is_whole(a: Piece) -> bool
+    ensures { λ r. ⌜ r ≡ isWhole a ⌝ }
+{
+    if a.more != 0 {
+        return false;
+    }
+    a.offset == 0
+}
+
+// The place after its last octet.
+pub(crate) fn end_of(a: Piece) -> u32
+    ensures { λ r. ⌜ r ≡ end a ⌝ }
+{
+    8 * (a.offset as u32) + a.length as u32
+}

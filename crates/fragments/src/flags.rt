@@ -1,0 +1,123 @@
+// The order flags and the usable arrivals, filled into two lists.
+ghost use mathlib.Core.Path.{_≡_};
+ghost use mathlib.Core.Bool.{cond};
+ghost use Prim.Native.Nat.{_≤_, _<_};
+ghost use lib.ListN.{length};
+ghost use Rattle.octets.specs.Memory.{over};
+ghost use Rattle.fragments.specs.Pieces.{piecesOf};
+ghost use Rattle.fragments.specs.Order.{isReordered, expectedAfter, flags};
+ghost use Rattle.fragments.specs.Usable.{usable};
+ghost use Rattle.fragments.specs.Private.Engine.{Lists, In, Firsts, Filled};
+use crate::Expected;
+use crate::PACKETS;
+use crate::Piece;
+use crate::arrival::piece_at;
+use crate::duplicates::is_copy;
+use crate::tables::bit;
+use crate::tables::place;
+
+// Whether an arrival is reordered: the three cases.
+fn is_reordered(e: Expected, a: Piece) -> bool
+    ensures { λ r. ⌜ r ≡ isReordered e a ⌝ }
+{
+    if a.number < e.next {
+        return true;
+    }
+    if a.number < e.packet {
+        return true;
+    }
+    if a.number != e.packet {
+        return false;
+    }
+    (a.offset as u32) < e.fragment
+}
+
+// The flag of an arrival.
+fn flag_of(copy: bool, e: Expected, a: Piece) -> u8
+    ensures { λ r. ⌜ r ≡ cond copy 3 (cond (isReordered e a) 1 0) ⌝ }
+{
+    if copy {
+        return 3;
+    }
+    bit(is_reordered(e, a))
+}
+
+// What is expected after an arrival.
+fn expected_after(copy: bool, e: Expected, a: Piece) -> Expected
+    requires { ⌜ a .number < 4294967295 ⌝ }
+    ensures { λ r. ⌜ r ≡ cond copy e (expectedAfter e a) ⌝ }
+{
+    if copy {
+        return e;
+    }
+    if is_reordered(e, a) {
+        return e;
+    }
+    if a.more == 0 {
+        return Expected {
+            next: a.number + 1,
+            packet: 0,
+            fragment: 0,
+        };
+    }
+    Expected {
+        next: e.next,
+        packet: a.number,
+        fragment: a.offset as u32 + 1,
+    }
+}
+
+// Whether an arrival is usable, of a packet that is complete or not.
+fn usable_of(copy: bool, whole: u8) -> u8
+    ensures { λ r. ⌜ r ≡ cond copy 0 whole ⌝ }
+{
+    if copy {
+        return 0;
+    }
+    whole
+}
+
+// Fills the two lists.
+pub(crate) fn fill(
+    numbers: &[u32],
+    times: &[u64],
+    lengths: &[u16],
+    mores: &[u8],
+    offsets: &[u16],
+    firsts: &[u16; PACKETS],
+    table: &[u8; PACKETS],
+    flagged: &mut [u8],
+    used: &mut [u8],
+)
+    requires { ⌜ Lists (now numbers) (now times) (now lengths) (now mores) (now offsets) × In (now numbers) × Firsts (now numbers) (now firsts)
+        × Filled (piecesOf (now numbers) (now times) (now lengths) (now mores) (now offsets)) (now table)
+        × (length (now numbers) ≤ length (now flagged)) × (length (now numbers) ≤ length (now used)) ⌝ }
+    ensures { λ _. ⌜ (now (flagged .exit) ≡ over (flags (piecesOf (now (numbers .entry)) (now (times .entry)) (now (lengths .entry)) (now (mores .entry)) (now (offsets .entry)))) (now (flagged .entry)))
+        × (now (used .exit) ≡ over (usable (piecesOf (now (numbers .entry)) (now (times .entry)) (now (lengths .entry)) (now (mores .entry)) (now (offsets .entry)))) (now (used .entry))) ⌝ }
+{
+    let mut e = Expected {
+        next: 1,
+        packet: 0,
+        fragment: 0,
+    };
+    let mut i = 0;
+    while i < numbers.len() {
+        let a = piece_at(numbers, times, lengths, mores, offsets, i);
+        let p = (a.number - 1) as usize;
+        let copy = is_copy(
+            numbers,
+            times,
+            lengths,
+            mores,
+            offsets,
+            a,
+            place(firsts[p]),
+            i,
+        );
+        flagged[i] = flag_of(copy, e, a);
+        used[i] = usable_of(copy, table[p]);
+        let next = expected_after(copy, e, a);
+        e = next;
+        i += 1;
+    }
+}

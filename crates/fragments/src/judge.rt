@@ -1,0 +1,143 @@
+// What is refused: K, the lists, and the arrivals in turn.
+ghost use mathlib.Core.Path.{_≡_};
+ghost use Rattle.fragments.specs.Pieces.{piecesOf};
+ghost use Rattle.fragments.specs.Judge.{isUnfit, judgeOne, judge};
+ghost use Rattle.fragments.specs.Private.Engine.{Lists};
+ghost use Rattle.fragments.specs.Calls.{sameLengths, refusalOf};
+use crate::Piece;
+use crate::arrival::end_of;
+use crate::arrival::is_whole;
+use crate::arrival::piece_at;
+use rfc4737::judge::ARRIVALS_MOST;
+use rfc4737::judge::SENT_MOST;
+use rfc4737::judge::outside;
+use rfc4737::refusal::FRAGMENT_UNFIT;
+use rfc4737::refusal::LISTS_DIFFER;
+use rfc4737::refusal::MANY_ARRIVALS;
+use rfc4737::refusal::NUMBER_OUTSIDE;
+use rfc4737::refusal::OUTPUT_SHORT;
+use rfc4737::refusal::SENT_OUTSIDE;
+use rfc4737::refusal::TIME_BACK;
+use rfc4737::time::next_reference;
+use rfc4737::time::too_early;
+
+// The greatest end of a fragment.
+const END_MOST: u32 = 65535;
+
+// Whether it is a fragment that is refused.
+fn is_unfit(a: Piece) -> bool
+    ensures { λ r. ⌜ r ≡ isUnfit a ⌝ }
+{
+    if is_whole(a) {
+        return false;
+    }
+    if a.length == 0 {
+        return true;
+    }
+    if a.more == 0 {
+        return END_MOST < end_of(a);
+    }
+    if a.length % 8 != 0 {
+        return true;
+    }
+    END_MOST < end_of(a)
+}
+
+// One arrival: 6, 17, 7.
+fn judge_one(k: u64, reference: u64, a: Piece) -> u32
+    ensures { λ r. ⌜ r ≡ judgeOne k reference a ⌝ }
+{
+    if outside(1, k, a.number as u64) {
+        return NUMBER_OUTSIDE;
+    }
+    if is_unfit(a) {
+        return FRAGMENT_UNFIT;
+    }
+    if too_early(reference, a.time) {
+        return TIME_BACK;
+    }
+    0
+}
+
+// The arrivals in turn.
+fn judge_all(
+    k: u64,
+    numbers: &[u32],
+    times: &[u64],
+    lengths: &[u16],
+    mores: &[u8],
+    offsets: &[u16],
+) -> u32
+    requires { ⌜ Lists (now numbers) (now times) (now lengths) (now mores) (now offsets) ⌝ }
+    ensures { λ r. ⌜ r ≡ judge k (piecesOf (now (numbers .entry)) (now (times .entry)) (now (lengths .entry)) (now (mores .entry)) (now (offsets .entry))) ⌝ }
+{
+    let mut reference: u64 = 0;
+    let mut i = 0;
+    while i < numbers.len() {
+        let a = piece_at(numbers, times, lengths, mores, offsets, i);
+        let refusal = judge_one(k, reference, a);
+        if refusal != 0 {
+            return refusal;
+        }
+        reference = next_reference(reference, a.time);
+        i += 1;
+    }
+    0
+}
+
+// Whether the lists are of one length.
+fn same_lengths(n: usize, times: usize, lengths: usize, mores: usize, offsets: usize) -> bool
+    ensures { λ r. ⌜ r ≡ sameLengths n times lengths mores offsets ⌝ }
+{
+    if n != times {
+        return false;
+    }
+    if n != lengths {
+        return false;
+    }
+    if n != mores {
+        return false;
+    }
+    n == offsets
+}
+
+// The first refusal that is due, 0 if none is.
+pub(crate) fn refusal_of(
+    k: u32,
+    numbers: &[u32],
+    times: &[u64],
+    lengths: &[u16],
+    mores: &[u8],
+    offsets: &[u16],
+    flagroom: usize,
+    usedroom: usize,
+) -> u32
+    ensures { λ r. ⌜ r ≡ refusalOf k (now (numbers .entry)) (now (times .entry)) (now (lengths .entry)) (now (mores .entry)) (now (offsets .entry)) flagroom usedroom ⌝ }
+{
+    if outside(1, SENT_MOST, k as u64) {
+        return SENT_OUTSIDE;
+    }
+    if outside(0, ARRIVALS_MOST, numbers.len() as u64) {
+        return MANY_ARRIVALS;
+    }
+    if !same_lengths(
+        numbers.len(),
+        times.len(),
+        lengths.len(),
+        mores.len(),
+        offsets.len(),
+    ) {
+        return LISTS_DIFFER;
+    }
+    let refusal = judge_all(k as u64, numbers, times, lengths, mores, offsets);
+    if refusal != 0 {
+        return refusal;
+    }
+    if flagroom < numbers.len() {
+        return OUTPUT_SHORT;
+    }
+    if usedroom < numbers.len() {
+        return OUTPUT_SHORT;
+    }
+    0
+}

@@ -1,0 +1,125 @@
+// Fragments: the order flag of packets that may be cut on the way, and which arrivals are usable in sample figures (RFC 4737,
+// Appendix B). The call takes all input there is.
+ghost use mathlib.Core.Path.{_≡_};
+ghost use Prim.Native.Nat.{_≤_};
+ghost use lib.ListN.{length};
+ghost use Rattle.octets.specs.Memory.{over};
+ghost use Rattle.fragments.specs.Pieces.{piecesOf};
+ghost use Rattle.fragments.specs.Order.{flags};
+ghost use Rattle.fragments.specs.Usable.{usable};
+ghost use Rattle.fragments.specs.Private.Engine.{Lists, In, Numbered};
+ghost use Rattle.fragments.specs.Calls.{Marked};
+ghost use Rattle.fragments.specs.Whole.{WholeFlags};
+ghost use Rattle.fragments.specs.Cases.{FlaggedAsGiven};
+
+mod arrival;
+mod cover;
+mod duplicates;
+mod flags;
+mod judge;
+mod tables;
+
+use flags::fill;
+use judge::refusal_of;
+use tables::mark_complete;
+use tables::mark_firsts;
+use tables::mark_lasts;
+
+// How many packets there are at most.
+const PACKETS: usize = 4096;
+
+// An arrival: number, time, length in octets, more-fragments flag (set if not 0) and fragment offset.
+pub struct Piece {
+    pub number: u32,
+    pub time: u64,
+    pub length: u16,
+    pub more: u8,
+    pub offset: u16,
+}
+
+// What is expected: NextExp, FragSeq# and NextExpFrag.
+pub struct Expected {
+    pub next: u32,
+    pub packet: u32,
+    pub fragment: u32,
+}
+
+// Fills the two lists of arrivals that are accepted.
+fn mark(
+    k: u32,
+    numbers: &[u32],
+    times: &[u64],
+    lengths: &[u16],
+    mores: &[u8],
+    offsets: &[u16],
+    flagged: &mut [u8],
+    used: &mut [u8],
+)
+    requires { ⌜ (k ≤ 4096) × Lists (now numbers) (now times) (now lengths) (now mores) (now offsets) × In (now numbers)
+        × Numbered k (piecesOf (now numbers) (now times) (now lengths) (now mores) (now offsets))
+        × (length (now numbers) ≤ length (now flagged)) × (length (now numbers) ≤ length (now used)) ⌝ }
+    ensures { λ _. ⌜ (now (flagged .exit) ≡ over (flags (piecesOf (now (numbers .entry)) (now (times .entry)) (now (lengths .entry)) (now (mores .entry)) (now (offsets .entry)))) (now (flagged .entry)))
+        × (now (used .exit) ≡ over (usable (piecesOf (now (numbers .entry)) (now (times .entry)) (now (lengths .entry)) (now (mores .entry)) (now (offsets .entry)))) (now (used .entry))) ⌝ }
+{
+    let mut firsts = [0u16; PACKETS];
+    let mut lasts = [0u16; PACKETS];
+    let mut table = [0u8; PACKETS];
+    mark_firsts(numbers, &mut firsts);
+    mark_lasts(numbers, &mut lasts);
+    mark_complete(
+        k,
+        numbers,
+        times,
+        lengths,
+        mores,
+        offsets,
+        &firsts,
+        &lasts,
+        &mut table,
+    );
+    fill(
+        numbers,
+        times,
+        lengths,
+        mores,
+        offsets,
+        &firsts,
+        &table,
+        flagged,
+        used,
+    );
+}
+
+// The order flags and the usable arrivals, filled into two lists from their start. With a refusal they stay as they were.
+// The cost is linear for whole packets and for a few fragments each. The worst list is one packet of 4,096 fragments in reverse
+// order: 4,096 passes over 4,096 arrivals.
+pub fn order(
+    k: u32,
+    numbers: &[u32],
+    times: &[u64],
+    lengths: &[u16],
+    mores: &[u8],
+    offsets: &[u16],
+    flagged: &mut [u8],
+    used: &mut [u8],
+) -> u32
+    ensures { λ r. ⌜ Marked k (now (numbers .entry)) (now (times .entry)) (now (lengths .entry)) (now (mores .entry)) (now (offsets .entry)) (now (flagged .entry)) (now (used .entry)) r (now (flagged .exit)) (now (used .exit)) ⌝ }
+    ensures whole { λ _. ⌜ WholeFlags (piecesOf (now (numbers .entry)) (now (times .entry)) (now (lengths .entry)) (now (mores .entry)) (now (offsets .entry))) ⌝ }
+    ensures cases { λ _. ⌜ FlaggedAsGiven ⌝ }
+{
+    let refusal = refusal_of(
+        k,
+        numbers,
+        times,
+        lengths,
+        mores,
+        offsets,
+        flagged.len(),
+        used.len(),
+    );
+    if refusal != 0 {
+        return refusal;
+    }
+    mark(k, numbers, times, lengths, mores, offsets, flagged, used);
+    0
+}
