@@ -15,6 +15,11 @@ int main(void) {
     FIELD(layout, label);
     FIELD(layout, sent);
     FIELD(layout, arrivals);
+    SIZE(worse_link);
+    FIELD(worse_link, refusal);
+    FIELD(worse_link, link);
+    FIELD(worse_link, start);
+    FIELD(worse_link, length);
     SIZE(part);
     FIELD(part, start);
     FIELD(part, length);

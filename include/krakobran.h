@@ -248,6 +248,20 @@ krakobran_ratio krakobran_degree(const uint8_t *file, size_t octets, uint32_t n)
 /* The ratio figures of a sample. */
 krakobran_ratio_figures krakobran_ratios(const uint8_t *file, size_t octets);
 
+/* What is found of two samples: which is the worse one, 1 for the first and 2 for the second, and where its label begins in it
+ * and its octets; 1, 0 and 0 with a refusal. */
+typedef struct {
+    uint32_t refusal;
+    uint32_t link;
+    uint32_t start;
+    uint32_t length;
+} krakobran_worse_link;
+
+/* Of two samples the one with the greater reordered ratio; equal ratios give the first, and an undefined one counts as 0. The
+ * first sample's refusal comes first, then the second's. */
+krakobran_worse_link krakobran_worse(const uint8_t *first, size_t first_octets, const uint8_t *second,
+                                     size_t second_octets);
+
 /* Writes the report of a sample from the start of out; KRAKOBRAN_OUTPUT_SHORT if it does not fit. Any report fits into
  * KRAKOBRAN_LISTING_OCTETS places. With a refusal nothing is written and the length is 0. */
 krakobran_written krakobran_listing(const uint8_t *file, size_t octets, uint8_t *out, size_t room);

@@ -11,6 +11,7 @@ use crate::reference::{
     Step, Stepped, Tally, Written,
 };
 use crate::text::Imported;
+use crate::worse::Worse;
 
 const IN_ORDER: u32 = 0;
 const REORDERED_AFTER: u32 = 1;
@@ -469,6 +470,7 @@ pub fn layout() {
     }
     table! {
         "layout" c::Layout: refusal label sent arrivals;
+        "worse_link" Worse: refusal link start length;
         "part" c::Part: start length;
         "written" c::Written: refusal length;
         "imported" Imported: refusal arrivals line;

@@ -3,7 +3,7 @@
 use crate::boundary::{Meter, Reference, LIBRARY, LIBRARY_NAME};
 use crate::compare::{self, Buffers, Seen};
 use crate::generate::{arrival_list, sample_case, state_case};
-use crate::{meter, records, sweep, text};
+use crate::{meter, records, sweep, text, worse};
 
 /// How many generated inputs a run takes.
 pub struct Amounts {
@@ -40,8 +40,9 @@ pub fn run(seed: u64, amounts: &Amounts) -> bool {
     let found = all(&LIBRARY, &Reference, seed, amounts, &mut seen)
         .and_then(|()| text::compare(seed, amounts.samples, &mut seen))
         .and_then(|()| records::compare(seed, amounts.samples, &mut seen))
-        .and_then(|()| meter::compare(seed, amounts.lists, amounts.states, &mut seen))
-        .and_then(|()| sweep::compare(seed, amounts.samples, &mut seen));
+        .and_then(|()| sweep::compare(seed, amounts.samples, &mut seen))
+        .and_then(|()| worse::compare(seed, amounts.samples, &mut seen))
+        .and_then(|()| meter::compare(seed, amounts.lists, amounts.states, &mut seen));
     print!("{}", seen.table());
     println!(
         "{} samples and as many text logs and OWAMP records, {} receiver arrivals, {} calls compared",

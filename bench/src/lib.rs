@@ -15,3 +15,4 @@ pub mod reference;
 pub mod sweep;
 pub mod text;
 pub mod time;
+pub mod worse;

@@ -1,4 +1,5 @@
 -- What C is given for each answer. Assumes nothing.
 pub mod Figures
 pub mod Label
+pub mod Link
 pub mod Noted

@@ -6,6 +6,7 @@
 mod figures;
 pub mod held;
 mod label;
+mod link;
 mod meters;
 mod noted;
 mod records;

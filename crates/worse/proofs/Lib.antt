@@ -1,0 +1,2 @@
+-- Laws of comparing two samples. Assumes nothing.
+pub mod Compared

@@ -1,0 +1,43 @@
+-- `worse::greater` meets its contract: a product of two numbers of 32 bits fits 64. Assumes nothing.
+use borrow.Author.Needs.{needs}
+use Prim.Native.Nat.{ℕ, _*_, _^_, _≤_, _<_}
+use native.Mathlib.Omega.{arith}
+use native.Mathlib.Nat.{mul-le-mul}
+use mathlib.Core.Path.{refl}
+use mir.Syntax.{w64}
+use mir.Val.{Fits}
+use Rattle.worse.specs.Worse.{greater}
+use Rattle.worse.proofs.greater.Statement.{statement}
+use Rattle.worse.proofs.greater.Tie as tie
+
+product-fits : (m n : ℕ) → m < 2 ^ 32 → n < 2 ^ 32 → Fits w64 (m * n)
+product-fits m n h k =
+    let p : m * n ≤ 4294967295 * 4294967295 = mul-le-mul {n₁ = m} {m₁ = n} {n₂ = 4294967295} {m₂ = 4294967295} (omega arith) (omega arith) in
+    record { fits = omega arith }
+
+cast-ours : tie.Need-cast-ours
+cast-ours c = search needs
+
+cast-ours-2 : tie.Need-cast-ours-2
+cast-ours-2 c = search needs
+
+mul-ours : tie.Need-mul-ours
+mul-ours c = product-fits _ _ (search needs) (search needs)
+
+cast-theirs : tie.Need-cast-theirs
+cast-theirs c = search needs
+
+cast-theirs-2 : tie.Need-cast-theirs-2
+cast-theirs-2 c = search needs
+
+mul-theirs : tie.Need-mul-theirs
+mul-theirs c = product-fits _ _ (search needs) (search needs)
+
+returns : tie.Need-returns
+unfolding greater
+returns c = refl
+
+pub greater-spec : {M : Type 1} → statement M
+greater-spec =
+    tie.close
+    (tie.spec cast-ours cast-ours-2 mul-ours cast-theirs cast-theirs-2 mul-theirs returns)

@@ -1,0 +1,79 @@
+-- `worse::worse` meets its contract: the comparison says whose label is shown. Assumes nothing.
+use borrow.Author.Needs.{needs}
+use Prim.Native.Nat.{ℕ, _<_}
+use native.Mathlib.Omega.{arith}
+use mathlib.Core.Path.{_≡_, sym, ap, _∙_}
+use denote.Ref.{now}
+use Rattle.sample.specs.Decode.{decode}
+use Rattle.worse.specs.declared.Comparison.{Comparison}
+use Rattle.worse.specs.declared.Link.the-variants.{First, Second}
+use Rattle.worse.proofs.Compared.{refusal-found, label-refused, place-refused, linked, label-first, label-second, place-first, place-second}
+use Rattle.worse.proofs.worse.Statement.{statement}
+use Rattle.worse.proofs.worse.Tie as tie
+
+compare-requires : tie.Need-compare-requires
+compare-requires c κs = search needs
+
+sub-result : tie.Need-sub-result
+sub-result c = search needs
+
+part-result-start : tie.Need-part-result-start
+part-result-start c = search needs
+
+part-result-end : tie.Need-part-result-end
+part-result-end c = search needs
+
+returns : tie.Need-returns
+returns c =
+    let f = now (c .before .before .before .before .before .before .args .first) in
+    let g = now (c .before .before .before .before .before .before .args .second) in
+    let found = c .before .before .before .compare in
+    let r = refusal-found (decode f) (decode g) (found .result) (found .ensures) in
+    let h : 0 < found .result .refusal = omega (arith, c .before .if1 .taken) in
+    (label-refused (decode f) (decode g) (found .result .refusal) r h, place-refused (decode f) (decode g) (found .result .refusal) r h (c .before .before .before .before .before .before .args .first .ptr) (c .before .before .before .before .before .before .args .second .ptr))
+
+enum-told : tie.Need-enum-told
+enum-told c = search needs
+
+label-requires : tie.Need-label-requires
+label-requires c κs = search needs
+
+enum-told-2 : tie.Need-enum-told-2
+enum-told-2 c = search needs
+
+label-requires-2 : tie.Need-label-requires-2
+label-requires-2 c κs = search needs
+
+returns-2 : tie.Need-returns-2
+returns-2 c =
+    let f = now (c .before .before .before .before .before .before .before .before .args .first) in
+    let g = now (c .before .before .before .before .before .before .before .before .args .second) in
+    let found = c .before .before .before .before .before .compare in
+    let z = refusal-found (decode f) (decode g) (found .result) (found .ensures) ∙ c .before .before .before .if1 .left in
+    let l = linked (decode f) (decode g) z First (sym (ap (λ (x : Comparison). x .link) (found .ensures)) ∙ search (c .before .enum-told .given)) in
+    (c .label .ensures .0 ∙ label-first (decode f) (decode g) z l, c .label .ensures .1 ∙ place-first (decode f) (decode g) z l (c .before .before .before .before .before .before .before .before .args .first .ptr) (c .before .before .before .before .before .before .before .before .args .second .ptr))
+
+returns-3 : tie.Need-returns-3
+returns-3 c =
+    let f = now (c .before .before .before .before .before .before .before .before .args .first) in
+    let g = now (c .before .before .before .before .before .before .before .before .args .second) in
+    let found = c .before .before .before .before .before .compare in
+    let z = refusal-found (decode f) (decode g) (found .result) (found .ensures) ∙ c .before .before .before .if1 .left in
+    let l = linked (decode f) (decode g) z Second (sym (ap (λ (x : Comparison). x .link) (found .ensures)) ∙ search (c .before .enum-told2 .given)) in
+    (c .label2 .ensures .0 ∙ label-second (decode f) (decode g) z l, c .label2 .ensures .1 ∙ place-second (decode f) (decode g) z l (c .before .before .before .before .before .before .before .before .args .first .ptr) (c .before .before .before .before .before .before .before .before .args .second .ptr))
+
+pub worse-spec : {M : Type 1} → statement M
+worse-spec =
+    tie.close
+    (tie.spec
+    compare-requires
+    sub-result
+    part-result-start
+    part-result-end
+    returns
+    enum-told
+    label-requires
+    enum-told-2
+    label-requires-2
+    returns-2
+    returns-3)

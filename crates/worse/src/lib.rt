@@ -1,0 +1,100 @@
+// Of two samples the one with the greater reordered ratio: which it is, and its label as a part of that lent sample. Ratios are
+// compared exactly, as fractions of whole numbers.
+
+ghost use mathlib.Core.Path.{_≡_};
+ghost use denote.Ref.{now};
+ghost use Rattle.sample.specs.Decode.{decode};
+ghost use Rattle.worse.specs.Worse.{reorderedRatio, greater, comparisonOf, worseLabel, worsePlace};
+use metrics::counts;
+use rfc4737::Counts;
+use sample::label;
+
+// One of two samples.
+pub enum Link {
+    First,
+    Second,
+}
+
+// What is found of two samples: the refusal (0 for none), and the worse one, the first with a refusal.
+pub struct Comparison {
+    pub refusal: u32,
+    pub link: Link,
+}
+
+// A ratio of whole numbers.
+pub struct Fraction {
+    pub part: u32,
+    pub whole: u32,
+}
+
+// The reordered ratio of a sample, by its counts: 0 of 1 where it is undefined.
+fn reordered_ratio(counts: Counts) -> Fraction
+    ensures { λ r. ⌜ r ≡ reorderedRatio counts ⌝ }
+{
+    if counts.arrived == 0 {
+        return Fraction { part: 0, whole: 1 };
+    }
+    Fraction {
+        part: counts.reordered,
+        whole: counts.arrived,
+    }
+}
+
+// Whether a fraction is greater than another. No product of two numbers of 32 bits passes 64.
+fn greater(f: Fraction, g: Fraction) -> bool
+    ensures { λ r. ⌜ r ≡ greater f g ⌝ }
+{
+    let ours = f.part as u64 * g.whole as u64;
+    let theirs = g.part as u64 * f.whole as u64;
+    theirs < ours
+}
+
+// Nothing is compared: the refusal, and the first sample.
+fn refused_with(refusal: u32) -> Comparison
+    ensures { λ r. ⌜ r ≡ record { refusal = refusal; link = Link.First } ⌝ }
+{
+    Comparison {
+        refusal,
+        link: Link::First,
+    }
+}
+
+// Which of two samples has the greater reordered ratio; equal ratios give the first. One pass over each.
+pub fn compare(first: &[u8], second: &[u8]) -> Comparison
+    ensures { λ r. ⌜ r ≡ comparisonOf (decode (now (first .entry))) (decode (now (second .entry))) ⌝ }
+{
+    let one = counts(first);
+    if one.refusal != 0 {
+        return refused_with(one.refusal);
+    }
+    let other = counts(second);
+    if other.refusal != 0 {
+        return refused_with(other.refusal);
+    }
+    if greater(reordered_ratio(other.counts), reordered_ratio(one.counts)) {
+        return Comparison {
+            refusal: 0,
+            link: Link::Second,
+        };
+    }
+    Comparison {
+        refusal: 0,
+        link: Link::First,
+    }
+}
+
+// The label of the worse of two samples, as a part of it; with a refusal the empty part at the first sample's start.
+pub fn worse<'a>(first: &'a [u8], second: &'a [u8]) -> &'a [u8]
+    ensures { λ r. ⌜ (now r ≡ worseLabel (decode (now (first .entry))) (decode (now (second .entry))))
+        × (r .ptr ≡ worsePlace (decode (now (first .entry))) (decode (now (second .entry))) (first .entry .ptr) (second .entry .ptr)) ⌝ }
+{
+    let found = compare(first, second);
+    if found.refusal != 0 {
+        return &first[0..0];
+    }
+    let link = found.link;
+    match link {
+        Link::First => label(first),
+        Link::Second => label(second),
+    }
+}
