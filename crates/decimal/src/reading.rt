@@ -4,9 +4,10 @@ ghost use mathlib.Core.Path.{_≡_};
 ghost use Prim.Native.Nat.{_+_, _*_, _-_, _≤_, min};
 ghost use Rattle.decimal.specs.Reading.{digit, wordMost, numberAt, ReadsBack};
 
-// The greatest number of 64 bits, and the greatest of which ten times fit.
+// The greatest number of 64 bits.
 const WORD_MOST: u64 = 18_446_744_073_709_551_615;
 
+// The greatest number of which ten times fit 64 bits.
 const TENS_MOST: u64 = 1_844_674_407_370_955_161;
 
 // Digits: where they end, and their number, or the greatest of 64 bits where it is greater.

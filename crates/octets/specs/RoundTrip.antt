@@ -18,6 +18,7 @@ table =
     ∷ (66051, 2 ∷ 3 ∷ [])
     ∷ []
 
+-- what is written is read as it was, and what is read is written as it was
 pub record ReadBack : Type 0 where
   -- a number that so many octets can hold is read from them as itself
   pub number : (width v : ℕ) → v < 256 ^ width → beValue (beOctets width v) ≡ v

@@ -60,10 +60,12 @@ pub data Decoded : Type 0 where
   malformed : Decoded
   arrived : Arrival → Decoded
 
+-- what is found, if it ends where a line of this length does
 abbrev pub readWhole : (length : ℕ) → Found → Decoded
 readWhole length (Read number time end) = cond (eqb end length) (arrived (record { number = number; time = time })) malformed
 readWhole length Malformed = malformed
 
+-- a line by itself
 unfoldable pub decodeLine : List ℕ → Decoded
 decodeLine l = readWhole (length l) (lineIn 0 l)
 
@@ -79,6 +81,7 @@ abbrev pub withOctet : Bool → ℕ → List (List ℕ) → List (List ℕ)
 withOctet true o ls = (o ∷ []) ∷ ls
 withOctet false o ls = inFront o ls
 
+-- octet by octet, from the last on
 unfoldable pub lines : List ℕ → List (List ℕ)
 lines [] = []
 lines (o ∷ t) = withOctet (eqb o lineFeed) o (lines t)
