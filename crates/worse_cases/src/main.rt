@@ -1,5 +1,5 @@
-// Runs cases of two samples: ratios that are greater, equal and undefined, and each refusal of either. A line is written for each
-// case: the refusal, which sample is the worse one, and its label.
+// Runs cases of two samples: ratios that are greater, equal and undefined, labels that are empty, and each refusal of either. A
+// line is written for each case: the refusal, which sample is the worse one, and its label.
 mod build;
 mod print;
 
@@ -25,14 +25,32 @@ fn write_found<'a>(first: &'a [u8], second: &'a [u8]) {
     write_word(b"]\n");
 }
 
-// Two samples, each of so many arrivals with so many pairs turned round.
-fn ratios(name: &[u8], arrivals: u16, pairs: u16, others: u16, other_pairs: u16) {
+// Two samples with these labels, each of so many arrivals with so many pairs turned round.
+fn labelled<'a>(
+    one: &'a [u8],
+    other: &'a [u8],
+    arrivals: u16,
+    pairs: u16,
+    others: u16,
+    other_pairs: u16,
+) {
     let mut a = [0u8; ROOM];
     let mut b = [0u8; ROOM];
-    let m = put_sample(&mut a, b"cable", arrivals, pairs);
-    let n = put_sample(&mut b, b"radio", others, other_pairs);
-    write_word(name);
+    let m = put_sample(&mut a, one, arrivals, pairs);
+    let n = put_sample(&mut b, other, others, other_pairs);
     write_found(first_octets(&a, m), first_octets(&b, n));
+}
+
+// Two samples that their labels tell apart.
+fn ratios(name: &[u8], arrivals: u16, pairs: u16, others: u16, other_pairs: u16) {
+    write_word(name);
+    labelled(b"cable", b"radio", arrivals, pairs, others, other_pairs);
+}
+
+// Two samples without a label: which of them it is tells them apart.
+fn unlabelled(name: &[u8], arrivals: u16, pairs: u16, others: u16, other_pairs: u16) {
+    write_word(name);
+    labelled(b"", b"", arrivals, pairs, others, other_pairs);
 }
 
 // A sample with a number put at a place, and octets more or less at its end, beside a whole one, and that before it.
@@ -84,6 +102,8 @@ fn main() {
     ratios(b"1/2 and undefined", 2, 1, 0, 0);
     ratios(b"0 and 1/2", 1, 0, 2, 1);
     ratios(b"undefined and undefined", 0, 0, 0, 0);
+    unlabelled(b"no labels, 1/2 and 0", 2, 1, 1, 0);
+    unlabelled(b"no labels, 0 and 1/2", 1, 0, 2, 1);
     refusals();
     both_refused();
 }

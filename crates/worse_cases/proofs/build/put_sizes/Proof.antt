@@ -8,13 +8,10 @@ use Rattle.worse_cases.proofs.build.put_sizes.Statement.{statement}
 use Rattle.worse_cases.proofs.build.put_sizes.Tie as tie
 
 abbrev Inv-loop : tie.InvT-loop
-Inv-loop out₀ sent count i₀ out i = (i ≤ count) × (count ≤ 65535) × (length out ≡ length out₀)
+Inv-loop out₀ at sent count i₀ out i = (i ≤ count) × (count ≤ 65535) × (length out ≡ length out₀)
 
 abbrev μ-loop : tie.MeasureT-loop
-μ-loop out₀ sent count i₀ out i = count - i
-
-add-put-number : tie.Need-add-put-number Inv-loop μ-loop
-add-put-number c = search needs
+μ-loop out₀ at sent count i₀ out i = count - i
 
 put-number-requires : tie.Need-put-number-requires Inv-loop μ-loop
 put-number-requires c κs = search needs
@@ -22,14 +19,14 @@ put-number-requires c κs = search needs
 loop-holds : tie.Need-loop-holds Inv-loop μ-loop
 loop-holds c = search needs
 
-add-put-number-2 : tie.Need-add-put-number-2 Inv-loop μ-loop
-add-put-number-2 c = search needs
+add-put-number : tie.Need-add-put-number Inv-loop μ-loop
+add-put-number c = search needs
 
 mul-put-number : tie.Need-mul-put-number Inv-loop μ-loop
 mul-put-number c = search needs
 
-add-put-number-3 : tie.Need-add-put-number-3 Inv-loop μ-loop
-add-put-number-3 c = search needs
+add-put-number-2 : tie.Need-add-put-number-2 Inv-loop μ-loop
+add-put-number-2 c = search needs
 
 put-number-requires-2 : tie.Need-put-number-requires-2 Inv-loop μ-loop
 put-number-requires-2 c κs = search needs
@@ -64,12 +61,11 @@ put-sizes-spec =
     (tie.spec
     Inv-loop
     μ-loop
-    add-put-number
     put-number-requires
     loop-holds
-    add-put-number-2
+    add-put-number
     mul-put-number
-    add-put-number-3
+    add-put-number-2
     put-number-requires-2
     add-i
     loop-less
