@@ -19,14 +19,12 @@ use Rattle.rfc4737.proofs.Folds.{offset-more, offset-le}
 use Rattle.disorder.specs.Private.Tree.{rest, Roomy, Known, Added}
 use Rattle.disorder.proofs.Held.{summed-none, summed-more}
 use Rattle.sample.specs.declared.Layout.{Layout}
-use Rattle.sample.specs.Decode.{Decoded, sampleOf, decode}
-use Rattle.sample.specs.Places.{numberFound}
+use Rattle.sample.specs.Decode.{Decoded, sampleOf}
 use Rattle.metrics.specs.Sample.{sizeOf, arrivalsOf}
 use Rattle.metrics.specs.Private.Sample.{noArrival, arrivalAt, before, Laid, Has}
 use Rattle.disorder.specs.Sample.{disorderOf, SumsOffsets}
 use Rattle.disorder.specs.Private.Pairs.{Paired, Pairing}
 use Rattle.disorder.specs.declared.pairs.Pairs.{Pairs}
-use Rattle.metrics.proofs.Places.{number-stands}
 use Rattle.metrics.proofs.Seen.{Seen, seen-start, seen-next}
 use Rattle.metrics.proofs.Follow.{arrivals-laid, before-more}
 
@@ -48,14 +46,6 @@ sizes-one d y h e = all-at (SizeOne (sizeOf d)) (arrivalsOf d) (λ i g. one i (h
 pub sums-offsets : (d : Decoded) (y : Layout) → Laid d y → SumsOffsets d
 unfolding disorderOf
 sums-offsets d y h ones = sum-wrong (sizeOf d) (arrivalsOf d) (sizes-one d y h ones)
-
--- the number that stands in record i + 1
-pub number-known : (file : List ℕ) (y : Layout) (i n : ℕ) → Has (decode file) y i → n ≡ numberFound file y i
-    → (n ≡ arrivalAt (decode file) i .number) × (1 ≤ n) × (n ≤ 4096)
-number-known file y i n h e =
-    let q : n ≡ arrivalAt (decode file) i .number = e ∙ number-stands file y (h .file) i (h .inside) in
-    let w = h .file .numbers i (h .inside) in
-    (q, omega (arith, q, w), omega (arith, q, w, h .file .sentFew))
 
 -- ---- the pairs, one first arrival after the other
 

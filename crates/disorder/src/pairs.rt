@@ -52,7 +52,7 @@ pub(crate) fn disorder_of(file: &[u8], y: Layout) -> u32
     let mut p = no_pairs();
     let mut i: u32 = 0;
     while i < y.arrivals {
-        let number = sample::arrival_number(file, y, i);
+        let number = sample::arrival(file, y, i).number;
         let at = number as usize;
         let arrived = seen[at];
         p = paired(&mut counts, arrived, number, p);

@@ -4,11 +4,12 @@ use mathlib.Core.List.{List}
 use Prim.Native.Nat.{ℕ, _-_, _≤_, _<_}
 use native.Mathlib.Omega.{arith}
 use Rattle.octets.specs.Below.{Octets}
+use Rattle.rfc4737.specs.declared.Arrival.{Arrival}
 use Rattle.rfc4737.specs.Extent.{sizeIn}
 use Rattle.sample.specs.declared.Layout.{Layout}
 use Rattle.sample.specs.Decode.{Decoded, refused, accepted, decode, layoutOf}
-use Rattle.sample.specs.Places.{sizeFound, numberFound, timeFound}
-use Rattle.sample.proofs.Accepted.{accepted-limits, number-within, size-found, number-found, time-found}
+use Rattle.sample.specs.Places.{sizeFound, arrivalFound}
+use Rattle.sample.proofs.Accepted.{accepted-limits, number-within, size-found, arrival-found}
 use Rattle.metrics.specs.Sample.{sizeOf}
 use Rattle.metrics.specs.Private.Sample.{noArrival, arrivalAt, Laid}
 
@@ -24,21 +25,22 @@ module _ (file : List ℕ) where
           record { laid = refl; sentFew = omega arith; few = omega arith; numbers = number-within file s e o noArrival }
 
   module _ (y : Layout) (h : Laid (decode file) y) where
-    -- the number of record i + 1
-    pub number-stands : (i : ℕ) → i < y .arrivals → numberFound file y i ≡ arrivalAt (decode file) i .number
-    number-stands i g = go (decode file) refl
+    -- the arrival of record i + 1
+    arrival-stands : (i : ℕ) → i < y .arrivals → arrivalFound file y i ≡ arrivalAt (decode file) i
+    arrival-stands i g = go (decode file) refl
       where
-        go : (d : Decoded) → decode file ≡ d → numberFound file y i ≡ arrivalAt d i .number
+        go : (d : Decoded) → decode file ≡ d → arrivalFound file y i ≡ arrivalAt d i
         go (refused r) e = absurd (omega (arith, ap (λ (y : Layout). y .arrivals) (h .laid ∙ ap layoutOf e)))
-        go (accepted s) e = number-found file s e y (h .laid) i noArrival g
+        go (accepted s) e = arrival-found file s e y (h .laid) i noArrival g
 
-    -- its time
-    pub time-stands : (i : ℕ) → i < y .arrivals → timeFound file y i ≡ arrivalAt (decode file) i .time
-    time-stands i g = go (decode file) refl
-      where
-        go : (d : Decoded) → decode file ≡ d → timeFound file y i ≡ arrivalAt d i .time
-        go (refused r) e = absurd (omega (arith, ap (λ (y : Layout). y .arrivals) (h .laid ∙ ap layoutOf e)))
-        go (accepted s) e = time-found file s e y (h .laid) i noArrival g
+    -- what is read there, and within which limits its number lies
+    pub arrival-known : (i : ℕ) {a : Arrival} → i < y .arrivals → a ≡ arrivalFound file y i
+        → (a ≡ arrivalAt (decode file) i) × (1 ≤ a .number) × (a .number ≤ 4096)
+    arrival-known i g e =
+        let q = e ∙ arrival-stands i g in
+        let m = ap (λ (a : Arrival). a .number) q in
+        let n = h .numbers i g in
+        (q, omega (arith, m, n), omega (arith, m, n, h .sentFew))
 
     -- the payload size of packet s
     pub size-stands : (s : ℕ) → 1 ≤ s → s ≤ y .sent → sizeFound file y (s - 1) ≡ sizeOf (decode file) s

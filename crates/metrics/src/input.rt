@@ -4,6 +4,7 @@ ghost use Prim.Native.Nat.{_≤_};
 ghost use Rattle.sample.specs.Decode.{decode};
 ghost use Rattle.metrics.specs.Sample.{sizeOf};
 ghost use Rattle.metrics.specs.Private.Sample.{arrivalAt, Laid, Has};
+use rfc4737::Arrival;
 use sample::Layout;
 
 // The layout of a file, checked.
@@ -13,20 +14,28 @@ pub(crate) fn layout(file: &[u8]) -> Layout
     sample::check(file)
 }
 
-// The sequence number of record i + 1.
+// The arrival of record i + 1.
+pub(crate) fn arrival(file: &[u8], y: Layout, i: u32) -> Arrival
+    requires { ⌜ Has (decode (now file)) y i ⌝ }
+    ensures { λ r. ⌜ (r ≡ arrivalAt (decode (now (file .entry))) i) × (1 ≤ r .number) × (r .number ≤ 4096) ⌝ }
+{
+    sample::arrival(file, y, i)
+}
+
+// Its sequence number.
 pub(crate) fn number(file: &[u8], y: Layout, i: u32) -> u32
     requires { ⌜ Has (decode (now file)) y i ⌝ }
     ensures { λ r. ⌜ (r ≡ arrivalAt (decode (now (file .entry))) i .number) × (1 ≤ r) × (r ≤ 4096) ⌝ }
 {
-    sample::arrival_number(file, y, i)
+    arrival(file, y, i).number
 }
 
-// The arrival time of record i + 1.
+// Its arrival time.
 pub(crate) fn time(file: &[u8], y: Layout, i: u32) -> u64
     requires { ⌜ Has (decode (now file)) y i ⌝ }
     ensures { λ r. ⌜ r ≡ arrivalAt (decode (now (file .entry))) i .time ⌝ }
 {
-    sample::arrival_time(file, y, i)
+    arrival(file, y, i).time
 }
 
 // The payload size of a packet.

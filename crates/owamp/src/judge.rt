@@ -110,7 +110,7 @@ pub(crate) fn judge_seconds(file: &[u8], found: Layout) -> u32
     let count = found.arrivals;
     let mut i: u32 = 0;
     while i < count {
-        let refusal = judge_time(sample::arrival_time(file, found, i));
+        let refusal = judge_time(sample::arrival(file, found, i).time);
         if refusal != 0 {
             return refusal;
         }

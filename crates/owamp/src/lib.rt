@@ -80,12 +80,11 @@ fn write_records(file: &[u8], found: Layout, out: &mut [u8])
     let count = found.arrivals;
     let mut i: u32 = 0;
     while i < count {
-        let number = sample::arrival_number(file, found, i);
-        let time = sample::arrival_time(file, found, i);
+        let arrival = sample::arrival(file, found, i);
         let start = WIDTH * (i as usize);
         let end = start + WIDTH;
         let lent = &mut out[start..end];
-        put_record(lent, number, time);
+        put_record(lent, arrival.number, arrival.time);
         i += 1;
     }
 }

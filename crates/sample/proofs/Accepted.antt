@@ -4,6 +4,7 @@ use Prim.Native.Nat.{ℕ, _+_, _*_, _^_, _≤_, _<_}
 use native.Mathlib.Omega.{arith}
 use mathlib.Core.Path.{_≡_, sym, ap, _∙_, subst}
 use mathlib.Core.List.{List}
+use borrow.Author.Tests.{le-ltb}
 use lib.ListN.{length, getD, List·getD-map}
 use Rattle.octets.specs.Below.{Below, Octets}
 use Rattle.octets.specs.BigEndian.{beValue}
@@ -12,12 +13,12 @@ use Rattle.rfc4737.specs.declared.Arrival.{Arrival}
 use Rattle.rfc4737.specs.Times.{backMost}
 use Rattle.sample.specs.Format.{Sample, fileOf, longest}
 use Rattle.sample.specs.Judge.{Fit}
-use Rattle.sample.specs.Decode.{labelCount, sentAt, sentCount, arrivedAt, arrivalCount, sampleIn, decode, accepted, sampleOf, layoutOf}
-use Rattle.sample.specs.Places.{sizeFound, numberFound, timeFound, arrivalsAt}
+use Rattle.sample.specs.Decode.{labelCount, sentAt, sentCount, arrivedAt, arrivalCount, arrivalIn, sampleIn, decode, accepted, sampleOf, layoutOf}
+use Rattle.sample.specs.Places.{sizeFound, arrivalFound, arrivalsAt}
 use Rattle.sample.specs.declared.Layout.{Layout}
-use Rattle.sample.proofs.Items.{items-stand, arrival-stands}
+use Rattle.sample.proofs.Items.{items-stand}
 use Rattle.rfc4737.proofs.Judged.{judged-number, judged-times}
-use Rattle.sample.proofs.Decoded.{accepted-decode, layout-accepted}
+use Rattle.sample.proofs.Decoded.{refused-none, accepted-decode, layout-accepted}
 use Rattle.sample.proofs.Exact.{Limits, limits, file-length, exact}
 use Rattle.sample.proofs.Answers.{found-accepted}
 
@@ -54,22 +55,17 @@ module _ (file : List ℕ) (s : Sample) (e : decode file ≡ accepted s) where
         ∙ ap (λ (x : Sample). getD (x .sizes) j 0) (accepted-decode file s e .1)
 
     -- the arrival of record i + 1
-    pub arrival-found : (i : ℕ) (z : Arrival) → i < y .arrivals → record { number = numberFound file y i; time = timeFound file y i } ≡ getD (s .arrivals) i z
-    unfolding numberFound timeFound sampleIn
+    pub arrival-found : (i : ℕ) (z : Arrival) → i < y .arrivals → arrivalFound file y i ≡ getD (s .arrivals) i z
+    unfolding arrivalFound sampleIn
     arrival-found i z h =
         let c = counts in
         let p : arrivalsAt y + 12 * i ≡ arrivedAt file + 2 + 12 * i = omega arith in
-        arrival-stands (arrivalCount file) (arrivedAt file + 2) file i (numberFound file y i) (timeFound file y i) z (omega arith)
-        (ap (λ (n : ℕ). beValue (part n 4 file)) p) (ap (λ (n : ℕ). beValue (part (n + 4) 8 file)) p)
-        ∙ ap (λ (x : Sample). getD (x .arrivals) i z) (accepted-decode file s e .1)
-
-    -- its sequence number
-    pub number-found : (i : ℕ) (z : Arrival) → i < y .arrivals → numberFound file y i ≡ getD (s .arrivals) i z .number
-    number-found i z h = ap (λ (a : Arrival). a .number) (arrival-found i z h)
-
-    -- its arrival time
-    pub time-found : (i : ℕ) (z : Arrival) → i < y .arrivals → timeFound file y i ≡ getD (s .arrivals) i z .time
-    time-found i z h = ap (λ (a : Arrival). a .time) (arrival-found i z h)
+        let w = refused-none file (accepted-decode file s e .0) .ends in
+        let r : arrivalsAt y + 12 * i + 12 ≤ length file = omega arith in
+        rw (le-ltb (length file) (arrivalsAt y + 12 * i + 12) r)
+        (ap (λ (n : ℕ). arrivalIn (part n 12 file)) p
+        ∙ sym (items-stand 12 arrivalIn (arrivalCount file) (arrivedAt file + 2) file i z (omega arith))
+        ∙ ap (λ (x : Sample). getD (x .arrivals) i z) (accepted-decode file s e .1))
 
   -- ---- what the sample satisfies, for a file of octets
 

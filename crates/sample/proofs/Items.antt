@@ -6,7 +6,7 @@ use native.Mathlib.Omega.{arith}
 use mathlib.Core.Path.{_≡_, refl, sym, ap, ap₂, _∙_, subst}
 use mathlib.Core.List.{List, [], _∷_, _++_, append-assoc, append-nil}
 use lib.ListN.{length, getD, take, drop, length-append, length-take, length-drop, take-append-drop, List·getD-map}
-use lib.Seq.{take-take, take-at, drop-at, drop-drop, take-add, length-take-le}
+use lib.Seq.{take-at, drop-at, drop-drop, take-add, length-take-le}
 use Rattle.octets.specs.Below.{Octets}
 use Rattle.octets.specs.BigEndian.{beValue, beOctets}
 use Rattle.octets.specs.Memory.{part}
@@ -122,48 +122,33 @@ arrival-back os o h =
     let b : beOctets 8 (beValue (drop 4 os)) ≡ drop 4 os = subst (λ (n : ℕ). beOctets n (beValue (drop 4 os)) ≡ drop 4 os) q (octets-value (drop 4 os) (below-drop 256 4 os o)) in
     rw (a, b) (take-append-drop 4 os)
 
--- its number, where it stands
-pub number-stands : (at : ℕ) (file : List ℕ) → arrivalIn (part at 12 file) .number ≡ beValue (part at 4 file)
-unfolding arrivalIn
-number-stands at file = ap beValue (take-take 4 12 (drop at file) (omega arith))
-
--- its time
+-- its time, where it stands
 pub time-stands : (at : ℕ) (file : List ℕ) → arrivalIn (part at 12 file) .time ≡ beValue (part (at + 4) 8 file)
 unfolding arrivalIn
 time-stands at file = ap beValue (drop-take 4 12 (drop at file) ∙ ap (take 8) (drop-drop 4 at file))
 
--- the arrival that stands at a place, by its number and its time
-pub arrival-stands : (count at : ℕ) (file : List ℕ) (i n t : ℕ) (z : Arrival) → i < count
-    → n ≡ beValue (part (at + 12 * i) 4 file) → t ≡ beValue (part (at + 12 * i + 4) 8 file)
-    → record { number = n; time = t } ≡ getD (itemsIn 12 arrivalIn count (drop at file)) i z
-arrival-stands count at file i n t z h e f =
-    let p : n ≡ arrivalIn (part (at + 12 * i) 12 file) .number = e ∙ sym (number-stands (at + 12 * i) file) in
-    let q : t ≡ arrivalIn (part (at + 12 * i) 12 file) .time = f ∙ sym (time-stands (at + 12 * i) file) in
-    (λ j. record { number = p j; time = q j }) ∙ sym (items-stand 12 arrivalIn count at file i z h)
-
--- the same by its number and its time in the arrival as it is taken
-pub arrival-taken : (count at : ℕ) (file : List ℕ) (i n t : ℕ) (z : Arrival) → i < count
-    → n ≡ beValue (part 0 4 (taken (at + 12 * i) 12 file)) → t ≡ beValue (part 4 8 (taken (at + 12 * i) 12 file))
-    → record { number = n; time = t } ≡ getD (itemsIn 12 arrivalIn count (drop at file)) i z
-arrival-taken count at file i n t z h e f =
+-- the arrival that stands at a place, as it is taken
+pub arrival-taken : (count at : ℕ) (file : List ℕ) (i : ℕ) (z : Arrival) {a : Arrival} → i < count → a ≡ arrivalIn (taken (at + 12 * i) 12 file)
+    → a ≡ getD (itemsIn 12 arrivalIn count (drop at file)) i z
+arrival-taken count at file i z h e =
     let start : ℕ = at + 12 * i in
-    arrival-stands count at file i n t z h (taken-stands start 12 0 4 start file (omega arith) (omega arith) e)
-    (taken-stands start 12 4 8 (start + 4) file (omega arith) refl f)
+    let w : start + 12 - start ≡ 12 = omega arith in
+    e ∙ ap (λ (n : ℕ). arrivalIn (part start n file)) w ∙ sym (items-stand 12 arrivalIn count at file i z h)
 
 -- its number, as one of the numbers
-pub number-found : (count at : ℕ) (file : List ℕ) (i n : ℕ) → i < count → n ≡ beValue (part 0 4 (taken (at + 12 * i) 12 file))
-    → n ≡ getD (numbersOf (itemsIn 12 arrivalIn count (drop at file))) i 0
-number-found count at file i n h e =
+pub number-found : (count at : ℕ) (file : List ℕ) (i : ℕ) {a : Arrival} → i < count → a ≡ arrivalIn (taken (at + 12 * i) 12 file)
+    → a .number ≡ getD (numbersOf (itemsIn 12 arrivalIn count (drop at file))) i 0
+number-found count at file i h e =
     let z : Arrival = record { number = 0; time = 0 } in
-    ap (λ (a : Arrival). a .number) (arrival-taken count at file i n (beValue (part 4 8 (taken (at + 12 * i) 12 file))) z h e refl)
+    ap (λ (a : Arrival). a .number) (arrival-taken count at file i z h e)
     ∙ sym (List·getD-map (λ (a : Arrival). a .number) (itemsIn 12 arrivalIn count (drop at file)) i z)
 
 -- its time, as one of the times
-pub time-found : (count at : ℕ) (file : List ℕ) (i t : ℕ) → i < count → t ≡ beValue (part 4 8 (taken (at + 12 * i) 12 file))
-    → t ≡ getD (timesOf (itemsIn 12 arrivalIn count (drop at file))) i 0
-time-found count at file i t h e =
+pub time-found : (count at : ℕ) (file : List ℕ) (i : ℕ) {a : Arrival} → i < count → a ≡ arrivalIn (taken (at + 12 * i) 12 file)
+    → a .time ≡ getD (timesOf (itemsIn 12 arrivalIn count (drop at file))) i 0
+time-found count at file i h e =
     let z : Arrival = record { number = 0; time = 0 } in
-    ap (λ (a : Arrival). a .time) (arrival-taken count at file i (beValue (part 0 4 (taken (at + 12 * i) 12 file))) t z h refl e)
+    ap (λ (a : Arrival). a .time) (arrival-taken count at file i z h e)
     ∙ sym (List·getD-map (λ (a : Arrival). a .time) (itemsIn 12 arrivalIn count (drop at file)) i z)
 
 -- ---- a size

@@ -1,8 +1,13 @@
 -- Where the values of an accepted file stand, by its layout, and what is found there. Assumes nothing.
 use Prim.Native.Nat.{ℕ, _+_, _*_}
+use mathlib.Core.Bool.{cond}
 use mathlib.Core.List.{List}
+use lib.Dec.{ltb}
+use lib.ListN.{length}
 use Rattle.octets.specs.BigEndian.{beValue}
 use Rattle.octets.specs.Memory.{part}
+use Rattle.rfc4737.specs.declared.Arrival.{Arrival}
+use Rattle.sample.specs.Decode.{arrivalIn}
 use Rattle.sample.specs.declared.Layout.{Layout}
 
 -- the first payload size: after two counts and the label
@@ -17,10 +22,7 @@ arrivalsAt y = 6 + y .label + 2 * y .sent
 unfoldable pub sizeFound : List ℕ → Layout → ℕ → ℕ
 sizeFound file y j = beValue (part (sizesAt y + 2 * j) 2 file)
 
--- the sequence number of record i + 1
-unfoldable pub numberFound : List ℕ → Layout → ℕ → ℕ
-numberFound file y i = beValue (part (arrivalsAt y + 12 * i) 4 file)
-
--- the arrival time of record i + 1
-unfoldable pub timeFound : List ℕ → Layout → ℕ → ℕ
-timeFound file y i = beValue (part (arrivalsAt y + 12 * i + 4) 8 file)
+-- the arrival of record i + 1: what its twelve octets say, zeros where the file ends before them
+unfoldable pub arrivalFound : List ℕ → Layout → ℕ → Arrival
+arrivalFound file y i =
+    cond (ltb (length file) (arrivalsAt y + 12 * i + 12)) (record { number = 0; time = 0 }) (arrivalIn (part (arrivalsAt y + 12 * i) 12 file))

@@ -7,7 +7,7 @@ ghost use Rattle.octets.specs.Memory.{over};
 ghost use Rattle.rfc4737.specs.Judge.{numbersOf, timesOf};
 ghost use Rattle.sample.specs.Format.{itemsIn};
 ghost use Rattle.sample.specs.Decode.{arrivalIn};
-use crate::sections::time_of;
+use crate::sections::arrival_of;
 
 // Fills the payload sizes: so many, which stand from a place on.
 pub(crate) fn fill_sizes(file: &[u8], at: usize, count: usize, sizes: &mut [u16])
@@ -40,9 +40,10 @@ pub(crate) fn fill_arrivals(
     while i < count {
         let start = at + 12 * i;
         let end = start + 12;
-        let arrival = &file[start..end];
-        numbers[i] = octets::number_at(arrival, 0, 4) as u32;
-        times[i] = time_of(arrival);
+        let twelve = &file[start..end];
+        let arrival = arrival_of(twelve);
+        numbers[i] = arrival.number;
+        times[i] = arrival.time;
         i += 1;
     }
 }

@@ -6,7 +6,7 @@ ghost use Rattle.rfc4737.specs.Judge.{judge};
 ghost use Rattle.sample.specs.Format.{itemsIn};
 ghost use Rattle.sample.specs.Judge.{someUnshown};
 ghost use Rattle.sample.specs.Decode.{arrivalIn};
-use crate::sections::time_of;
+use crate::sections::arrival_of;
 use rfc4737::judge::judge_one;
 use rfc4737::judge::outside;
 use rfc4737::time::next_reference;
@@ -41,14 +41,13 @@ pub(crate) fn judge_file(file: &[u8], at: usize, sent: u64, count: usize) -> u32
     while i < count {
         let start = at + 12 * i;
         let end = start + 12;
-        let arrival = &file[start..end];
-        let number = octets::number_at(arrival, 0, 4);
-        let time = time_of(arrival);
-        let refusal = judge_one(sent, reference, number, time);
+        let twelve = &file[start..end];
+        let arrival = arrival_of(twelve);
+        let refusal = judge_one(sent, reference, arrival.number as u64, arrival.time);
         if refusal != 0 {
             return refusal;
         }
-        reference = next_reference(reference, time);
+        reference = next_reference(reference, arrival.time);
         i += 1;
     }
     0

@@ -3,7 +3,7 @@ ghost use mathlib.Core.Path.{_≡_};
 ghost use Prim.Native.Nat.{_+_};
 ghost use Rattle.sample.specs.Format.{longest};
 ghost use Rattle.sample.specs.Decode.{decode, refused, sampleOf, layoutOf};
-ghost use Rattle.sample.specs.Places.{sizesAt, arrivalsAt, sizeFound, numberFound, timeFound};
+ghost use Rattle.sample.specs.Places.{sizesAt, arrivalsAt, sizeFound, arrivalFound};
 ghost use Rattle.sample.specs.Calls.{labelPlace, ReadFrom, WrittenTo, refusalFrom, listsShort};
 ghost use Rattle.sample.specs.Cases.{RefusalsInOrder};
 ghost use Rattle.sample.specs.RoundTrip.{Exact, Lengths, WrittenAgain, ReadAgain};
@@ -16,6 +16,7 @@ use fill::fill_arrivals;
 use fill::fill_sizes;
 use judge::judge_file;
 use judge::some_unshown;
+use rfc4737::Arrival;
 use rfc4737::judge::ARRIVALS_MOST;
 use rfc4737::judge::SENT_MOST;
 use rfc4737::judge::outside;
@@ -27,6 +28,7 @@ use rfc4737::refusal::OCTETS_FOLLOW;
 use rfc4737::refusal::OUTPUT_SHORT;
 use rfc4737::refusal::SENT_OUTSIDE;
 use sections::Section;
+use sections::arrival_of;
 use sections::refusal_of;
 use sections::section_at;
 use sections::write_arrivals;
@@ -218,16 +220,15 @@ pub fn payload_size(file: &[u8], found: Layout, j: u32) -> u16
     octets::number_at(file, sizes_at(found) + 2 * (j as usize), 2) as u16
 }
 
-// The sequence number of record i + 1 of an accepted file.
-pub fn arrival_number(file: &[u8], found: Layout, i: u32) -> u32
-    ensures { λ r. ⌜ r ≡ numberFound (now (file .entry)) found i ⌝ }
+// The arrival of record i + 1 of an accepted file; zeros where the file ends before its octets.
+pub fn arrival(file: &[u8], found: Layout, i: u32) -> Arrival
+    ensures { λ r. ⌜ r ≡ arrivalFound (now (file .entry)) found i ⌝ }
 {
-    octets::number_at(file, arrivals_at(found) + 12 * (i as usize), 4) as u32
-}
-
-// The arrival time of record i + 1 of an accepted file.
-pub fn arrival_time(file: &[u8], found: Layout, i: u32) -> u64
-    ensures { λ r. ⌜ r ≡ timeFound (now (file .entry)) found i ⌝ }
-{
-    octets::number_at(file, arrivals_at(found) + 12 * (i as usize) + 4, 8)
+    let start = arrivals_at(found) + 12 * (i as usize);
+    let end = start + 12;
+    if file.len() < end {
+        return Arrival { number: 0, time: 0 };
+    }
+    let twelve = &file[start..end];
+    arrival_of(twelve)
 }

@@ -2,11 +2,12 @@
 ghost use mathlib.Core.Path.{_≡_};
 ghost use Prim.Native.Nat.{_+_, _*_, _≤_, _<_};
 ghost use lib.ListN.{length};
-ghost use Rattle.octets.specs.BigEndian.{beValue};
-ghost use Rattle.octets.specs.Memory.{part, splice};
+ghost use Rattle.octets.specs.Memory.{splice};
 ghost use Rattle.rfc4737.specs.Judge.{arrivalsOf};
 ghost use Rattle.sample.specs.Format.{section, sizeOctets, arrivalOctets, itemOctets};
+ghost use Rattle.sample.specs.Decode.{arrivalIn};
 ghost use Rattle.sample.specs.Private.Readings.{countReading, placeReading, sectionReading, refusalOfSection};
+use rfc4737::Arrival;
 use rfc4737::judge::outside;
 use rfc4737::refusal::ENDS_EARLY;
 
@@ -67,12 +68,15 @@ pub(crate) fn section_at(
     Section::Whole(count, end)
 }
 
-// The time in an arrival's twelve octets. It is a function by itself so that the compiler reads the eight octets as one
-// number wherever it is called.
-pub(crate) fn time_of(arrival: &[u8]) -> u64
-    ensures { λ r. ⌜ r ≡ beValue (part 4 8 (now (arrival .entry))) ⌝ }
+// The arrival in its twelve octets. It is a function by itself so that the compiler reads each number's octets as one
+// wherever it is called.
+pub(crate) fn arrival_of(twelve: &[u8]) -> Arrival
+    requires { ⌜ length (now twelve) ≡ 12 ⌝ }
+    ensures { λ r. ⌜ r ≡ arrivalIn (now (twelve .entry)) ⌝ }
 {
-    octets::number_at(arrival, 4, 8)
+    let number = octets::number_at(twelve, 0, 4) as u32;
+    let time = octets::number_at(twelve, 4, 8);
+    Arrival { number, time }
 }
 
 // The refusal of a section, 0 for a whole one.

@@ -102,8 +102,8 @@ fn figures(
         };
     }
     let jump = mark - 1;
-    let past = sample::arrival_time(file, y, jump);
-    let own = sample::arrival_time(file, y, i);
+    let past = sample::arrival(file, y, jump).time;
+    let own = sample::arrival(file, y, i).time;
     let place = jump as usize;
     let extent = position - positions[place];
     let late = elapsed(past, own);
@@ -165,7 +165,7 @@ fn pass_record(
         × Put i (figuresOf (answerAt (decode (now (file .entry))) i)) (now (flags .entry)) (now (positions .entry)) (now (extents .entry)) (now (lates .entry))
         (now (flags .exit)) (now (positions .exit)) (now (extents .exit)) (now (lates .exit)) ⌝ }
 {
-    let number = sample::arrival_number(file, y, i);
+    let number = sample::arrival(file, y, i).number;
     let at = (number - 1) as usize;
     let mark = wide(table[at]);
     let f = figures(file, y, i, number, mark, positions, state);

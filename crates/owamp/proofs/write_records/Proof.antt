@@ -38,14 +38,12 @@ kept c =
     write-length recordOctets 25 record-long xs 0 (now (a .args .out)) r (c .loop .i) (c .loop .inv .1) (omega arith)
 
 -- the arrival that was read
-there : (c : tie.After-arrival-time Inv-loop μ-loop) → record { number = c .before .arrival-number .result; time = c .arrival-time .result } ≡ getD (arrivalsOfFile (now (c .before .before .before .before .before .before .args .file))) (c .before .before .before .loop .i) noArrival
+there : (c : tie.After-arrival Inv-loop μ-loop) → c .arrival .result ≡ getD (arrivalsOfFile (now (c .before .before .before .before .before .args .file))) (c .before .before .loop .i) noArrival
 there c =
-    let a = c .before .before .before .before .before .before in
+    let a = c .before .before .before .before .before in
     let f = now (a .args .file) in
-    let p = c .before .arrival-number .ensures in
-    let q = c .arrival-time .ensures in
-    (λ j. record { number = p j; time = q j })
-    ∙ arrival-found f (sampleOf (decode f)) (found-sample f (a .args .found) (a .pre .0 .layout) (a .pre .0 .accepted)) (a .args .found) (a .pre .0 .layout) (c .before .before .before .loop .i) noArrival (search needs)
+    c .arrival .ensures
+    ∙ arrival-found f (sampleOf (decode f)) (found-sample f (a .args .found) (a .pre .0 .layout) (a .pre .0 .accepted)) (a .args .found) (a .pre .0 .layout) (c .before .before .loop .i) noArrival (search needs)
 
 loop-holds : tie.Need-loop-holds Inv-loop μ-loop
 loop-holds c =
@@ -55,11 +53,8 @@ loop-holds c =
     let r : 0 + 25 * length xs ≤ length (now (a .args .out)) = omega (arith, a .pre .1) in
     (search needs, write-start recordOctets 25 record-long xs 0 (now (a .args .out)) r)
 
-arrival-number-requires : tie.Need-arrival-number-requires Inv-loop μ-loop
-arrival-number-requires c κs = search needs
-
-arrival-time-requires : tie.Need-arrival-time-requires Inv-loop μ-loop
-arrival-time-requires c κs = search needs
+arrival-requires : tie.Need-arrival-requires Inv-loop μ-loop
+arrival-requires c κs = search needs
 
 cast-start : tie.Need-cast-start Inv-loop μ-loop
 cast-start c = search needs
@@ -78,14 +73,14 @@ part-lent-start c = search needs
 
 part-lent-end : tie.Need-part-lent-end Inv-loop μ-loop
 part-lent-end c =
-    let k = kept (c .before .before .before) in
-    let p = c .before .before .before .before .before .before .pre .1 in
+    let k = kept (c .before .before) in
+    let p = c .before .before .before .before .before .pre .1 in
     omega arith
 
 put-record-requires : tie.Need-put-record-requires Inv-loop μ-loop
 put-record-requires c κs =
-    let l = c .before .before .before .before in
-    let a = c .before .before .before .before .before .before .before in
+    let l = c .before .before .before in
+    let a = c .before .before .before .before .before .before in
     let m = found-many (now (a .args .file)) (a .args .found) (a .pre .0) in
     let xs = arrivalsOfFile (now (a .args .file)) in
     let r : 0 + 25 * length xs ≤ length (now (a .args .out)) = omega (arith, a .pre .1) in
@@ -104,8 +99,8 @@ loop-less c = search needs
 
 loop-again : tie.Need-loop-again Inv-loop μ-loop
 loop-again c =
-    let l = c .before .before .before .before .before .before .before in
-    let a = c .before .before .before .before .before .before .before .before .before .before in
+    let l = c .before .before .before .before .before .before in
+    let a = c .before .before .before .before .before .before .before .before .before in
     let m = found-many (now (a .args .file)) (a .args .found) (a .pre .0) in
     let xs = arrivalsOfFile (now (a .args .file)) in
     let r : 0 + 25 * length xs ≤ length (now (a .args .out)) = omega (arith, a .pre .1) in
@@ -136,8 +131,7 @@ write-records-spec =
     Inv-loop
     μ-loop
     loop-holds
-    arrival-number-requires
-    arrival-time-requires
+    arrival-requires
     cast-start
     mul-start
     add-end

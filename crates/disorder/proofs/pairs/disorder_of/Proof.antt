@@ -1,17 +1,19 @@
 -- `disorder_of` goes over the arrivals. The loop's invariant: the table has the packets that have arrived before record i + 1, the
 -- tree and the pairs are those of the first arrivals before it. The measure is what is left of the arrivals. Assumes nothing.
-use mathlib.Core.Path.{_≡_, sym}
+use mathlib.Core.Path.{_≡_, sym, ap}
 use Prim.Native.Nat.{_≤_, _-_}
 use native.Mathlib.Omega.{arith}
 use denote.Ref.{now}
 use borrow.Author.Needs.{needs}
+use Rattle.rfc4737.specs.declared.Arrival.{Arrival}
 use Rattle.rfc4737.specs.Arrivals.{firsts}
 use Rattle.rfc4737.proofs.Arrivals.{length-firsts}
 use Rattle.sample.specs.Decode.{decode}
 use Rattle.metrics.specs.Private.Sample.{before, arrivalAt, Has}
 use Rattle.metrics.proofs.Follow.{before-length}
+use Rattle.metrics.proofs.Places.{arrival-known}
 use Rattle.disorder.specs.Private.Pairs.{Paired}
-use Rattle.disorder.proofs.Disordered.{number-known, paired-start, Arrived, arrived-start, arrived-next, firsts-seen, disorder-end}
+use Rattle.disorder.proofs.Disordered.{paired-start, Arrived, arrived-start, arrived-next, firsts-seen, disorder-end}
 use Rattle.disorder.proofs.pairs.disorder_of.Statement.{statement}
 use Rattle.disorder.proofs.pairs.disorder_of.Tie as tie
 
@@ -27,10 +29,13 @@ here : (c : tie.Then1 Inv-loop μ-loop) → Has (decode (now (c .before .before 
 here c = record { file = c .before .before .before .before .before .pre; inside = c .if1 .taken }
 
 -- its number
-known : (c : tie.After-arrival-number Inv-loop μ-loop)
-    → (c .arrival-number .result ≡ arrivalAt (decode (now (c .before .before .before .before .before .before .args .file))) (c .before .before .before .loop .i) .number)
-    × (1 ≤ c .arrival-number .result) × (c .arrival-number .result ≤ 4096)
-known c = number-known _ _ _ _ (here (c .before)) (c .arrival-number .ensures)
+known : (c : tie.After-arrival Inv-loop μ-loop)
+    → (c .arrival .result .number ≡ arrivalAt (decode (now (c .before .before .before .before .before .before .args .file))) (c .before .before .before .loop .i) .number)
+    × (1 ≤ c .arrival .result .number) × (c .arrival .result .number ≤ 4096)
+known c =
+    let h = here (c .before) in
+    let k = arrival-known _ _ (h .file) _ (h .inside) (c .arrival .ensures) in
+    (ap (λ (a : Arrival). a .number) (k .0), k .1, k .2)
 
 no-pairs-requires : tie.Need-no-pairs-requires Inv-loop μ-loop
 no-pairs-requires c κs = search needs
@@ -40,8 +45,8 @@ loop-holds c =
     let d = decode (now (c .before .before .args .file)) in
     (omega arith, arrived-start d, rw (c .no-pairs .ensures) (paired-start d))
 
-arrival-number-requires : tie.Need-arrival-number-requires Inv-loop μ-loop
-arrival-number-requires c κs = search needs
+arrival-requires : tie.Need-arrival-requires Inv-loop μ-loop
+arrival-requires c κs = search needs
 
 cast-at : tie.Need-cast-at Inv-loop μ-loop
 cast-at c = omega (arith, known c .2)
@@ -91,7 +96,7 @@ disorder-of-spec =
     μ-loop
     no-pairs-requires
     loop-holds
-    arrival-number-requires
+    arrival-requires
     cast-at
     array-read-arrived
     paired-requires

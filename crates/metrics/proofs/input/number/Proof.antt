@@ -1,20 +1,15 @@
 -- `number` reads what stands in the file. Assumes nothing.
-use mathlib.Core.Path.{_∙_}
-use native.Mathlib.Omega.{arith}
-use Rattle.metrics.proofs.Places.{number-stands}
+use mathlib.Core.Path.{ap}
 use borrow.Author.Needs.{needs}
+use Rattle.rfc4737.specs.declared.Arrival.{Arrival}
 use Rattle.metrics.proofs.input.number.Statement.{statement}
 use Rattle.metrics.proofs.input.number.Tie as tie
 
-arrival-number-requires : tie.Need-arrival-number-requires
-arrival-number-requires c κs = search needs
+arrival-requires : tie.Need-arrival-requires
+arrival-requires c κs = search needs
 
 returns : tie.Need-returns
-returns c =
-    let p = c .before .before .pre in
-    let e = c .arrival-number .ensures ∙ number-stands _ _ (p .file) _ (p .inside) in
-    let n = p .file .numbers _ (p .inside) in
-    (e, omega (arith, e, n), omega (arith, e, n, p .file .sentFew))
+returns c = let e = c .arrival .ensures in (ap (λ (a : Arrival). a .number) (e .0), e .1, e .2)
 
 pub number-spec : {M : Type 1} → statement M
-number-spec = tie.close (tie.spec arrival-number-requires returns)
+number-spec = tie.close (tie.spec arrival-requires returns)

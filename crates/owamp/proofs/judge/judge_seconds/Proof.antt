@@ -12,7 +12,7 @@ use Rattle.sample.specs.Decode.{decode, sampleOf}
 use Rattle.owamp.specs.Judge.{judgeTime, judgeSeconds}
 use Rattle.owamp.specs.Calls.{arrivalsOfFile}
 use Rattle.owamp.specs.Private.Reading.{noArrival}
-use Rattle.sample.proofs.Accepted.{found-sample, time-found}
+use Rattle.sample.proofs.Accepted.{found-sample, arrival-found}
 use Rattle.rfc4737.specs.Refusals.{firstOf}
 use Rattle.owamp.proofs.Turn.{turn-stop, turn-next, turn-done}
 use Rattle.owamp.proofs.Writing.{found-many}
@@ -28,18 +28,18 @@ Inv-loop file found count i₀ i = (i ≤ count) × (firstOf (map judgeArrival (
 abbrev μ-loop : tie.MeasureT-loop
 μ-loop file found count i₀ i = count - i
 
--- the time that was read
-there : (c : tie.After-arrival-time Inv-loop μ-loop) → c .arrival-time .result ≡ getD (arrivalsOfFile (now (c .before .before .before .before .args .file))) (c .before .before .loop .i) noArrival .time
+-- the arrival that was read
+there : (c : tie.After-arrival Inv-loop μ-loop) → c .arrival .result ≡ getD (arrivalsOfFile (now (c .before .before .before .before .args .file))) (c .before .before .loop .i) noArrival
 there c =
     let a = c .before .before .before .before in
     let f = now (a .args .file) in
-    c .arrival-time .ensures ∙ time-found f (sampleOf (decode f)) (found-sample f (a .args .found) (a .pre .layout) (a .pre .accepted)) (a .args .found) (a .pre .layout) (c .before .before .loop .i) noArrival (search needs)
+    c .arrival .ensures ∙ arrival-found f (sampleOf (decode f)) (found-sample f (a .args .found) (a .pre .layout) (a .pre .accepted)) (a .args .found) (a .pre .layout) (c .before .before .loop .i) noArrival (search needs)
 
 loop-holds : tie.Need-loop-holds Inv-loop μ-loop
 loop-holds c = (search needs, refl)
 
-arrival-time-requires : tie.Need-arrival-time-requires Inv-loop μ-loop
-arrival-time-requires c κs = search needs
+arrival-requires : tie.Need-arrival-requires Inv-loop μ-loop
+arrival-requires c κs = search needs
 
 judge-time-requires : tie.Need-judge-time-requires Inv-loop μ-loop
 judge-time-requires c κs = search needs
@@ -51,7 +51,7 @@ returns c =
     let a = c .before .before .before .before .before .before in
     let m = found-many (now (a .args .file)) (a .args .found) (a .pre) in
     let xs = arrivalsOfFile (now (a .args .file)) in
-    turn-stop judgeArrival xs (l .loop .i) (l .loop .inv .1) noArrival (getD xs (l .loop .i) noArrival) (omega arith) refl (c .before .judge-time .result) (c .before .judge-time .ensures ∙ ap judgeTime (there (c .before .before))) (c .if1 .taken)
+    turn-stop judgeArrival xs (l .loop .i) (l .loop .inv .1) noArrival (getD xs (l .loop .i) noArrival) (omega arith) refl (c .before .judge-time .result) (c .before .judge-time .ensures ∙ ap judgeArrival (there (c .before .before))) (c .if1 .taken)
 
 add-i : tie.Need-add-i Inv-loop μ-loop
 add-i c = search needs
@@ -65,7 +65,7 @@ loop-again c =
     let a = c .before .before .before .before .before .before in
     let m = found-many (now (a .args .file)) (a .args .found) (a .pre) in
     let xs = arrivalsOfFile (now (a .args .file)) in
-    (search needs, turn-next judgeArrival xs (l .loop .i) (l .loop .inv .1) noArrival (getD xs (l .loop .i) noArrival) (omega arith) refl (c .before .judge-time .result) (c .before .judge-time .ensures ∙ ap judgeTime (there (c .before .before))) (c .if1 .left))
+    (search needs, turn-next judgeArrival xs (l .loop .i) (l .loop .inv .1) noArrival (getD xs (l .loop .i) noArrival) (omega arith) refl (c .before .judge-time .result) (c .before .judge-time .ensures ∙ ap judgeArrival (there (c .before .before))) (c .if1 .left))
 
 returns-2 : tie.Need-returns-2 Inv-loop μ-loop
 unfolding judgeSeconds
@@ -83,7 +83,7 @@ judge-seconds-spec =
     Inv-loop
     μ-loop
     loop-holds
-    arrival-time-requires
+    arrival-requires
     judge-time-requires
     returns
     add-i

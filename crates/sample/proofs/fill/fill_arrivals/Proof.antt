@@ -1,20 +1,18 @@
 -- `sample::fill::fill_arrivals` meets its contract. The loop's invariant: each list holds its first i values, then what it held. The
 -- measure is the number of arrivals left. Assumes nothing.
 use borrow.Author.Needs.{needs}
-use Prim.Native.Nat.{ℕ, _+_, _*_, _^_, _-_, _≤_, _<_}
+use Prim.Native.Nat.{ℕ, _+_, _-_, _≤_}
 use native.Mathlib.Omega.{arith}
 use mathlib.Core.Path.{_≡_, refl, ap, _∙_}
 use mathlib.Core.List.{List, _++_}
 use lib.ListN.{length, take, drop, length-map}
-use mir.Syntax.{w8}
 use denote.Ref.{now}
 use Rattle.rfc4737.specs.declared.Arrival.{Arrival}
-use Rattle.octets.proofs.Below.{below-fits}
 use Rattle.octets.proofs.Memory.{fill-length, fill-next, fill-done}
 use Rattle.rfc4737.specs.Judge.{numbersOf, timesOf}
 use Rattle.sample.specs.Format.{itemsIn}
 use Rattle.sample.specs.Decode.{arrivalIn}
-use Rattle.sample.proofs.Items.{items-length, taken-fits, number-found, time-found}
+use Rattle.sample.proofs.Items.{items-length, number-found, time-found}
 use Rattle.sample.proofs.fill.fill_arrivals.Statement.{statement}
 use Rattle.sample.proofs.fill.fill_arrivals.Tie as tie
 
@@ -66,24 +64,17 @@ add-start c = search needs
 add-end : tie.Need-add-end Inv-loop μ-loop
 add-end c = search needs
 
-sub-arrival : tie.Need-sub-arrival Inv-loop μ-loop
-sub-arrival c = search needs
+sub-twelve : tie.Need-sub-twelve Inv-loop μ-loop
+sub-twelve c = search needs
 
-part-arrival-start : tie.Need-part-arrival-start Inv-loop μ-loop
-part-arrival-start c = search needs
+part-twelve-start : tie.Need-part-twelve-start Inv-loop μ-loop
+part-twelve-start c = search needs
 
-part-arrival-end : tie.Need-part-arrival-end Inv-loop μ-loop
-part-arrival-end c = search needs
+part-twelve-end : tie.Need-part-twelve-end Inv-loop μ-loop
+part-twelve-end c = search needs
 
-number-at-requires : tie.Need-number-at-requires Inv-loop μ-loop
-number-at-requires c κs = search needs
-
-cast-numbers : tie.Need-cast-numbers Inv-loop μ-loop
-cast-numbers c =
-    let a = c .before .before .before .before .before .before .before .args in
-    let o = below-fits w8 (now (a .file)) (c .before .before .before .before .before .before .shared-slice-known .given) in
-    let b : c .number-at .result < 2 ^ 32 = taken-fits (a .at + 12 * c .before .before .before .loop .i) 12 0 4 (now (a .file)) o (c .number-at .ensures) in
-    omega arith
+arrival-of-requires : tie.Need-arrival-of-requires Inv-loop μ-loop
+arrival-of-requires c κs = search needs
 
 mul-numbers : tie.Need-mul-numbers Inv-loop μ-loop
 mul-numbers c = search needs
@@ -93,15 +84,12 @@ slice-write-numbers c =
     let s = kept-numbers (c .before .before .before) in
     omega arith
 
-time-of-requires : tie.Need-time-of-requires Inv-loop μ-loop
-time-of-requires c κs = search needs
-
 mul-times : tie.Need-mul-times Inv-loop μ-loop
 mul-times c = search needs
 
 slice-write-times : tie.Need-slice-write-times Inv-loop μ-loop
 slice-write-times c =
-    let s = kept-times (c .before .before .before .before) in
+    let s = kept-times (c .before .before .before) in
     omega arith
 
 add-i : tie.Need-add-i Inv-loop μ-loop
@@ -112,15 +100,15 @@ loop-less c = search needs
 
 loop-again : tie.Need-loop-again Inv-loop μ-loop
 loop-again c =
-    let l = c .before .before .before .before in
+    let l = c .before .before .before in
     let a = l .before .before .before .before .args in
     let e = many-numbers (now (a .file)) (a .at) (a .count) in
     let f = many-times (now (a .file)) (a .at) (a .count) in (
       search needs,
       fill-next (numbersOf (arrivalsFrom (now (a .file)) (a .at) (a .count))) (now (a .numbers)) (l .loop .i) 0 (omega arith) (omega arith) (l .loop .inv .1)
-          (number-found (a .count) (a .at) (now (a .file)) (l .loop .i) (c .before .number-at .result) (c .before .before .before .loop-test .taken) (c .before .number-at .ensures)),
+          (number-found (a .count) (a .at) (now (a .file)) (l .loop .i) (c .before .before .loop-test .taken) (c .arrival-of .ensures)),
       fill-next (timesOf (arrivalsFrom (now (a .file)) (a .at) (a .count))) (now (a .times)) (l .loop .i) 0 (omega arith) (omega arith) (l .loop .inv .2)
-          (time-found (a .count) (a .at) (now (a .file)) (l .loop .i) (c .time-of .result) (c .before .before .before .loop-test .taken) (c .time-of .ensures)),
+          (time-found (a .count) (a .at) (now (a .file)) (l .loop .i) (c .before .before .loop-test .taken) (c .arrival-of .ensures)),
     )
 
 same-length : tie.Need-same-length Inv-loop μ-loop
@@ -150,14 +138,12 @@ fill-arrivals-spec =
     mul-start
     add-start
     add-end
-    sub-arrival
-    part-arrival-start
-    part-arrival-end
-    number-at-requires
-    cast-numbers
+    sub-twelve
+    part-twelve-start
+    part-twelve-end
+    arrival-of-requires
     mul-numbers
     slice-write-numbers
-    time-of-requires
     mul-times
     slice-write-times
     add-i

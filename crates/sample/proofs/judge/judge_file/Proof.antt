@@ -39,14 +39,13 @@ turn c =
     let e = items-length 12 arrivalIn (a .count) (drop (a .at) (now (a .file))) in
     omega arith
 
--- it is the one whose number and time were read
-found : (c : tie.After-time-of Inv-loop μ-loop)
-    → record { number = c .before .number-at .result; time = c .time-of .result }
-    ≡ getD (arrivalsFrom (now (c .before .before .before .before .before .before .args .file)) (c .before .before .before .before .before .before .args .at) (c .before .before .before .before .before .before .args .count)) (c .before .before .before .before .loop .i) none
+-- it is the one that was read
+found : (c : tie.After-arrival-of Inv-loop μ-loop)
+    → c .arrival-of .result
+    ≡ getD (arrivalsFrom (now (c .before .before .before .before .before .args .file)) (c .before .before .before .before .before .args .at) (c .before .before .before .before .before .args .count)) (c .before .before .before .loop .i) none
 found c =
-    let a = c .before .before .before .before .before .before .args in
-    arrival-taken (a .count) (a .at) (now (a .file)) (c .before .before .before .before .loop .i) (c .before .number-at .result) (c .time-of .result) none
-    (c .before .before .before .loop-test .taken) (c .before .number-at .ensures) (c .time-of .ensures)
+    let a = c .before .before .before .before .before .args in
+    arrival-taken (a .count) (a .at) (now (a .file)) (c .before .before .before .loop .i) none (c .before .before .loop-test .taken) (c .arrival-of .ensures)
 
 loop-holds : tie.Need-loop-holds Inv-loop μ-loop
 loop-holds c =
@@ -61,20 +60,20 @@ add-start c = search needs
 add-end : tie.Need-add-end Inv-loop μ-loop
 add-end c = search needs
 
-sub-arrival : tie.Need-sub-arrival Inv-loop μ-loop
-sub-arrival c = search needs
+sub-twelve : tie.Need-sub-twelve Inv-loop μ-loop
+sub-twelve c = search needs
 
-part-arrival-start : tie.Need-part-arrival-start Inv-loop μ-loop
-part-arrival-start c = search needs
+part-twelve-start : tie.Need-part-twelve-start Inv-loop μ-loop
+part-twelve-start c = search needs
 
-part-arrival-end : tie.Need-part-arrival-end Inv-loop μ-loop
-part-arrival-end c = search needs
+part-twelve-end : tie.Need-part-twelve-end Inv-loop μ-loop
+part-twelve-end c = search needs
 
-number-at-requires : tie.Need-number-at-requires Inv-loop μ-loop
-number-at-requires c κs = search needs
+arrival-of-requires : tie.Need-arrival-of-requires Inv-loop μ-loop
+arrival-of-requires c κs = search needs
 
-time-of-requires : tie.Need-time-of-requires Inv-loop μ-loop
-time-of-requires c κs = search needs
+cast-judge-one : tie.Need-cast-judge-one Inv-loop μ-loop
+cast-judge-one c = search needs
 
 judge-one-requires : tie.Need-judge-one-requires Inv-loop μ-loop
 judge-one-requires c κs = search needs
@@ -84,8 +83,7 @@ returns c =
     let l = c .before .before .before .before .before .before in
     let a = l .before .before .args in
     judge-stop (a .sent) (arrivalsFrom (now (a .file)) (a .at) (a .count)) (l .loop .reference) (l .loop .i) none
-    (record { number = c .before .before .before .number-at .result; time = c .before .before .time-of .result })
-    (turn (c .before .before .before .before .before)) (found (c .before .before)) (l .loop .inv .1)
+    (c .before .before .before .arrival-of .result) (turn (c .before .before .before .before .before)) (found (c .before .before .before)) (l .loop .inv .1)
     (c .before .judge-one .result) (c .before .judge-one .ensures) (c .if1 .taken)
 
 next-reference-requires : tie.Need-next-reference-requires Inv-loop μ-loop
@@ -103,8 +101,7 @@ loop-again c =
     let a = l .before .before .args in (
       search needs,
       judge-next (a .sent) (arrivalsFrom (now (a .file)) (a .at) (a .count)) (l .loop .reference) (l .loop .i) none
-          (record { number = c .before .before .before .before .number-at .result; time = c .before .before .before .time-of .result })
-          (turn (c .before .before .before .before .before .before)) (found (c .before .before .before)) (l .loop .inv .1)
+          (c .before .before .before .before .arrival-of .result) (turn (c .before .before .before .before .before .before)) (found (c .before .before .before .before)) (l .loop .inv .1)
           (c .before .before .judge-one .result) (c .before .before .judge-one .ensures) (c .before .if1 .left)
           ∙ ap (λ (r : ℕ). judge (a .sent) r (drop (l .loop .i + 1) (arrivalsFrom (now (a .file)) (a .at) (a .count)))) (sym (c .next-reference .ensures)),
     )
@@ -125,11 +122,11 @@ judge-file-spec =
     mul-start
     add-start
     add-end
-    sub-arrival
-    part-arrival-start
-    part-arrival-end
-    number-at-requires
-    time-of-requires
+    sub-twelve
+    part-twelve-start
+    part-twelve-end
+    arrival-of-requires
+    cast-judge-one
     judge-one-requires
     returns
     next-reference-requires

@@ -2,8 +2,9 @@
 -- reordered one come from the record of the jump that skipped it. Assumes nothing.
 use borrow.Author.Needs.{needs}
 use native.Mathlib.Omega.{arith}
-use mathlib.Core.Path.{_∙_}
-use Rattle.metrics.proofs.Places.{time-stands}
+use mathlib.Core.Path.{ap}
+use Rattle.rfc4737.specs.declared.Arrival.{Arrival}
+use Rattle.metrics.proofs.Places.{arrival-known}
 use Rattle.sweep.proofs.Records.{few, jump-inside, jump-before, figures-late, figures-in-order, figures-copy}
 use Rattle.sweep.proofs.pass.figures.Statement.{statement}
 use Rattle.sweep.proofs.pass.figures.Tie as tie
@@ -20,11 +21,11 @@ returns-2 c = figures-in-order _ _ _ _ _ _ (c .before .before .before .before .b
 sub-jump : tie.Need-sub-jump
 sub-jump c = jump-inside _ _ _ _ _ _ (c .before .before .before .before .before .before .pre .0) (c .before .before .before .if1 .left) (c .if2 .left) .0
 
-arrival-time-requires : tie.Need-arrival-time-requires
-arrival-time-requires c κs = search needs
+arrival-requires : tie.Need-arrival-requires
+arrival-requires c κs = search needs
 
-arrival-time-requires-2 : tie.Need-arrival-time-requires-2
-arrival-time-requires-2 c κs = search needs
+arrival-requires-2 : tie.Need-arrival-requires-2
+arrival-requires-2 c κs = search needs
 
 cast-place : tie.Need-cast-place
 cast-place c = search needs
@@ -62,8 +63,8 @@ returns-3 c =
     let k = a .0 in
     let j = jump-inside _ _ _ _ _ _ k left (b .if2 .left) in
     figures-late _ _ _ _ _ _ k _ (a .1) left (b .if2 .left) _ _
-    (e .before .before .before .arrival-time .ensures ∙ time-stands _ _ (k .has .file) _ (omega (arith, j, k .has .inside)))
-    (e .before .before .arrival-time2 .ensures ∙ time-stands _ _ (k .has .file) _ (k .has .inside))
+    (ap (λ (a : Arrival). a .time) (arrival-known _ _ (k .has .file) _ (omega (arith, j, k .has .inside)) (e .before .before .before .arrival .ensures) .0))
+    (ap (λ (a : Arrival). a .time) (arrival-known _ _ (k .has .file) _ (k .has .inside) (e .before .before .arrival2 .ensures) .0))
     _ (e .elapsed .ensures) _ _ (c .before .flag-of .ensures) (c .amount .ensures)
 
 pub figures-spec : {M : Type 1} → statement M
@@ -74,8 +75,8 @@ figures-spec =
     add-position
     returns-2
     sub-jump
-    arrival-time-requires
-    arrival-time-requires-2
+    arrival-requires
+    arrival-requires-2
     cast-place
     mul-extent
     shared-slice-read-extent

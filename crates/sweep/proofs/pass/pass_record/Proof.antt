@@ -2,40 +2,37 @@
 use borrow.Author.Needs.{needs}
 use native.Mathlib.Omega.{arith}
 use Prim.Native.Nat.{_≤_}
-use mathlib.Core.Path.{_≡_, _∙_}
+use mathlib.Core.Path.{_≡_, ap, _∙_}
 use denote.Ref.{now}
+use Rattle.rfc4737.specs.declared.Arrival.{Arrival}
 use Rattle.sample.specs.Decode.{decode}
 use Rattle.metrics.specs.Private.Sample.{arrivalAt}
-use Rattle.metrics.proofs.Places.{number-stands}
+use Rattle.metrics.proofs.Places.{arrival-known}
 use Rattle.sweep.specs.Private.Table.{Known}
 use Rattle.sweep.proofs.pass.pass_record.Statement.{statement}
 use Rattle.sweep.proofs.pass.pass_record.Tie as tie
 
--- the start, from the place after the number is read
-abbrev start : tie.After-arrival-number → tie.Start
+-- the start, from the place after the arrival is read
+abbrev start : tie.After-arrival → tie.Start
 start c = c .before .before .before .before .before .before .before
 
--- the number that is read
-numbered : (c : tie.After-arrival-number)
-    → (c .arrival-number .result ≡ arrivalAt (decode (now (start c .args .file))) (start c .args .i) .number)
-    × (1 ≤ c .arrival-number .result)
-    × (c .arrival-number .result ≤ 4096)
-numbered c =
-    let h = start c .pre .0 in
-    let e = c .arrival-number .ensures ∙ number-stands _ _ (h .file) _ (h .inside) in
-    let n = h .file .numbers _ (h .inside) in
-    (e, omega (arith, e, n), omega (arith, e, n, h .file .sentFew))
+-- the arrival that is read
+read : (c : tie.After-arrival)
+    → (c .arrival .result ≡ arrivalAt (decode (now (start c .args .file))) (start c .args .i))
+    × (1 ≤ c .arrival .result .number)
+    × (c .arrival .result .number ≤ 4096)
+read c = let h = start c .pre .0 in arrival-known _ _ (h .file) _ (h .inside) (c .arrival .ensures)
 
 -- and what stands at its packet
 known : (c : tie.After-wide)
-    → Known (decode (now (start (c .before .before) .args .file))) (start (c .before .before) .args .y) (start (c .before .before) .args .i) (c .before .before .arrival-number .result) (c .wide .result)
+    → Known (decode (now (start (c .before .before) .args .file))) (start (c .before .before) .args .y) (start (c .before .before) .args .i) (c .before .before .arrival .result .number) (c .wide .result)
     (start (c .before .before) .args .state)
 known c =
-    let n = numbered (c .before .before) in
+    let n = read (c .before .before) in
     let h = start (c .before .before) .pre in
     record {
       has = h .0;
-      is = n .0;
+      is = ap (λ (a : Arrival). a .number) (n .0);
       low = n .1;
       high = n .2;
       stands = c .wide .ensures ∙ h .1 .at _ (n .1) (n .2);
@@ -43,11 +40,11 @@ known c =
       next = h .1 .next;
     }
 
-arrival-number-requires : tie.Need-arrival-number-requires
-arrival-number-requires c κs = search needs
+arrival-requires : tie.Need-arrival-requires
+arrival-requires c κs = search needs
 
 sub-at : tie.Need-sub-at
-sub-at c = numbered c .1
+sub-at c = read c .1
 
 cast-at : tie.Need-cast-at
 cast-at c = search needs
@@ -56,7 +53,7 @@ mul-wide : tie.Need-mul-wide
 mul-wide c = search needs
 
 slice-read-wide : tie.Need-slice-read-wide
-slice-read-wide c = omega (arith, numbered (c .before), start (c .before) .pre .1 .room)
+slice-read-wide c = omega (arith, read (c .before), start (c .before) .pre .1 .room)
 
 wide-requires : tie.Need-wide-requires
 wide-requires c κs = search needs
@@ -97,7 +94,7 @@ pub pass-record-spec : {M : Type 1} → statement M
 pass-record-spec =
     tie.close
     (tie.spec
-    arrival-number-requires
+    arrival-requires
     sub-at
     cast-at
     mul-wide
