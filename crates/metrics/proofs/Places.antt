@@ -1,15 +1,19 @@
 -- What is found in a file at the places that its layout gives, accepted or not. Assumes nothing.
-use mathlib.Core.Path.{_≡_, refl, ap, _∙_}
+use mathlib.Core.Path.{_≡_, refl, sym, ap, _∙_}
 use mathlib.Core.List.{List}
-use Prim.Native.Nat.{ℕ, _-_, _≤_, _<_}
+use Prim.Native.Nat.{ℕ, _+_, _*_, _-_, _≤_, _<_}
 use native.Mathlib.Omega.{arith}
+use borrow.Author.Tests.{le-ltb}
+use lib.ListN.{length}
 use Rattle.octets.specs.Below.{Octets}
+use Rattle.octets.specs.Memory.{part}
+use Rattle.octets.proofs.Memory.{taken}
 use Rattle.rfc4737.specs.declared.Arrival.{Arrival}
 use Rattle.rfc4737.specs.Extent.{sizeIn}
 use Rattle.sample.specs.declared.Layout.{Layout}
-use Rattle.sample.specs.Decode.{Decoded, refused, accepted, decode, layoutOf}
-use Rattle.sample.specs.Places.{sizeFound, arrivalFound}
-use Rattle.sample.proofs.Accepted.{accepted-limits, number-within, size-found, arrival-found}
+use Rattle.sample.specs.Decode.{arrivalIn, Decoded, refused, accepted, decode, layoutOf}
+use Rattle.sample.specs.Places.{arrivalsAt, sizeFound, arrivalFound}
+use Rattle.sample.proofs.Accepted.{accepted-limits, number-within, size-found, octets-inside, arrival-found}
 use Rattle.metrics.specs.Sample.{sizeOf}
 use Rattle.metrics.specs.Private.Sample.{noArrival, arrivalAt, Laid}
 
@@ -41,6 +45,24 @@ module _ (file : List ℕ) where
         let m = ap (λ (a : Arrival). a .number) q in
         let n = h .numbers i g in
         (q, omega (arith, m, n), omega (arith, m, n, h .sentFew))
+
+    -- its octets are there
+    pub arrival-inside : (i : ℕ) → i < y .arrivals → arrivalsAt y + 12 * i + 12 ≤ length file
+    arrival-inside i g = go (decode file) refl
+      where
+        go : (d : Decoded) → decode file ≡ d → arrivalsAt y + 12 * i + 12 ≤ length file
+        go (refused r) e = absurd (omega (arith, ap (λ (y : Layout). y .arrivals) (h .laid ∙ ap layoutOf e)))
+        go (accepted s) e = octets-inside file s e y (h .laid) i g
+
+    -- what is read of its twelve octets
+    pub arrival-read : (i : ℕ) {a : Arrival} → i < y .arrivals → a ≡ arrivalIn (taken (arrivalsAt y + 12 * i) 12 file)
+        → (a ≡ arrivalAt (decode file) i) × (1 ≤ a .number) × (a .number ≤ 4096)
+    unfolding arrivalFound
+    arrival-read i g e =
+        let start : ℕ = arrivalsAt y + 12 * i in
+        let w : start + 12 - start ≡ 12 = omega arith in
+        let f : arrivalFound file y i ≡ arrivalIn (part start 12 file) = rw (le-ltb (length file) (start + 12) (arrival-inside i g)) in
+        arrival-known i g (e ∙ ap (λ (n : ℕ). arrivalIn (part start n file)) w ∙ sym f)
 
     -- the payload size of packet s
     pub size-stands : (s : ℕ) → 1 ≤ s → s ≤ y .sent → sizeFound file y (s - 1) ≡ sizeOf (decode file) s

@@ -14,12 +14,15 @@ pub(crate) fn layout(file: &[u8]) -> Layout
     sample::check(file)
 }
 
-// The arrival of record i + 1.
+// The arrival of record i + 1, read where it stands: no test of the file's length is in the callers' loops.
 pub(crate) fn arrival(file: &[u8], y: Layout, i: u32) -> Arrival
     requires { ⌜ Has (decode (now file)) y i ⌝ }
     ensures { λ r. ⌜ (r ≡ arrivalAt (decode (now (file .entry))) i) × (1 ≤ r .number) × (r .number ≤ 4096) ⌝ }
 {
-    sample::arrival(file, y, i)
+    let start = sample::arrivals_at(y) + 12 * (i as usize);
+    let end = start + 12;
+    let twelve = &file[start..end];
+    sample::arrival_of(twelve)
 }
 
 // Its sequence number.

@@ -54,15 +54,20 @@ module _ (file : List ℕ) (s : Sample) (e : decode file ≡ accepted s) where
         ∙ sym (items-stand 2 beValue (sentCount file) (sentAt file + 2) file j 0 (omega arith))
         ∙ ap (λ (x : Sample). getD (x .sizes) j 0) (accepted-decode file s e .1)
 
-    -- the arrival of record i + 1
+    -- the octets of record i + 1 are there
+    pub octets-inside : (i : ℕ) → i < y .arrivals → arrivalsAt y + 12 * i + 12 ≤ length file
+    octets-inside i h =
+        let c = counts in
+        let w = refused-none file (accepted-decode file s e .0) .ends in
+        omega arith
+
+    -- its arrival
     pub arrival-found : (i : ℕ) (z : Arrival) → i < y .arrivals → arrivalFound file y i ≡ getD (s .arrivals) i z
     unfolding arrivalFound sampleIn
     arrival-found i z h =
         let c = counts in
         let p : arrivalsAt y + 12 * i ≡ arrivedAt file + 2 + 12 * i = omega arith in
-        let w = refused-none file (accepted-decode file s e .0) .ends in
-        let r : arrivalsAt y + 12 * i + 12 ≤ length file = omega arith in
-        rw (le-ltb (length file) (arrivalsAt y + 12 * i + 12) r)
+        rw (le-ltb (length file) (arrivalsAt y + 12 * i + 12) (octets-inside i h))
         (ap (λ (n : ℕ). arrivalIn (part n 12 file)) p
         ∙ sym (items-stand 12 arrivalIn (arrivalCount file) (arrivedAt file + 2) file i z (omega arith))
         ∙ ap (λ (x : Sample). getD (x .arrivals) i z) (accepted-decode file s e .1))

@@ -6,13 +6,13 @@ use native.Mathlib.Omega.{arith}
 use mathlib.Core.Path.{_≡_, refl, sym, ap, ap₂, _∙_, subst}
 use mathlib.Core.List.{List, [], _∷_, _++_, append-assoc, append-nil}
 use lib.ListN.{length, getD, take, drop, length-append, length-take, length-drop, take-append-drop, List·getD-map}
-use lib.Seq.{take-at, drop-at, drop-drop, take-add, length-take-le}
+use lib.Seq.{take-all, take-at, drop-at, drop-drop, take-add, length-take-le}
 use Rattle.octets.specs.Below.{Octets}
 use Rattle.octets.specs.BigEndian.{beValue, beOctets}
 use Rattle.octets.specs.Memory.{part}
 use Rattle.octets.proofs.Below.{below-take, below-drop, below-part}
 use Rattle.octets.proofs.BigEndian.{octets-length, value-octets, octets-value, value-fits}
-use Rattle.octets.proofs.Memory.{take-snoc, drop-take, part-most, taken, taken-part}
+use Rattle.octets.proofs.Memory.{take-snoc, part-part, part-most, taken, taken-part}
 use Rattle.rfc4737.specs.declared.Arrival.{Arrival}
 use Rattle.rfc4737.specs.Judge.{numbersOf, timesOf}
 use Rattle.sample.specs.Format.{itemOctets, itemsIn, arrivalOctets}
@@ -110,7 +110,8 @@ unfolding arrivalIn arrivalOctets
 arrival-read a h k =
     let e : take 4 (beOctets 4 (a .number) ++ beOctets 8 (a .time)) ≡ beOctets 4 (a .number) = take-at (beOctets 4 (a .number)) (beOctets 8 (a .time)) 4 (octets-length 4 (a .number)) in
     let f : drop 4 (beOctets 4 (a .number) ++ beOctets 8 (a .time)) ≡ beOctets 8 (a .time) = drop-at (beOctets 4 (a .number)) (beOctets 8 (a .time)) 4 (octets-length 4 (a .number)) in
-    rw (e, f, value-octets 4 (a .number) h, value-octets 8 (a .time) k)
+    let g : take 8 (beOctets 8 (a .time)) ≡ beOctets 8 (a .time) = take-all 8 (beOctets 8 (a .time)) (omega (arith, octets-length 8 (a .time))) in
+    rw (e, f, g, value-octets 4 (a .number) h, value-octets 8 (a .time) k)
 
 -- twelve octets are written back as themselves
 pub arrival-back : (os : List ℕ) → Octets os → length os ≡ 12 → arrivalOctets (arrivalIn os) ≡ os
@@ -119,13 +120,14 @@ arrival-back os o h =
     let p : length (take 4 os) ≡ 4 = simp length-take (omega arith) in
     let q : length (drop 4 os) ≡ 8 = simp length-drop (omega arith) in
     let a : beOctets 4 (beValue (take 4 os)) ≡ take 4 os = subst (λ (n : ℕ). beOctets n (beValue (take 4 os)) ≡ take 4 os) p (octets-value (take 4 os) (below-take 256 4 os o)) in
+    let g : take 8 (drop 4 os) ≡ drop 4 os = take-all 8 (drop 4 os) (omega arith) in
     let b : beOctets 8 (beValue (drop 4 os)) ≡ drop 4 os = subst (λ (n : ℕ). beOctets n (beValue (drop 4 os)) ≡ drop 4 os) q (octets-value (drop 4 os) (below-drop 256 4 os o)) in
-    rw (a, b) (take-append-drop 4 os)
+    rw (g, a, b) (take-append-drop 4 os)
 
 -- its time, where it stands
 pub time-stands : (at : ℕ) (file : List ℕ) → arrivalIn (part at 12 file) .time ≡ beValue (part (at + 4) 8 file)
 unfolding arrivalIn
-time-stands at file = ap beValue (drop-take 4 12 (drop at file) ∙ ap (take 8) (drop-drop 4 at file))
+time-stands at file = ap beValue (part-part at 12 4 8 file (omega arith))
 
 -- the arrival that stands at a place, as it is taken
 pub arrival-taken : (count at : ℕ) (file : List ℕ) (i : ℕ) (z : Arrival) {a : Arrival} → i < count → a ≡ arrivalIn (taken (at + 12 * i) 12 file)

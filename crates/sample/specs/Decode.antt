@@ -3,7 +3,7 @@
 use Prim.Native.Nat.{ℕ, zero, suc, _+_, _*_}
 use mathlib.Core.List.{List, [], _∷_}
 use lib.Dec.{ltb}
-use lib.ListN.{length, take, drop}
+use lib.ListN.{length, drop}
 use Rattle.octets.specs.BigEndian.{beValue}
 use Rattle.octets.specs.Memory.{part}
 use Rattle.rfc4737.specs.declared.Arrival.{Arrival}
@@ -49,9 +49,9 @@ fileEnd file = endOf (arrivedAt file) 12 (arrivalCount file)
 
 -- ---- what the sections hold
 
--- an arrival of twelve octets
+-- an arrival of twelve octets: four of its number, eight of its time
 unfoldable pub arrivalIn : List ℕ → Arrival
-arrivalIn os = record { number = beValue (take 4 os); time = beValue (drop 4 os) }
+arrivalIn os = record { number = beValue (part 0 4 os); time = beValue (part 4 8 os) }
 
 -- the label
 abbrev pub labelIn : List ℕ → List ℕ

@@ -7,7 +7,7 @@ ghost use Rattle.octets.specs.Memory.{over};
 ghost use Rattle.rfc4737.specs.Judge.{numbersOf, timesOf};
 ghost use Rattle.sample.specs.Format.{itemsIn};
 ghost use Rattle.sample.specs.Decode.{arrivalIn};
-use crate::sections::arrival_of;
+use crate::arrival_of;
 
 // Fills the payload sizes: so many, which stand from a place on.
 pub(crate) fn fill_sizes(file: &[u8], at: usize, count: usize, sizes: &mut [u16])

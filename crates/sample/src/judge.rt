@@ -6,7 +6,7 @@ ghost use Rattle.rfc4737.specs.Judge.{judge};
 ghost use Rattle.sample.specs.Format.{itemsIn};
 ghost use Rattle.sample.specs.Judge.{someUnshown};
 ghost use Rattle.sample.specs.Decode.{arrivalIn};
-use crate::sections::arrival_of;
+use crate::arrival_of;
 use rfc4737::judge::judge_one;
 use rfc4737::judge::outside;
 use rfc4737::time::next_reference;

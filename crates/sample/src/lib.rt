@@ -2,7 +2,7 @@
 ghost use mathlib.Core.Path.{_≡_};
 ghost use Prim.Native.Nat.{_+_};
 ghost use Rattle.sample.specs.Format.{longest};
-ghost use Rattle.sample.specs.Decode.{decode, refused, sampleOf, layoutOf};
+ghost use Rattle.sample.specs.Decode.{arrivalIn, decode, refused, sampleOf, layoutOf};
 ghost use Rattle.sample.specs.Places.{sizesAt, arrivalsAt, sizeFound, arrivalFound};
 ghost use Rattle.sample.specs.Calls.{labelPlace, ReadFrom, WrittenTo, refusalFrom, listsShort};
 ghost use Rattle.sample.specs.Cases.{RefusalsInOrder};
@@ -28,7 +28,6 @@ use rfc4737::refusal::OCTETS_FOLLOW;
 use rfc4737::refusal::OUTPUT_SHORT;
 use rfc4737::refusal::SENT_OUTSIDE;
 use sections::Section;
-use sections::arrival_of;
 use sections::refusal_of;
 use sections::section_at;
 use sections::write_arrivals;
@@ -129,8 +128,8 @@ fn sizes_at(found: Layout) -> usize
     4 + found.label as usize
 }
 
-// Where the first arrival stands.
-fn arrivals_at(found: Layout) -> usize
+// Where the first arrival of an accepted file stands.
+pub fn arrivals_at(found: Layout) -> usize
     ensures { λ r. ⌜ r ≡ arrivalsAt found ⌝ }
 {
     6 + found.label as usize + 2 * (found.sent as usize)
@@ -218,6 +217,16 @@ pub fn payload_size(file: &[u8], found: Layout, j: u32) -> u16
     ensures { λ r. ⌜ r ≡ sizeFound (now (file .entry)) found j ⌝ }
 {
     octets::number_at(file, sizes_at(found) + 2 * (j as usize), 2) as u16
+}
+
+// The arrival in twelve octets. It is a function by itself so that the compiler reads each number's octets as one wherever
+// it is called with a part of twelve.
+pub fn arrival_of(twelve: &[u8]) -> Arrival
+    ensures { λ r. ⌜ r ≡ arrivalIn (now (twelve .entry)) ⌝ }
+{
+    let number = octets::number_at(twelve, 0, 4) as u32;
+    let time = octets::number_at(twelve, 4, 8);
+    Arrival { number, time }
 }
 
 // The arrival of record i + 1 of an accepted file; zeros where the file ends before its octets.

@@ -5,9 +5,7 @@ ghost use lib.ListN.{length};
 ghost use Rattle.octets.specs.Memory.{splice};
 ghost use Rattle.rfc4737.specs.Judge.{arrivalsOf};
 ghost use Rattle.sample.specs.Format.{section, sizeOctets, arrivalOctets, itemOctets};
-ghost use Rattle.sample.specs.Decode.{arrivalIn};
 ghost use Rattle.sample.specs.Private.Readings.{countReading, placeReading, sectionReading, refusalOfSection};
-use rfc4737::Arrival;
 use rfc4737::judge::outside;
 use rfc4737::refusal::ENDS_EARLY;
 
@@ -66,17 +64,6 @@ pub(crate) fn section_at(
         return Section::Refused(ENDS_EARLY);
     };
     Section::Whole(count, end)
-}
-
-// The arrival in its twelve octets. It is a function by itself so that the compiler reads each number's octets as one
-// wherever it is called.
-pub(crate) fn arrival_of(twelve: &[u8]) -> Arrival
-    requires { ⌜ length (now twelve) ≡ 12 ⌝ }
-    ensures { λ r. ⌜ r ≡ arrivalIn (now (twelve .entry)) ⌝ }
-{
-    let number = octets::number_at(twelve, 0, 4) as u32;
-    let time = octets::number_at(twelve, 4, 8);
-    Arrival { number, time }
 }
 
 // The refusal of a section, 0 for a whole one.

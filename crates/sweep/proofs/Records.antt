@@ -10,6 +10,7 @@ use lib.Seq.{getD-take, getD-set-same, getD-set-other, drop-set-lt}
 use borrow.Author.Tests.{eqb-true, eqb-false, leb-true, leb-false, le-leb, lt-leb, ltb-true, ltb-false, lt-ltb, le-ltb}
 use Rattle.rfc4737.specs.declared.Arrival.{Arrival}
 use Rattle.rfc4737.specs.declared.LateTime.{LateTime}
+use Rattle.rfc4737.specs.declared.LateTime.the-variants.{After, Before}
 use Rattle.rfc4737.specs.Times.{elapsed}
 use Rattle.rfc4737.specs.Numbering.{reorderedNumber, amountOf}
 use Rattle.rfc4737.specs.Arrivals.{has, firsts, firstRecord}
@@ -21,15 +22,25 @@ use Rattle.rfc4737.proofs.Folds.{next-more, next-positive, answer-duplicate, an
 use Rattle.sample.specs.declared.Layout.{Layout}
 use Rattle.sample.specs.Decode.{Decoded}
 use Rattle.metrics.specs.Sample.{sizeOf, arrivalsOf}
-use Rattle.metrics.specs.Private.Sample.{noArrival, arrivalAt, before, answerAt}
+use Rattle.metrics.specs.Private.Sample.{noArrival, arrivalAt, before, answerAt, Has}
 use Rattle.metrics.proofs.Follow.{before-more, before-length}
 use Rattle.metrics.proofs.Records.{record-some, first-at}
 use Rattle.sweep.specs.declared.table.State.{State}
 use Rattle.sweep.specs.Figures.{figuresOf}
 use Rattle.sweep.specs.Swept.{places}
-use Rattle.sweep.specs.Private.Table.{arrivedMark, markOf, Known, Holds, Skipping}
+use Rattle.sweep.specs.Private.Table.{arrivedMark, markOf, Holds, Skipping}
 use Rattle.sweep.specs.Private.Passes.{Positioned}
 use Rattle.sweep.proofs.Marks.{mark-arrived, mark-copy, mark-more, one-more, mark-ahead, Behind, behind, position-at, skipping-at}
+
+-- of record i + 1: its number, what stands at its packet in the table, and the state after the arrivals before it
+pub record Known (d : Decoded) (y : Layout) (i number mark : ℕ) (state : State) : Type 0 where
+  pub has : Has d y i
+  pub is : number ≡ arrivalAt d i .number
+  pub low : 1 ≤ number
+  pub high : number ≤ places
+  pub stands : mark ≡ markOf (before d i) number
+  pub count : state .count ≡ length (firsts (before d i))
+  pub next : state .next ≡ nextExp (firsts (before d i))
 
 -- a test of two places is that of their packets
 leb-pred : (a b : ℕ) → 1 ≤ a → 1 ≤ b → leb (a - 1) (b - 1) ≡ leb a b
@@ -107,7 +118,7 @@ module _ (d : Decoded) (y : Layout) (i number mark : ℕ) (state : State) (k : K
     jump-before h late = omega (arith, jump-position h late, at-jump h late .high, k .count)
 
     -- the figures of a reordered packet
-    pub figures-late : (h : mark ≤ 4096) (late : number < state .next) (past own : ℕ) → past ≡ arrivalAt d (mark - 1) .time
+    figures-late : (h : mark ≤ 4096) (late : number < state .next) (past own : ℕ) → past ≡ arrivalAt d (mark - 1) .time
         → own ≡ arrivalAt d i .time → (late : LateTime) → late ≡ elapsed past own
         → (flag amount : ℕ) → flag ≡ reorderedNumber late → amount ≡ amountOf late
         → record { flag = flag; position = state .count + 1; extent = state .count + 1 - getD positions (mark - 1) 0; late = amount }
@@ -119,6 +130,20 @@ module _ (d : Decoded) (y : Layout) (i number mark : ℕ) (state : State) (k : K
         ∙ first-reordered (sizeOf d) (firsts (before d i)) (arrivalAt d i) (omega (arith, k .is, k .next))
         ∙ ap (reorderedAnswer (sizeOf d) (firsts (before d i)) (arrivalAt d i)) (at-jump h late .is))
         ∙ rw (← k .count, ← jump-position h late, ← jump-time h late, ← e, ← f, ← g, ← a, ← b))
+
+    -- whose time lies before its discontinuity's
+    pub figures-before : (h : mark ≤ 4096) (late : number < state .next) (past own : ℕ) → past ≡ arrivalAt d (mark - 1) .time
+        → own ≡ arrivalAt d i .time → own < past
+        → record { flag = 2; position = state .count + 1; extent = state .count + 1 - getD positions (mark - 1) 0; late = past - own } ≡ figuresOf (answerAt d i)
+    unfolding elapsed
+    figures-before h late past own e f g = figures-late h late past own e f (Before (past - own)) (rw (lt-ltb own past g)) 2 (past - own) refl refl
+
+    -- or not
+    pub figures-after : (h : mark ≤ 4096) (late : number < state .next) (past own : ℕ) → past ≡ arrivalAt d (mark - 1) .time
+        → own ≡ arrivalAt d i .time → past ≤ own
+        → record { flag = 1; position = state .count + 1; extent = state .count + 1 - getD positions (mark - 1) 0; late = own - past } ≡ figuresOf (answerAt d i)
+    unfolding elapsed
+    figures-after h late past own e f g = figures-late h late past own e f (After (own - past)) (rw (le-ltb own past g)) 1 (own - past) refl refl
 
   -- of a packet in order
   pub figures-in-order : mark ≤ 4096 → state .next ≤ number → record { flag = 0; position = state .count + 1; extent = 0; late = 0 } ≡ figuresOf (answerAt d i)

@@ -9,9 +9,6 @@ use Rattle.rfc4737.specs.declared.Arrival.{Arrival}
 use Rattle.rfc4737.specs.Arrivals.{has, firsts, firstRecord}
 use Rattle.rfc4737.specs.Order.{Placed, nextExp}
 use Rattle.rfc4737.specs.Extent.{discontinuity}
-use Rattle.sample.specs.declared.Layout.{Layout}
-use Rattle.sample.specs.Decode.{Decoded}
-use Rattle.metrics.specs.Private.Sample.{before, arrivalAt, Has}
 use Rattle.metrics.specs.Private.Tables.{Filled}
 use Rattle.sweep.specs.Swept.{places}
 use Rattle.sweep.specs.declared.table.State.{State}
@@ -36,16 +33,6 @@ pub record Holds (earlier : List Arrival) (table : List ℕ) (state : State) : T
   pub at : (s : ℕ) → 1 ≤ s → s ≤ places → getD table (s - 1) 0 ≡ markOf earlier s
   pub count : state .count ≡ length (firsts earlier)
   pub next : state .next ≡ nextExp (firsts earlier)
-
--- of record i + 1: its number, what stands at its packet in the table, and the state after the arrivals before it
-pub record Known (d : Decoded) (y : Layout) (i number mark : ℕ) (state : State) : Type 0 where
-  pub has : Has d y i
-  pub is : number ≡ arrivalAt d i .number
-  pub low : 1 ≤ number
-  pub high : number ≤ places
-  pub stands : mark ≡ markOf (before d i) number
-  pub count : state .count ≡ length (firsts (before d i))
-  pub next : state .next ≡ nextExp (firsts (before d i))
 
 -- a table after one value was put at the places from `from` to before `to`, all else as it was
 pub record Skipping (from to value : ℕ) (old new : List ℕ) : Type 0 where

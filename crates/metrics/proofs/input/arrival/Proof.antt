@@ -1,14 +1,57 @@
--- `arrival` reads what stands in the file. Assumes nothing.
-use Rattle.metrics.proofs.Places.{arrival-known}
+-- `arrival` reads what stands in the file: its twelve octets are there. Assumes nothing.
+use Prim.Native.Nat.{ℕ, _+_, _*_}
+use native.Mathlib.Omega.{arith}
+use mathlib.Core.Path.{ap, _∙_}
+use denote.Ref.{now}
+use Rattle.octets.proofs.Memory.{taken}
+use Rattle.sample.specs.Decode.{arrivalIn}
+use Rattle.metrics.proofs.Places.{arrival-inside, arrival-read}
 use borrow.Author.Needs.{needs}
 use Rattle.metrics.proofs.input.arrival.Statement.{statement}
 use Rattle.metrics.proofs.input.arrival.Tie as tie
 
-arrival-requires : tie.Need-arrival-requires
-arrival-requires c κs = search needs
+arrivals-at-requires : tie.Need-arrivals-at-requires
+arrivals-at-requires c κs = search needs
+
+mul-start : tie.Need-mul-start
+mul-start c = search needs
+
+add-start : tie.Need-add-start
+add-start c = search needs
+
+add-end : tie.Need-add-end
+add-end c = search needs
+
+sub-twelve : tie.Need-sub-twelve
+sub-twelve c = search needs
+
+part-twelve-start : tie.Need-part-twelve-start
+part-twelve-start c = search needs
+
+part-twelve-end : tie.Need-part-twelve-end
+part-twelve-end c =
+    let p = c .before .before .pre in
+    omega (arith, c .arrivals-at .ensures, arrival-inside _ _ (p .file) _ (p .inside))
+
+arrival-of-requires : tie.Need-arrival-of-requires
+arrival-of-requires c κs = search needs
 
 returns : tie.Need-returns
-returns c = let p = c .before .before .pre in arrival-known _ _ (p .file) _ (p .inside) (c .arrival .ensures)
+returns c =
+    let a = c .before .before .before .before in
+    arrival-read _ _ (a .pre .file) _ (a .pre .inside)
+    (c .arrival-of .ensures ∙ ap (λ (n : ℕ). arrivalIn (taken (n + 12 * a .args .i) 12 (now (a .args .file)))) (c .before .before .arrivals-at .ensures))
 
 pub arrival-spec : {M : Type 1} → statement M
-arrival-spec = tie.close (tie.spec arrival-requires returns)
+arrival-spec =
+    tie.close
+    (tie.spec
+    arrivals-at-requires
+    mul-start
+    add-start
+    add-end
+    sub-twelve
+    part-twelve-start
+    part-twelve-end
+    arrival-of-requires
+    returns)

@@ -1,19 +1,14 @@
--- `sample::sections::arrival_of` meets its contract: of twelve octets the first four are the number, the eight after them the time.
--- Assumes nothing.
+-- `sample::arrival_of` meets its contract: the first four octets are the number, the eight after them the time. Assumes nothing.
 use borrow.Author.Needs.{needs}
-use Prim.Native.Nat.{_^_, _≤_, _<_}
+use Prim.Native.Nat.{_^_, _<_}
 use native.Mathlib.Omega.{arith}
-use mathlib.Core.Path.{_≡_, ap, _∙_}
-use lib.ListN.{length, take, drop, length-drop}
-use lib.Seq.{take-all}
 use mir.Syntax.{w8}
 use denote.Ref.{now}
-use Rattle.octets.specs.BigEndian.{beValue}
 use Rattle.octets.proofs.Below.{below-fits}
 use Rattle.sample.specs.Decode.{arrivalIn}
 use Rattle.sample.proofs.Items.{part-fits}
-use Rattle.sample.proofs.sections.arrival_of.Statement.{statement}
-use Rattle.sample.proofs.sections.arrival_of.Tie as tie
+use Rattle.sample.proofs.arrival_of.Statement.{statement}
+use Rattle.sample.proofs.arrival_of.Tie as tie
 
 number-at-requires : tie.Need-number-at-requires
 number-at-requires c κs = search needs
@@ -31,11 +26,8 @@ number-at-requires-2 c κs = search needs
 returns : tie.Need-returns
 unfolding arrivalIn
 returns c =
-    let a = c .before .before .before in
-    let s = now (a .args .twelve) in
-    let n : c .before .number-at .result ≡ beValue (take 4 s) = c .before .number-at .ensures in
-    let w : length (drop 4 s) ≤ 8 = simp length-drop (omega (arith, a .pre)) in
-    let t : c .number-at2 .result ≡ beValue (drop 4 s) = c .number-at2 .ensures ∙ ap beValue (take-all 8 (drop 4 s) w) in
+    let n = c .before .number-at .ensures in
+    let t = c .number-at2 .ensures in
     (λ j. record { number = n j; time = t j })
 
 pub arrival-of-spec : {M : Type 1} → statement M
