@@ -14,7 +14,8 @@ use bench::time::{self, Kind};
 const USAGE: &str = "\
 bench cases [samples [lists [states]]]         self-check of the reference
 bench diff [samples [lists [states [seed]]]]   library against reference, call by call
-bench time                                     library and reference measured
+bench time [TABLE..]                           library and reference measured: all tables, or listing, figures, others, text,
+                                               records, sweep, steps, meter
 bench steps in-order|window library|reference value|lent TIMES
                                                feeds 4,096 arrivals so many times, for counting instructions
 bench layout                                   sizes and offsets of the structs that the library is called with
@@ -33,10 +34,7 @@ fn main() -> ExitCode {
     let passed = match word(0) {
         "cases" => cases::run(&amounts(5000, 400, 50_000)),
         "diff" => diff::run(amount(4, 1), &amounts(100_000, 2000, 300_000)),
-        "time" => {
-            time::run();
-            true
-        }
+        "time" => time::run(&arguments[1..]) || usage(),
         "steps" => steps(word(1), word(2), word(3), amount(4, 1)),
         "layout" => {
             archive::layout();

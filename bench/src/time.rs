@@ -63,78 +63,59 @@ pub fn measure<const N: usize>(mut columns: [Calls; N]) -> [f64; N] {
     least
 }
 
-/// Prints the table of all measurements.
-pub fn run() {
+/// The tables in their order, each by its name.
+const TABLES: [(&str, fn()); 8] = [
+    ("listing", || each(listings, "listing", ["lanes", "swift"])),
+    ("figures", || each(figures, "figure", ["by answers", "swift"])),
+    ("others", || each(others, "other call", ["", ""])),
+    ("text", || text::time(&AMOUNTS)),
+    ("records", || records::time(&AMOUNTS)),
+    ("sweep", || sweep::time(&ORDERS, &AMOUNTS)),
+    ("steps", receiver_steps),
+    ("meter", || meter::time(&AMOUNTS)),
+];
+
+/// Prints the tables that are asked for by their names, or all. Whether there is a table of each name.
+pub fn run(asked: &[String]) -> bool {
+    if !asked.iter().all(|name| TABLES.iter().any(|table| table.0 == name)) {
+        return false;
+    }
     println!("library: {LIBRARY_NAME}; nanoseconds of a call, and library / reference");
-    println!();
-    println!(
-        "{:22} {:>5} {:>11} {:>11} {:>6} {:>11} {:>11}",
-        "listing", "A", "library", "reference", "ratio", "lanes", "swift"
-    );
+    for (name, table) in TABLES {
+        if asked.is_empty() || asked.iter().any(|word| word == name) {
+            println!();
+            table();
+        }
+    }
+    true
+}
+
+/// The rows of each order and amount, below their names.
+fn each(rows: fn(Order, usize), call: &str, more: [&str; 2]) {
+    let [c, d] = more;
+    let names = format!("{call:22} {:>5} {:>11} {:>11} {:>6} {c:>11} {d:>11}", "A", "library", "reference", "ratio");
+    println!("{}", names.trim_end());
     for order in ORDERS {
         for many in AMOUNTS {
-            let file = measured(order, many).file();
-            let f = &file[..];
-            let outs = &mut [(); 4].map(|()| vec![0; LISTING_ROOM]);
-            let [a, b, c, d] = outs.each_mut();
-            let [library, reference, lanes, swift] = measure([
-                calls(|| LIBRARY.listing(black_box(f), a)),
-                calls(|| listing(black_box(f), b)),
-                calls(|| listing_by::<Lanes>(black_box(f), c)),
-                calls(|| listing_by::<Swift>(black_box(f), d)),
-            ]);
-            let ratio = library / reference;
-            let name = format!("{order:?}");
-            println!("{name:22} {many:5} {library:11.0} {reference:11.0} {ratio:6.2} {lanes:11.0} {swift:11.0}");
+            rows(order, many);
         }
     }
-    println!();
-    println!(
-        "{:22} {:>5} {:>11} {:>11} {:>6} {:>11} {:>11}",
-        "figure", "A", "library", "reference", "ratio", "by answers", "swift"
-    );
-    for order in ORDERS {
-        for many in AMOUNTS {
-            figures(order, many);
-        }
-    }
-    println!();
-    println!("{:22} {:>5} {:>11} {:>11} {:>6}", "other call", "A", "library", "reference", "ratio");
-    for order in ORDERS {
-        for many in AMOUNTS {
-            others(order, many);
-        }
-    }
-    println!();
-    text::time(&AMOUNTS);
-    println!();
-    records::time(&AMOUNTS);
-    sweep::time(&ORDERS, &AMOUNTS);
-    println!();
-    println!(
-        "{:22} {:>5} {:>9} {:>9} {:>6} {:>9} {:>6} {:>9} {:>9} {:>6}",
-        "step, each", "A", "library", "ref. C", "ratio", "ref.", "ratio", "lib. lent", "ref. lent", "ratio"
-    );
-    for kind in KINDS {
-        for many in AMOUNTS {
-            let list = steps(kind, many);
-            let all = measure([
-                calls(|| LIBRARY.feed_by_value(&list)),
-                calls(|| feed_by_c(&list)),
-                calls(|| Reference.feed_by_value(&list)),
-                calls(|| LIBRARY.feed_lent(&list)),
-                calls(|| Reference.feed_lent(&list)),
-            ]);
-            let [a, b, c, d, e] = all.map(|whole| whole / many as f64);
-            let (by_c, by_rust, lent) = (a / b, a / c, d / e);
-            let name = name(kind);
-            println!("{name:22} {many:5} {a:9.1} {b:9.1} {by_c:6.2} {c:9.1} {by_rust:6.2} {d:9.1} {e:9.1} {lent:6.2}");
-        }
-    }
-    println!();
-    println!("a receiver has {} octets; {} when a step gives it back", size_of::<Receiver>(), size_of::<Stepped>());
-    println!();
-    meter::time(&AMOUNTS);
+}
+
+fn listings(order: Order, many: usize) {
+    let file = measured(order, many).file();
+    let f = &file[..];
+    let outs = &mut [(); 4].map(|()| vec![0; LISTING_ROOM]);
+    let [a, b, c, d] = outs.each_mut();
+    let [library, reference, lanes, swift] = measure([
+        calls(|| LIBRARY.listing(black_box(f), a)),
+        calls(|| listing(black_box(f), b)),
+        calls(|| listing_by::<Lanes>(black_box(f), c)),
+        calls(|| listing_by::<Swift>(black_box(f), d)),
+    ]);
+    let ratio = library / reference;
+    let name = format!("{order:?}");
+    println!("{name:22} {many:5} {library:11.0} {reference:11.0} {ratio:6.2} {lanes:11.0} {swift:11.0}");
 }
 
 /// Figures that the reference makes by narrow scans, and as folds over whole answers.
@@ -216,6 +197,31 @@ fn others(order: Order, many: usize) {
 }
 
 // The receiver.
+
+fn receiver_steps() {
+    println!(
+        "{:22} {:>5} {:>9} {:>9} {:>6} {:>9} {:>6} {:>9} {:>9} {:>6}",
+        "step, each", "A", "library", "ref. C", "ratio", "ref.", "ratio", "lib. lent", "ref. lent", "ratio"
+    );
+    for kind in KINDS {
+        for many in AMOUNTS {
+            let list = steps(kind, many);
+            let all = measure([
+                calls(|| LIBRARY.feed_by_value(&list)),
+                calls(|| feed_by_c(&list)),
+                calls(|| Reference.feed_by_value(&list)),
+                calls(|| LIBRARY.feed_lent(&list)),
+                calls(|| Reference.feed_lent(&list)),
+            ]);
+            let [a, b, c, d, e] = all.map(|whole| whole / many as f64);
+            let (by_c, by_rust, lent) = (a / b, a / c, d / e);
+            let name = name(kind);
+            println!("{name:22} {many:5} {a:9.1} {b:9.1} {by_c:6.2} {c:9.1} {by_rust:6.2} {d:9.1} {e:9.1} {lent:6.2}");
+        }
+    }
+    println!();
+    println!("a receiver has {} octets; {} when a step gives it back", size_of::<Receiver>(), size_of::<Stepped>());
+}
 
 /// Arrivals to feed: all in order; or each second packet, so that each is a jump and the window is full after 64, and
 /// then those left out, each late.
