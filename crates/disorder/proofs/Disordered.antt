@@ -16,14 +16,14 @@ use Rattle.rfc4737.proofs.Lists.{All, all-take}
 use Rattle.disorder.proofs.Disorder.{SizeOne, sum-wrong, wrong-more}
 use Rattle.rfc4737.proofs.Arrivals.{has-firsts, firsts-more}
 use Rattle.rfc4737.proofs.Folds.{offset-more, offset-le}
-use Rattle.disorder.specs.Private.Tree.{rest, Roomy, Known, Added}
-use Rattle.disorder.proofs.Held.{summed-none, summed-more}
+use Rattle.sums.specs.Tree.{Added, sumTo}
+use Rattle.sums.proofs.Summed.{summed-none, summed-more, sum-summed}
 use Rattle.sample.specs.declared.Layout.{Layout}
 use Rattle.sample.specs.Decode.{Decoded, sampleOf}
 use Rattle.metrics.specs.Sample.{sizeOf, arrivalsOf}
 use Rattle.metrics.specs.Private.Sample.{noArrival, arrivalAt, before, Laid, Has}
 use Rattle.disorder.specs.Sample.{disorderOf, SumsOffsets}
-use Rattle.disorder.specs.Private.Pairs.{Paired, Pairing}
+use Rattle.disorder.specs.Private.Pairs.{Paired}
 use Rattle.disorder.specs.declared.pairs.Pairs.{Pairs}
 use Rattle.metrics.proofs.Seen.{Seen, seen-start, seen-next}
 use Rattle.metrics.proofs.Follow.{arrivals-laid, before-more}
@@ -52,34 +52,32 @@ sums-offsets d y h ones = sum-wrong (sizeOf d) (arrivalsOf d) (sizes-one d y h o
 -- of none
 pub paired-start : (d : Decoded) → Paired (firsts (before d 0)) (replicate 4097 0) (record { count = 0; wrong = 0 })
 unfolding firsts wrongPairs pairs count byteOffset
-paired-start d = record { summed = summed-none (λ _. 1); count = refl; whole = refl; wrong = refl; small = omega arith }
+paired-start d = record { places = refl; summed = summed-none _ 4097 (λ i. refl); count = refl; whole = refl; wrong = refl; small = omega arith }
 
 -- the sums are small
 ones-few : (fs : List Arrival) (s : ℕ) → byteOffset (λ _. 1) fs s ≤ length fs
 ones-few fs s = omega (arith, offset-le (λ _. 1) 1 (λ _. omega arith) fs s)
 
-module _ (tree : List ℕ) (p : Pairs) (k : Pairing tree p) where
-  pub pairing-known : Known tree
-  pairing-known =
-      record { size = λ _. 1; fs = k .fs; summed = k .paired .summed; few = λ s. omega (arith, ones-few (k .fs) s, k .paired .count, k .few) }
-
-  pub pairing-room : Roomy tree 1
-  pairing-room =
-      record {
-        places = k .paired .summed .places;
-        fits = λ i low high. omega (arith, k .paired .summed .at i low high, ones-few (k .fs) (rest i), k .paired .count, k .few);
-      }
+-- the tree gives how many have a number up to one, and with those above it all
+pub lower-sum : (fs : List Arrival) (tree : List ℕ) (p : Pairs) → Paired fs tree p → p .count < 4096 → (number : ℕ) → number ≤ 4096
+    → sumTo tree number + byteOffset (λ _. 1) fs number ≡ p .count
+lower-sum fs tree p k few number high =
+    sum-summed _ tree (k .summed) number (omega (arith, k .places)) (omega (arith, k .whole)) ∙ sym (k .whole)
 
 -- of one more
-pub paired-more : (fs : List Arrival) (a : Arrival) (tree tree′ : List ℕ) (p : Pairs) (lower : ℕ) → 1 ≤ a .number → p .count < 4096 → Paired fs tree p
-    → Added (a .number) 1 tree tree′ → lower + byteOffset (λ _. 1) fs (a .number) ≡ byteOffset (λ _. 1) fs 0
-    → Paired (fs ++ (a ∷ [])) tree′ (record { count = p .count + 1; wrong = p .wrong + (p .count - lower) })
-paired-more fs a tree tree′ p lower low few h added e =
+pub paired-more : (fs : List Arrival) (a : Arrival) (tree tree′ : List ℕ) (p : Pairs) → 1 ≤ a .number → a .number ≤ 4096 → p .count < 4096 → Paired fs tree p
+    → Added (a .number) 1 tree tree′
+    → Paired (fs ++ (a ∷ [])) tree′ (record { count = p .count + 1; wrong = p .wrong + (p .count - sumTo tree (a .number)) })
+paired-more fs a tree tree′ p low high few h added =
+    let more = length-append fs (a ∷ []) in
     record {
-      summed = summed-more (λ _. 1) fs a tree tree′ (h .summed) added;
-      count = omega (arith, h .count, length-append fs (a ∷ []));
+      places = added .places ∙ h .places;
+      summed =
+          summed-more _ tree (h .summed) (a .number) 1 tree′ _ added (λ i. offset-more (λ _. 1) fs i a)
+          (λ i. omega (arith, ones-few (fs ++ (a ∷ [])) i, h .count, more));
+      count = omega (arith, h .count, more);
       whole = sym (offset-more (λ _. 1) fs 0 a ∙ rw (lt-ltb 0 (a .number) low, ← h .whole));
-      wrong = omega (arith, wrong-more fs a, h .wrong, h .whole);
+      wrong = omega (arith, wrong-more fs a, h .wrong, lower-sum fs tree p h few (a .number) high);
       small = omega (arith, h .small);
     }
 

@@ -7,7 +7,6 @@ ghost use Rattle.disorder.specs.Disorder.{OffsetsCountPairs, PairsAreLea
 ghost use Rattle.disorder.specs.Sample.{sampleDisorder, SumsOffsets};
 
 mod pairs;
-mod tree;
 
 use pairs::disorder_of;
 
@@ -18,8 +17,8 @@ pub struct SampleDisorder {
     pub total: u32,
 }
 
-// The total of disorder of a sample. After the check of the file one pass over the arrivals, with at most 14 steps for each
-// first arrival.
+// The total of disorder of a sample. After the check of the file one pass over the arrivals, with at most 25 steps of a
+// tree of sums for each first arrival: A times the binary digits of K, and K.
 pub fn total(file: &[u8]) -> SampleDisorder
     ensures total { λ r. ⌜ r ≡ sampleDisorder (decode (now (file .entry))) ⌝ }
     ensures sums { λ _. ⌜ SumsOffsets (decode (now (file .entry))) ⌝ }

@@ -8,9 +8,10 @@ ghost use Rattle.sample.specs.Decode.{decode};
 ghost use Rattle.metrics.specs.Private.Sample.{Laid};
 ghost use Rattle.disorder.specs.Sample.{disorderOf};
 ghost use Rattle.disorder.specs.Private.Pairs.{Paired, Pairing};
-use crate::tree;
-use crate::tree::PLACES;
 use sample::Layout;
+
+// The places: the packet numbers, and 0, which is not used.
+const PLACES: usize = 4097;
 
 // How many first arrivals there are, and how many pairs of them came in the wrong order.
 pub(crate) struct Pairs {
@@ -26,7 +27,7 @@ fn no_pairs() -> Pairs
 }
 
 // Of one arrival more, whose packet has arrived or not: it is in a wrong pair with each greater number.
-fn paired(counts: &mut [u32; PLACES], arrived: bool, number: u32, p: Pairs) -> Pairs
+fn paired(counts: &mut [u32], arrived: bool, number: u32, p: Pairs) -> Pairs
     requires { ⌜ (1 ≤ number) × (number ≤ 4096) × Pairing (now counts) p ⌝ }
     ensures { λ r. ⌜ ((fs : List Arrival) (a : Arrival) → a .number ≡ number → Paired fs (now (counts .entry)) p
         → Paired (cond arrived fs (fs ++ (a ∷ []))) (now (counts .exit)) r) ⌝ }
@@ -34,8 +35,8 @@ fn paired(counts: &mut [u32; PLACES], arrived: bool, number: u32, p: Pairs) -> P
     if arrived {
         return p;
     }
-    let lower = tree::sum_to(counts, number);
-    tree::add(counts, number, 1);
+    let lower = sums::sum_to(counts, number);
+    sums::add(counts, number, 1);
     Pairs {
         count: p.count + 1,
         wrong: p.wrong + (p.count - lower),

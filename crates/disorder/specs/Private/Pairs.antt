@@ -6,12 +6,13 @@ use lib.ListN.{length}
 use Rattle.rfc4737.specs.declared.Arrival.{Arrival}
 use Rattle.rfc4737.specs.Extent.{byteOffset}
 use Rattle.disorder.specs.Disorder.{wrongPairs}
-use Rattle.disorder.specs.Private.Tree.{Summed}
+use Rattle.sums.specs.Tree.{Summed}
 use Rattle.disorder.specs.declared.pairs.Pairs.{Pairs}
 
 -- a tree and the pairs of some first arrivals
 pub record Paired (fs : List Arrival) (tree : List ℕ) (p : Pairs) : Type 0 where
-  pub summed : Summed (λ _. 1) fs tree
+  pub places : length tree ≡ 4097
+  pub summed : Summed (byteOffset (λ _. 1) fs) tree
   pub count : p .count ≡ length fs
   pub whole : p .count ≡ byteOffset (λ _. 1) fs 0
   pub wrong : p .wrong ≡ wrongPairs fs

@@ -54,6 +54,9 @@ cast-at c = omega (arith, known c .2)
 array-read-arrived : tie.Need-array-read-arrived Inv-loop μ-loop
 array-read-arrived c = omega (arith, known c .2)
 
+slice-aggregate-paired : tie.Need-slice-aggregate-paired Inv-loop μ-loop
+slice-aggregate-paired c = search needs
+
 paired-requires : tie.Need-paired-requires Inv-loop μ-loop
 paired-requires c κs =
     let n = known (c .before) in
@@ -67,22 +70,22 @@ paired-requires c κs =
     )
 
 array-write-seen : tie.Need-array-write-seen Inv-loop μ-loop
-array-write-seen c = omega (arith, known (c .before .before) .2)
+array-write-seen c = omega (arith, known (c .before .before .before) .2)
 
 add-i : tie.Need-add-i Inv-loop μ-loop
-add-i c = let h = here (c .before .before .before) in omega (arith, h .inside, h .file .few)
+add-i c = let h = here (c .before .before .before .before) in omega (arith, h .inside, h .file .few)
 
 loop-less : tie.Need-loop-less Inv-loop μ-loop
-loop-less c = omega (arith, here (c .before .before .before) .inside)
+loop-less c = omega (arith, here (c .before .before .before .before) .inside)
 
 loop-again : tie.Need-loop-again Inv-loop μ-loop
 loop-again c =
-    let l = c .before .before .before .before .before .loop in
-    let h = here (c .before .before .before) in
-    let n = known (c .before .before) in (
+    let l = c .before .before .before .before .before .before .loop in
+    let h = here (c .before .before .before .before) in
+    let n = known (c .before .before .before) in (
       omega (arith, h .inside),
       arrived-next _ _ _ h _ (l .inv .1) _ (n .0) (n .2),
-      rw (firsts-seen _ _ _ h _ (l .inv .1) _ (n .0) (n .2)) (c .paired .ensures _ _ (sym (n .0)) (l .inv .2)),
+      rw (firsts-seen _ _ _ h _ (l .inv .1) _ (n .0) (n .2)) (c .before .paired .ensures _ _ (sym (n .0)) (l .inv .2)),
     )
 
 returns : tie.Need-returns Inv-loop μ-loop
@@ -99,6 +102,7 @@ disorder-of-spec =
     arrival-requires
     cast-at
     array-read-arrived
+    slice-aggregate-paired
     paired-requires
     array-write-seen
     add-i

@@ -8,7 +8,7 @@ use lib.Arith.{bin-ind}
 use lib.Bits.{and-step, and-self, and-le-r}
 use lib.Dec.{eqb}
 use borrow.Author.Tests.{eqb-true, eqb-false}
-use Rattle.disorder.specs.Private.Tree.{rest}
+use Rattle.sums.specs.Tree.{rest}
 
 -- it is smaller
 pub rest-low : (i : ℕ) → rest i ≤ i - 1

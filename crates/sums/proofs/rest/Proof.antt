@@ -1,8 +1,8 @@
 -- `rest` meets its contract. Assumes nothing.
 use borrow.Author.Needs.{needs}
-use Rattle.disorder.specs.Private.Tree.{rest}
-use Rattle.disorder.proofs.tree.rest.Statement.{statement}
-use Rattle.disorder.proofs.tree.rest.Tie as tie
+use Rattle.sums.specs.Tree.{rest}
+use Rattle.sums.proofs.rest.Statement.{statement}
+use Rattle.sums.proofs.rest.Tie as tie
 
 sub-result : tie.Need-sub-result
 sub-result c = search needs

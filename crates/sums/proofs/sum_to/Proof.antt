@@ -1,0 +1,77 @@
+-- `sum_to` meets its contract. The loop's invariant: the sum, with what stands at the place i and those after it, wraps to what is asked
+-- for. The measure is i. Assumes nothing.
+use mathlib.Core.Path.{_≡_}
+use Prim.Native.Nat.{_+_, _%_, _^_, _<_}
+use native.Mathlib.Omega.{arith}
+use borrow.Author.Needs.{needs}
+use borrow.Author.Tests.{le-ltb, lt-ltb}
+use lib.ListN.{length}
+use Rattle.sums.specs.Tree.{rest, partsTo, sumTo}
+use Rattle.sums.proofs.Lowest.{rest-low}
+use Rattle.sums.proofs.Summed.{parts-first, parts-none}
+use Rattle.sums.proofs.sum_to.Statement.{statement}
+use Rattle.sums.proofs.sum_to.Tie as tie
+
+abbrev Inv-loop : tie.InvT-loop
+Inv-loop tree number i₀ sum₀ i sum =
+    (i < length tree) × (sum < 2 ^ 32) × ((sum + partsTo i tree i) % 2 ^ 32 ≡ partsTo number tree number % 2 ^ 32)
+
+abbrev μ-loop : tie.MeasureT-loop
+μ-loop tree number i₀ sum₀ i sum = i
+
+returns : tie.Need-returns Inv-loop μ-loop
+unfolding sumTo
+returns c = simp (le-ltb _ _ (c .if1 .taken))
+
+loop-holds : tie.Need-loop-holds Inv-loop μ-loop
+loop-holds c = (omega arith, omega arith, omega arith)
+
+mul-wrapping-add-u32 : tie.Need-mul-wrapping-add-u32 Inv-loop μ-loop
+mul-wrapping-add-u32 c = omega arith
+
+shared-slice-read-wrapping-add-u32 : tie.Need-shared-slice-read-wrapping-add-u32 Inv-loop μ-loop
+shared-slice-read-wrapping-add-u32 c = omega arith
+
+wrapping-add-u32-requires : tie.Need-wrapping-add-u32-requires Inv-loop μ-loop
+wrapping-add-u32-requires c κs = search needs
+
+rest-requires : tie.Need-rest-requires Inv-loop μ-loop
+rest-requires c κs = omega arith
+
+loop-less : tie.Need-loop-less Inv-loop μ-loop
+loop-less c = omega (arith, c .rest .ensures, rest-low (c .before .before .before .before .loop .i))
+
+loop-again : tie.Need-loop-again Inv-loop μ-loop
+loop-again c =
+    let h = c .before .before .before .before .loop .inv in
+    let i = c .before .before .before .before .loop .i in
+    let first = parts-first (c .before .before .before .before .before .before .before .args .tree .now) i (omega arith) in
+    rw (c .rest .ensures) (
+      omega (arith, rest-low i),
+      omega (arith, c .before .wrapping-add-u32 .ensures),
+      omega (arith, c .before .wrapping-add-u32 .ensures, h .2, first),
+    )
+
+returns-2 : tie.Need-returns-2 Inv-loop μ-loop
+unfolding sumTo
+returns-2 c =
+    let h = c .before .loop .inv in
+    let zero : c .before .loop .i ≡ 0 = omega arith in
+    let end = rw (zero, parts-none (c .before .before .before .before .args .tree .now)) at (h .2) in
+    simp (lt-ltb _ _ (c .before .before .if1 .left)) (omega (arith, end, h .1))
+
+pub sum-to-spec : {M : Type 1} → statement M
+sum-to-spec =
+    tie.close
+    (tie.spec
+    Inv-loop
+    μ-loop
+    returns
+    loop-holds
+    mul-wrapping-add-u32
+    shared-slice-read-wrapping-add-u32
+    wrapping-add-u32-requires
+    rest-requires
+    loop-less
+    loop-again
+    returns-2)

@@ -1,0 +1,2 @@
+-- A binary indexed tree of sums. Assumes nothing.
+pub mod Tree

@@ -1,0 +1,35 @@
+-- A binary indexed tree: the place i holds the sum of the values at the numbers above `rest i` and up to i. Assumes nothing.
+use mathlib.Core.Path.{_≡_}
+use mathlib.Core.Bool.{cond}
+use mathlib.Core.List.{List}
+use Prim.Native.Nat.{ℕ, zero, suc, _+_, _-_, _%_, _^_, _≤_, _<_}
+use lib.Bits.{bitAnd}
+use lib.Dec.{leb, ltb}
+use lib.ListN.{length, getD}
+
+-- a number without its lowest bit that is set
+unfoldable pub rest : ℕ → ℕ
+rest i = bitAnd i (i - 1)
+
+-- what the place i takes of a value at a number: all, if the number is above `rest i` and up to i
+unfoldable pub share : ℕ → ℕ → ℕ → ℕ
+share number value i = cond (ltb (rest i) number) (cond (leb number i) value 0) 0
+
+-- a tree after a value was added at a number
+pub record Added (number value : ℕ) (old new : List ℕ) : Type 0 where
+  pub places : length new ≡ length old
+  pub at : (i : ℕ) → i < length old → getD new i 0 ≡ (getD old i 0 + share number value i) % 2 ^ 32
+
+-- what stands at the places i, `rest i`, `rest (rest i)` and so on, as many of them as are not 0 and as there is fuel
+unfoldable pub partsTo : ℕ → List ℕ → ℕ → ℕ
+partsTo zero tree i = 0
+partsTo (suc fuel) tree zero = 0
+partsTo (suc fuel) tree (suc i) = getD tree (suc i) 0 + partsTo fuel tree (rest (suc i))
+
+-- the sum of the values at the numbers from 1 to a number; 0 where the tree has no place for it
+unfoldable pub sumTo : List ℕ → ℕ → ℕ
+sumTo tree number = cond (ltb number (length tree)) (partsTo number tree number % 2 ^ 32) 0
+
+-- a tree holds the sums of values of which f i is the sum over the numbers above i
+pub record Summed (f : ℕ → ℕ) (tree : List ℕ) : Type 0 where
+  pub at : (i : ℕ) → 1 ≤ i → i < length tree → getD tree i 0 + f i ≡ f (rest i)
