@@ -3,7 +3,7 @@ use mathlib.Core.Path.{_≡_, refl, sym, ap, _∙_}
 use mathlib.Core.Bool.{Bool, true, false, cond, true≢false}
 use mathlib.Core.List.{List, [], _∷_, _++_}
 use mathlib.Core.Option.{none, some}
-use Prim.Native.Nat.{ℕ, _+_, _≤_, _<_}
+use Prim.Native.Nat.{ℕ, _+_, _-_, _≤_, _<_}
 use native.Mathlib.Omega.{arith}
 use lib.ListN.{length, getD, set, length-set, length-append, List·getD-append}
 use lib.Seq.{length-take-le, getD-set-same, getD-set-other, getD-append-seam}
@@ -29,7 +29,7 @@ use Rattle.metrics.proofs.Records.{record-none, record-some}
 
 -- before the first place
 pub filled-none : (from value : ℕ) (old : List ℕ) → Filled from from value old old
-filled-none from value old = record { same = refl; inside = λ k h g. absurd (omega arith); below = λ k h. refl }
+filled-none from value old = record { same = refl; inside = λ k h g. absurd (omega arith); below = λ k h. refl; past = λ k h. refl }
 
 -- one place more
 pub filled-more : (from s value : ℕ) (old new : List ℕ) → from ≤ s → s < length new → Filled from s value old new
@@ -39,6 +39,7 @@ filled-more from s value old new h g f =
       same = length-set new s value ∙ f .same;
       inside = λ k a b. at k a b (eqb k s) refl;
       below = λ k a. getD-set-other new s k value 0 (λ e. omega arith) ∙ f .below k a;
+      past = λ k a. getD-set-other new s k value 0 (λ e. omega arith) ∙ f .past k (omega arith);
     }
   where
     at : (k : ℕ) → from ≤ k → k < s + 1 → (t : Bool) → eqb k s ≡ t → getD (set new s value) k 0 ≡ value
@@ -46,6 +47,15 @@ filled-more from s value old new h g f =
     at k a b false e =
         let other : k ≡ s → ⊥ = eqb-false k s e in
         getD-set-other new s k value 0 other ∙ f .inside k a (omega (arith, other))
+
+-- to the last place, or none where there is none
+pub filled-to : (from to s value : ℕ) (old new : List ℕ) → to ≤ s → s ≤ from + (to - from) → Filled from s value old new → Filled from to value old new
+filled-to from to s value old new h g f =
+    record { same = f .same; inside = λ k a b. f .inside k a (omega arith); below = f .below; past = λ k a. past k a (ltb k from) refl }
+  where
+    past : (k : ℕ) → to ≤ k → (t : Bool) → ltb k from ≡ t → getD new k 0 ≡ getD old k 0
+    past k a true e = f .below k (ltb-true k from e)
+    past k a false e = f .past k (omega (arith, ltb-false k from e))
 
 -- ---- one arrival more
 
@@ -132,7 +142,7 @@ module _ (l : List Arrival) (a : Arrival) (numbers records skipped : List ℕ) (
     (f : Follows l numbers records skipped state) (new : has (a .number) l ≡ false)
     (low : 1 ≤ a .number) (high : a .number ≤ 4096) (room : length l < 4096) where
   -- it is the last of the first arrivals
-  one-more : firsts (l ++ (a ∷ [])) ≡ firsts l ++ (a ∷ [])
+  pub one-more : firsts (l ++ (a ∷ [])) ≡ firsts l ++ (a ∷ [])
   one-more = firsts-more l a ∙ with-first (firsts l) a (has-firsts (a .number) l ∙ new)
 
   -- its number is put after theirs
@@ -151,19 +161,21 @@ module _ (l : List Arrival) (a : Arrival) (numbers records skipped : List ℕ) (
       let d = reordered-discontinuity s one (firsts l) (has-firsts s l ∙ other) (lt-leb _ _ h) in
       f .skips s one h other ∙ ap placeOf (d .is ∙ sym (discontinuity-stays (firsts l) a s (d .at) (d .is)))
 
-  -- the tables under a first arrival that is reordered
-  pub kept-reordered : a .number < state .next
-      → Follows (l ++ (a ∷ [])) (set numbers (state .count) (a .number)) (set records (a .number) (length l + 1)) skipped
+  -- the tables under a first arrival that is reordered: where its discontinuity stood any number may stand
+  pub kept-reordered : (largest : ℕ) → a .number < state .next
+      → Follows (l ++ (a ∷ [])) (set numbers (state .count) (a .number)) (set records (a .number) (length l + 1)) (set skipped (a .number) largest)
       (record { count = state .count + 1; next = state .next })
   unfolding nextAfter
-  kept-reordered late =
+  kept-reordered largest late =
       let stays : nextExp (firsts l ++ (a ∷ [])) ≡ nextExp (firsts l) = next-more (firsts l) a ∙ rw (lt-leb (nextExp (firsts l)) (a .number) (omega (arith, f .next))) in
       record {
-        places = (simp length-set (f .places .0), simp length-set (f .places .1), f .places .2);
+        places = (simp length-set (f .places .0), simp length-set (f .places .1), simp length-set (f .places .2));
         next = rw (one-more, stays) (f .next);
         numbered = rw one-more numbers-more;
         recorded = records-more;
-        skips = rw (one-more, stays) (λ s one h other. skips-stay s one h (has-more-false s l a other .0));
+        skips = rw (one-more, stays) (λ s one h other.
+            let k = has-more-false s l a other in
+            getD-set-other skipped (a .number) s largest 0 (λ e. k .1 (sym e)) ∙ skips-stay s one h (k .0));
       }
 
   -- the tables under a first arrival that is in order, and skips the packets from NextExp on
@@ -204,6 +216,13 @@ pub before-count : (d : Decoded) (y : Layout) (i : ℕ) → Laid d y → i ≤ y
 before-count d y i h most = length-take-le i (arrivalsOf d) (omega (arith, arrivals-laid d y h))
 
 module _ (d : Decoded) (y : Layout) (i : ℕ) (h : Has d y i) where
+  -- the number of its arrival is that of a packet
+  pub number-few : (a : Arrival) → a ≡ arrivalAt d i → (a .number ≡ arrivalAt d i .number) × (1 ≤ a .number) × (a .number ≤ 4096)
+  number-few a e =
+      let same : a .number ≡ arrivalAt d i .number = ap (λ (b : Arrival). b .number) e in
+      let n = h .file .numbers i (h .inside) in
+      (same, omega (arith, n), omega (arith, n, h .file .sentFew))
+
   -- record i + 1 is one of the arrivals
   pub inside-laid : i < length (arrivalsOf d)
   inside-laid = omega (arith, arrivals-laid d y (h .file))
@@ -217,9 +236,13 @@ module _ (d : Decoded) (y : Layout) (i : ℕ) (h : Has d y i) where
   before-length = before-count d y i (h .file) (omega (arith, h .inside))
 
   -- at most i of them are first arrivals
+  pub numbered-le : (numbers : List ℕ) (count : ℕ) → Numbered (firsts (before d i)) numbers count → (count ≤ i) × (i < 4096)
+  numbered-le numbers count n = omega (arith, n .all, length-firsts (before d i), before-length, h .inside, h .file .few)
+
+  -- the same of the tables
   pub count-le : (numbers records skipped : List ℕ) (state : State) → Follows (before d i) numbers records skipped state
       → (state .count ≤ i) × (i < 4096)
-  count-le numbers records skipped state f = omega (arith, f .numbered .all, length-firsts (before d i), before-length)
+  count-le numbers records skipped state f = numbered-le numbers (state .count) (f .numbered)
 
 module _ (l : List Arrival) (numbers records skipped : List ℕ) (state : State) (f : Follows l numbers records skipped state)
     (s : ℕ) (low : 1 ≤ s) (high : s ≤ 4096) where
@@ -238,31 +261,3 @@ module _ (l : List Arrival) (numbers records skipped : List ℕ) (state : State)
       go : (t : Bool) → has s l ≡ t → t ≡ false
       go false q = refl
       go true q = absurd (omega (arith, record-some s l q, f .recorded .at s low high, e))
-
-module _ (d : Decoded) (y : Layout) (i : ℕ) (h : Has d y i) (numbers records skipped : List ℕ) (state : State)
-    (f : Follows (before d i) numbers records skipped state) (n : ℕ) (is : n ≡ arrivalAt d i .number) (low : 1 ≤ n) (high : n ≤ 4096) where
-  -- what record i + 1 leaves, where it is a copy
-  pub noted-copy : (getD records n 0 ≡ 0 → ⊥) → Follows (before d (i + 1)) numbers records skipped state
-  noted-copy e =
-      let arrived : has (arrivalAt d i .number) (before d i) ≡ true = rw is at (arrived-recorded (before d i) numbers records skipped state f n low high e) in
-      rw (before-more d y i h) (kept-copy (before d i) (arrivalAt d i) numbers records skipped state f arrived)
-
-  -- a packet without a record is new
-  new-at : getD records n 0 ≡ 0 → has (arrivalAt d i .number) (before d i) ≡ false
-  new-at e = rw is at (new-recorded (before d i) numbers records skipped state f n low high e)
-
-  -- where it is reordered
-  pub noted-reordered : getD records n 0 ≡ 0 → n < state .next
-      → Follows (before d (i + 1)) (set numbers (state .count) n) (set records n (i + 1)) skipped (record { count = state .count + 1; next = state .next })
-  noted-reordered e late =
-      let k = kept-reordered (before d i) (arrivalAt d i) numbers records skipped state f (new-at e) (rw is at low) (rw is at high)
-      (omega (arith, before-length d y i h, count-le d y i h numbers records skipped state f)) (rw is at late) in
-      rw (before-more d y i h, is) (rw (before-length d y i h) at k)
-
-  -- where it is in order
-  pub noted-in-order : getD records n 0 ≡ 0 → state .next ≤ n → (skipped′ : List ℕ) → Filled (state .next) n (state .count + 1) skipped skipped′
-      → Follows (before d (i + 1)) (set numbers (state .count) n) (set records n (i + 1)) skipped′ (record { count = state .count + 1; next = n + 1 })
-  noted-in-order e ahead skipped′ filled =
-      let k = kept-in-order (before d i) (arrivalAt d i) numbers records skipped state f (new-at e) (rw is at low) (rw is at high)
-      (omega (arith, before-length d y i h, count-le d y i h numbers records skipped state f)) (rw is at ahead) skipped′ (rw is at filled) in
-      rw (before-more d y i h, is) (rw (before-length d y i h) at k)

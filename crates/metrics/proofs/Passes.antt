@@ -26,13 +26,13 @@ use Rattle.sample.specs.declared.Layout.{Layout}
 use Rattle.sample.specs.Decode.{Decoded}
 use Rattle.metrics.specs.Sample.{sizeOf, arrivalsOf, answersOf}
 use Rattle.metrics.specs.Private.Sample.{arrivalAt, before, answerAt, Laid, Has}
-use Rattle.metrics.specs.Private.Tables.{Follows, Late, classOf}
+use Rattle.metrics.specs.Private.Tables.{Follows, Late, classOf, Tells, lateOnly}
 use Rattle.metrics.specs.Private.Steps.{Inside, Small, noCounts, countsBy, tallyBy, Fewer, noParts, partsBy, partsOf, orZero, Marked, markBy}
 use Rattle.metrics.specs.declared.look.Class.{Class}
 use Rattle.metrics.specs.declared.figures.Parts.{Parts}
 use Rattle.metrics.specs.declared.tables.State.{State}
 use Rattle.metrics.proofs.Follow.{arrivals-laid, before-more, before-length}
-use Rattle.metrics.proofs.Told.{Tells, late-place, late-found}
+use Rattle.metrics.proofs.Told.{late-place, late-found}
 
 -- the answers for the records before record i + 1
 abbrev pub answersTo : Decoded → ℕ → List Answer
@@ -41,7 +41,7 @@ answersTo d i = answers (sizeOf d) (before d i)
 -- ---- before any arrival
 
 -- a table of zeros
-zeros : (n k : ℕ) → getD {A = ℕ} (replicate n 0) k 0 ≡ 0
+pub zeros : (n k : ℕ) → getD {A = ℕ} (replicate n 0) k 0 ≡ 0
 zeros zero k = refl
 zeros (suc n) zero = refl
 zeros (suc n) (suc k) = zeros n k
@@ -169,20 +169,22 @@ unfolding partsOf nReordered
 parts-more low high l a = rw (count-more isReordered l a, count-more (isNReordered low) l a, count-more (isNReordered high) l a)
 
 -- their step, by the class
-parts-told : (d : Decoded) (i m : ℕ) (k : Class) → Tells d i m k → (low high number : ℕ) (p : Parts) → number ≡ arrivalAt d i .number
-    → partsAfter low high p (answerAt d i) ≡ partsBy low high (largestN (firsts (before d i)) number) p k
+parts-told : (d : Decoded) (i m : ℕ) (k : Class) → Tells d i m k → (low high largest : ℕ) (p : Parts)
+    → largest ≡ lateOnly (largestN (firsts (before d i)) (arrivalAt d i .number)) k
+    → partsAfter low high p (answerAt d i) ≡ partsBy low high largest p k
 unfolding isNReordered partsBy reorderedAnswer
-parts-told d i m (Class.Duplicate first) e low high number p is = rw e
-parts-told d i m (Class.InOrder jump) e low high number p is = rw e
-parts-told d i m (Class.Reordered at) e low high number p is = rw (e .answer, is)
+parts-told d i m (Class.Duplicate first) e low high largest p is = rw e
+parts-told d i m (Class.InOrder jump) e low high largest p is = rw e
+parts-told d i m (Class.Reordered at) e low high largest p is = rw (e .answer, is)
 
--- those under record i + 1
-pub parts-next : (d : Decoded) (y : Layout) (i : ℕ) → Has d y i → (m : ℕ) (k : Class) → Tells d i m k → (low high number : ℕ) → number ≡ arrivalAt d i .number
-    → partsOf low high (answersTo d (i + 1)) ≡ partsBy low high (largestN (firsts (before d i)) number) (partsOf low high (answersTo d i)) k
-parts-next d y i h m k t low high number is =
+-- those under record i + 1, whose largest n is this if it is reordered
+pub parts-next : (d : Decoded) (y : Layout) (i : ℕ) → Has d y i → (m : ℕ) (k : Class) → Tells d i m k → (low high largest : ℕ)
+    → largest ≡ lateOnly (largestN (firsts (before d i)) (arrivalAt d i .number)) k
+    → partsOf low high (answersTo d (i + 1)) ≡ partsBy low high largest (partsOf low high (answersTo d i)) k
+parts-next d y i h m k t low high largest is =
     ap (partsOf low high) (answers-next d y i h)
     ∙ parts-more low high (answersTo d i) (answerAt d i)
-    ∙ parts-told d i m k t low high number (partsOf low high (answersTo d i)) is
+    ∙ parts-told d i m k t low high largest (partsOf low high (answersTo d i)) is
 
 -- no more answers pass a test than there are
 count-most : (p : Answer → Bool) (l : List Answer) → count p l ≤ length l

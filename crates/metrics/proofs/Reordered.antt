@@ -20,7 +20,7 @@ use Rattle.rfc4737.proofs.Arrivals.{fold-take}
 use Rattle.rfc4737.proofs.Folds.{offset-more}
 use Rattle.rfc4737.proofs.Jumps.{placed-more, firstAbove-append, orElse}
 use Rattle.metrics.specs.Private.Sample.{noArrival}
-use Rattle.metrics.specs.Private.Tables.{Numbered, Sized, Above}
+use Rattle.metrics.specs.Private.Tables.{Numbered, Above}
 
 -- ---- numbers above a packet's, from a place to another
 
@@ -41,27 +41,19 @@ module _ (numbers : List ℕ) (s : ℕ) where
       side p a b true q = f .at p a (ltb-true p mid q)
       side p a b false q = g .at p (ltb-false p mid q) b
 
-  -- at one place more after k places
-  pub above-more : (low k : ℕ) → Above numbers s low (low + k) → s < getD numbers (low + k) 0 → Above numbers s low (low + (k + 1))
-  above-more low k f g =
-      let e : low + k + 1 ≡ low + (k + 1) = omega arith in
-      rw e at (above-join f (above-one (low + k) g))
-
-  -- at n places more before a place
-  pub above-back : {p high : ℕ} (n : ℕ) → Above numbers s p high → n ≤ p → Above numbers s (p - n) (p - n + n)
-      → Above numbers s (p - n) high
-  above-back {p} n f a g =
-      let e : p - n + n ≡ p = omega arith in
-      above-join (rw e at g) f
+  -- at one place more before a place
+  pub above-back : {p high : ℕ} → 1 ≤ p → s < getD numbers (p - 1) 0 → Above numbers s p high → Above numbers s (p - 1) high
+  above-back {p} low g f =
+      let e : p - 1 + 1 ≡ p = omega arith in
+      above-join (rw e at (above-one (p - 1) g)) f
 
 -- ---- over the numbers of a table
 
 module _ (numbers : List ℕ) (count s : ℕ) where
-  -- a sum is the byte offset over the first p positions, by the table of sizes, where none of the first `from` has a greater number
-  abbrev pub OffsetTo : List ℕ → ℕ → ℕ → ℕ → Type 0
-  OffsetTo sizes from p sum =
-      (size : ℕ → ℕ) (fs : List Arrival) → Numbered fs numbers count → Sized size numbers sizes count
-      → byteOffset size (take from fs) s ≡ 0 → sum ≡ byteOffset size (take p fs) s
+  -- a sum is the byte offset over the first p positions, where none of the first `from` has a greater number
+  abbrev pub OffsetTo : (ℕ → ℕ) → ℕ → ℕ → ℕ → Type 0
+  OffsetTo size from p sum =
+      (fs : List Arrival) → Numbered fs numbers count → byteOffset size (take from fs) s ≡ 0 → sum ≡ byteOffset size (take p fs) s
 
   -- the largest n is that over the first p positions, and one for each position after them
   abbrev LargestFrom : ℕ → Type 0
@@ -73,18 +65,17 @@ module _ (numbers : List ℕ) (count s : ℕ) where
     at fs h = sym (is ∙ h .at p (omega (arith, h .all)))
 
     -- under one position more, of a greater number
-    pub offset-greater : (sizes : List ℕ) (from sum k : ℕ) → s < n → k ≡ getD sizes p 0 → OffsetTo sizes from p sum
-        → OffsetTo sizes from (p + 1) (sum + k)
+    pub offset-greater : (size : ℕ → ℕ) (from sum k : ℕ) → s < n → k ≡ size n → OffsetTo size from p sum → OffsetTo size from (p + 1) (sum + k)
     unfolding byteOffset
-    offset-greater sizes from sum k g e o size fs h z none-before =
-        ap₂ (λ (a b : ℕ). a + b) (o size fs h z none-before) (e ∙ z .at p inside ∙ ap size (sym is))
+    offset-greater size from sum k g e o fs h none-before =
+        ap₂ (λ (a b : ℕ). a + b) (o fs h none-before) e
         ∙ sym (fold-take _ 0 noArrival fs p (omega (arith, h .all)) ∙ rw (at fs h, lt-ltb s n g))
 
     -- of a number that is not greater
-    pub offset-same : (sizes : List ℕ) (from sum : ℕ) → n ≤ s → OffsetTo sizes from p sum → OffsetTo sizes from (p + 1) sum
+    pub offset-same : (size : ℕ → ℕ) (from sum : ℕ) → n ≤ s → OffsetTo size from p sum → OffsetTo size from (p + 1) sum
     unfolding byteOffset
-    offset-same sizes from sum g o size fs h z none-before =
-        o size fs h z none-before
+    offset-same size from sum g o fs h none-before =
+        o fs h none-before
         ∙ sym (fold-take _ 0 noArrival fs p (omega (arith, h .all)) ∙ rw (at fs h, le-ltb s n g) (omega arith))
 
     -- the same, where the number at position p + 1 is greater
@@ -104,11 +95,10 @@ module _ (numbers : List ℕ) (count s : ℕ) where
         omega (arith, o fs h)
 
   -- the byte offset over all positions
-  pub offset-all : (sizes : List ℕ) (from p sum : ℕ) → count ≤ p → OffsetTo sizes from p sum
-      → (size : ℕ → ℕ) (fs : List Arrival) → Numbered fs numbers count → Sized size numbers sizes count
-      → byteOffset size (take from fs) s ≡ 0 → sum ≡ byteOffset size fs s
-  offset-all sizes from p sum g o size fs h z none-before =
-      o size fs h z none-before ∙ ap (λ (l : List Arrival). byteOffset size l s) (take-all p fs (omega (arith, h .all)))
+  pub offset-all : (size : ℕ → ℕ) (from p sum : ℕ) → count ≤ p → OffsetTo size from p sum
+      → (fs : List Arrival) → Numbered fs numbers count → byteOffset size (take from fs) s ≡ 0 → sum ≡ byteOffset size fs s
+  offset-all size from p sum g o fs h none-before =
+      o fs h none-before ∙ ap (λ (l : List Arrival). byteOffset size l s) (take-all p fs (omega (arith, h .all)))
 
   -- the largest n, where the numbers at n positions after the first p, up to the last, are all greater
   largest-above : (n p : ℕ) → n + p ≡ count → Above numbers s p count → LargestFrom p

@@ -7,7 +7,7 @@ use native.Mathlib.Omega.{arith}
 use lib.Dec.{eqb, leb}
 use lib.ListN.{length, take, getD}
 use lib.Seq.{getD-take}
-use borrow.Author.Tests.{eqb-true, eqb-false, leb-true, leb-false, lt-leb}
+use borrow.Author.Tests.{eq-eqb, eqb-true, eqb-false, leb-true, leb-false, lt-leb}
 use Rattle.rfc4737.specs.declared.Arrival.{Arrival}
 use Rattle.rfc4737.specs.declared.Answer.{Answer}
 use Rattle.rfc4737.specs.declared.LateTime.{LateTime}
@@ -23,19 +23,13 @@ use Rattle.sample.specs.declared.Layout.{Layout}
 use Rattle.sample.specs.Decode.{Decoded}
 use Rattle.metrics.specs.Sample.{sizeOf, arrivalsOf}
 use Rattle.metrics.specs.Private.Sample.{noArrival, arrivalAt, before, answerAt, Laid, Has}
-use Rattle.metrics.specs.Private.Tables.{Numbered, Packets, Recorded, Follows, Late, placeOf, classBy}
+use Rattle.metrics.specs.Private.Tables.{Numbered, Packets, Recorded, Follows, Late, placeOf, classBy, Tells, lateOnly, NewIfLate}
 use Rattle.metrics.specs.Private.Steps.{placeIn, placeBy}
 use Rattle.metrics.specs.declared.look.Class.{Class}
 use Rattle.metrics.specs.declared.tables.State.{State}
 use Rattle.metrics.proofs.Follow.{before-count, before-length, arrived-recorded, new-recorded}
-use Rattle.metrics.proofs.Records.{record-some, has-at, first-at}
+use Rattle.metrics.proofs.Records.{record-none, record-some, has-at, first-at}
 use Rattle.metrics.proofs.Reordered.{Found, found}
-
--- what a class says of the answer for record i + 1, after so many first arrivals
-abbrev pub Tells : Decoded → ℕ → ℕ → Class → Type 0
-Tells d i count (Class.Duplicate first) = answerAt d i ≡ Answer.Duplicate (record { first = first })
-Tells d i count (Class.InOrder jump) = answerAt d i ≡ Answer.InOrder (record { position = count + 1; jump = jump })
-Tells d i count (Class.Reordered at) = Late d i at
 
 module _ (d : Decoded) (i : ℕ) (numbers records skipped : List ℕ) (state : State)
     (f : Follows (before d i) numbers records skipped state) (n : ℕ) (is : n ≡ arrivalAt d i .number) (low : 1 ≤ n) (high : n ≤ 4096) where
@@ -90,6 +84,25 @@ module _ (d : Decoded) (i : ℕ) (numbers records skipped : List ℕ) (state : S
   -- a class that the tables give tells the answer
   pub told : (k : Class) → k ≡ classBy records skipped (state .next) n → Tells d i (state .count) k
   told k e = rw e tells
+
+  -- and a packet that is reordered by it has not arrived
+  pub new-told : (k : Class) → k ≡ classBy records skipped (state .next) n → NewIfLate n (firsts (before d i)) k
+  unfolding classBy
+  new-told k q = rw q (go (eqb (getD records n 0) 0) refl (leb (state .next) n))
+    where
+      go : (t : Bool) → eqb (getD records n 0) 0 ≡ t → (u : Bool)
+          → NewIfLate n (firsts (before d i)) (cond t (cond u (Class.InOrder (n - state .next)) (Class.Reordered (getD skipped n 0))) (Class.Duplicate (getD records n 0)))
+      go false e u = tt
+      go true e true = tt
+      go true e false = has-firsts n (before d i) ∙ new-recorded (before d i) numbers records skipped state f n low high (eqb-true _ _ e)
+
+  -- a packet that has not arrived and is below NextExp is reordered by it
+  pub late-told : (k : Class) → k ≡ classBy records skipped (state .next) n → (m largest : ℕ) → largest ≡ lateOnly m k
+      → has n (before d i) ≡ false → n < nextExp (firsts (before d i)) → largest ≡ m
+  unfolding classBy
+  late-told k q m largest e new behind =
+      e ∙ ap (lateOnly m) q
+      ∙ simp (eq-eqb (getD records n 0) 0 (f .recorded .at n low high ∙ record-none n (before d i) new), lt-leb (state .next) n (omega (arith, f .next)))
 
 -- where the discontinuity of a reordered record stands
 pub late-found : (d : Decoded) (i at : ℕ) (h : Late d i at) → Found (sizeOf d) (firsts (before d i)) (arrivalAt d i .number) (h .place)
@@ -173,15 +186,14 @@ module _ (d : Decoded) (y : Layout) (i at count : ℕ) (h : Has d y i) (late : L
       ∙ rw (sym (late .position)) (late-found d i at late .time)
 
   -- the answer, from its parts
-  pub late-answer : (past own offset largest : ℕ) (elapse : LateTime) (number : ℕ)
-      → number ≡ arrivalAt d i .number
+  pub late-answer : (past own offset largest : ℕ) (elapse : LateTime)
       → past ≡ arrivalAt d (getD records (getD numbers (at - 1) 0) 0 - 1) .time → own ≡ arrivalAt d i .time → elapse ≡ elapsed past own
-      → offset ≡ byteOffset (sizeOf d) (firsts (before d i)) number → largest ≡ largestN (firsts (before d i)) number
+      → offset ≡ byteOffset (sizeOf d) (firsts (before d i)) (arrivalAt d i .number) → largest ≡ largestN (firsts (before d i)) (arrivalAt d i .number)
       → Answer.Reordered (record { position = count + 1; extent = count + 1 - at; late = elapse; offset = offset; largest = largest }) ≡ answerAt d i
   unfolding reorderedAnswer extentFrom lateFrom
-  late-answer past own offset largest elapse number is p o e f g =
-      sym (late .answer ∙ rw (late .position, ← nums .all, ← is, ← f, ← g, ← late-time, ← p, ← o, ← e))
+  late-answer past own offset largest elapse p o e f g =
+      sym (late .answer ∙ rw (late .position, ← nums .all, ← f, ← g, ← late-time, ← p, ← o, ← e))
 
   -- none before it has a greater number
-  pub late-alone : (number : ℕ) → number ≡ arrivalAt d i .number → byteOffset (sizeOf d) (take (at - 1) (firsts (before d i))) number ≡ 0
-  late-alone number is = rw (is, sym (late .position)) (late-found d i at late .alone)
+  pub late-alone : byteOffset (sizeOf d) (take (at - 1) (firsts (before d i))) (arrivalAt d i .number) ≡ 0
+  late-alone = rw (sym (late .position)) (late-found d i at late .alone)

@@ -76,7 +76,7 @@ module _ (size : ℕ → ℕ) (small : (s : ℕ) → size s ≤ 65535) (earlier 
           }
 
 -- every payload size of a file fits two octets
-size-most : (file : List ℕ) → Octets file → (s : ℕ) → sizeOf (decode file) s ≤ 65535
+pub size-most : (file : List ℕ) → Octets file → (s : ℕ) → sizeOf (decode file) s ≤ 65535
 unfolding sizeIn
 size-most file o s = go (decode file) refl
   where

@@ -2,3 +2,4 @@
 pub mod Sample
 pub mod Tables
 pub mod Steps
+pub mod Engine

@@ -5,16 +5,20 @@ ghost use mathlib.Core.List.{[], _∷_};
 ghost use Prim.Native.Nat.{_≤_};
 ghost use Rattle.rfc4737.specs.Refusals.{within, inCase, firstOf, askedOutside};
 ghost use Rattle.sample.specs.Decode.{decode};
-ghost use Rattle.metrics.specs.Private.Sample.{Laid, before};
+ghost use Rattle.metrics.specs.Private.Sample.{Laid, Has, before, answerAt};
 ghost use Rattle.metrics.specs.Private.Tables.{Follows};
 ghost use Rattle.metrics.specs.Figures.{recordAnswer};
 use crate::RecordAnswer;
-use crate::look::look;
+use crate::input;
+use crate::look::Class;
+use crate::look::answer_by;
+use crate::look::class_of;
+use crate::scan::largest;
+use crate::scan::offset;
 use crate::tables::FIRSTS;
 use crate::tables::PLACES;
 use crate::tables::State;
 use crate::tables::note;
-use crate::tables::note_sizes;
 use crate::tables::start;
 use rfc4737::Answer;
 use rfc4737::InOrderFigures;
@@ -54,10 +58,51 @@ fn follow(
     let mut state = start();
     let mut i: u32 = 0;
     while i < n {
-        state = note(file, y, i, numbers, records, skipped, state);
+        let number = input::number(file, y, i);
+        state = note(numbers, records, skipped, i, number, 0, state);
         i += 1;
     }
     state
+}
+
+// The answer for record i + 1 from the tables of the records before it. A reordered packet costs as many steps as its
+// extent, any other one step.
+fn look(
+    file: &[u8],
+    y: Layout,
+    i: u32,
+    numbers: &[u16; FIRSTS],
+    records: &[u16; PLACES],
+    skipped: &[u16; PLACES],
+    state: State,
+) -> Answer
+    requires { ⌜ Has (decode (now file)) y i × Follows (before (decode (now file)) i) (now numbers) (now records) (now skipped) state ⌝ }
+    ensures { λ r. ⌜ r ≡ answerAt (decode (now (file .entry))) i ⌝ }
+{
+    let arrival = input::arrival(file, y, i);
+    let number = arrival.number;
+    let count = state.count;
+    let class = class_of(records, skipped, state.next, number);
+    match class {
+        Class::Duplicate(_) => answer_by(file, y, i, arrival, numbers, records, count, class, 0, 0),
+        Class::InOrder(_) => answer_by(file, y, i, arrival, numbers, records, count, class, 0, 0),
+        Class::Reordered(at) => {
+            let offset = offset(file, y, numbers, at - 1, count, number);
+            let largest = largest(numbers, count, number);
+            answer_by(
+                file,
+                y,
+                i,
+                arrival,
+                numbers,
+                records,
+                count,
+                class,
+                offset,
+                largest,
+            )
+        }
+    }
 }
 
 // The answer for a record of a file: as many steps as there are arrivals before it, and its extent.
@@ -77,13 +122,11 @@ pub(crate) fn answer_of(file: &[u8], y: Layout, asked: u32) -> RecordAnswer
     }
     let i = asked - 1;
     let mut numbers = [0u16; FIRSTS];
-    let mut sizes = [0u16; FIRSTS];
     let mut records = [0u16; PLACES];
     let mut skipped = [0u16; PLACES];
     let state = follow(file, y, i, &mut numbers, &mut records, &mut skipped);
-    note_sizes(file, y, &numbers, &mut sizes, 0, state.count);
     RecordAnswer {
         refusal,
-        answer: look(file, y, i, &numbers, &sizes, &records, &skipped, state),
+        answer: look(file, y, i, &numbers, &records, &skipped, state),
     }
 }

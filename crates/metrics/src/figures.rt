@@ -1,22 +1,18 @@
 // The figures of a whole sample, each in one pass over the arrivals.
 ghost use mathlib.Core.Path.{_≡_};
-ghost use mathlib.Core.List.{List};
 ghost use Prim.Native.Nat.{ℕ, _+_, _≤_, _<_};
 ghost use lib.ListN.{length, getD};
-ghost use Rattle.rfc4737.specs.declared.Arrival.{Arrival};
 ghost use Rattle.rfc4737.specs.Order.{nextAfter};
-ghost use Rattle.rfc4737.specs.Extent.{largestN};
 ghost use Rattle.rfc4737.specs.Runs.{lengthened, ended, arrived, counts};
 ghost use Rattle.rfc4737.specs.Tally.{tallyPlace, tally};
 ghost use Rattle.sample.specs.Decode.{decode};
 ghost use Rattle.metrics.specs.Sample.{answersOf};
 ghost use Rattle.metrics.specs.Private.Sample.{Laid};
-ghost use Rattle.metrics.specs.Private.Tables.{Numbered};
 ghost use Rattle.metrics.specs.Private.Steps.{Inside, Small, noCounts, countsBy, kindBy, tallyBy, Fewer, noParts, reachedBy, partsBy, partsOf};
 use crate::input;
 use crate::look::Class;
 use crate::look::class_of;
-use crate::scan::largest;
+use crate::scan::largest_of;
 use crate::tables::FIRSTS;
 use crate::tables::PLACES;
 use crate::tables::note;
@@ -184,7 +180,15 @@ pub(crate) fn tally_of(file: &[u8], y: Layout) -> [u32; 101]
         let number = input::number(file, y, i);
         let class = class_of(&records, &skipped, state.next, number);
         tallied(&mut t, state.count, class);
-        state = note(file, y, i, &mut numbers, &mut records, &mut skipped, state);
+        state = note(
+            &mut numbers,
+            &mut records,
+            &mut skipped,
+            i,
+            number,
+            0,
+            state,
+        );
         i += 1;
     }
     t
@@ -225,34 +229,23 @@ fn reached(n: u32, most: u32, part: u32) -> u32
     part
 }
 
-// The parts under one arrival more, of this number and after so many first arrivals.
-fn parted(
-    numbers: &[u16; FIRSTS],
-    count: u32,
-    number: u32,
-    low: u32,
-    high: u32,
-    p: Parts,
-    class: Class,
-) -> Parts
-    requires { ⌜ (count ≤ 4096) × Fewer p ⌝ }
-    ensures { λ r. ⌜ ((fs : List Arrival) → Numbered fs (now (numbers .entry)) count → r ≡ partsBy low high (largestN fs number) p class) ⌝ }
+// The parts under one arrival more, which has this largest n if it is reordered.
+fn parted(low: u32, high: u32, largest: u32, p: Parts, class: Class) -> Parts
+    requires { ⌜ Fewer p ⌝ }
+    ensures { λ r. ⌜ r ≡ partsBy low high largest p class ⌝ }
 {
     match class {
         Class::Duplicate(_) => return p,
         Class::InOrder(_) => return p,
-        Class::Reordered(_) => {
-            let most = largest(numbers, count, number);
-            Parts {
-                reordered: p.reordered + 1,
-                low: reached(low, most, p.low),
-                high: reached(high, most, p.high),
-            }
-        }
+        Class::Reordered(_) => Parts {
+            reordered: p.reordered + 1,
+            low: reached(low, largest, p.low),
+            high: reached(high, largest, p.high),
+        },
     }
 }
 
-// The shares of a sample: a reordered packet costs as many steps as its largest n.
+// The shares of a sample: one pass, with the largest n by links.
 pub(crate) fn shares_of(file: &[u8], y: Layout, low: u32, high: u32) -> Shares
     requires { ⌜ Laid (decode (now file)) y ⌝ }
     ensures { λ r. ⌜ (r .parts ≡ partsOf low high (answersOf (decode (now (file .entry)))))
@@ -267,8 +260,17 @@ pub(crate) fn shares_of(file: &[u8], y: Layout, low: u32, high: u32) -> Shares
     while i < y.arrivals {
         let number = input::number(file, y, i);
         let class = class_of(&records, &skipped, state.next, number);
-        parts = parted(&numbers, state.count, number, low, high, parts, class);
-        state = note(file, y, i, &mut numbers, &mut records, &mut skipped, state);
+        let largest = largest_of(&numbers, &skipped, state.count, number, class);
+        parts = parted(low, high, largest, parts, class);
+        state = note(
+            &mut numbers,
+            &mut records,
+            &mut skipped,
+            i,
+            number,
+            largest as u16,
+            state,
+        );
         i += 1;
     }
     Shares {

@@ -70,7 +70,15 @@ fn mark_all(file: &[u8], y: Layout, asked: u32, found: &mut [u16; PLACES]) -> u3
             position = position_of(state.count, class);
         }
         mark(found, state.count, class);
-        state = note(file, y, i, &mut numbers, &mut records, &mut skipped, state);
+        state = note(
+            &mut numbers,
+            &mut records,
+            &mut skipped,
+            i,
+            number,
+            0,
+            state,
+        );
         i += 1;
     }
     position

@@ -42,9 +42,9 @@ pub(crate) fn time(file: &[u8], y: Layout, i: u32) -> u64
 }
 
 // The payload size of a packet.
-pub(crate) fn size(file: &[u8], y: Layout, s: u32) -> u16
+pub(crate) fn size(file: &[u8], y: Layout, s: u32) -> u32
     requires { ⌜ Laid (decode (now file)) y × (1 ≤ s) × (s ≤ y .sent) ⌝ }
-    ensures { λ r. ⌜ r ≡ sizeOf (decode (now (file .entry))) s ⌝ }
+    ensures { λ r. ⌜ (r ≡ sizeOf (decode (now (file .entry))) s) × (r ≤ 65535) ⌝ }
 {
-    sample::payload_size(file, y, s - 1)
+    sample::payload_size(file, y, s - 1) as u32
 }

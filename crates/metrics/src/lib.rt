@@ -1,7 +1,8 @@
 // Every figure of a sample, by the definitions of rfc4737 over what the file decodes to. Every call takes all
 // input there is, and first checks the file, in one pass over it; on refusal it answers as for no arrivals.
-// After that each call makes one pass over the arrivals, of a few steps each; a reordered packet may cost further
-// steps, at most as many as its extent, where the call says so.
+// No call takes a quadratic number of steps: with A arrivals of K packets the check and each pass take a number that
+// grows with A + K, and where a call says so with A times the binary digits of K. Tables of 4,096 places are zeroed
+// whatever A and K are.
 ghost use mathlib.Core.Path.{_≡_};
 ghost use Prim.Native.Nat.{_≤_};
 ghost use lib.ListN.{length};
@@ -14,6 +15,7 @@ ghost use Rattle.metrics.specs.Report.{sampleText, ListedTo};
 ghost use Rattle.metrics.specs.Moved.{ClockMoved};
 
 mod answers;
+mod engine;
 mod figures;
 mod gaps;
 mod input;
@@ -22,6 +24,7 @@ mod quotients;
 mod report;
 mod scan;
 mod tables;
+mod totals;
 
 use answers::answer_of;
 use answers::refusal_of;
@@ -89,7 +92,7 @@ pub struct SampleListing {
     pub length: u32,
 }
 
-// The answer for a record: as many steps as there are arrivals before it, and its extent.
+// The answer for a record: one pass over the arrivals before it, and one over the positions of its extent. A + K.
 pub fn answer(file: &[u8], asked: u32) -> RecordAnswer
     ensures { λ r. ⌜ r ≡ recordAnswer (decode (now (file .entry))) asked ⌝ }
     ensures cases { λ _. ⌜ CasesHold ⌝ }
@@ -98,7 +101,7 @@ pub fn answer(file: &[u8], asked: u32) -> RecordAnswer
     answer_of(file, y, asked)
 }
 
-// The counts of a sample: one pass.
+// The counts of a sample: one pass. A + K.
 pub fn counts(file: &[u8]) -> SampleCounts
     ensures { λ r. ⌜ r ≡ sampleCounts (decode (now (file .entry))) ⌝ }
 {
@@ -109,7 +112,7 @@ pub fn counts(file: &[u8]) -> SampleCounts
     }
 }
 
-// The extent tally of a sample: one pass.
+// The extent tally of a sample: one pass. A + K.
 pub fn tally(file: &[u8]) -> SampleTally
     ensures { λ r. ⌜ r ≡ sampleTally (decode (now (file .entry))) ⌝ }
 {
@@ -121,7 +124,7 @@ pub fn tally(file: &[u8]) -> SampleTally
     }
 }
 
-// The gap of a record: one pass, and as many steps as there are positions before it.
+// The gap of a record: one pass, and as many steps as there are positions before it. A + K.
 pub fn gap(file: &[u8], asked: u32) -> RecordGap
     ensures { λ r. ⌜ r ≡ recordGap (decode (now (file .entry))) asked ⌝ }
 {
@@ -129,8 +132,8 @@ pub fn gap(file: &[u8], asked: u32) -> RecordGap
     gap_of(file, y, asked)
 }
 
-// The two counts of which the degree of n-reordering is made: one pass, and for each reordered packet as many
-// steps as its largest n.
+// The two counts of which the degree of n-reordering is made: one pass, in which the reordered packets together take
+// at most two steps for each first arrival to find the largest n. A + K.
 pub fn n_reordered(file: &[u8], n: u32) -> DegreeCounts
     ensures { λ r. ⌜ r ≡ degreeCounts (decode (now (file .entry))) n ⌝ }
 {
@@ -177,7 +180,8 @@ pub fn ratios(file: &[u8]) -> SampleRatios
 }
 
 // The listing of a sample, at the start of lent memory that has room for it, as LISTING_OCTETS octets have for any:
-// one pass, and for each reordered packet as many steps as its extent; twice that where less is lent.
+// one pass, in which a reordered packet takes at most 11 steps of a tree of sums, and each first arrival before it once
+// at most 12. A times the binary digits of K, and K; twice that where less is lent.
 pub fn listing(file: &[u8], out: &mut [u8]) -> SampleListing
     ensures { λ r. ⌜ ListedTo (decode (now (file .entry))) (now (out .entry)) r (now (out .exit)) ⌝ }
     ensures room { λ _. ⌜ length (sampleText (decode (now (file .entry)))) ≤ listingOctets ⌝ }

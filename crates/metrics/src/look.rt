@@ -1,20 +1,19 @@
-// The answer for a record, from the tables of the arrivals before it.
+// What an arrival is, and the answer for it, from the tables of the arrivals before it.
 ghost use mathlib.Core.Path.{_≡_};
 ghost use Prim.Native.Nat.{_≤_};
 ghost use Rattle.rfc4737.specs.declared.Answer.{Answer};
 ghost use Rattle.rfc4737.specs.Arrivals.{firsts};
+ghost use Rattle.rfc4737.specs.Extent.{byteOffset, largestN};
 ghost use Rattle.sample.specs.Decode.{decode};
 ghost use Rattle.metrics.specs.Sample.{sizeOf};
-ghost use Rattle.metrics.specs.Private.Sample.{Has, before, answerAt};
-ghost use Rattle.metrics.specs.Private.Tables.{Numbered, Sized, Recorded, Follows, Late, classBy};
+ghost use Rattle.metrics.specs.Private.Sample.{Has, arrivalAt, before, answerAt};
+ghost use Rattle.metrics.specs.Private.Tables.{Numbered, Recorded, Late, classBy, Tells, lateOnly};
 use crate::input;
-use crate::scan::largest;
-use crate::scan::offset;
 use crate::tables::FIRSTS;
 use crate::tables::PLACES;
-use crate::tables::State;
 use crate::tables::wide;
 use rfc4737::Answer;
+use rfc4737::Arrival;
 use rfc4737::DuplicateFigures;
 use rfc4737::InOrderFigures;
 use rfc4737::ReorderedFigures;
@@ -49,56 +48,60 @@ pub(crate) fn class_of(
     Class::Reordered(wide(skipped[at]))
 }
 
-// The figures of record i + 1, which is reordered with its discontinuity at a position: as many steps as its
-// extent.
+// The figures of record i + 1, which is reordered with its discontinuity at a position, from its byte offset and its
+// largest n.
 fn reordered(
     file: &[u8],
     y: Layout,
     i: u32,
+    time: u64,
     numbers: &[u16; FIRSTS],
-    sizes: &[u16; FIRSTS],
     records: &[u16; PLACES],
     count: u32,
     at: u32,
+    offset: u32,
+    largest: u32,
 ) -> ReorderedFigures
     requires { ⌜ Has (decode (now file)) y i × Late (decode (now file)) i at
         × Numbered (firsts (before (decode (now file)) i)) (now numbers) count × Recorded (before (decode (now file)) i) (now records)
-        × Sized (sizeOf (decode (now file))) (now numbers) (now sizes) count ⌝ }
+        × (time ≡ arrivalAt (decode (now file)) i .time)
+        × (offset ≡ byteOffset (sizeOf (decode (now file))) (firsts (before (decode (now file)) i)) (arrivalAt (decode (now file)) i .number))
+        × (largest ≡ largestN (firsts (before (decode (now file)) i)) (arrivalAt (decode (now file)) i .number)) ⌝ }
     ensures { λ r. ⌜ Answer.Reordered r ≡ answerAt (decode (now (file .entry))) i ⌝ }
 {
     let place = (at - 1) as usize;
     let packet = wide(numbers[place]) as usize;
     let first = wide(records[packet]);
     let past = input::time(file, y, first - 1);
-    let own = input::time(file, y, i);
-    let number = input::number(file, y, i);
     ReorderedFigures {
         position: count + 1,
         extent: count + 1 - at,
-        late: rfc4737::time::elapsed(past, own),
-        offset: offset(numbers, sizes, at - 1, count, number),
-        largest: largest(numbers, count, number),
+        late: rfc4737::time::elapsed(past, time),
+        offset,
+        largest,
     }
 }
 
-// The answer for record i + 1. A reordered packet costs as many steps as its extent, any other one step.
-pub(crate) fn look(
+// The answer for record i + 1 by its class and, where it is reordered, its byte offset and its largest n.
+pub(crate) fn answer_by(
     file: &[u8],
     y: Layout,
     i: u32,
+    arrival: Arrival,
     numbers: &[u16; FIRSTS],
-    sizes: &[u16; FIRSTS],
     records: &[u16; PLACES],
-    skipped: &[u16; PLACES],
-    state: State,
+    count: u32,
+    class: Class,
+    offset: u32,
+    largest: u32,
 ) -> Answer
-    requires { ⌜ Has (decode (now file)) y i × Follows (before (decode (now file)) i) (now numbers) (now records) (now skipped) state
-        × Sized (sizeOf (decode (now file))) (now numbers) (now sizes) (state .count) ⌝ }
+    requires { ⌜ Has (decode (now file)) y i × (arrival ≡ arrivalAt (decode (now file)) i)
+        × Numbered (firsts (before (decode (now file)) i)) (now numbers) count × Recorded (before (decode (now file)) i) (now records)
+        × Tells (decode (now file)) i count class
+        × (offset ≡ lateOnly (byteOffset (sizeOf (decode (now file))) (firsts (before (decode (now file)) i)) (arrivalAt (decode (now file)) i .number)) class)
+        × (largest ≡ lateOnly (largestN (firsts (before (decode (now file)) i)) (arrivalAt (decode (now file)) i .number)) class) ⌝ }
     ensures { λ r. ⌜ r ≡ answerAt (decode (now (file .entry))) i ⌝ }
 {
-    let number = input::number(file, y, i);
-    let count = state.count;
-    let class = class_of(records, skipped, state.next, number);
     match class {
         Class::Duplicate(first) => Answer::Duplicate(DuplicateFigures { first }),
         Class::InOrder(jump) => Answer::InOrder(InOrderFigures {
@@ -109,11 +112,13 @@ pub(crate) fn look(
             file,
             y,
             i,
+            arrival.time,
             numbers,
-            sizes,
             records,
             count,
             at,
+            offset,
+            largest,
         )),
     }
 }

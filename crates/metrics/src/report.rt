@@ -8,16 +8,15 @@ ghost use Rattle.metrics.specs.Private.Sample.{Laid};
 ghost use Rattle.metrics.specs.Private.Tables.{classOf};
 ghost use Rattle.metrics.specs.Private.Steps.{Small, countsBy};
 ghost use Rattle.metrics.specs.Report.{sampleText, listingRefusal};
+use crate::engine::advance;
+use crate::engine::fresh_engine;
 use crate::figures::counted;
 use crate::figures::no_counts;
 use crate::input;
 use crate::look::Class;
-use crate::look::look;
 use crate::tables::FIRSTS;
 use crate::tables::PLACES;
-use crate::tables::note;
-use crate::tables::note_sizes;
-use crate::tables::start;
+use crate::totals::PAIRS;
 use rfc4737::Answer;
 use rfc4737::Counts;
 use rfc4737::refusal::NONE;
@@ -44,21 +43,30 @@ pub(crate) fn list(file: &[u8], y: Layout, out: &mut [u8]) -> u32
         × (r ≤ length (now (out .entry)) → now (out .exit) ≡ over (sampleText (decode (now (file .entry)))) (now (out .entry))) ⌝ }
 {
     let mut numbers = [0u16; FIRSTS];
-    let mut sizes = [0u16; FIRSTS];
     let mut records = [0u16; PLACES];
     let mut skipped = [0u16; PLACES];
-    let mut state = start();
+    let mut tree = [0u32; PAIRS];
+    let mut known = fresh_engine();
     let mut c = no_counts();
     let mut at = listing::put_header(out, 0, y.sent, y.arrivals);
     let mut i: u32 = 0;
     while i < y.arrivals {
-        let number = input::number(file, y, i);
-        let answer = look(file, y, i, &numbers, &sizes, &records, &skipped, state);
-        at += listing::put_record(out, at, i + 1, number, answer);
+        let arrival = input::arrival(file, y, i);
+        let step = advance(
+            file,
+            y,
+            i,
+            arrival,
+            &mut numbers,
+            &mut records,
+            &mut skipped,
+            &mut tree,
+            known,
+        );
+        let answer = step.answer;
+        at += listing::put_record(out, at, i + 1, arrival.number, answer);
         c = counted_by(c, answer);
-        let next = note(file, y, i, &mut numbers, &mut records, &mut skipped, state);
-        note_sizes(file, y, &numbers, &mut sizes, state.count, next.count);
-        state = next;
+        known = step.engine;
         i += 1;
     }
     (at + listing::put_end(out, at, c)) as u32

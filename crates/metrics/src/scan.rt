@@ -1,131 +1,99 @@
 // Figures of a reordered packet that go over the first arrivals before it.
 ghost use mathlib.Core.Path.{_≡_};
 ghost use mathlib.Core.List.{List};
-ghost use mathlib.Core.Bool.{true};
-ghost use Prim.Native.Nat.{ℕ, _+_, _-_, _≤_, _<_};
-ghost use lib.ListN.{take, getD};
+ghost use Prim.Native.Nat.{_≤_};
+ghost use lib.ListN.{take};
 ghost use Rattle.rfc4737.specs.declared.Arrival.{Arrival};
 ghost use Rattle.rfc4737.specs.Extent.{byteOffset, largestN};
-ghost use Rattle.metrics.specs.Private.Tables.{Numbered, Sized, Above};
+ghost use Rattle.sample.specs.Decode.{decode};
+ghost use Rattle.metrics.specs.Sample.{sizeOf};
+ghost use Rattle.metrics.specs.Private.Sample.{Laid};
+ghost use Rattle.metrics.specs.Private.Tables.{Numbered, Packets, Links, lateOnly};
+use crate::input;
+use crate::look::Class;
 use crate::tables::FIRSTS;
+use crate::tables::PLACES;
 use crate::tables::wide;
+use sample::Layout;
 
-// A payload size of a table, as the sum has it.
-fn payload(x: u16) -> u32
-    ensures { λ r. ⌜ (r ≡ x) × (r ≤ 65535) ⌝ }
-{
-    x as u32
-}
-
-// The byte offset of a packet, where no first arrival before the place `from` has a greater number. It goes over
-// those from there on. A size is loaded before the test, so that a turn has no branch.
+// The byte offset of a packet, where no first arrival before the place `from` has a greater number: it goes over those
+// from there on.
 pub(crate) fn offset(
+    file: &[u8],
+    y: Layout,
     numbers: &[u16; FIRSTS],
-    sizes: &[u16; FIRSTS],
     from: u32,
     count: u32,
     s: u32,
 ) -> u32
-    requires { ⌜ count ≤ 4096 ⌝ }
-    ensures { λ r. ⌜ ((size : ℕ → ℕ) (fs : List Arrival) → Numbered fs (now (numbers .entry)) count
-        → Sized size (now (numbers .entry)) (now (sizes .entry)) count
-        → byteOffset size (take from fs) s ≡ 0 → r ≡ byteOffset size fs s) ⌝ }
+    requires { ⌜ Laid (decode (now file)) y × (count ≤ 4096) × Packets (now numbers) count (y .sent) ⌝ }
+    ensures { λ r. ⌜ ((fs : List Arrival) → Numbered fs (now (numbers .entry)) count
+        → byteOffset (sizeOf (decode (now (file .entry)))) (take from fs) s ≡ 0
+        → r ≡ byteOffset (sizeOf (decode (now (file .entry)))) fs s) ⌝ }
 {
     let mut sum: u32 = 0;
     let mut p = from;
     while p < count {
         let place = p as usize;
-        let size = payload(sizes[place]);
-        if s < wide(numbers[place]) {
-            sum += size;
+        let number = wide(numbers[place]);
+        if s < number {
+            sum += input::size(file, y, number);
         }
         p += 1;
     }
     sum
 }
 
-// The places of a block: as many as are tested together, whatever the first of them gives.
-const BLOCK: u32 = 16;
-
-// Whether a number is above s, as all so far are.
-fn also_above(s: u32, number: u32, all: bool) -> bool
-    ensures { λ r. ⌜ (r ≡ true → (s < number) × (all ≡ true)) ⌝ }
-{
-    if s < number {
-        return all;
-    }
-    false
-}
-
-// Whether all numbers of the block from a place on are above s. All are looked at, several at a time: a turn has no
-// branch.
-fn block_above(numbers: &[u16; FIRSTS], from: u32, s: u32) -> bool
-    requires { ⌜ from + 16 ≤ 4096 ⌝ }
-    ensures { λ r. ⌜ (r ≡ true → Above (now (numbers .entry)) s from (from + 16)) ⌝ }
-{
-    let mut all = true;
-    let mut k: u32 = 0;
-    while k < BLOCK {
-        let place = (from + k) as usize;
-        all = also_above(s, wide(numbers[place]), all);
-        k += 1;
-    }
-    all
-}
-
-// Goes back from a place one by one, as far as the numbers are above s, and no further than the place `least`.
-fn back(numbers: &[u16; FIRSTS], from: u32, least: u32, s: u32) -> u32
-    requires { ⌜ from ≤ 4096 ⌝ }
-    ensures { λ r. ⌜ Above (now (numbers .entry)) s r from × (least < r → getD (now (numbers .entry)) (r - 1) 0 ≤ s) ⌝ }
-{
-    let mut p = from;
-    while least < p {
-        let place = (p - 1) as usize;
-        if wide(numbers[place]) <= s {
-            return p;
-        }
-        p -= 1;
-    }
-    p
-}
-
-// Goes back from a place by whole blocks, as far as their numbers are above s.
-fn back_by_blocks(numbers: &[u16; FIRSTS], from: u32, s: u32) -> u32
-    requires { ⌜ from ≤ 4096 ⌝ }
-    ensures { λ r. ⌜ Above (now (numbers .entry)) s r from ⌝ }
-{
-    let mut p = from;
-    while BLOCK <= p {
-        if block_above(numbers, p - BLOCK, s) {
-            p -= BLOCK;
-        } else {
-            return p;
-        }
-    }
-    p
-}
-
-// The place a block before another, or the first.
-fn block_before(place: u32) -> u32
-    ensures { λ r. ⌜ r ≡ place - 16 ⌝ }
-{
-    if place < BLOCK {
-        return 0;
-    }
-    place - BLOCK
-}
-
-// The largest n of a packet. It goes back over the first arrivals as far as their numbers are greater: the last block
-// of them one by one, since most packets stop there, then whole blocks, then the rest one by one.
+// The largest n of a packet: it goes back over the first arrivals one by one, as far as their numbers are greater.
 pub(crate) fn largest(numbers: &[u16; FIRSTS], count: u32, s: u32) -> u32
     requires { ⌜ count ≤ 4096 ⌝ }
     ensures { λ r. ⌜ ((fs : List Arrival) → Numbered fs (now (numbers .entry)) count → r ≡ largestN fs s) ⌝ }
 {
-    let near = block_before(count);
-    let p = back(numbers, count, near, s);
-    if near < p {
-        return count - p;
+    let mut p = count;
+    while 0 < p {
+        let place = (p - 1) as usize;
+        if wide(numbers[place]) <= s {
+            return count - p;
+        }
+        p -= 1;
     }
-    let q = back_by_blocks(numbers, p, s);
-    count - back(numbers, q, 0, s)
+    count - p
+}
+
+// The same by links: where a number is greater it passes over as many first arrivals before it as that packet's own
+// largest n, since their numbers are greater still.
+fn largest_by_links(numbers: &[u16; FIRSTS], skipped: &[u16; PLACES], count: u32, s: u32) -> u32
+    requires { ⌜ (count ≤ 4096) × Links (now numbers) (now skipped) count ⌝ }
+    ensures { λ r. ⌜ (r ≤ 4096) × ((fs : List Arrival) → Numbered fs (now (numbers .entry)) count → r ≡ largestN fs s) ⌝ }
+{
+    let mut p = count;
+    while 0 < p {
+        let place = (p - 1) as usize;
+        let number = wide(numbers[place]);
+        if number <= s {
+            return count - p;
+        }
+        let packet = number as usize;
+        p = p - 1 - wide(skipped[packet]);
+    }
+    count - p
+}
+
+// The largest n of a packet of this number and class, by links; 0 for one that is not reordered. All packets of a
+// sample together take at most two steps for each first arrival.
+pub(crate) fn largest_of(
+    numbers: &[u16; FIRSTS],
+    skipped: &[u16; PLACES],
+    count: u32,
+    s: u32,
+    class: Class,
+) -> u32
+    requires { ⌜ (count ≤ 4096) × Links (now numbers) (now skipped) count ⌝ }
+    ensures { λ r. ⌜ (r ≤ 4096) × ((fs : List Arrival) → Numbered fs (now (numbers .entry)) count → r ≡ lateOnly (largestN fs s) class) ⌝ }
+{
+    match class {
+        Class::Duplicate(_) => 0,
+        Class::InOrder(_) => 0,
+        Class::Reordered(_) => largest_by_links(numbers, skipped, count, s),
+    }
 }

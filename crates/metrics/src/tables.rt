@@ -1,15 +1,11 @@
-// Tables of what has arrived, in local arrays: the numbers of the first arrivals, and their payload sizes, in order
-// of position; and, by packet number, the record of its first arrival and the position of the jump that skipped it
-// (0 for none; place 0 is not used).
+// Tables of what has arrived, in local arrays: the numbers of the first arrivals in order of position; and, by packet
+// number, the record of its first arrival (0 for none) and a number that has two meanings: of a packet below NextExp
+// that has not arrived the position of the jump that skipped it, and of one that has arrived its own largest n, where
+// the pass asks for it (place 0 is not used).
 ghost use mathlib.Core.Path.{_≡_};
-ghost use Prim.Native.Nat.{_+_, _≤_, _<_};
+ghost use Prim.Native.Nat.{_≤_};
 ghost use lib.ListN.{length};
-ghost use Rattle.sample.specs.Decode.{decode};
-ghost use Rattle.metrics.specs.Sample.{sizeOf};
-ghost use Rattle.metrics.specs.Private.Sample.{Laid, Has, before};
-ghost use Rattle.metrics.specs.Private.Tables.{Filled, Packets, Sized, Follows};
-use crate::input;
-use sample::Layout;
+ghost use Rattle.metrics.specs.Private.Tables.{Filled, Noting, Noted};
 
 // The greatest number of first arrivals.
 pub(crate) const FIRSTS: usize = 4096;
@@ -50,20 +46,21 @@ fn skip(skipped: &mut [u16; PLACES], from: u32, to: u32, position: u16)
     }
 }
 
-// Notes record i + 1: in all, as many steps as there are arrivals and packets.
+// Notes record i + 1, of a packet of this number; if it is reordered, with its largest n. In all, as many steps as there
+// are arrivals and packets.
 pub(crate) fn note(
-    file: &[u8],
-    y: Layout,
-    i: u32,
     numbers: &mut [u16; FIRSTS],
     records: &mut [u16; PLACES],
     skipped: &mut [u16; PLACES],
+    i: u32,
+    number: u32,
+    largest: u16,
     state: State,
 ) -> State
-    requires { ⌜ Has (decode (now file)) y i × Follows (before (decode (now file)) i) (now numbers) (now records) (now skipped) state ⌝ }
-    ensures { λ r. ⌜ Follows (before (decode (now (file .entry))) (i + 1)) (now (numbers .exit)) (now (records .exit)) (now (skipped .exit)) r ⌝ }
+    requires { ⌜ Noting (now numbers) (now records) (now skipped) state i number ⌝ }
+    ensures { λ r. ⌜ Noted i number largest (now (numbers .entry)) (now (records .entry)) (now (skipped .entry)) state
+        (now (numbers .exit)) (now (records .exit)) (now (skipped .exit)) r ⌝ }
 {
-    let number = input::number(file, y, i);
     let at = number as usize;
     if records[at] != 0 {
         return state;
@@ -74,6 +71,7 @@ pub(crate) fn note(
     let place = count as usize;
     numbers[place] = number as u16;
     if number < next {
+        skipped[at] = largest;
         return State {
             count: count + 1,
             next,
@@ -83,26 +81,5 @@ pub(crate) fn note(
     State {
         count: count + 1,
         next: number + 1,
-    }
-}
-
-// Notes the payload sizes of the first arrivals at the places from `from` to before `count`, by their numbers.
-pub(crate) fn note_sizes(
-    file: &[u8],
-    y: Layout,
-    numbers: &[u16; FIRSTS],
-    sizes: &mut [u16; FIRSTS],
-    from: u32,
-    count: u32,
-)
-    requires { ⌜ Laid (decode (now file)) y × (count ≤ 4096) × Packets (now numbers) count (y .sent)
-        × Sized (sizeOf (decode (now file))) (now numbers) (now sizes) from ⌝ }
-    ensures { λ _. ⌜ Sized (sizeOf (decode (now (file .entry)))) (now (numbers .entry)) (now (sizes .exit)) count ⌝ }
-{
-    let mut p = from;
-    while p < count {
-        let place = p as usize;
-        sizes[place] = input::size(file, y, wide(numbers[place]));
-        p += 1;
     }
 }

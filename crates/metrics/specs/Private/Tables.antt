@@ -1,16 +1,16 @@
 -- What the tables of the engine hold after some arrivals. Assumes nothing.
 use mathlib.Core.Path.{_≡_}
 use mathlib.Core.Bool.{false, cond}
-use mathlib.Core.List.{List}
+use mathlib.Core.List.{List, [], _∷_, _++_}
 use mathlib.Core.Option.{Option, none, some}
-use Prim.Native.Nat.{ℕ, _-_, _≤_, _<_}
+use Prim.Native.Nat.{ℕ, _+_, _-_, _≤_, _<_}
 use lib.Dec.{eqb, leb}
-use lib.ListN.{length, getD}
+use lib.ListN.{length, take, getD}
 use Rattle.rfc4737.specs.declared.Arrival.{Arrival}
 use Rattle.rfc4737.specs.declared.Answer.{Answer}
 use Rattle.rfc4737.specs.Arrivals.{has, firsts, firstRecord}
 use Rattle.rfc4737.specs.Order.{Placed, nextExp}
-use Rattle.rfc4737.specs.Extent.{discontinuity}
+use Rattle.rfc4737.specs.Extent.{discontinuity, largestN}
 use Rattle.rfc4737.specs.Answer.{reorderedAnswer}
 use Rattle.sample.specs.Decode.{Decoded}
 use Rattle.metrics.specs.Sample.{sizeOf}
@@ -23,6 +23,7 @@ pub record Filled (from to value : ℕ) (old new : List ℕ) : Type 0 where
   pub same : length new ≡ length old
   pub inside : (k : ℕ) → from ≤ k → k < to → getD new k 0 ≡ value
   pub below : (k : ℕ) → k < from → getD new k 0 ≡ getD old k 0
+  pub past : (k : ℕ) → to ≤ k → getD new k 0 ≡ getD old k 0
 
 -- the position of a discontinuity; 0 if there is none
 abbrev pub placeOf : Option Placed → ℕ
@@ -38,15 +39,16 @@ pub record Numbered (fs : List Arrival) (numbers : List ℕ) (count : ℕ) : Typ
 pub record Packets (numbers : List ℕ) (count most : ℕ) : Type 0 where
   pub inside : (p : ℕ) → p < count → (1 ≤ getD numbers p 0) × (getD numbers p 0 ≤ most)
 
--- a table has, at so many places, the sizes of the packets whose numbers stand there
-pub record Sized (size : ℕ → ℕ) (numbers sizes : List ℕ) (count : ℕ) : Type 0 where
-  pub places : length sizes ≡ 4096
-  pub at : (p : ℕ) → p < count → getD sizes p 0 ≡ size (getD numbers p 0)
-
 -- the numbers of a table at the places from `low` to before `high` are above s
 pub record Above (numbers : List ℕ) (s low high : ℕ) : Type 0 where
   pub order : low ≤ high
   pub at : (p : ℕ) → low ≤ p → p < high → s < getD numbers p 0
+
+-- a table has, at the packet of each of so many first arrivals, a number of places directly before it that hold greater numbers
+pub record Links (numbers skipped : List ℕ) (count : ℕ) : Type 0 where
+  pub packet : (p : ℕ) → p < count → getD numbers p 0 ≤ 4096
+  pub inside : (p : ℕ) → p < count → getD skipped (getD numbers p 0) 0 ≤ p
+  pub at : (p : ℕ) → p < count → Above numbers (getD numbers p 0) (p - getD skipped (getD numbers p 0) 0) p
 
 -- a table has the record of each packet's first arrival, 0 if it has not arrived
 pub record Recorded (earlier : List Arrival) (records : List ℕ) : Type 0 where
@@ -61,6 +63,29 @@ pub record Follows (earlier : List Arrival) (numbers records skipped : List ℕ)
   pub recorded : Recorded earlier records
   pub skips : (s : ℕ) → 1 ≤ s → s < nextExp (firsts earlier) → has s earlier ≡ false
       → getD skipped s 0 ≡ placeOf (discontinuity (firsts earlier) s)
+
+-- a table has at the packet of each first arrival its own largest n, and 0 at every packet from NextExp on
+pub record Linked (fs : List Arrival) (skipped : List ℕ) : Type 0 where
+  pub at : (p : ℕ) → p < length fs → getD skipped (getD fs p noArrival .number) 0 ≡ largestN (take p fs) (getD fs p noArrival .number)
+  pub ahead : (s : ℕ) → nextExp fs ≤ s → getD skipped s 0 ≡ 0
+
+-- record i + 1, of a packet of this number, can be noted: the tables and the state are those after i arrivals
+pub record Noting (numbers records skipped : List ℕ) (state : State) (i number : ℕ) : Type 0 where
+  pub earlier : List Arrival
+  pub follows : Follows earlier numbers records skipped state
+  pub many : length earlier ≡ i
+  pub few : i < 4096
+  pub low : 1 ≤ number
+  pub high : number ≤ 4096
+
+-- record i + 1, of a packet of this number, is noted: the tables and the state are those after one arrival more, and links stay links
+-- if it is linked by its largest n where it is reordered
+pub record Noted (i number largest : ℕ) (numbers records skipped : List ℕ) (state : State) (numbers′ records′ skipped′ : List ℕ) (state′ : State) : Type 0 where
+  pub follows : (l : List Arrival) (a : Arrival) → length l ≡ i → a .number ≡ number → Follows l numbers records skipped state
+      → Follows (l ++ (a ∷ [])) numbers′ records′ skipped′ state′
+  pub linked : (l : List Arrival) (a : Arrival) → length l ≡ i → a .number ≡ number → Follows l numbers records skipped state
+      → (has number l ≡ false → number < nextExp (firsts l) → largest ≡ largestN (firsts l) number)
+      → Linked (firsts l) skipped → Linked (firsts (l ++ (a ∷ []))) skipped′
 
 -- record i + 1 is reordered, with its discontinuity at a position
 pub record Late (d : Decoded) (i at : ℕ) : Type 0 where
@@ -81,3 +106,21 @@ classBy records skipped next number =
     cond (eqb (getD records number 0) 0)
     (cond (leb next number) (Class.InOrder (number - next)) (Class.Reordered (getD skipped number 0)))
     (Class.Duplicate (getD records number 0))
+
+-- what a class says of the answer for record i + 1, after so many first arrivals
+abbrev pub Tells : Decoded → ℕ → ℕ → Class → Type 0
+Tells d i count (Class.Duplicate first) = answerAt d i ≡ Answer.Duplicate (record { first = first })
+Tells d i count (Class.InOrder jump) = answerAt d i ≡ Answer.InOrder (record { position = count + 1; jump = jump })
+Tells d i count (Class.Reordered at) = Late d i at
+
+-- a figure that only a reordered packet has: 0 for any other class
+abbrev pub lateOnly : ℕ → Class → ℕ
+lateOnly n (Class.Duplicate first) = 0
+lateOnly n (Class.InOrder jump) = 0
+lateOnly n (Class.Reordered at) = n
+
+-- a packet that is reordered by its class has not arrived
+abbrev pub NewIfLate : ℕ → List Arrival → Class → Type 0
+NewIfLate s fs (Class.Duplicate first) = Unit
+NewIfLate s fs (Class.InOrder jump) = Unit
+NewIfLate s fs (Class.Reordered at) = has s fs ≡ false

@@ -1,4 +1,4 @@
--- `answer_of` looks at the record asked for after those before it are noted, with their sizes. Assumes nothing.
+-- `answer_of` looks at the record asked for after those before it are noted. Assumes nothing.
 use mathlib.Core.Path.{_≡_, sym, _∙_}
 use Prim.Native.Nat.{_-_, _≤_}
 use native.Mathlib.Omega.{arith}
@@ -6,8 +6,6 @@ use denote.Ref.{now}
 use Rattle.sample.specs.Decode.{decode}
 use Rattle.metrics.specs.Figures.{recordRefusal}
 use Rattle.metrics.proofs.Follow.{arrivals-laid}
-use Rattle.metrics.proofs.Sizes.{sized-none}
-use Rattle.metrics.proofs.Told.{packets}
 use Rattle.metrics.proofs.Passes.{follows-start}
 use Rattle.metrics.proofs.Asked.{laid-record, record-inside, answered-refused, answered}
 use borrow.Author.Needs.{needs}
@@ -37,18 +35,12 @@ sub-i c = inside c .0
 follow-requires : tie.Need-follow-requires
 follow-requires c κs = (c .before .before .before .before .before .before .pre, omega (arith, inside (c .before .before .before)), follows-start (decode (now (c .before .before .before .before .before .before .args .file))))
 
-note-sizes-requires : tie.Need-note-sizes-requires
-note-sizes-requires c κs =
-    let s = c .before .before .before .before .before .before .before .before .before in
-    let k = packets _ _ (s .args .asked - 1) (s .pre) _ _ (c .before .before .follow .ensures .numbered) (omega (arith, inside (c .before .before .before .before .before .before))) in
-    (s .pre, k .0, k .1, sized-none _ _)
-
 look-requires : tie.Need-look-requires
-look-requires c κs = (record { file = c .before .before .before .before .before .before .before .before .before .before .before .before .before .before .pre; inside = omega (arith, inside (c .before .before .before .before .before .before .before .before .before .before .before)) }, c .before .before .before .before .before .before .before .follow .ensures, c .before .before .before .before .note-sizes .ensures)
+look-requires c κs = (record { file = c .before .before .before .before .before .before .before .before .before .before .pre; inside = omega (arith, inside (c .before .before .before .before .before .before .before)) }, c .before .before .before .follow .ensures)
 
 returns-2 : tie.Need-returns-2
-returns-2 c = answered _ _ _ (refusal (c .before .before .before .before .before .before .before .before .before .before .before .before .before)) (c .before .before .before .before .before .before .before .before .before .before .before .before .if1 .left) _ (c .look .ensures)
+returns-2 c = answered _ _ _ (refusal (c .before .before .before .before .before .before .before .before .before)) (c .before .before .before .before .before .before .before .before .if1 .left) _ (c .look .ensures)
 
 pub answer-of-spec : {M : Type 1} → statement M
 answer-of-spec =
-    tie.close (tie.spec refusal-of-requires returns sub-i follow-requires note-sizes-requires look-requires returns-2)
+    tie.close (tie.spec refusal-of-requires returns sub-i follow-requires look-requires returns-2)

@@ -4,9 +4,11 @@ use mathlib.Core.Path.{_≡_}
 use Prim.Native.Nat.{_≤_, _-_}
 use native.Mathlib.Omega.{arith}
 use Rattle.sample.specs.Decode.{decode}
-use Rattle.metrics.specs.Private.Sample.{before}
+use Rattle.metrics.specs.Private.Sample.{before, Has}
 use Rattle.metrics.specs.Private.Tables.{Follows}
 use borrow.Author.Needs.{needs}
+use denote.Ref.{now}
+use Rattle.metrics.proofs.Noted.{noting, noted-follows}
 use Rattle.metrics.proofs.answers.follow.Statement.{statement}
 use Rattle.metrics.proofs.answers.follow.Tie as tie
 
@@ -16,25 +18,33 @@ Inv-loop file y n numbers₀ records₀ skipped₀ state₀ i₀ numbers records
 abbrev μ-loop : tie.MeasureT-loop
 μ-loop file y n numbers₀ records₀ skipped₀ state₀ i₀ numbers records skipped state i = n - i
 
+-- record i + 1 is there
+here : (c : tie.In-loop Inv-loop μ-loop) → Has (decode (now (c .before .before .before .before .args .file))) (c .before .before .before .before .args .y) (c .before .loop .i)
+here c = let p = c .before .before .before .before .pre in record { file = p .0; inside = omega (arith, c .loop-test .taken, p .1) }
+
 start-requires : tie.Need-start-requires Inv-loop μ-loop
 start-requires c κs = search needs
 
 loop-holds : tie.Need-loop-holds Inv-loop μ-loop
 loop-holds c = (omega arith, rw (c .start .ensures) (c .before .before .pre .2))
 
+number-requires : tie.Need-number-requires Inv-loop μ-loop
+number-requires c κs = here c
+
 note-requires : tie.Need-note-requires Inv-loop μ-loop
-note-requires c κs =
-    let p = c .before .before .before .before .before .before .before .pre in
-    (record { file = p .0; inside = omega (arith, c .before .before .before .loop-test .taken, p .1) }, c .before .before .before .before .loop .inv .1)
+note-requires c κs = noting _ _ _ (here (c .before .before .before .before)) _ _ _ _ (c .before .before .before .before .before .loop .inv .1) _ (c .before .before .before .number .ensures .0)
 
 add-i : tie.Need-add-i Inv-loop μ-loop
-add-i c = omega (arith, c .before .before .before .before .loop-test .taken)
+add-i c = omega (arith, c .before .before .before .before .before .loop-test .taken)
 
 loop-less : tie.Need-loop-less Inv-loop μ-loop
-loop-less c = omega (arith, c .before .before .before .before .loop-test .taken)
+loop-less c = omega (arith, c .before .before .before .before .before .loop-test .taken)
 
 loop-again : tie.Need-loop-again Inv-loop μ-loop
-loop-again c = (omega (arith, c .before .before .before .before .loop-test .taken), c .note .ensures)
+loop-again c = (
+  omega (arith, c .before .before .before .before .before .loop-test .taken),
+  noted-follows _ _ _ (here (c .before .before .before .before .before)) _ _ _ _ (c .before .before .before .before .before .before .loop .inv .1) _ (c .before .before .before .before .number .ensures .0) _ _ _ _ _ (c .note .ensures),
+)
 
 returns : tie.Need-returns Inv-loop μ-loop
 returns c =
@@ -50,6 +60,7 @@ follow-spec =
     μ-loop
     start-requires
     loop-holds
+    number-requires
     note-requires
     add-i
     loop-less

@@ -9,23 +9,20 @@ enum-told c = search needs
 
 returns : tie.Need-returns
 unfolding partsBy
-returns c = λ fs h. rw (c .enum-told .given .1)
+returns c = rw (c .enum-told .given .1)
 
 enum-told-2 : tie.Need-enum-told-2
 enum-told-2 c = search needs
 
 returns-2 : tie.Need-returns-2
 unfolding partsBy
-returns-2 c = λ fs h. rw (c .enum-told2 .given .1)
+returns-2 c = rw (c .enum-told2 .given .1)
 
 enum-told-3 : tie.Need-enum-told-3
 enum-told-3 c = search needs
 
-largest-requires : tie.Need-largest-requires
-largest-requires c κs = search needs
-
-add-t10 : tie.Need-add-t10
-add-t10 c = search needs
+add-t7 : tie.Need-add-t7
+add-t7 c = search needs
 
 reached-requires : tie.Need-reached-requires
 reached-requires c κs = search needs
@@ -35,7 +32,7 @@ reached-requires-2 c κs = search needs
 
 returns-3 : tie.Need-returns-3
 unfolding partsBy
-returns-3 c = λ fs h. rw (c .before .before .before .before .enum-told3 .given .1, c .reached2 .ensures, c .before .reached .ensures, c .before .before .before .largest .ensures fs h)
+returns-3 c = rw (c .before .before .before .enum-told3 .given .1, c .reached2 .ensures, c .before .reached .ensures)
 
 pub parted-spec : {M : Type 1} → statement M
 parted-spec =
@@ -46,8 +43,7 @@ parted-spec =
     enum-told-2
     returns-2
     enum-told-3
-    largest-requires
-    add-t10
+    add-t7
     reached-requires
     reached-requires-2
     returns-3)

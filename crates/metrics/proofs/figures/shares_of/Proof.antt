@@ -1,19 +1,23 @@
--- `shares_of` goes over the arrivals. The loop's invariant: the tables follow the arrivals before i, and the parts are those of their
--- answers. The measure is what is left of the arrivals. Assumes nothing.
+-- `shares_of` goes over the arrivals. The loop's invariant: the tables follow the arrivals before i, with their links, and the parts are
+-- those of their answers. The measure is what is left of the arrivals. Assumes nothing.
 use mathlib.Core.Path.{_≡_, sym, ap, _∙_}
-use Prim.Native.Nat.{_≤_, _<_, _-_}
+use Prim.Native.Nat.{ℕ, _≤_, _<_, _-_}
 use native.Mathlib.Omega.{arith}
 use denote.Ref.{now}
+use Rattle.rfc4737.specs.Arrivals.{firsts}
+use Rattle.rfc4737.specs.Extent.{largestN}
 use Rattle.rfc4737.specs.Runs.{arrived}
 use Rattle.rfc4737.proofs.Folds.{arrived-answers}
 use Rattle.sample.specs.Decode.{decode}
 use Rattle.metrics.specs.Sample.{sizeOf}
 use Rattle.metrics.specs.Private.Sample.{before, Has}
-use Rattle.metrics.specs.Private.Tables.{Follows}
+use Rattle.metrics.specs.Private.Tables.{Follows, Linked, Tells, lateOnly}
 use Rattle.metrics.specs.Private.Steps.{partsOf}
 use borrow.Author.Needs.{needs}
 use Rattle.metrics.proofs.Follow.{count-le}
-use Rattle.metrics.proofs.Told.{Tells, told}
+use Rattle.metrics.proofs.Noted.{noting, noted-follows}
+use Rattle.metrics.proofs.Running.{linked-start, links-laid, linked-next}
+use Rattle.metrics.proofs.Told.{told}
 use Rattle.metrics.proofs.Passes.{answersTo, follows-start, answers-start, answers-end, answers-length, parts-none, parts-fewer, parts-next}
 use Rattle.metrics.proofs.figures.shares_of.Statement.{statement}
 use Rattle.metrics.proofs.figures.shares_of.Tie as tie
@@ -21,6 +25,7 @@ use Rattle.metrics.proofs.figures.shares_of.Tie as tie
 abbrev Inv-loop : tie.InvT-loop
 Inv-loop file y low high numbers₀ records₀ skipped₀ state₀ parts₀ i₀ numbers records skipped state parts i =
     (i ≤ y .arrivals) × Follows (before (decode file) i) numbers records skipped state × (parts ≡ partsOf low high (answersTo (decode file) i))
+    × Linked (firsts (before (decode file) i)) skipped
 
 abbrev μ-loop : tie.MeasureT-loop
 μ-loop file y low high numbers₀ records₀ skipped₀ state₀ parts₀ i₀ numbers records skipped state parts i = y .arrivals - i
@@ -50,7 +55,7 @@ loop-holds : tie.Need-loop-holds Inv-loop μ-loop
 loop-holds c =
     let a = c .before .before .before .args in
     let d = decode (now (a .file)) in
-    (omega arith, rw (c .before .start .ensures) (follows-start d), c .no-parts .ensures ∙ sym (ap (partsOf (a .low) (a .high)) (answers-start d) ∙ parts-none (a .low) (a .high)))
+    (omega arith, rw (c .before .start .ensures) (follows-start d), c .no-parts .ensures ∙ sym (ap (partsOf (a .low) (a .high)) (answers-start d) ∙ parts-none (a .low) (a .high)), linked-start d)
 
 number-requires : tie.Need-number-requires Inv-loop μ-loop
 number-requires c κs = record { file = c .before .before .before .before .before .before .pre; inside = c .if1 .taken }
@@ -58,28 +63,40 @@ number-requires c κs = record { file = c .before .before .before .before .befor
 class-of-requires : tie.Need-class-of-requires Inv-loop μ-loop
 class-of-requires c κs = c .before .before .number .ensures .2
 
+largest-of-requires : tie.Need-largest-of-requires Inv-loop μ-loop
+largest-of-requires c κs = let l = c .before .before .before .before .before .before .before .before .loop in links-laid _ _ _ (here (c .before .before)) _ _ _ _ (l .inv .1) (l .inv .3)
+
 parted-requires : tie.Need-parted-requires Inv-loop μ-loop
 parted-requires c κs =
-    let at = c .before in
-    (omega (arith, few at), rw (c .before .before .before .before .before .before .before .loop .inv .2) (parts-fewer _ _ _ (omega (arith, answers-length _ _ _ (here at), few at))))
+    let at = c .before .before .before in
+    rw (c .before .before .before .before .before .before .before .before .before .loop .inv .2) (parts-fewer _ _ _ (omega (arith, answers-length _ _ _ (here at), few at)))
+
+cast-note : tie.Need-cast-note Inv-loop μ-loop
+cast-note c = omega (arith, c .before .before .before .before .largest-of .ensures .0)
 
 note-requires : tie.Need-note-requires Inv-loop μ-loop
-note-requires c κs = (here (c .before .before .before .before .before), c .before .before .before .before .before .before .before .before .before .before .before .loop .inv .1)
+note-requires c κs = noting _ _ _ (here (c .before .before .before .before .before .before .before)) _ _ _ _ (c .before .before .before .before .before .before .before .before .before .before .before .before .before .loop .inv .1) _ (c .before .before .before .before .before .before .before .before .before .before .number .ensures .0)
 
 add-i : tie.Need-add-i Inv-loop μ-loop
-add-i c = omega (arith, few (c .before .before .before .before .before .before))
+add-i c = omega (arith, few (c .before .before .before .before .before .before .before .before))
 
 loop-less : tie.Need-loop-less Inv-loop μ-loop
-loop-less c = omega (arith, c .before .before .before .before .before .before .before .before .before .before .if1 .taken)
+loop-less c = omega (arith, c .before .before .before .before .before .before .before .before .before .before .before .before .if1 .taken)
 
 loop-again : tie.Need-loop-again Inv-loop μ-loop
 loop-again c =
-    let l = c .before .before .before .before .before .before .before .before .before .before .before .before .loop in
-    let at = c .before .before .before .before .before .before in
-    let n = c .before .before .before .before .before .before .before .before .before .number .ensures .0 in (
+    let l = c .before .before .before .before .before .before .before .before .before .before .before .before .before .before .loop in
+    let at = c .before .before .before .before .before .before .before .before in
+    let n = c .before .before .before .before .before .before .before .before .before .before .before .number .ensures in
+    let d = decode (now (c .before .before .before .before .before .before .before .before .before .before .before .before .before .before .before .before .before .before .args .file)) in
+    let fs = firsts (before d (l .i)) in
+    let most = c .before .before .before .before .before .largest-of .ensures .1 fs (l .inv .1 .numbered) in (
       omega (arith, here at .inside),
-      c .note .ensures,
-      c .before .before .before .before .parted .ensures _ (l .inv .1 .numbered) ∙ rw (l .inv .2) (sym (parts-next _ _ _ (here at) _ _ (class-told at) _ _ _ n)),
+      noted-follows _ _ _ (here at) _ _ _ _ (l .inv .1) _ (n .0) _ _ _ _ _ (c .note .ensures),
+      c .before .before .before .before .parted .ensures
+          ∙ rw (l .inv .2)
+          (sym (parts-next _ _ _ (here at) _ _ (class-told at) _ _ _ (most ∙ ap (λ (s : ℕ). lateOnly (largestN fs s) (at .class-of .result)) (n .0)))),
+      linked-next _ _ _ (here at) _ _ _ _ (l .inv .1) _ (n .0) (n .1) (n .2) _ (at .class-of .ensures) _ most _ _ _ _ (c .note .ensures) (l .inv .3),
     )
 
 returns : tie.Need-returns Inv-loop μ-loop
@@ -103,7 +120,9 @@ shares-of-spec =
     loop-holds
     number-requires
     class-of-requires
+    largest-of-requires
     parted-requires
+    cast-note
     note-requires
     add-i
     loop-less

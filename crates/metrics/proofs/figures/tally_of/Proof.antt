@@ -9,10 +9,11 @@ use Rattle.rfc4737.specs.Tally.{tally}
 use Rattle.rfc4737.proofs.Folds.{length-tally, tally-le}
 use Rattle.sample.specs.Decode.{decode}
 use Rattle.metrics.specs.Private.Sample.{before, Has}
-use Rattle.metrics.specs.Private.Tables.{Follows}
+use Rattle.metrics.specs.Private.Tables.{Follows, Tells}
 use borrow.Author.Needs.{needs}
 use Rattle.metrics.proofs.Follow.{count-le}
-use Rattle.metrics.proofs.Told.{Tells, told}
+use Rattle.metrics.proofs.Noted.{noting, noted-follows}
+use Rattle.metrics.proofs.Told.{told}
 use Rattle.metrics.proofs.Passes.{answersTo, follows-start, answers-start, answers-end, answers-length, inside-told, tally-none, tally-next}
 use Rattle.metrics.proofs.figures.tally_of.Statement.{statement}
 use Rattle.metrics.proofs.figures.tally_of.Tie as tie
@@ -62,7 +63,7 @@ tallied-requires c κs =
     (rw (l .inv .2) (length-tally _), rw (l .inv .2) most, omega (arith, few at), inside-told _ _ _ (here at) _ _ _ _ (l .inv .1) (at .class-of .result) (class-told at))
 
 note-requires : tie.Need-note-requires Inv-loop μ-loop
-note-requires c κs = (here (c .before .before .before .before .before), c .before .before .before .before .before .before .before .before .before .before .before .loop .inv .1)
+note-requires c κs = noting _ _ _ (here (c .before .before .before .before .before)) _ _ _ _ (c .before .before .before .before .before .before .before .before .before .before .before .loop .inv .1) _ (c .before .before .before .before .before .before .before .before .number .ensures .0)
 
 add-i : tie.Need-add-i Inv-loop μ-loop
 add-i c = omega (arith, few (c .before .before .before .before .before .before))
@@ -75,7 +76,7 @@ loop-again c =
     let l = c .before .before .before .before .before .before .before .before .before .before .before .before .loop in
     let at = c .before .before .before .before .before .before in (
       omega (arith, here at .inside),
-      c .note .ensures,
+      noted-follows _ _ _ (here at) _ _ _ _ (l .inv .1) _ (c .before .before .before .before .before .before .before .before .before .number .ensures .0) _ _ _ _ _ (c .note .ensures),
       c .before .before .before .before .tallied .ensures ∙ rw (l .inv .2) (sym (tally-next _ _ _ (here at) _ _ (class-told at) (l .inv .1 .numbered .all))),
     )
 

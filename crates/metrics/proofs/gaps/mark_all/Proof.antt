@@ -7,11 +7,12 @@ use native.Mathlib.Omega.{arith}
 use denote.Ref.{now}
 use Rattle.sample.specs.Decode.{decode}
 use Rattle.metrics.specs.Private.Sample.{before, answerAt, Has}
-use Rattle.metrics.specs.Private.Tables.{Follows}
+use Rattle.metrics.specs.Private.Tables.{Follows, Tells}
 use Rattle.metrics.specs.Private.Steps.{placeIn, Marked}
 use borrow.Author.Needs.{needs}
 use Rattle.metrics.proofs.Follow.{count-le}
-use Rattle.metrics.proofs.Told.{Tells, told, place-told}
+use Rattle.metrics.proofs.Noted.{noting, noted-follows}
+use Rattle.metrics.proofs.Told.{told, place-told}
 use Rattle.metrics.proofs.Passes.{answersTo, follows-start, answers-end, inside-told, marked-start, marked-next}
 use Rattle.metrics.proofs.gaps.mark_all.Statement.{statement}
 use Rattle.metrics.proofs.gaps.mark_all.Tie as tie
@@ -67,7 +68,7 @@ mark-requires c κs =
     (l .inv .2 .places, omega (arith, few at), inside-told _ _ _ (here at) _ _ _ _ (l .inv .1) (at .class-of .result) (class-told at))
 
 note-requires : tie.Need-note-requires Inv-loop μ-loop
-note-requires c κs = (here (c .before .before .before .before .before .before), c .before .before .before .before .before .before .before .before .before .before .before .before .loop .inv .1)
+note-requires c κs = noting _ _ _ (here (c .before .before .before .before .before .before)) _ _ _ _ (c .before .before .before .before .before .before .before .before .before .before .before .before .loop .inv .1) _ (c .before .before .before .before .before .before .before .before .before .number .ensures .0)
 
 add-i : tie.Need-add-i Inv-loop μ-loop
 add-i c = omega (arith, few (c .before .before .before .before .before .before .before))
@@ -81,7 +82,7 @@ loop-again c =
     let at = c .before .before .before .before .before .before .before in
     let asked = c .before .before .before .before .before .before .before .before .before .before .before .before .before .before .before .before .args .asked in (
       omega (arith, here at .inside),
-      c .note .ensures,
+      noted-follows _ _ _ (here at) _ _ _ _ (l .inv .1) _ (c .before .before .before .before .before .before .before .before .before .before .number .ensures .0) _ _ _ _ _ (c .note .ensures),
       rw (c .before .before .before .before .mark .ensures)
           (marked-next _ _ _ (here at) _ _ (class-told at) (l .inv .1 .numbered .all) (omega (arith, few at))
           (inside-told _ _ _ (here at) _ _ _ _ (l .inv .1) (at .class-of .result) (class-told at)) _ (l .inv .2)),

@@ -2,7 +2,7 @@
 -- Assumes nothing.
 use Prim.Native.Nat.{_≤_}
 use native.Mathlib.Omega.{arith}
-use Rattle.metrics.proofs.Told.{late-place, late-packet, late-record, late-alone, late-answer}
+use Rattle.metrics.proofs.Told.{late-place, late-packet, late-record, late-answer}
 use borrow.Author.Needs.{needs}
 use Rattle.metrics.proofs.look.reordered.Statement.{statement}
 use Rattle.metrics.proofs.look.reordered.Tie as tie
@@ -54,43 +54,27 @@ time-requires c κs =
     let r = rw (c .before .before .wide .ensures) at (c .wide2 .ensures) in
     record { file = p .0 .file; inside = omega (arith, r, p .0 .inside, late-record _ _ _ _ _ (p .0) (p .1) _ _ (p .2) (p .3)) }
 
-time-requires-2 : tie.Need-time-requires-2
-time-requires-2 c κs = search needs
-
-number-requires : tie.Need-number-requires
-number-requires c κs = search needs
-
 add-t15 : tie.Need-add-t15
-add-t15 c = omega (arith, place (c .before .before .before .before .before .before .before .before))
+add-t15 c = omega (arith, place (c .before .before .before .before .before .before))
 
 add-t22 : tie.Need-add-t22
-add-t22 c = omega (arith, place (c .before .before .before .before .before .before .before .before))
+add-t22 c = omega (arith, place (c .before .before .before .before .before .before))
 
 sub-t23 : tie.Need-sub-t23
-sub-t23 c = omega (arith, place (c .before .before .before .before .before .before .before .before))
+sub-t23 c = omega (arith, place (c .before .before .before .before .before .before))
 
 elapsed-requires : tie.Need-elapsed-requires
 elapsed-requires c κs = search needs
 
-sub-offset : tie.Need-sub-offset
-sub-offset c = omega (arith, place (c .before .before .before .before .before .before .before .before .before))
-
-offset-requires : tie.Need-offset-requires
-offset-requires c κs = omega (arith, place (c .before .before .before .before .before .before .before .before .before))
-
-largest-requires : tie.Need-largest-requires
-largest-requires c κs = omega (arith, place (c .before .before .before .before .before .before .before .before .before .before))
-
 returns : tie.Need-returns
 returns c =
-    let p = c .before .before .before .before .before .before .before .before .before .before .before .pre in
-    let number = c .before .before .before .number .ensures .0 in
-    late-answer _ _ _ _ _ (p .0) (p .1) _ _ (p .2) (p .3) _ _ _ _ _ _ number
-    (rw (c .before .before .before .before .before .before .wide2 .ensures, c .before .before .before .before .before .before .before .before .wide .ensures) at (c .before .before .before .before .before .time .ensures))
-    (c .before .before .before .before .time2 .ensures)
-    (c .before .before .elapsed .ensures)
-    (c .before .offset .ensures _ _ (p .2) (p .4) (late-alone _ _ _ _ _ (p .0) (p .1) _ _ (p .2) (p .3) _ number))
-    (c .largest .ensures _ (p .2))
+    let p = c .before .before .before .before .before .before .before .pre in
+    late-answer _ _ _ _ _ (p .0) (p .1) _ _ (p .2) (p .3) _ _ _ _ _
+    (rw (c .before .before .wide2 .ensures, c .before .before .before .before .wide .ensures) at (c .before .time .ensures))
+    (p .4)
+    (c .elapsed .ensures)
+    (p .5)
+    (p .6)
 
 pub reordered-spec : {M : Type 1} → statement M
 reordered-spec =
@@ -107,13 +91,8 @@ reordered-spec =
     wide-requires-2
     sub-time
     time-requires
-    time-requires-2
-    number-requires
     add-t15
     add-t22
     sub-t23
     elapsed-requires
-    sub-offset
-    offset-requires
-    largest-requires
     returns)

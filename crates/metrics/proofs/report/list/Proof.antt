@@ -1,4 +1,4 @@
--- `list` writes one line after the other. The loop's invariant: the tables follow the arrivals before i and have their sizes, the counts are those of their
+-- `list` writes one line after the other. The loop's invariant: the engine knows the arrivals before i, the counts are those of their
 -- answers, and the first line and their lines are written. The measure is what is left of the arrivals. Assumes nothing.
 use mathlib.Core.Path.{_≡_, refl, sym, ap, ap₂, _∙_}
 use Prim.Native.Nat.{_+_, _-_, _≤_, _<_}
@@ -10,29 +10,28 @@ use mir.Syntax.{w8}
 use Rattle.octets.specs.Memory.{over}
 use Rattle.octets.proofs.Below.{below-fits}
 use Rattle.octets.proofs.Memory.{put-length}
+use Rattle.rfc4737.specs.declared.Arrival.{Arrival}
 use Rattle.rfc4737.specs.Runs.{counts}
 use Rattle.listing.specs.Room.{listingOctets}
 use Rattle.sample.specs.Decode.{decode}
-use Rattle.metrics.specs.Sample.{sizeOf}
-use Rattle.metrics.specs.Private.Sample.{before, Has}
-use Rattle.metrics.specs.Private.Tables.{Sized, Follows, classOf}
+use Rattle.metrics.specs.Private.Sample.{Has}
+use Rattle.metrics.specs.Private.Tables.{classOf}
+use Rattle.metrics.specs.Private.Engine.{Running}
 use Rattle.metrics.specs.Private.Steps.{countsBy}
 use Rattle.metrics.specs.Report.{sampleText}
-use Rattle.metrics.proofs.Sizes.{sized-none, sized-next}
-use Rattle.metrics.proofs.Told.{packets}
-use Rattle.metrics.proofs.Passes.{answersTo, follows-start, answers-start, answers-length, answers-next, counts-none, counts-small, counts-more}
+use Rattle.metrics.proofs.Running.{running-start}
+use Rattle.metrics.proofs.Passes.{answersTo, answers-start, answers-length, answers-next, counts-none, counts-small, counts-more}
 use Rattle.metrics.proofs.Listed.{ListedAt, lines-within, sample-within, listing-start, listing-next, listing-end}
 use Rattle.metrics.proofs.report.list.Statement.{statement}
 use Rattle.metrics.proofs.report.list.Tie as tie
 
 abbrev Inv-loop : tie.InvT-loop
-Inv-loop file y out₀ numbers₀ sizes₀ records₀ skipped₀ state₀ c₀ at₀ i₀ out numbers sizes records skipped state c at i =
-    (i ≤ y .arrivals) × Follows (before (decode file) i) numbers records skipped state × (c ≡ counts (answersTo (decode file) i))
+Inv-loop file y out₀ numbers₀ records₀ skipped₀ tree₀ known₀ c₀ at₀ i₀ out numbers records skipped tree known c at i =
+    (i ≤ y .arrivals) × Running (decode file) i numbers records skipped tree known × (c ≡ counts (answersTo (decode file) i))
     × ListedAt (decode file) y i at out₀ out × (length out ≡ length out₀)
-    × Sized (sizeOf (decode file)) numbers sizes (state .count)
 
 abbrev μ-loop : tie.MeasureT-loop
-μ-loop file y out₀ numbers₀ sizes₀ records₀ skipped₀ state₀ c₀ at₀ i₀ out numbers sizes records skipped state c at i = y .arrivals - i
+μ-loop file y out₀ numbers₀ records₀ skipped₀ tree₀ known₀ c₀ at₀ i₀ out numbers records skipped tree known c at i = y .arrivals - i
 
 -- record i + 1 is there
 here : (c : tie.Then1 Inv-loop μ-loop) → Has (decode (now (c .before .before .before .before .before .before .before .before .before .before .before .args .file))) (c .before .before .before .before .before .before .before .before .before .before .before .args .y) (c .before .before .loop .i)
@@ -44,13 +43,13 @@ few c = omega (arith, c .if1 .taken, c .before .before .before .before .before .
 
 -- after its line
 next : (c : tie.After-put-record Inv-loop μ-loop)
-    → ListedAt (decode (now (c .before .before .before .before .before .before .before .before .before .before .before .before .before .before .before .before .before .before .before .args .file))) (c .before .before .before .before .before .before .before .before .before .before .before .before .before .before .before .before .before .before .before .args .y) (c .before .before .before .before .before .before .before .before .before .before .loop .i + 1) (c .before .before .before .before .before .before .before .before .before .before .loop .at + c .put-record .result) (c .before .before .before .before .before .before .before .before .before .before .before .before .before .put-header .last .0) (c .put-record .last .0)
+    → ListedAt (decode (now (c .before .before .before .before .before .before .before .before .before .before .before .before .before .before .before .before .before .before .before .before .args .file))) (c .before .before .before .before .before .before .before .before .before .before .before .before .before .before .before .before .before .before .before .before .args .y) (c .before .before .before .before .before .before .before .before .before .before .before .loop .i + 1) (c .before .before .before .before .before .before .before .before .before .before .before .loop .at + c .put-record .result)
+    (c .before .before .before .before .before .before .before .before .before .before .before .before .before .before .put-header .last .0) (c .put-record .last .0)
 next c =
-    let a = c .before .before .before .before .before .before .before .before .before .before .before .before .before .before .before .before .before .before .before .args in
-    let p = c .before .before .before .before .before .before .before .before .before .before .before .before .before .before .before .before .before .before .before .pre in
-    listing-next (decode (now (a .file))) (a .y) p (now (a .out)) (c .before .before .before .before .before .before .before .before .before .before .before .before .before .put-header .ensures .1)
-    (here (c .before .before .before .before .before .before .before .before)) (c .before .before .before .before .before .before .before .before .before .before .loop .inv .3)
-    (c .before .before .before .before .before .before .before .number .ensures .0) (c .before .before .look .ensures) (c .put-record .ensures .0) (c .put-record .ensures .1)
+    let a = c .before .before .before .before .before .before .before .before .before .before .before .before .before .before .before .before .before .before .before .before .args in
+    listing-next (decode (now (a .file))) (a .y) (c .before .before .before .before .before .before .before .before .before .before .before .before .before .before .before .before .before .before .before .before .pre) (now (a .out)) (c .before .before .before .before .before .before .before .before .before .before .before .before .before .before .put-header .ensures .1)
+    (here (c .before .before .before .before .before .before .before .before .before)) (c .before .before .before .before .before .before .before .before .before .before .before .loop .inv .3)
+    (ap (λ (b : Arrival). b .number) (c .before .before .before .before .before .before .before .before .arrival .ensures .0)) (c .before .before .before .advance .ensures .0) (c .put-record .ensures .0) (c .put-record .ensures .1)
 
 -- after the last line
 whole : (c : tie.After-put-end Inv-loop μ-loop)
@@ -59,9 +58,8 @@ whole : (c : tie.After-put-end Inv-loop μ-loop)
     → c .put-end .last .0 ≡ over (sampleText (decode (now (c .before .before .before .before .before .before .before .before .before .before .before .before .before .args .file)))) (now (c .before .before .before .before .before .before .before .before .before .before .before .before .before .args .out)))
 whole c =
     let a = c .before .before .before .before .before .before .before .before .before .before .before .before .before .args in
-    let p = c .before .before .before .before .before .before .before .before .before .before .before .before .before .pre in
     let l = c .before .before .before .before .loop in
-    listing-end (decode (now (a .file))) (a .y) p (now (a .out)) (c .before .before .before .before .before .before .before .put-header .ensures .1) (c .before .before .if1 .left) (l .inv .3) (l .inv .2)
+    listing-end (decode (now (a .file))) (a .y) (c .before .before .before .before .before .before .before .before .before .before .before .before .before .pre) (now (a .out)) (c .before .before .before .before .before .before .before .put-header .ensures .1) (c .before .before .if1 .left) (l .inv .3) (l .inv .2)
     (c .put-end .ensures .0) (c .put-end .ensures .1)
 
 -- it is not longer than any listing
@@ -71,8 +69,8 @@ few-octets c =
     let a = s .before .args in
     omega (arith, whole c .0, sample-within (now (a .file)) (a .y) (s .before .pre) (below-fits w8 (now (a .file)) (s .shared-slice-known .given)))
 
-start-requires : tie.Need-start-requires Inv-loop μ-loop
-start-requires c κs = search needs
+fresh-engine-requires : tie.Need-fresh-engine-requires Inv-loop μ-loop
+fresh-engine-requires c κs = search needs
 
 no-counts-requires : tie.Need-no-counts-requires Inv-loop μ-loop
 no-counts-requires c κs = search needs
@@ -83,68 +81,57 @@ put-header-requires c κs = search needs
 loop-holds : tie.Need-loop-holds Inv-loop μ-loop
 loop-holds c =
     let a = c .before .before .before .before .before .before .before .before .args in
-    let p = c .before .before .before .before .before .before .before .before .pre in
     let d = decode (now (a .file)) in
     let e = c .before .before .put-header .ensures in (
       omega arith,
-      rw (c .before .before .before .before .before .start .ensures) (follows-start d),
+      rw (c .before .before .before .before .before .fresh-engine .ensures) (running-start d),
       c .before .before .before .before .no-counts .ensures ∙ sym (ap counts (answers-start d) ∙ counts-none),
-      listing-start d (a .y) p (now (a .out)) (e .1) (e .0),
+      listing-start d (a .y) (c .before .before .before .before .before .before .before .before .pre) (now (a .out)) (e .1) (e .0),
       refl,
-      rw (c .before .before .before .before .before .start .ensures) (sized-none _ _),
     )
 
-number-requires : tie.Need-number-requires Inv-loop μ-loop
-number-requires c κs = here c
+arrival-requires : tie.Need-arrival-requires Inv-loop μ-loop
+arrival-requires c κs = here c
 
-look-requires : tie.Need-look-requires Inv-loop μ-loop
-look-requires c κs = (here (c .before .before .before .before .before), c .before .before .before .before .before .before .before .loop .inv .1, c .before .before .before .before .before .before .before .loop .inv .5)
+slice-aggregate-advance : tie.Need-slice-aggregate-advance Inv-loop μ-loop
+slice-aggregate-advance c = search needs
+
+advance-requires : tie.Need-advance-requires Inv-loop μ-loop
+advance-requires c κs = (here (c .before .before .before .before .before), c .before .before .before .before .arrival .ensures .0, c .before .before .before .before .before .before .before .loop .inv .1)
 
 add-put-record : tie.Need-add-put-record Inv-loop μ-loop
-add-put-record c = omega (arith, few (c .before .before .before .before .before .before .before))
+add-put-record c = omega (arith, few (c .before .before .before .before .before .before .before .before))
 
 put-record-requires : tie.Need-put-record-requires Inv-loop μ-loop
 put-record-requires c κs = search needs
 
 add-at : tie.Need-add-at Inv-loop μ-loop
 add-at c =
-    let s = c .before .before .before .before .before .before .before .before .before .before .before .before .before .before .before .before .before .before .before .before in
+    let s = c .before .before .before .before .before .before .before .before .before .before .before .before .before .before .before .before .before .before .before .before .before in
     let a = s .before .args in
-    let i = c .before .before .before .before .before .before .before .before .before .before .before .before .loop .i in
-    let inside : i + 1 ≤ a .y .arrivals = omega (arith, here (c .before .before .before .before .before .before .before .before .before .before) .inside) in
+    let i = c .before .before .before .before .before .before .before .before .before .before .before .before .before .loop .i in
+    let inside : i + 1 ≤ a .y .arrivals = omega (arith, here (c .before .before .before .before .before .before .before .before .before .before .before) .inside) in
     omega (arith, s .before .pre .few, next (c .before .before) .place, lines-within (now (a .file)) (a .y) (s .before .pre) (below-fits w8 (now (a .file)) (s .shared-slice-known .given)) (i + 1) inside)
 
 counted-by-requires : tie.Need-counted-by-requires Inv-loop μ-loop
-counted-by-requires c κs = rw (c .before .before .before .before .before .before .before .before .before .before .before .before .loop .inv .2) (counts-small _ (omega (arith, answers-length _ _ _ (here (c .before .before .before .before .before .before .before .before .before .before)), few (c .before .before .before .before .before .before .before .before .before .before))))
-
-note-requires : tie.Need-note-requires Inv-loop μ-loop
-note-requires c κs = (here (c .before .before .before .before .before .before .before .before .before .before .before .before .before .before), c .before .before .before .before .before .before .before .before .before .before .before .before .before .before .before .before .loop .inv .1)
-
-note-sizes-requires : tie.Need-note-sizes-requires Inv-loop μ-loop
-note-sizes-requires c κs =
-    let l = c .before .before .before .before .before .before .before .before .before .before .before .before .before .before .before .before .before .before .before .loop in
-    let h = here (c .before .before .before .before .before .before .before .before .before .before .before .before .before .before .before .before .before) in
-    let f = c .before .before .note .ensures in
-    let k = packets _ _ (l .i + 1) (h .file) _ _ (f .numbered) (omega (arith, h .inside)) in
-    (h .file, k .0, k .1, sized-next _ _ _ h _ _ _ _ (l .inv .1 .numbered) (f .numbered) _ _ (l .inv .5))
+counted-by-requires c κs = rw (c .before .before .before .before .before .before .before .before .before .before .before .before .before .loop .inv .2) (counts-small _ (omega (arith, answers-length _ _ _ (here (c .before .before .before .before .before .before .before .before .before .before .before)), few (c .before .before .before .before .before .before .before .before .before .before .before))))
 
 add-i : tie.Need-add-i Inv-loop μ-loop
-add-i c = omega (arith, few (c .before .before .before .before .before .before .before .before .before .before .before .before .before .before .before .before .before .before))
+add-i c = omega (arith, few (c .before .before .before .before .before .before .before .before .before .before .before .before .before))
 
 loop-less : tie.Need-loop-less Inv-loop μ-loop
-loop-less c = omega (arith, here (c .before .before .before .before .before .before .before .before .before .before .before .before .before .before .before .before .before .before) .inside)
+loop-less c = omega (arith, here (c .before .before .before .before .before .before .before .before .before .before .before .before .before) .inside)
 
 loop-again : tie.Need-loop-again Inv-loop μ-loop
 loop-again c =
-    let l = c .before .before .before .before .before .before .before .before .before .before .before .before .before .before .before .before .before .before .before .before .loop in
-    let h = here (c .before .before .before .before .before .before .before .before .before .before .before .before .before .before .before .before .before .before) in (
+    let l = c .before .before .before .before .before .before .before .before .before .before .before .before .before .before .before .loop in
+    let h = here (c .before .before .before .before .before .before .before .before .before .before .before .before .before) in
+    let step = c .before .before .before .before .before .before .before .advance .ensures in (
       omega (arith, h .inside),
-      c .before .before .before .note .ensures,
-      c .before .before .before .before .before .before .before .counted-by .ensures ∙ ap₂ countsBy (l .inv .2) (ap classOf (c .before .before .before .before .before .before .before .before .before .before .before .before .look .ensures))
-          ∙ sym (ap counts (answers-next _ _ _ h) ∙ counts-more _ _),
-      next (c .before .before .before .before .before .before .before .before .before .before),
-      ap length (c .before .before .before .before .before .before .before .before .before .before .put-record .ensures .1) ∙ put-length _ _ _ ∙ l .inv .4,
-      c .note-sizes .ensures,
+      step .1,
+      c .before .counted-by .ensures ∙ ap₂ countsBy (l .inv .2) (ap classOf (step .0)) ∙ sym (ap counts (answers-next _ _ _ h) ∙ counts-more _ _),
+      next (c .before .before .before .before),
+      ap length (c .before .before .before .before .put-record .ensures .1) ∙ put-length _ _ _ ∙ l .inv .4,
     )
 
 put-end-requires : tie.Need-put-end-requires Inv-loop μ-loop
@@ -168,18 +155,17 @@ list-spec =
     (tie.spec
     Inv-loop
     μ-loop
-    start-requires
+    fresh-engine-requires
     no-counts-requires
     put-header-requires
     loop-holds
-    number-requires
-    look-requires
+    arrival-requires
+    slice-aggregate-advance
+    advance-requires
     add-put-record
     put-record-requires
     add-at
     counted-by-requires
-    note-requires
-    note-sizes-requires
     add-i
     loop-less
     loop-again

@@ -1,48 +1,73 @@
--- `largest` meets its contract: from the place where it stops on, all numbers are above s, and the one before that place is not, or
--- there is none. Assumes nothing.
+-- `largest` goes back one by one. The loop's invariant: the numbers from p to before `count` are above s. The measure is p. Assumes nothing.
+use mathlib.Core.Path.{refl}
+use native.Mathlib.Omega.{arith}
 use borrow.Author.Needs.{needs}
-use Rattle.metrics.proofs.Reordered.{above-join, largest-back}
+use Rattle.metrics.specs.Private.Tables.{Above}
+use Rattle.metrics.proofs.Reordered.{above-none, above-back, largest-back}
 use Rattle.metrics.proofs.scan.largest.Statement.{statement}
 use Rattle.metrics.proofs.scan.largest.Tie as tie
 
-block-before-requires : tie.Need-block-before-requires
-block-before-requires c κs = search needs
+abbrev Inv-loop : tie.InvT-loop
+Inv-loop numbers count s p₀ p = Above numbers s p count
 
-back-requires : tie.Need-back-requires
-back-requires c κs = search needs
+abbrev μ-loop : tie.MeasureT-loop
+μ-loop numbers count s p₀ p = p
 
-sub-result : tie.Need-sub-result
-sub-result c = search needs
+loop-holds : tie.Need-loop-holds Inv-loop μ-loop
+loop-holds c = above-none _ _ refl
 
-returns : tie.Need-returns
-returns c =
-    let near = c .before .back .ensures in
-    largest-back _ _ _ _ (near .0) (λ low. near .1 (c .if1 .taken))
+sub-place : tie.Need-sub-place Inv-loop μ-loop
+sub-place c = omega arith
 
-back-by-blocks-requires : tie.Need-back-by-blocks-requires
-back-by-blocks-requires c κs = search needs
+cast-place : tie.Need-cast-place Inv-loop μ-loop
+cast-place c = omega arith
 
-back-requires-2 : tie.Need-back-requires-2
-back-requires-2 c κs = search needs
+mul-wide : tie.Need-mul-wide Inv-loop μ-loop
+mul-wide c = omega arith
 
-sub-result-2 : tie.Need-sub-result-2
-sub-result-2 c = search needs
+element-copy-out-wide : tie.Need-element-copy-out-wide Inv-loop μ-loop
+element-copy-out-wide c = omega arith
 
-returns-2 : tie.Need-returns-2
-returns-2 c =
-    let near = c .before .before .before .back .ensures .0 in
-    let rest = c .back2 .ensures in
-    largest-back _ _ _ _ (above-join _ _ (rest .0) (above-join _ _ (c .before .back-by-blocks .ensures) near)) (rest .1)
+wide-requires : tie.Need-wide-requires Inv-loop μ-loop
+wide-requires c κs = search needs
+
+sub-result : tie.Need-sub-result Inv-loop μ-loop
+sub-result c = omega (arith, c .before .before .before .before .loop .inv .order)
+
+returns : tie.Need-returns Inv-loop μ-loop
+returns c = largest-back _ _ _ _ (c .before .before .before .before .loop .inv) (λ low. rw (c .before .wide .ensures) at (c .if1 .taken))
+
+sub-p : tie.Need-sub-p Inv-loop μ-loop
+sub-p c = omega arith
+
+loop-less : tie.Need-loop-less Inv-loop μ-loop
+loop-less c = omega arith
+
+loop-again : tie.Need-loop-again Inv-loop μ-loop
+loop-again c = above-back _ _ (omega arith) (rw (c .before .wide .ensures) at (c .if1 .left)) (c .before .before .before .before .loop .inv)
+
+sub-result-2 : tie.Need-sub-result-2 Inv-loop μ-loop
+sub-result-2 c = omega (arith, c .before .loop .inv .order)
+
+returns-2 : tie.Need-returns-2 Inv-loop μ-loop
+returns-2 c = largest-back _ _ _ _ (c .before .loop .inv) (λ low. absurd (omega arith))
 
 pub largest-spec : {M : Type 1} → statement M
 largest-spec =
     tie.close
     (tie.spec
-    block-before-requires
-    back-requires
+    Inv-loop
+    μ-loop
+    loop-holds
+    sub-place
+    cast-place
+    mul-wide
+    element-copy-out-wide
+    wide-requires
     sub-result
     returns
-    back-by-blocks-requires
-    back-requires-2
+    sub-p
+    loop-less
+    loop-again
     sub-result-2
     returns-2)

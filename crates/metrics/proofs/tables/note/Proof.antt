@@ -1,16 +1,10 @@
--- `note` keeps the tables along with the arrivals: a copy leaves them, a reordered packet adds its number and record, and an in-order
--- one marks the packets that it skips besides. Assumes nothing.
+-- `note` keeps the tables along with the arrivals: a copy leaves them, a reordered packet adds its number and record and its largest n,
+-- and an in-order one marks the packets that it skips besides. Assumes nothing.
 use native.Mathlib.Omega.{arith}
-use Rattle.metrics.proofs.Follow.{count-le, noted-copy, noted-reordered, noted-in-order}
+use Rattle.metrics.proofs.Noted.{noting-few, noted-copy, noted-reordered, noted-in-order}
 use borrow.Author.Needs.{needs}
 use Rattle.metrics.proofs.tables.note.Statement.{statement}
 use Rattle.metrics.proofs.tables.note.Tie as tie
-
-number-requires : tie.Need-number-requires
-number-requires c κs = search needs
-
-cast-at : tie.Need-cast-at
-cast-at c = search needs
 
 mul-if1 : tie.Need-mul-if1
 mul-if1 c = search needs
@@ -19,16 +13,13 @@ element-copy-out-if1 : tie.Need-element-copy-out-if1
 element-copy-out-if1 c = search needs
 
 returns : tie.Need-returns
-returns c =
-    let p = c .before .before .before .before .pre in
-    let n = c .before .before .number .ensures in
-    noted-copy _ _ _ (p .0) _ _ _ _ (p .1) _ (n .0) (n .1) (n .2) (c .if1 .taken)
+returns c = let p = c .before .before .pre in noted-copy _ _ _ _ _ _ (p .few) _ (p .low) (p .high) (c .if1 .taken)
 
 add-records : tie.Need-add-records
 add-records c = search needs
 
 cast-records : tie.Need-cast-records
-cast-records c = omega arith
+cast-records c = search needs
 
 mul-records : tie.Need-mul-records
 mul-records c = search needs
@@ -46,49 +37,44 @@ mul-numbers : tie.Need-mul-numbers
 mul-numbers c = search needs
 
 element-write-numbers : tie.Need-element-write-numbers
-element-write-numbers c =
-    let p = c .before .before .before .before .pre in omega (arith, count-le _ _ _ (p .0) _ _ _ _ (p .1))
+element-write-numbers c = let p = c .before .before .pre in omega (arith, noting-few _ _ _ _ _ _ p)
 
-add-t23 : tie.Need-add-t23
-add-t23 c =
-    let p = c .before .before .before .before .before .pre in omega (arith, count-le _ _ _ (p .0) _ _ _ _ (p .1))
+mul-skipped : tie.Need-mul-skipped
+mul-skipped c = search needs
+
+element-write-skipped : tie.Need-element-write-skipped
+element-write-skipped c = search needs
+
+add-t25 : tie.Need-add-t25
+add-t25 c = let p = c .before .before .before .pre in omega (arith, noting-few _ _ _ _ _ _ p)
 
 returns-2 : tie.Need-returns-2
-returns-2 c =
-    let p = c .before .before .before .before .before .pre in
-    let n = c .before .before .before .number .ensures in
-    noted-reordered _ _ _ (p .0) _ _ _ _ (p .1) _ (n .0) (n .1) (n .2) (c .before .if1 .left) (c .if2 .taken)
+returns-2 c = let p = c .before .before .before .pre in noted-reordered _ _ _ _ _ _ (p .few) _ (p .low) (p .high) (c .before .if1 .left) (c .if2 .taken)
 
 add-skip : tie.Need-add-skip
-add-skip c =
-    let p = c .before .before .before .before .before .before .pre in omega (arith, count-le _ _ _ (p .0) _ _ _ _ (p .1))
+add-skip c = let p = c .before .before .before .before .pre in omega (arith, noting-few _ _ _ _ _ _ p)
 
 cast-skip : tie.Need-cast-skip
-cast-skip c =
-    let p = c .before .before .before .before .before .before .pre in omega (arith, count-le _ _ _ (p .0) _ _ _ _ (p .1))
+cast-skip c = let p = c .before .before .before .before .pre in omega (arith, noting-few _ _ _ _ _ _ p)
 
 skip-requires : tie.Need-skip-requires
 skip-requires c κs = search needs
 
-add-t18 : tie.Need-add-t18
-add-t18 c =
-    let p = c .before .before .before .before .before .before .before .pre in omega (arith, count-le _ _ _ (p .0) _ _ _ _ (p .1))
+add-t17 : tie.Need-add-t17
+add-t17 c = let p = c .before .before .before .before .before .pre in omega (arith, noting-few _ _ _ _ _ _ p)
 
-add-t26 : tie.Need-add-t26
-add-t26 c = search needs
+add-t28 : tie.Need-add-t28
+add-t28 c = search needs
 
 returns-3 : tie.Need-returns-3
 returns-3 c =
-    let p = c .before .before .before .before .before .before .before .pre in
-    let n = c .before .before .before .before .before .number .ensures in
-    noted-in-order _ _ _ (p .0) _ _ _ _ (p .1) _ (n .0) (n .1) (n .2) (c .before .before .before .if1 .left) (c .before .before .if2 .left) _ (c .skip .ensures)
+    let p = c .before .before .before .before .before .pre in
+    noted-in-order _ _ _ _ _ _ (p .few) _ (p .low) (p .high) (c .before .before .before .if1 .left) (c .before .before .if2 .left) _ (c .skip .ensures)
 
 pub note-spec : {M : Type 1} → statement M
 note-spec =
     tie.close
     (tie.spec
-    number-requires
-    cast-at
     mul-if1
     element-copy-out-if1
     returns
@@ -100,11 +86,13 @@ note-spec =
     cast-numbers
     mul-numbers
     element-write-numbers
-    add-t23
+    mul-skipped
+    element-write-skipped
+    add-t25
     returns-2
     add-skip
     cast-skip
     skip-requires
-    add-t18
-    add-t26
+    add-t17
+    add-t28
     returns-3)

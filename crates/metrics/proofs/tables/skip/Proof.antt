@@ -1,22 +1,23 @@
 -- `skip` fills the places from `from` to before `to`. The loop's invariant: those before s are filled. The measure is what is left
 -- of the places. Assumes nothing.
-use Prim.Native.Nat.{_≤_, _-_}
+use Prim.Native.Nat.{_+_, _≤_, _-_}
 use native.Mathlib.Omega.{arith}
 use lib.ListN.{length, length-set}
 use mathlib.Core.Path.{_≡_}
 use Rattle.metrics.specs.Private.Tables.{Filled}
-use Rattle.metrics.proofs.Follow.{filled-none, filled-more}
+use Rattle.metrics.proofs.Follow.{filled-none, filled-more, filled-to}
 use Rattle.metrics.proofs.tables.skip.Statement.{statement}
 use Rattle.metrics.proofs.tables.skip.Tie as tie
 
 abbrev Inv-loop : tie.InvT-loop
-Inv-loop skipped₀ from to position s₀ skipped s = (from ≤ s) × (length skipped ≡ 4097) × Filled from s position skipped₀ skipped
+Inv-loop skipped₀ from to position s₀ skipped s =
+    (from ≤ s) × (length skipped ≡ 4097) × Filled from s position skipped₀ skipped × (s ≤ from + (to - from))
 
 abbrev μ-loop : tie.MeasureT-loop
 μ-loop skipped₀ from to position s₀ skipped s = to - s
 
 loop-holds : tie.Need-loop-holds Inv-loop μ-loop
-loop-holds c = (omega arith, c .pre .1, filled-none _ _ _)
+loop-holds c = (omega arith, c .pre .1, filled-none _ _ _, omega arith)
 
 cast-at : tie.Need-cast-at Inv-loop μ-loop
 cast-at c = omega arith
@@ -36,12 +37,10 @@ loop-less c = omega arith
 loop-again : tie.Need-loop-again Inv-loop μ-loop
 loop-again c =
     let h = c .before .loop .inv in
-    (omega arith, simp length-set (h .1), filled-more _ _ _ _ _ (h .0) (omega arith) (h .2))
+    (omega arith, simp length-set (h .1), filled-more _ _ _ _ _ (h .0) (omega arith) (h .2), omega arith)
 
 returns : tie.Need-returns Inv-loop μ-loop
-returns c =
-    let h = c .before .loop .inv .2 in
-    record { same = h .same; inside = λ k a b. h .inside k a (omega arith); below = h .below }
+returns c = filled-to _ _ _ _ _ _ (c .loop-test .left) (c .before .loop .inv .3) (c .before .loop .inv .2)
 
 pub skip-spec : {M : Type 1} → statement M
 skip-spec =

@@ -1,0 +1,97 @@
+-- What noting a record leaves of the tables and of the links, by what the packet is. Assumes nothing.
+use mathlib.Core.Path.{_≡_, sym, ap, _∙_}
+use mathlib.Core.Bool.{true, false}
+use mathlib.Core.List.{List}
+use Prim.Native.Nat.{ℕ, _+_, _≤_, _<_}
+use native.Mathlib.Omega.{arith}
+use lib.ListN.{getD, set}
+use Rattle.rfc4737.specs.declared.Arrival.{Arrival}
+use Rattle.rfc4737.specs.Arrivals.{has, firsts}
+use Rattle.rfc4737.specs.Order.{nextExp}
+use Rattle.rfc4737.specs.Extent.{largestN}
+use Rattle.rfc4737.proofs.Arrivals.{has-firsts, firsts-more, with-duplicate, length-firsts}
+use Rattle.sample.specs.declared.Layout.{Layout}
+use Rattle.sample.specs.Decode.{Decoded}
+use Rattle.metrics.specs.Private.Sample.{arrivalAt, before, Has}
+use Rattle.metrics.specs.Private.Tables.{Filled, Follows, Linked, Noting, Noted}
+use Rattle.metrics.specs.declared.tables.State.{State}
+use Rattle.metrics.proofs.Follow.{kept-copy, one-more, kept-reordered, kept-in-order, arrived-recorded, new-recorded, before-more, before-length}
+use Rattle.metrics.proofs.Linked.{linked-reordered, linked-in-order}
+
+-- where a record can be noted there are fewer first arrivals than places
+pub noting-few : (numbers records skipped : List ℕ) (state : State) (i number : ℕ) → Noting numbers records skipped state i number → state .count < 4096
+noting-few numbers records skipped state i number n = omega (arith, n .follows .numbered .all, length-firsts (n .earlier), n .many, n .few)
+
+module _ (i largest : ℕ) (numbers records skipped : List ℕ) (state : State) (few : i < 4096) where
+  -- of a copy: all stays
+  pub noted-copy : (number : ℕ) → 1 ≤ number → number ≤ 4096 → (getD records number 0 ≡ 0 → ⊥) → Noted i number largest numbers records skipped state numbers records skipped state
+  noted-copy number low high e =
+      record {
+        follows = λ l a m is f. kept-copy l a numbers records skipped state f (arrived l a is f);
+        linked = λ l a m is f lar k. rw (firsts-more l a ∙ with-duplicate (firsts l) a (has-firsts (a .number) l ∙ arrived l a is f)) k;
+      }
+    where
+      arrived : (l : List Arrival) (a : Arrival) → a .number ≡ number → Follows l numbers records skipped state → has (a .number) l ≡ true
+      arrived l a is f = rw is (arrived-recorded l numbers records skipped state f number low high e)
+
+  module _ (number : ℕ) (low : 1 ≤ number) (high : number ≤ 4096) (e : getD records number 0 ≡ 0) where
+    -- a packet without a record is new
+    new : (l : List Arrival) (a : Arrival) → a .number ≡ number → Follows l numbers records skipped state → has (a .number) l ≡ false
+    new l a is f = rw is (new-recorded l numbers records skipped state f number low high e)
+
+    -- of a reordered packet
+    pub noted-reordered : number < state .next
+        → Noted i number largest numbers records skipped state (set numbers (state .count) number) (set records number (i + 1)) (set skipped number largest)
+        (record { count = state .count + 1; next = state .next })
+    noted-reordered late =
+        record {
+          follows = λ l a m is f.
+              rw (← m, ← is)
+              (kept-reordered l a numbers records skipped state f (new l a is f) (omega arith) (omega arith) (omega arith) largest (omega arith));
+          linked = λ l a m is f lar k.
+              let behind : a .number < nextExp (firsts l) = omega (arith, f .next) in
+              let own : largest ≡ largestN (firsts l) (a .number) =
+              lar (ap (λ (s : ℕ). has s l) (sym is) ∙ new l a is f) (omega arith) ∙ ap (largestN (firsts l)) (sym is) in
+              rw (one-more l a numbers records skipped state f (new l a is f) (omega arith) (omega arith) (omega arith), ← is)
+              (linked-reordered (firsts l) a (has-firsts (a .number) l ∙ new l a is f) skipped k largest behind (omega (arith, f .places)) own);
+        }
+
+    -- of a packet in order
+    pub noted-in-order : state .next ≤ number → (skipped′ : List ℕ) → Filled (state .next) number (state .count + 1) skipped skipped′
+        → Noted i number largest numbers records skipped state (set numbers (state .count) number) (set records number (i + 1)) skipped′
+        (record { count = state .count + 1; next = number + 1 })
+    noted-in-order ahead skipped′ filled =
+        record {
+          follows = λ l a m is f.
+              rw (← m, ← is)
+              (kept-in-order l a numbers records skipped state f (new l a is f) (omega arith) (omega arith) (omega arith) (omega arith) skipped′ (rw (← is) at filled));
+          linked = λ l a m is f lar k.
+              rw (one-more l a numbers records skipped state f (new l a is f) (omega arith) (omega arith) (omega arith))
+              (linked-in-order (firsts l) a (has-firsts (a .number) l ∙ new l a is f) skipped k skipped′ _ (omega (arith, f .next)) (rw (← is, f .next) at filled));
+        }
+
+module _ (d : Decoded) (y : Layout) (i : ℕ) (h : Has d y i) (numbers records skipped : List ℕ) (state : State)
+    (f : Follows (before d i) numbers records skipped state) (number : ℕ) (is : number ≡ arrivalAt d i .number) where
+  -- record i + 1 can be noted
+  pub noting : Noting numbers records skipped state i number
+  noting =
+      let n = h .file .numbers i (h .inside) in
+      record {
+        earlier = before d i;
+        follows = f;
+        many = before-length d y i h;
+        few = omega (arith, h .inside, h .file .few);
+        low = omega (arith, n);
+        high = omega (arith, n, h .file .sentFew);
+      }
+
+  module _ (largest : ℕ) (numbers′ records′ skipped′ : List ℕ) (state′ : State)
+      (n : Noted i number largest numbers records skipped state numbers′ records′ skipped′ state′) where
+    -- the tables after it
+    pub noted-follows : Follows (before d (i + 1)) numbers′ records′ skipped′ state′
+    noted-follows = rw (before-more d y i h) (n .follows (before d i) (arrivalAt d i) (before-length d y i h) (sym is) f)
+
+    -- and the links
+    pub noted-linked : (has number (before d i) ≡ false → number < nextExp (firsts (before d i)) → largest ≡ largestN (firsts (before d i)) number)
+        → Linked (firsts (before d i)) skipped → Linked (firsts (before d (i + 1))) skipped′
+    noted-linked lar k = rw (before-more d y i h) (n .linked (before d i) (arrivalAt d i) (before-length d y i h) (sym is) f lar k)

@@ -1,0 +1,116 @@
+-- `look` answers by the class of the arrival, and for a reordered packet scans the first arrivals before it. Assumes nothing.
+use mathlib.Core.Path.{_≡_, ap, _∙_}
+use Prim.Native.Nat.{_-_, _≤_}
+use native.Mathlib.Omega.{arith}
+use borrow.Author.Needs.{needs}
+use denote.Ref.{now}
+use lib.ListN.{take}
+use Rattle.rfc4737.specs.declared.Arrival.{Arrival}
+use Rattle.rfc4737.specs.Arrivals.{firsts}
+use Rattle.rfc4737.specs.Extent.{byteOffset, largestN}
+use Rattle.sample.specs.Decode.{decode}
+use Rattle.metrics.specs.Sample.{sizeOf}
+use Rattle.metrics.specs.Private.Sample.{arrivalAt, before}
+use Rattle.metrics.specs.Private.Tables.{Packets, Late, Tells}
+use Rattle.metrics.proofs.Told.{told, packets, late-place, late-alone}
+use Rattle.metrics.proofs.answers.look.Statement.{statement}
+use Rattle.metrics.proofs.answers.look.Tie as tie
+
+-- the number of the arrival
+number : (c : tie.After-arrival) → c .arrival .result .number ≡ arrivalAt (decode (now (c .before .before .args .file))) (c .before .before .args .i) .number
+number c = ap (λ (a : Arrival). a .number) (c .arrival .ensures .0)
+
+-- its class tells the answer
+class-told : (c : tie.After-class-of) → Tells (decode (now (c .before .before .before .args .file))) (c .before .before .before .args .i) (c .before .before .before .args .state .count) (c .class-of .result)
+class-told c =
+    let n = c .before .arrival .ensures in
+    told _ _ _ _ _ _ (c .before .before .before .pre .1) _ (number (c .before)) (n .1) (n .2) _ (c .class-of .ensures)
+
+-- where it is reordered the table has its discontinuity
+late : (c : tie.After-known-told) → Late (decode (now (c .before .before .before .before .before .before .args .file))) (c .before .before .before .before .before .before .args .i) (c .before .class .given .0 .0)
+late c = rw (c .before .class .given .1) at (class-told (c .before .before .before))
+
+-- there are few first arrivals before it, and their numbers are those of packets
+known : (c : tie.After-known-told) → (c .before .before .before .before .before .before .args .state .count ≤ 4096) × Packets (now (c .before .before .before .before .before .before .args .numbers)) (c .before .before .before .before .before .before .args .state .count) (c .before .before .before .before .before .before .args .y .sent)
+known c = let p = c .before .before .before .before .before .before .pre in packets _ _ (c .before .before .before .before .before .before .args .i) (p .0 .file) _ _ (p .1 .numbered) (omega (arith, p .0 .inside))
+
+arrival-requires : tie.Need-arrival-requires
+arrival-requires c κs = search needs
+
+class-of-requires : tie.Need-class-of-requires
+class-of-requires c κs = c .arrival .ensures .2
+
+enum-told : tie.Need-enum-told
+enum-told c = search needs
+
+answer-by-requires : tie.Need-answer-by-requires
+answer-by-requires c κs =
+    let p = c .before .before .before .before .before .pre in
+    let is = c .enum-told .given .1 in
+    (p .0, c .before .before .before .arrival .ensures .0, p .1 .numbered, p .1 .recorded, class-told (c .before .before), rw is, rw is)
+
+enum-told-2 : tie.Need-enum-told-2
+enum-told-2 c = search needs
+
+answer-by-requires-2 : tie.Need-answer-by-requires-2
+answer-by-requires-2 c κs =
+    let p = c .before .before .before .before .before .pre in
+    let is = c .enum-told2 .given .1 in
+    (p .0, c .before .before .before .arrival .ensures .0, p .1 .numbered, p .1 .recorded, class-told (c .before .before), rw is, rw is)
+
+enum-known-class : tie.Need-enum-known-class
+enum-known-class c = search needs
+
+sub-offset : tie.Need-sub-offset
+sub-offset c = let p = c .before .before .before .before .before .before .pre in late-place _ _ _ _ _ (p .0) (late c) _ _ (p .1 .numbered) (p .1 .recorded) .0
+
+offset-requires : tie.Need-offset-requires
+offset-requires c κs = (c .before .before .before .before .before .before .pre .0 .file, known c .0, known c .1)
+
+largest-requires : tie.Need-largest-requires
+largest-requires c κs = known (c .before) .0
+
+answer-by-requires-3 : tie.Need-answer-by-requires-3
+answer-by-requires-3 c κs =
+    let p = c .before .before .before .before .before .before .before .before .pre in
+    let at = c .before .before .before .class .given .0 .0 in
+    let d = decode (now (c .before .before .before .before .before .before .before .before .args .file)) in
+    let fs = firsts (before d (c .before .before .before .before .before .before .before .before .args .i)) in
+    let n = number (c .before .before .before .before .before .before) in
+    let alone = ap (byteOffset (sizeOf d) (take (at - 1) fs)) n ∙ late-alone _ _ _ _ _ (p .0) (late (c .before .before)) _ _ (p .1 .numbered) (p .1 .recorded) in (
+      p .0,
+      c .before .before .before .before .before .before .arrival .ensures .0,
+      p .1 .numbered,
+      p .1 .recorded,
+      late (c .before .before),
+      c .before .offset .ensures fs (p .1 .numbered) alone ∙ ap (byteOffset (sizeOf d) fs) n,
+      c .largest .ensures fs (p .1 .numbered) ∙ ap (largestN fs) n,
+    )
+
+returns : tie.Need-returns
+returns c = c .answer-by .ensures
+
+returns-2 : tie.Need-returns-2
+returns-2 c = c .answer-by2 .ensures
+
+returns-3 : tie.Need-returns-3
+returns-3 c = c .answer-by3 .ensures
+
+pub look-spec : {M : Type 1} → statement M
+look-spec =
+    tie.close
+    (tie.spec
+    arrival-requires
+    class-of-requires
+    enum-told
+    answer-by-requires
+    enum-told-2
+    answer-by-requires-2
+    enum-known-class
+    sub-offset
+    offset-requires
+    largest-requires
+    answer-by-requires-3
+    returns
+    returns-2
+    returns-3)

@@ -1,0 +1,112 @@
+-- `largest_by_links` goes back along the links. The loop's invariant: the numbers from p to before `count` are above s. The measure is p.
+-- Assumes nothing.
+use mathlib.Core.Path.{refl}
+use Prim.Native.Nat.{_-_, _≤_}
+use native.Mathlib.Omega.{arith}
+use borrow.Author.Needs.{needs}
+use Rattle.metrics.specs.Private.Tables.{Above}
+use Rattle.metrics.proofs.Reordered.{above-none, largest-back}
+use Rattle.metrics.proofs.Linked.{above-link}
+use Rattle.metrics.proofs.scan.largest_by_links.Statement.{statement}
+use Rattle.metrics.proofs.scan.largest_by_links.Tie as tie
+
+-- `largest_by_links` goes back along the links. The loop's invariant: the numbers from p to before `count` are above s. The measure is p.
+-- Assumes nothing.
+
+abbrev Inv-loop : tie.InvT-loop
+Inv-loop numbers skipped count s p₀ p = Above numbers s p count
+
+abbrev μ-loop : tie.MeasureT-loop
+μ-loop numbers skipped count s p₀ p = p
+
+-- the packet of a place is one of the packets
+packet : (c : tie.Else1 Inv-loop μ-loop) → c .before .wide .result ≤ 4096
+packet c = rw (c .before .wide .ensures) (c .before .before .before .before .before .pre .1 .packet (c .before .before .before .before .loop .p - 1) (omega (arith, c .before .before .before .loop-test .taken, c .before .before .before .before .loop .inv .order)))
+
+-- its link leads to a place
+link : (c : tie.After-wide2 Inv-loop μ-loop) → c .wide2 .result ≤ c .before .before .before .before .before .before .loop .p - 1
+link c =
+    rw (c .wide2 .ensures, c .before .before .before .wide .ensures)
+    (c .before .before .before .before .before .before .before .pre .1 .inside (c .before .before .before .before .before .before .loop .p - 1) (omega (arith, c .before .before .before .before .before .loop-test .taken, c .before .before .before .before .before .before .loop .inv .order)))
+
+loop-holds : tie.Need-loop-holds Inv-loop μ-loop
+loop-holds c = above-none _ _ refl
+
+sub-place : tie.Need-sub-place Inv-loop μ-loop
+sub-place c = omega arith
+
+cast-place : tie.Need-cast-place Inv-loop μ-loop
+cast-place c = omega arith
+
+mul-wide : tie.Need-mul-wide Inv-loop μ-loop
+mul-wide c = omega arith
+
+element-copy-out-wide : tie.Need-element-copy-out-wide Inv-loop μ-loop
+element-copy-out-wide c = omega arith
+
+wide-requires : tie.Need-wide-requires Inv-loop μ-loop
+wide-requires c κs = search needs
+
+sub-result : tie.Need-sub-result Inv-loop μ-loop
+sub-result c = omega (arith, c .before .before .before .before .loop .inv .order)
+
+returns : tie.Need-returns Inv-loop μ-loop
+returns c =
+    let most = c .before .before .before .before .before .pre .0 in
+    (omega arith, largest-back _ _ _ _ (c .before .before .before .before .loop .inv) (λ low. rw (c .before .wide .ensures) at (c .if1 .taken)))
+
+cast-packet : tie.Need-cast-packet Inv-loop μ-loop
+cast-packet c = omega arith
+
+sub-p : tie.Need-sub-p Inv-loop μ-loop
+sub-p c = omega arith
+
+mul-wide-2 : tie.Need-mul-wide-2 Inv-loop μ-loop
+mul-wide-2 c = omega (arith, packet c)
+
+element-copy-out-wide-2 : tie.Need-element-copy-out-wide-2 Inv-loop μ-loop
+element-copy-out-wide-2 c = omega (arith, packet c)
+
+wide-requires-2 : tie.Need-wide-requires-2 Inv-loop μ-loop
+wide-requires-2 c κs = search needs
+
+sub-p-2 : tie.Need-sub-p-2 Inv-loop μ-loop
+sub-p-2 c = omega (arith, link c)
+
+loop-less : tie.Need-loop-less Inv-loop μ-loop
+loop-less c = omega (arith, c .before .before .before .before .before .loop-test .taken)
+
+loop-again : tie.Need-loop-again Inv-loop μ-loop
+loop-again c =
+    above-link _ _ _ _ _ _ _ (c .before .before .before .before .before .before .before .pre .1) (omega arith) (c .before .before .if1 .left) (c .before .before .before .wide .ensures) (c .wide2 .ensures) (c .before .before .before .before .before .before .loop .inv)
+
+sub-result-2 : tie.Need-sub-result-2 Inv-loop μ-loop
+sub-result-2 c = omega (arith, c .before .loop .inv .order)
+
+returns-2 : tie.Need-returns-2 Inv-loop μ-loop
+returns-2 c = (omega arith, largest-back _ _ _ _ (c .before .loop .inv) (λ low. absurd (omega arith)))
+
+pub largest-by-links-spec : {M : Type 1} → statement M
+largest-by-links-spec =
+    tie.close
+    (tie.spec
+    Inv-loop
+    μ-loop
+    loop-holds
+    sub-place
+    cast-place
+    mul-wide
+    element-copy-out-wide
+    wide-requires
+    sub-result
+    returns
+    cast-packet
+    sub-p
+    mul-wide-2
+    element-copy-out-wide-2
+    wide-requires-2
+    sub-p-2
+    loop-less
+    loop-again
+    sub-result-2
+    returns-2)

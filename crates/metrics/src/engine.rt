@@ -1,0 +1,91 @@
+// The engine: what is known after some records, and the answer for one record more. A record takes a few steps, and a
+// reordered packet those of the tree of sums besides: at most 11 to ask it, and at most 12 for each first arrival that it
+// has to be told of, once. Links take at most two steps for each first arrival in all.
+ghost use mathlib.Core.Path.{_≡_};
+ghost use Prim.Native.Nat.{_+_};
+ghost use Rattle.sample.specs.Decode.{decode};
+ghost use Rattle.metrics.specs.Private.Sample.{Has, arrivalAt, answerAt};
+ghost use Rattle.metrics.specs.Private.Engine.{Running};
+use crate::look::answer_by;
+use crate::look::class_of;
+use crate::scan::largest_of;
+use crate::tables::FIRSTS;
+use crate::tables::PLACES;
+use crate::tables::State;
+use crate::tables::note;
+use crate::tables::start;
+use crate::totals::Totals;
+use crate::totals::no_totals;
+use crate::totals::offset_of;
+use rfc4737::Answer;
+use rfc4737::Arrival;
+use sample::Layout;
+
+// What is known beside the tables: of the records noted, and of the tree of sums.
+pub(crate) struct Engine {
+    pub noted: State,
+    pub totals: Totals,
+}
+
+// Before any record.
+pub(crate) fn fresh_engine() -> Engine
+    ensures { λ r. ⌜ r ≡ record { noted = record { count = 0; next = 1 }; totals = record { filled = 0; total = 0 } } ⌝ }
+{
+    Engine {
+        noted: start(),
+        totals: no_totals(),
+    }
+}
+
+// The answer for one record more, and what is known after it.
+pub(crate) struct Advanced {
+    pub answer: Answer,
+    pub engine: Engine,
+}
+
+// Advances by record i + 1, which is this arrival.
+pub(crate) fn advance(
+    file: &[u8],
+    y: Layout,
+    i: u32,
+    arrival: Arrival,
+    numbers: &mut [u16; FIRSTS],
+    records: &mut [u16; PLACES],
+    skipped: &mut [u16; PLACES],
+    tree: &mut [u32],
+    engine: Engine,
+) -> Advanced
+    requires { ⌜ Has (decode (now file)) y i × (arrival ≡ arrivalAt (decode (now file)) i)
+        × Running (decode (now file)) i (now numbers) (now records) (now skipped) (now tree) engine ⌝ }
+    ensures { λ r. ⌜ (r .answer ≡ answerAt (decode (now (file .entry))) i)
+        × Running (decode (now (file .entry))) (i + 1) (now (numbers .exit)) (now (records .exit)) (now (skipped .exit)) (now (tree .exit)) (r .engine) ⌝ }
+{
+    let noted = engine.noted;
+    let totals = engine.totals;
+    let number = arrival.number;
+    let count = noted.count;
+    let class = class_of(records, skipped, noted.next, number);
+    let found = offset_of(file, y, numbers, tree, count, number, totals, class);
+    let largest = largest_of(numbers, skipped, count, number, class);
+    let answer = answer_by(
+        file,
+        y,
+        i,
+        arrival,
+        numbers,
+        records,
+        count,
+        class,
+        found.offset,
+        largest,
+    );
+    let after = note(numbers, records, skipped, i, number, largest as u16, noted);
+    let filled = found.totals;
+    Advanced {
+        answer,
+        engine: Engine {
+            noted: after,
+            totals: filled,
+        },
+    }
+}

@@ -1,0 +1,104 @@
+// The byte offset of a packet by a tree of sums over pairs of packets: packets 2k - 1 and 2k stand at number k. That is
+// enough, since a packet is asked for before it arrives: those that have arrived with smaller numbers are in the pairs
+// up to number s / 2, and no other is in these.
+ghost use mathlib.Core.Path.{_≡_};
+ghost use mathlib.Core.List.{List};
+ghost use Prim.Native.Nat.{_≤_};
+ghost use Rattle.rfc4737.specs.declared.Arrival.{Arrival};
+ghost use Rattle.rfc4737.specs.Extent.{byteOffset};
+ghost use Rattle.sample.specs.Decode.{decode};
+ghost use Rattle.metrics.specs.Sample.{sizeOf};
+ghost use Rattle.metrics.specs.Private.Tables.{Numbered, lateOnly, NewIfLate};
+ghost use Rattle.metrics.specs.Private.Engine.{Totalled, Filling};
+use crate::input;
+use crate::look::Class;
+use crate::tables::FIRSTS;
+use crate::tables::wide;
+use sample::Layout;
+
+// The places of the tree: the pairs of packets, and 0, which is not used.
+pub(crate) const PAIRS: usize = 2049;
+
+// How many of the first arrivals stand in the tree, and their payload sizes together.
+pub(crate) struct Totals {
+    pub filled: u32,
+    pub total: u32,
+}
+
+// Of no first arrivals.
+pub(crate) fn no_totals() -> Totals
+    ensures { λ r. ⌜ r ≡ record { filled = 0; total = 0 } ⌝ }
+{
+    Totals {
+        filled: 0,
+        total: 0,
+    }
+}
+
+// Puts those of the first `count` first arrivals into the tree that do not stand there yet.
+fn fill(
+    file: &[u8],
+    y: Layout,
+    numbers: &[u16; FIRSTS],
+    tree: &mut [u32],
+    count: u32,
+    t: Totals,
+) -> Totals
+    requires { ⌜ Filling (decode (now file)) y (now numbers) (now tree) count t ⌝ }
+    ensures { λ r. ⌜ ((fs : List Arrival) → Numbered fs (now (numbers .entry)) count → Totalled (sizeOf (decode (now (file .entry)))) fs (now (tree .entry)) t
+        → Totalled (sizeOf (decode (now (file .entry)))) fs (now (tree .exit)) r × (r .filled ≡ count)) ⌝ }
+{
+    let mut total = t.total;
+    let mut p = t.filled;
+    while p < count {
+        let place = p as usize;
+        let number = wide(numbers[place]);
+        let size = input::size(file, y, number);
+        sums::add(tree, (number + 1) / 2, size);
+        total += size;
+        p += 1;
+    }
+    Totals { filled: p, total }
+}
+
+// A byte offset, and the totals with which it was found.
+pub(crate) struct Offset {
+    pub offset: u32,
+    pub totals: Totals,
+}
+
+// The byte offset of a packet of this number and class, after so many first arrivals: if it is reordered, the sizes of
+// all of them without those of smaller numbers; 0 for any other packet.
+pub(crate) fn offset_of(
+    file: &[u8],
+    y: Layout,
+    numbers: &[u16; FIRSTS],
+    tree: &mut [u32],
+    count: u32,
+    s: u32,
+    t: Totals,
+    class: Class,
+) -> Offset
+    requires { ⌜ Filling (decode (now file)) y (now numbers) (now tree) count t × (1 ≤ s) × (s ≤ 4096) ⌝ }
+    ensures { λ r. ⌜ ((fs : List Arrival) → Numbered fs (now (numbers .entry)) count → Totalled (sizeOf (decode (now (file .entry)))) fs (now (tree .entry)) t
+        → Totalled (sizeOf (decode (now (file .entry)))) fs (now (tree .exit)) (r .totals)
+        × (NewIfLate s fs class → r .offset ≡ lateOnly (byteOffset (sizeOf (decode (now (file .entry)))) fs s) class)) ⌝ }
+{
+    match class {
+        Class::Duplicate(_) => Offset {
+            offset: 0,
+            totals: t,
+        },
+        Class::InOrder(_) => Offset {
+            offset: 0,
+            totals: t,
+        },
+        Class::Reordered(_) => {
+            let totals = fill(file, y, numbers, tree, count, t);
+            Offset {
+                offset: totals.total - sums::sum_to(tree, s / 2),
+                totals,
+            }
+        }
+    }
+}
