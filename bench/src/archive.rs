@@ -251,7 +251,7 @@ pub fn to_archive(r: &Receiver) -> c::State {
 }
 
 /// The receiver of an archive's state.
-fn from_archive(state: &c::State) -> Receiver {
+pub fn from_archive(state: &c::State) -> Receiver {
     let (s, places) = (&state.stream, &state.places);
     Receiver {
         marks: state.marks,

@@ -9,9 +9,12 @@ mod label;
 mod link;
 mod meters;
 mod noted;
+mod pieces;
 mod records;
+mod short;
 mod swept;
 mod text;
+mod total;
 
 use figures::AnswerFigures;
 use figures::DegreeFigures;

@@ -1,0 +1,89 @@
+//! The total of disorder: the archive's call, and a plain Rust implementation beside it.
+
+use crate::compare::Seen;
+use crate::generate::sample_case;
+use crate::reference::{answer, check, number_and_time, Answer};
+
+/// The refusal, and the total.
+#[repr(C)]
+#[derive(Clone, Copy, PartialEq, Eq, Debug)]
+pub struct Total {
+    pub refusal: u32,
+    pub total: u32,
+}
+
+// The library's call.
+
+extern "C" {
+    fn krakobran_disorder(file: *const u8, octets: usize) -> Total;
+}
+
+fn by_library(file: &[u8]) -> Total {
+    // SAFETY: the pointer has as many octets as the number after it says.
+    unsafe { krakobran_disorder(file.as_ptr(), file.len()) }
+}
+
+// The reference.
+
+/// How many pairs of first arrivals came in the wrong order: of each, how many earlier ones have a greater number. The numbers
+/// so far stand in rising order.
+fn by_reference(file: &[u8]) -> Total {
+    let sample = match check(file) {
+        Ok(sample) => sample,
+        Err(refusal) => return Total { refusal, total: 0 },
+    };
+    let mut rising: Vec<u32> = Vec::new();
+    let mut total = 0;
+    for arrival in sample.arrivals {
+        let (number, _) = number_and_time(arrival);
+        if let Err(place) = rising.binary_search(&number) {
+            total += (rising.len() - place) as u32;
+            rising.insert(place, number);
+        }
+    }
+    Total { refusal: 0, total }
+}
+
+/// The sum of the byte offsets, where every payload size is 1.
+fn offset_sum(file: &[u8]) -> u32 {
+    let arrivals = check(file).map_or(0, |sample| sample.arrivals.len() as u32);
+    (1..=arrivals)
+        .map(|record| match answer(file, record).answer {
+            Answer::Reordered { byte_offset, .. } => byte_offset,
+            _ => 0,
+        })
+        .sum()
+}
+
+// The comparison.
+
+/// The library against the reference on samples made from a seed. Each of at most 64 arrivals is written again with payload
+/// sizes of 1, where the total is the sum of the byte offsets.
+pub fn compare(seed: u64, samples: u64, seen: &mut Seen) -> Result<(), String> {
+    for index in 0..samples {
+        let mut case = sample_case(seed, index);
+        one(&case.file, seen).map_err(|text| format!("disorder of sample {index} of seed {seed}: {text}"))?;
+        if case.draft.numbers.len() <= 64 {
+            case.draft.sizes.fill(1);
+            let file = case.draft.file();
+            let (total, sum) = (one(&file, seen)?, offset_sum(&file));
+            if total != sum {
+                return Err(format!("disorder of sample {index} of seed {seed}: total {total}, byte offsets {sum}\n"));
+            }
+        }
+    }
+    Ok(())
+}
+
+fn one(file: &[u8], seen: &mut Seen) -> Result<u32, String> {
+    let a = by_library(file);
+    let b = by_reference(file);
+    seen.call("disorder", a.refusal);
+    if a != b {
+        return Err(format!("left {a:?}\nright {b:?}\n"));
+    }
+    if a.total == 4096 * 4095 / 2 {
+        seen.kind("disorder: the greatest total");
+    }
+    Ok(a.total)
+}

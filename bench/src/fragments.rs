@@ -1,0 +1,370 @@
+//! Fragments: the archive's call, a plain Rust implementation of RFC 4737, Appendix B beside it, and arrivals to compare the two
+//! on.
+
+use std::collections::{HashMap, HashSet};
+
+use crate::compare::Seen;
+use crate::generate::{clock_step, number_outside, Random};
+use crate::reference::{ARRIVAL_COUNT, LISTS_DIFFER, MOST_ARRIVALS, MOST_BACK, MOST_SENT, NUMBER, OUTPUT_SHORT};
+use crate::reference::{SENT_COUNT, TIME};
+
+const FRAGMENT_UNFIT: u32 = 17;
+const END_MOST: u32 = 65_535;
+
+const IN_ORDER: u8 = 0;
+const REORDERED: u8 = 1;
+const COPY: u8 = 3;
+
+/// The arrivals: numbers, times, lengths in octets, more-fragments flags and fragment offsets.
+#[derive(Clone, Debug, Default)]
+struct Lists {
+    numbers: Vec<u32>,
+    times: Vec<u64>,
+    lengths: Vec<u16>,
+    mores: Vec<u8>,
+    offsets: Vec<u16>,
+}
+
+/// What is filled: the flags, and which arrivals are usable.
+#[derive(Clone, PartialEq, Eq, Debug)]
+struct Lent {
+    flags: Vec<u8>,
+    usable: Vec<u8>,
+}
+
+// The library's call.
+
+#[rustfmt::skip]
+extern "C" {
+    fn krakobran_fragment_order(
+        sent: u32, numbers: *const u32, number_count: usize, times: *const u64, time_count: usize, lengths: *const u16,
+        length_count: usize, mores: *const u8, more_count: usize, offsets: *const u16, offset_count: usize,
+        flags: *mut u8, flag_places: usize, usable: *mut u8, usable_places: usize,
+    ) -> u32;
+}
+
+fn by_library(sent: u32, l: &Lists, out: &mut Lent) -> u32 {
+    let [f, u] = [out.flags.len(), out.usable.len()];
+    // SAFETY: each pointer has as many places as the number after it says.
+    unsafe {
+        krakobran_fragment_order(
+            sent,
+            l.numbers.as_ptr(),
+            l.numbers.len(),
+            l.times.as_ptr(),
+            l.times.len(),
+            l.lengths.as_ptr(),
+            l.lengths.len(),
+            l.mores.as_ptr(),
+            l.mores.len(),
+            l.offsets.as_ptr(),
+            l.offsets.len(),
+            out.flags.as_mut_ptr(),
+            f,
+            out.usable.as_mut_ptr(),
+            u,
+        )
+    }
+}
+
+// The reference.
+
+/// An arrival. More are to come after it, or it is its packet's last; a whole packet is a last one at offset 0.
+#[derive(Clone, Copy)]
+struct Piece {
+    number: u32,
+    time: u64,
+    length: u16,
+    last: bool,
+    offset: u16,
+}
+
+impl Piece {
+    fn whole(&self) -> bool {
+        self.last && self.offset == 0
+    }
+
+    /// The places of its octets in its packet: the first, and the one after the last.
+    fn octets(&self) -> (u32, u32) {
+        let start = 8 * u32::from(self.offset);
+        (start, start + u32::from(self.length))
+    }
+
+    fn unfit(&self) -> bool {
+        let cut = !self.last && self.length % 8 != 0;
+        !self.whole() && (self.length == 0 || cut || self.octets().1 > END_MOST)
+    }
+}
+
+fn pieces(l: &Lists) -> Vec<Piece> {
+    (0..l.numbers.len())
+        .map(|i| Piece {
+            number: l.numbers[i],
+            time: l.times[i],
+            length: l.lengths[i],
+            last: l.mores[i] == 0,
+            offset: l.offsets[i],
+        })
+        .collect()
+}
+
+/// The refusal that is due first, before room is looked at.
+fn judge(sent: u32, l: &Lists) -> Result<Vec<Piece>, u32> {
+    if sent == 0 || sent as usize > MOST_SENT {
+        return Err(SENT_COUNT);
+    }
+    let many = l.numbers.len();
+    if many > MOST_ARRIVALS {
+        return Err(ARRIVAL_COUNT);
+    }
+    if [l.times.len(), l.lengths.len(), l.mores.len(), l.offsets.len()] != [many; 4] {
+        return Err(LISTS_DIFFER);
+    }
+    let all = pieces(l);
+    let mut greatest = 0u64;
+    for piece in &all {
+        if piece.number == 0 || piece.number > sent {
+            return Err(NUMBER);
+        }
+        if piece.unfit() {
+            return Err(FRAGMENT_UNFIT);
+        }
+        if greatest.saturating_sub(piece.time) > MOST_BACK {
+            return Err(TIME);
+        }
+        greatest = greatest.max(piece.time);
+    }
+    Ok(all)
+}
+
+/// Which arrivals are equal to an earlier one in number, offset and length; of two whole packets the number alone decides.
+fn copies(all: &[Piece]) -> Vec<bool> {
+    let (mut equal, mut wholes) = (HashSet::new(), HashSet::new());
+    all.iter()
+        .map(|p| {
+            let seen = !equal.insert((p.number, p.offset, p.length));
+            let seen_whole = p.whole() && !wholes.insert(p.number);
+            seen || seen_whole
+        })
+        .collect()
+}
+
+/// The three cases of B.3, and what is expected after an arrival that is in order.
+fn flags(all: &[Piece], copies: &[bool], seen: &mut Seen) -> Vec<u8> {
+    let (mut next, mut packet, mut fragment) = (1, 0, 0);
+    let mut flag = |p: &Piece, copy: bool| {
+        if copy {
+            return COPY;
+        }
+        let offset = u32::from(p.offset);
+        let case = if p.number < next {
+            "fragments: reordered, case 1"
+        } else if p.number < packet {
+            "fragments: reordered, case 2"
+        } else if p.number == packet && offset < fragment {
+            "fragments: reordered, case 3"
+        } else {
+            (next, packet, fragment) = if p.last { (p.number + 1, 0, 0) } else { (next, p.number, offset + 1) };
+            return IN_ORDER;
+        };
+        seen.kind(case);
+        REORDERED
+    };
+    all.iter().zip(copies).map(|(p, &copy)| flag(p, copy)).collect()
+}
+
+/// The packets of which every octet from 0 to the end of a last one has arrived.
+fn complete(all: &[Piece]) -> HashSet<u32> {
+    let mut packets: HashMap<u32, Vec<&Piece>> = HashMap::new();
+    for piece in all {
+        packets.entry(piece.number).or_default().push(piece);
+    }
+    let covers = |parts: &mut Vec<&Piece>| {
+        parts.sort_by_key(|p| p.octets());
+        let reach = parts.iter().fold(0, |reach, p| if p.octets().0 <= reach { reach.max(p.octets().1) } else { reach });
+        parts.iter().any(|p| p.last && p.octets().1 <= reach)
+    };
+    packets.iter_mut().filter_map(|(&number, parts)| covers(parts).then_some(number)).collect()
+}
+
+fn by_reference(sent: u32, l: &Lists, out: &mut Lent, seen: &mut Seen) -> u32 {
+    let all = match judge(sent, l) {
+        Ok(all) => all,
+        Err(refusal) => return refusal,
+    };
+    if out.flags.len() < all.len() || out.usable.len() < all.len() {
+        return OUTPUT_SHORT;
+    }
+    let (copies, complete) = (copies(&all), complete(&all));
+    out.flags[..all.len()].copy_from_slice(&flags(&all, &copies, seen));
+    for (place, (p, copy)) in out.usable.iter_mut().zip(all.iter().zip(&copies)) {
+        *place = u8::from(!copy && complete.contains(&p.number));
+        seen.kind(if *place == 1 { "fragments: usable" } else { "fragments: not usable" });
+    }
+    0
+}
+
+// Arrivals.
+
+/// Packets cut on the way: some whole, the others in fragments of equal length and a last one, in the order in which they are sent.
+fn sent_pieces(random: &mut Random, sent: u32, most: usize) -> Vec<Piece> {
+    let one_in = random.pick(&[1, 2, 5]);
+    let mut all = Vec::new();
+    for number in 1..=sent {
+        let parts = if random.once_in(one_in) { random.between(1, most) } else { 1 };
+        let units = random.pick(&[1, 1, 2, 185]);
+        let last = random.pick(&[1, 7, 8, 20]);
+        for part in 0..parts {
+            let more = part + 1 < parts;
+            all.push(Piece {
+                number,
+                time: 0,
+                length: if more { 8 * units } else { last },
+                last: !more,
+                offset: units.saturating_mul(part as u16),
+            });
+        }
+    }
+    all
+}
+
+/// They arrive in some order, some lost, some twice, at times that rise and step a little.
+fn arrive(random: &mut Random, mut all: Vec<Piece>) -> Vec<Piece> {
+    let lost = random.pick(&[usize::MAX, usize::MAX, 20, 3]);
+    all.retain(|_| !random.once_in(lost));
+    match random.below(5) {
+        0 => {}
+        1 => all.reverse(),
+        2 => random.shuffle(&mut all),
+        _ => {
+            for at in 0..all.len() {
+                let to = (at + random.below(4)).min(all.len() - 1);
+                all[at..=to].rotate_left(1);
+            }
+        }
+    }
+    let twice = random.pick(&[usize::MAX, 10, 2]);
+    for at in (0..all.len()).rev() {
+        if random.once_in(twice) {
+            let (to, mut again) = (random.between(at + 1, all.len()), all[at]);
+            if again.whole() && random.once_in(2) {
+                again.length = random.draw() as u16;
+            }
+            again.last ^= random.once_in(8);
+            all.insert(to, again);
+        }
+    }
+    all.truncate(MOST_ARRIVALS);
+    let mut time = random.pick(&[0, 5000, u64::MAX - 9_000_000]);
+    for piece in &mut all {
+        time += random.below(30) as u64;
+        piece.time = time.saturating_sub(if random.once_in(3) { clock_step(random).min(1000) } else { 0 });
+    }
+    all
+}
+
+/// A change that a refusal may name, or none.
+fn damage(random: &mut Random, sent: u32, all: &mut [Piece]) {
+    if all.is_empty() {
+        return;
+    }
+    let at = random.below(all.len());
+    let greatest = all[..at].iter().map(|p| p.time).max().unwrap_or(0);
+    let p = &mut all[at];
+    match random.below(9) {
+        0 => p.number = number_outside(random, sent),
+        1 => p.time = greatest.saturating_sub(random.pick(&[1000, 1001, 1002])),
+        2 => p.length = random.pick(&[0, 1, 7, 9, 12, 65_528, 65_535]),
+        3 => (p.last, p.length) = (false, random.pick(&[0, 4, 8, 12, 65_528])),
+        4 => p.offset = random.pick(&[0, 1, 8190, 8191, 8192, u16::MAX]),
+        5 => (p.last, p.offset, p.length) = (true, 8191, random.pick(&[6, 7, 8])),
+        6 => (p.last, p.offset, p.length) = (true, 0, 0),
+        7 => {
+            p.length = 0;
+            p.number = number_outside(random, sent);
+            p.time = greatest.saturating_sub(1001);
+        }
+        _ => {
+            (p.last, p.length) = (false, 4);
+            p.time = greatest.saturating_sub(1001);
+        }
+    }
+}
+
+fn lists(random: &mut Random, all: &[Piece]) -> Lists {
+    let more = |random: &mut Random| random.pick(&[1, 1, 2, 255]);
+    Lists {
+        numbers: all.iter().map(|p| p.number).collect(),
+        times: all.iter().map(|p| p.time).collect(),
+        lengths: all.iter().map(|p| p.length).collect(),
+        mores: all.iter().map(|p| if p.last { 0 } else { more(random) }).collect(),
+        offsets: all.iter().map(|p| p.offset).collect(),
+    }
+}
+
+/// One list longer or shorter than the others.
+fn unequal(random: &mut Random, l: &mut Lists) {
+    let many = if random.once_in(2) { l.numbers.len() + 1 } else { random.below(l.numbers.len()) };
+    match random.below(5) {
+        0 => l.numbers.resize(many, 1),
+        1 => l.times.resize(many, u64::MAX),
+        2 => l.lengths.resize(many, 8),
+        3 => l.mores.resize(many, 0),
+        _ => l.offsets.resize(many, 0),
+    }
+}
+
+/// How many packets are sent, and how many fragments one has at most: a few, or enough for 4,096 arrivals, rarely one packet of
+/// them all.
+fn size(random: &mut Random) -> (u32, usize) {
+    match random.below(1000) {
+        0 => (1, 4096),
+        1..5 => (4096, 3),
+        5..40 => (random.between(100, 1500) as u32, random.between(1, 6)),
+        40..500 => (random.between(1, 4) as u32, random.between(1, 12)),
+        _ => (random.between(1, 30) as u32, random.between(1, 5)),
+    }
+}
+
+// The comparison.
+
+/// The library against the reference on arrivals made from a seed.
+pub fn compare(seed: u64, lists: u64, seen: &mut Seen) -> Result<(), String> {
+    for index in 0..lists {
+        let random = &mut Random::new(seed ^ 0x6672_6167, index);
+        one(random, seen).map_err(|text| format!("fragments {index} of seed {seed}: {text}"))?;
+    }
+    Ok(())
+}
+
+fn one(random: &mut Random, seen: &mut Seen) -> Result<(), String> {
+    let (sent, most) = size(random);
+    let whole = sent_pieces(random, sent, most);
+    let mut all = arrive(random, whole);
+    for _ in 0..random.pick(&[0, 0, 0, 1, 1, 2]) {
+        damage(random, sent, &mut all);
+    }
+    let mut l = lists(random, &all);
+    if random.once_in(25) {
+        unequal(random, &mut l);
+    }
+    if random.once_in(500) {
+        let many = random.pick(&[4097, 4098, 5000]);
+        l.numbers.resize(many, 1);
+    }
+    let sent = if random.once_in(30) { random.pick(&[0, 4096, 4097, u32::MAX]) } else { sent };
+    let many = l.numbers.len();
+    let room = |random: &mut Random| if random.once_in(12) { random.below(many + 1) } else { many + random.below(3) };
+    let mut left = Lent { flags: vec![99; room(random)], usable: vec![88; room(random)] };
+    let mut right = left.clone();
+    let a = by_library(sent, &l, &mut left);
+    let b = by_reference(sent, &l, &mut right, seen);
+    seen.call("fragments", a);
+    if (a, &left) != (b, &right) {
+        return Err(format!("K {sent} {l:?}\n left {a} {left:?}\nright {b} {right:?}\n"));
+    }
+    if a == 0 && many == MOST_ARRIVALS {
+        seen.kind("fragments: 4,096 arrivals");
+    }
+    Ok(())
+}

@@ -1,0 +1,16 @@
+-- `capi::short::krakobran_step_10` meets its contract: the step, then its answer as figures. Assumes nothing.
+use borrow.Author.Needs.{needs}
+use Rattle.capi.proofs.short.krakobran_step_10.Statement.{statement}
+use Rattle.capi.proofs.short.krakobran_step_10.Tie as tie
+
+step-10-requires : tie.Need-step-10-requires
+step-10-requires c κs = search needs
+
+step-answer-requires : tie.Need-step-answer-requires
+step-answer-requires c κs = search needs
+
+returns : tie.Need-returns
+returns c = simp (c .step-answer .ensures, c .before .step-10 .ensures .0)
+
+pub krakobran-step-10-spec : {M : Type 1} → statement M
+krakobran-step-10-spec = tie.close (tie.spec step-10-requires step-answer-requires returns)

@@ -1,0 +1,51 @@
+// Short sequence numbers for C: the full numbers of lists, and the receiver's step by value.
+ghost use mathlib.Core.Path.{_≡_};
+ghost use Rattle.shortnumbers.specs.Number.{rangeOf};
+ghost use Rattle.shortnumbers.specs.Lists.{Filled};
+ghost use Rattle.shortnumbers.specs.Steps.{shortStep};
+ghost use Rattle.capi.specs.Noted.{stepAnswer};
+use crate::noted::StepAnswer;
+use crate::noted::step_answer;
+use receiver::Receiver;
+
+// The full numbers of short ones of 8 bits, of K sent packets.
+#[no_mangle]
+pub extern "C" fn krakobran_full_numbers_8(
+    sent: u32,
+    shorts: &[u16],
+    times: &[u64],
+    numbers: &mut [u32],
+) -> u32
+    ensures { λ r. ⌜ Filled (rangeOf 8) sent (now (shorts .entry)) (now (times .entry)) (now (numbers .entry)) r (now (numbers .exit)) ⌝ }
+{
+    shortnumbers::full_numbers_8(sent, shorts, times, numbers)
+}
+
+// The full numbers of short ones of 10 bits.
+#[no_mangle]
+pub extern "C" fn krakobran_full_numbers_10(
+    sent: u32,
+    shorts: &[u16],
+    times: &[u64],
+    numbers: &mut [u32],
+) -> u32
+    ensures { λ r. ⌜ Filled (rangeOf 10) sent (now (shorts .entry)) (now (times .entry)) (now (numbers .entry)) r (now (numbers .exit)) ⌝ }
+{
+    shortnumbers::full_numbers_10(sent, shorts, times, numbers)
+}
+
+// The receiver's step with a short number of 8 bits, and the state after it.
+#[no_mangle]
+pub extern "C" fn krakobran_step_8(state: Receiver, short: u16, time: u64) -> StepAnswer
+    ensures { λ r. ⌜ r ≡ stepAnswer (shortStep (rangeOf 8) state short time) ⌝ }
+{
+    step_answer(shortnumbers::step_8(state, short, time))
+}
+
+// The receiver's step with a short number of 10 bits, and the state after it.
+#[no_mangle]
+pub extern "C" fn krakobran_step_10(state: Receiver, short: u16, time: u64) -> StepAnswer
+    ensures { λ r. ⌜ r ≡ stepAnswer (shortStep (rangeOf 10) state short time) ⌝ }
+{
+    step_answer(shortnumbers::step_10(state, short, time))
+}
