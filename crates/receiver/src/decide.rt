@@ -91,7 +91,7 @@ fn late<'a>(
             noted: Noted::InOrder(0),
         };
     }
-    if number < s.dropped as u32 {
+    if number < s.dropped {
         let lateness = lateness_from(positions, times, 0, s.arrived + 1, time);
         return Outcome {
             refusal: 0,

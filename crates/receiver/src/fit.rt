@@ -110,7 +110,7 @@ pub(crate) fn places_fit<'a>(
     if Receiver::WINDOW < kept {
         return false;
     }
-    if s.sent < s.dropped as u32 {
+    if s.sent < s.dropped {
         return false;
     }
     if !all_within(positions, kept, s.arrived as u16) {

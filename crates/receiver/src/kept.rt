@@ -52,12 +52,12 @@ pub(crate) fn kept_after(kept: u32, most: u32, size: u32) -> u32
 
 // The number of the last jump dropped, after an in-order arrival with a jump size, where at most so many are kept.
 pub(crate) fn dropped_after(
-    dropped: u16,
+    dropped: u32,
     kept: u32,
     most: u32,
     size: u32,
     numbers: &[u16; Receiver::WINDOW],
-) -> u16
+) -> u32
     ensures { λ r. ⌜ r ≡ cond (eqb size 0) dropped (cond (ltb kept most) dropped (getD (now (numbers .entry)) 0 0)) ⌝ }
 {
     if size == 0 {
@@ -66,7 +66,7 @@ pub(crate) fn dropped_after(
     if kept < most {
         return dropped;
     }
-    numbers[0]
+    wide(numbers[0])
 }
 
 // A new jump at a place, those up to it moved one place down: the first goes.

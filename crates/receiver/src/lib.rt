@@ -41,7 +41,7 @@ pub struct Stream {
     pub kept: u32,
     pub greatest: u64,
     pub runs: Runs,
-    pub dropped: u16,
+    pub dropped: u32,
 }
 
 // The places of the kept jumps: position, number and time of each, the oldest first. Those after the kept ones are unused.

@@ -84,7 +84,7 @@ abbrev stream-tys : Tys
 stream-tys =
     tcons (tyInt w32) (tcons (tyInt w32) (tcons (tyInt w32) (tcons (tyInt w32) (tcons (tyInt w32) (tcons (tyInt w32)
     (tcons (tyInt w64) (tcons (tyStruct [] (tcons (tyInt w32) (tcons (tyInt w32) (tcons (tyInt w32) tnil))))
-    (tcons (tyInt w16) tnil))))))))
+    (tcons (tyInt w32) tnil))))))))
 
 abbrev places-tys : Tys
 places-tys = tcons (tyArray (tyInt w16) 64) (tcons (tyArray (tyInt w16) 64) (tcons (tyArray (tyInt w64) 64) tnil))

@@ -27,9 +27,6 @@ returns c =
     late-none h _ (s .args .number) (s .args .time)
     (search-none (h .places) (s .args .number) (h .kept) _ (c .if1 .taken) (c .before .before .place-above .ensures))
 
-cast-if2 : tie.Need-cast-if2
-cast-if2 c = search needs
-
 add-lateness-from : tie.Need-add-lateness-from
 add-lateness-from c = search needs
 
@@ -74,7 +71,6 @@ late-spec =
     place-above-requires
     cast-if1
     returns
-    cast-if2
     add-lateness-from
     lateness-from-requires
     returns-2

@@ -15,9 +15,6 @@ cast-kept c = search needs
 returns : tie.Need-returns
 returns c = places-false _ _ (λ h. omega arith)
 
-cast-if2 : tie.Need-cast-if2
-cast-if2 c = search needs
-
 returns-2 : tie.Need-returns-2
 returns-2 c = places-false _ _ (λ h. omega arith)
 
@@ -53,7 +50,6 @@ places-fit-spec =
     (tie.spec
     cast-kept
     returns
-    cast-if2
     returns-2
     cast-all-within
     all-within-requires
