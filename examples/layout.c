@@ -20,6 +20,9 @@ int main(void) {
     FIELD(worse_link, link);
     FIELD(worse_link, start);
     FIELD(worse_link, length);
+    SIZE(disordered);
+    FIELD(disordered, refusal);
+    FIELD(disordered, total);
     SIZE(part);
     FIELD(part, start);
     FIELD(part, length);

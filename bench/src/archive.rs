@@ -4,11 +4,12 @@
 use std::hint::black_box;
 
 use crate::boundary::{Meter, Place};
+use crate::disorder::Total;
 use crate::receiver::Jumps;
 use crate::records::Records;
 use crate::reference::{
-    Answer, Answered, Counts, Degree, DegreeCounts, Figures, Fresh, Gap, LateTime, Ratios, Read, Receiver, RecordAnswer,
-    Step, Stepped, Tally, Written,
+    Answer, Answered, Counts, Degree, DegreeCounts, Figures, Fresh, Gap, LateTime, Ratios, Read, Receiver,
+    RecordAnswer, Step, Stepped, Tally, Written,
 };
 use crate::text::Imported;
 use crate::worse::Worse;
@@ -122,7 +123,7 @@ pub mod c {
         pub kept: u32,
         pub greatest: u64,
         pub runs: Runs,
-        pub dropped: u16,
+        pub dropped: u32,
     }
 
     #[repr(C)]
@@ -231,6 +232,26 @@ pub mod c {
     }
 }
 
+/// The pointer to a list as a caller in C may have it: NULL where there are no places.
+#[inline(always)]
+pub fn pointer<T>(list: &[T]) -> *const T {
+    if list.is_empty() {
+        std::ptr::null()
+    } else {
+        list.as_ptr()
+    }
+}
+
+/// The same to a list that is written to.
+#[inline(always)]
+pub fn pointer_mut<T>(list: &mut [T]) -> *mut T {
+    if list.is_empty() {
+        std::ptr::null_mut()
+    } else {
+        list.as_mut_ptr()
+    }
+}
+
 /// The archive's state of a receiver.
 pub fn to_archive(r: &Receiver) -> c::State {
     c::State {
@@ -243,7 +264,7 @@ pub fn to_archive(r: &Receiver) -> c::State {
             kept: r.jumps.kept,
             greatest: r.greatest_time,
             runs: c::Runs { closed: r.closed_runs, squares: r.squares, current: r.open_run },
-            dropped: r.jumps.dropped.try_into().expect("a dropped number of 16 bits"),
+            dropped: r.jumps.dropped,
         },
         marks: r.marks,
         places: c::Places { positions: r.jumps.positions, numbers: r.jumps.numbers, times: r.jumps.times },
@@ -260,7 +281,7 @@ pub fn from_archive(state: &c::State) -> Receiver {
             positions: places.positions,
             numbers: places.numbers,
             kept: s.kept,
-            dropped: u32::from(s.dropped),
+            dropped: s.dropped,
         },
         greatest_time: s.greatest,
         sent: s.sent,
@@ -336,41 +357,41 @@ impl Meter for Archive {
     #[inline(always)]
     fn check(&self, file: &[u8]) -> Read {
         // SAFETY: the pointer has as many places as the number after it says; so below.
-        found(&unsafe { c::krakobran_check(file.as_ptr(), file.len()) })
+        found(&unsafe { c::krakobran_check(pointer(file), file.len()) })
     }
     #[inline(always)]
     fn read(&self, file: &[u8], sizes: &mut [u16], numbers: &mut [u32], times: &mut [u64]) -> Read {
         let (s, n, t) = (sizes.len(), numbers.len(), times.len());
         found(&unsafe {
-            let (sizes, numbers, times) = (sizes.as_mut_ptr(), numbers.as_mut_ptr(), times.as_mut_ptr());
-            c::krakobran_read(file.as_ptr(), file.len(), sizes, s, numbers, n, times, t)
+            let (sizes, numbers, times) = (pointer_mut(sizes), pointer_mut(numbers), pointer_mut(times));
+            c::krakobran_read(pointer(file), file.len(), sizes, s, numbers, n, times, t)
         })
     }
     #[inline(always)]
     fn label(&self, file: &[u8]) -> Place {
-        let part = unsafe { c::krakobran_label(file.as_ptr(), file.len()) };
+        let part = unsafe { c::krakobran_label(pointer(file), file.len()) };
         Place { start: part.start as usize, length: part.length as usize }
     }
     #[inline(always)]
     fn write(&self, label: &[u8], sizes: &[u16], numbers: &[u32], times: &[u64], out: &mut [u8]) -> Written {
         let (s, n, t, room) = (sizes.len(), numbers.len(), times.len(), out.len());
         let w = unsafe {
-            let (sizes, numbers, times) = (sizes.as_ptr(), numbers.as_ptr(), times.as_ptr());
-            c::krakobran_write(label.as_ptr(), label.len(), sizes, s, numbers, n, times, t, out.as_mut_ptr(), room)
+            let (sizes, numbers, times) = (pointer(sizes), pointer(numbers), pointer(times));
+            c::krakobran_write(pointer(label), label.len(), sizes, s, numbers, n, times, t, pointer_mut(out), room)
         };
         Written { refusal: w.refusal, length: w.length }
     }
     fn refusal_of_lists(&self, sent: u64, numbers: &[u32], times: &[u64]) -> u32 {
-        unsafe { c::krakobran_refusal_of_lists(sent, numbers.as_ptr(), numbers.len(), times.as_ptr(), times.len()) }
+        unsafe { c::krakobran_refusal_of_lists(sent, pointer(numbers), numbers.len(), pointer(times), times.len()) }
     }
     #[inline(always)]
     fn answer(&self, file: &[u8], record: u32) -> RecordAnswer {
-        let a = unsafe { c::krakobran_answer(file.as_ptr(), file.len(), record) };
+        let a = unsafe { c::krakobran_answer(pointer(file), file.len(), record) };
         RecordAnswer { refusal: a.refusal, answer: answered(&a) }
     }
     #[inline(always)]
     fn counts(&self, file: &[u8]) -> Counts {
-        let r = unsafe { c::krakobran_counts(file.as_ptr(), file.len()) };
+        let r = unsafe { c::krakobran_counts(pointer(file), file.len()) };
         assert_eq!(r.arrived, r.inorder + r.reordered);
         Counts {
             refusal: r.refusal,
@@ -384,27 +405,27 @@ impl Meter for Archive {
     }
     #[inline(always)]
     fn tally(&self, file: &[u8]) -> Tally {
-        let t = unsafe { c::krakobran_tally(file.as_ptr(), file.len()) };
+        let t = unsafe { c::krakobran_tally(pointer(file), file.len()) };
         Tally { refusal: t.refusal, places: t.places }
     }
     #[inline(always)]
     fn gap(&self, file: &[u8], record: u32) -> Gap {
-        let g = unsafe { c::krakobran_gap(file.as_ptr(), file.len(), record) };
+        let g = unsafe { c::krakobran_gap(pointer(file), file.len(), record) };
         Gap { refusal: g.refusal, gap: known(g.known, g.positions == 0, g.positions) }
     }
     #[inline(always)]
     fn n_reordered(&self, file: &[u8], n: u32) -> DegreeCounts {
-        let c = unsafe { c::krakobran_n_reordered(file.as_ptr(), file.len(), n) };
+        let c = unsafe { c::krakobran_n_reordered(pointer(file), file.len(), n) };
         DegreeCounts { refusal: c.refusal, reordered: c.reordered, first_arrivals: c.arrived }
     }
     #[inline(always)]
     fn degree(&self, file: &[u8], n: u32) -> Degree {
-        let d = unsafe { c::krakobran_degree(file.as_ptr(), file.len(), n) };
+        let d = unsafe { c::krakobran_degree(pointer(file), file.len(), n) };
         Degree { refusal: d.refusal, ratio: known(d.known, d.bits == 0, f64::from_bits(d.bits)) }
     }
     #[inline(always)]
     fn ratios(&self, file: &[u8]) -> Ratios {
-        let r = unsafe { c::krakobran_ratios(file.as_ptr(), file.len()) };
+        let r = unsafe { c::krakobran_ratios(pointer(file), file.len()) };
         let bits = [r.reordered, r.degree1, r.degree3];
         let [reordered, degree_1, degree_3] = bits.map(f64::from_bits);
         Ratios {
@@ -414,7 +435,7 @@ impl Meter for Archive {
     }
     #[inline(always)]
     fn listing(&self, file: &[u8], out: &mut [u8]) -> Written {
-        let w = unsafe { c::krakobran_listing(file.as_ptr(), file.len(), out.as_mut_ptr(), out.len()) };
+        let w = unsafe { c::krakobran_listing(pointer(file), file.len(), pointer_mut(out), out.len()) };
         Written { refusal: w.refusal, length: w.length }
     }
     #[inline(always)]
@@ -471,6 +492,7 @@ pub fn layout() {
     table! {
         "layout" c::Layout: refusal label sent arrivals;
         "worse_link" Worse: refusal link start length;
+        "disordered" Total: refusal total;
         "part" c::Part: start length;
         "written" c::Written: refusal length;
         "imported" Imported: refusal arrivals line;

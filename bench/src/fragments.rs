@@ -3,6 +3,7 @@
 
 use std::collections::{HashMap, HashSet};
 
+use crate::archive::{pointer, pointer_mut};
 use crate::compare::Seen;
 use crate::generate::{clock_step, number_outside, Random};
 use crate::reference::{ARRIVAL_COUNT, LISTS_DIFFER, MOST_ARRIVALS, MOST_BACK, MOST_SENT, NUMBER, OUTPUT_SHORT};
@@ -49,19 +50,19 @@ fn by_library(sent: u32, l: &Lists, out: &mut Lent) -> u32 {
     unsafe {
         krakobran_fragment_order(
             sent,
-            l.numbers.as_ptr(),
+            pointer(&l.numbers),
             l.numbers.len(),
-            l.times.as_ptr(),
+            pointer(&l.times),
             l.times.len(),
-            l.lengths.as_ptr(),
+            pointer(&l.lengths),
             l.lengths.len(),
-            l.mores.as_ptr(),
+            pointer(&l.mores),
             l.mores.len(),
-            l.offsets.as_ptr(),
+            pointer(&l.offsets),
             l.offsets.len(),
-            out.flags.as_mut_ptr(),
+            pointer_mut(&mut out.flags),
             f,
-            out.usable.as_mut_ptr(),
+            pointer_mut(&mut out.usable),
             u,
         )
     }
@@ -181,7 +182,8 @@ fn complete(all: &[Piece]) -> HashSet<u32> {
     }
     let covers = |parts: &mut Vec<&Piece>| {
         parts.sort_by_key(|p| p.octets());
-        let reach = parts.iter().fold(0, |reach, p| if p.octets().0 <= reach { reach.max(p.octets().1) } else { reach });
+        let reach =
+            parts.iter().fold(0, |reach, p| if p.octets().0 <= reach { reach.max(p.octets().1) } else { reach });
         parts.iter().any(|p| p.last && p.octets().1 <= reach)
     };
     packets.iter_mut().filter_map(|(&number, parts)| covers(parts).then_some(number)).collect()

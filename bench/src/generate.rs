@@ -759,7 +759,7 @@ fn break_one(random: &mut Random, r: &mut Receiver, way: u8) {
         9 => r.jumps.positions[place] = random.pick(&[0, l as u16 + 1, u16::MAX]),
         10 => r.jumps.numbers[place] = random.pick(&[0, k as u16 + 1, u16::MAX]),
         11 => r.jumps.times[place] = random.pick(&[r.greatest_time + 1, u64::MAX]),
-        _ => r.jumps.dropped = random.pick(&[k + 1, k + 1, u32::from(u16::MAX)]),
+        _ => r.jumps.dropped = random.pick(&[k + 1, k + 1, u32::from(u16::MAX), k + 0x1_0000, u32::MAX]),
     }
 }
 

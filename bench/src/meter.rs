@@ -67,7 +67,7 @@ fn stream_unfit(s: &c::Stream, second: bool, p: &c::Places) -> bool {
         || runs.squares > PACKETS * PACKETS
         || s.next < 1
         || s.next > k + 1
-        || u32::from(s.dropped) > k
+        || s.dropped > k
         || outside(&p.positions[own.clone()], l as u16)
         || outside(&p.numbers[own.clone()], k as u16)
         || p.times[own].iter().fold(false, |bad, &t| bad | (t > s.greatest))
@@ -107,7 +107,7 @@ fn push(s: &mut c::Stream, second: bool, room: bool, p: &mut c::Places, position
         } else {
             (own.start, own.start + 1..own.end, own.start)
         };
-        s.dropped = p.numbers[oldest];
+        s.dropped = u32::from(p.numbers[oldest]);
         p.positions.copy_within(from.clone(), to);
         p.numbers.copy_within(from.clone(), to);
         p.times.copy_within(from, to);
@@ -169,7 +169,7 @@ fn advance(m: &mut c::Meter, stream: u32, number: u32, time: u64) -> Answered {
         let Some((oldest, above)) = found(s, second, p, number as u16) else {
             return refused(RECEIVER_UNFIT);
         };
-        let beyond = number < u32::from(s.dropped);
+        let beyond = number < s.dropped;
         let place = if beyond { oldest } else { above };
         let extent = position - u32::from(p.positions[place]);
         let late_time = LateTime::since(p.times[place], time);
@@ -240,7 +240,7 @@ fn call(random: &mut Random, m: &c::Meter, jumps: usize, first: usize, starts: u
     let number = match random.below(8) {
         n if n < jumps => next + random.between(1, 2) as u32,
         0..4 => next,
-        4 => u32::from(s.dropped).wrapping_add(random.below(3) as u32).wrapping_sub(1),
+        4 => s.dropped.wrapping_add(random.below(3) as u32).wrapping_sub(1),
         5 => u32::from(random.pick(&m.places.numbers)).wrapping_sub(random.below(2) as u32),
         6 if random.once_in(8) => number_outside(random, k),
         6 => next.saturating_sub(random.between(1, 90) as u32).max(1),
@@ -272,7 +272,7 @@ fn spoil(random: &mut Random, m: &mut c::Meter) {
         5 => s.runs.closed = s.arrived + 1,
         6 => s.runs.squares = 16_777_217,
         7 => s.next = random.pick(&[0, s.sent + 2, u32::MAX]),
-        8 => s.dropped = random.pick(&[s.sent as u16 + 1, u16::MAX]),
+        8 => s.dropped = random.pick(&[s.sent + 1, u32::from(u16::MAX), s.sent + 0x1_0000, u32::MAX]),
         9 => s.kept = random.pick(&[49, 64, 65, u32::MAX]),
         10 => s.kept = PLACES as u32 + random.below(2) as u32 - kept[usize::from(!second)],
         11 => m.places.positions[place] = random.pick(&[0, s.arrived as u16 + 1, u16::MAX]),

@@ -3,6 +3,7 @@
 
 use std::hint::black_box;
 
+use crate::archive::{pointer, pointer_mut};
 use crate::compare::Seen;
 use crate::generate::{sample_case, Random};
 use crate::reference::{check, Written};
@@ -48,12 +49,12 @@ fn import_by_library(records: &[u8], sent: u32, numbers: &mut [u32], times: &mut
     let (n, t) = (numbers.len(), times.len());
     // SAFETY: each pointer has as many places as the number after it says; so below.
     unsafe {
-        krakobran_import_records(records.as_ptr(), records.len(), sent, numbers.as_mut_ptr(), n, times.as_mut_ptr(), t)
+        krakobran_import_records(pointer(records), records.len(), sent, pointer_mut(numbers), n, pointer_mut(times), t)
     }
 }
 
 fn write_by_library(file: &[u8], out: &mut [u8]) -> Written {
-    let written = unsafe { krakobran_write_records(file.as_ptr(), file.len(), out.as_mut_ptr(), out.len()) };
+    let written = unsafe { krakobran_write_records(pointer(file), file.len(), pointer_mut(out), out.len()) };
     Written { refusal: written.refusal, length: written.length }
 }
 

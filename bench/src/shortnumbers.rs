@@ -1,6 +1,6 @@
 //! Short sequence numbers: the archive's calls for 8 and for 10 bits, and a plain Rust implementation beside them.
 
-use crate::archive::{c, from_archive, noted, to_archive};
+use crate::archive::{c, from_archive, noted, pointer, pointer_mut, to_archive};
 use crate::compare::Seen;
 use crate::generate::{arrival_list, sample_case, state_case, Draft, Random};
 use crate::reference::{Receiver, Stepped, LISTS_DIFFER, MOST_ARRIVALS, MOST_BACK, MOST_SENT, OUTPUT_SHORT};
@@ -36,7 +36,7 @@ fn list_by_library(width: Width, sent: u32, shorts: &[u16], times: &[u64], numbe
     };
     let room = numbers.len();
     // SAFETY: each pointer has as many places as the number after it says.
-    unsafe { call(sent, shorts.as_ptr(), shorts.len(), times.as_ptr(), times.len(), numbers.as_mut_ptr(), room) }
+    unsafe { call(sent, pointer(shorts), shorts.len(), pointer(times), times.len(), pointer_mut(numbers), room) }
 }
 
 fn step_by_library(width: Width, receiver: &Receiver, short: u16, time: u64) -> Stepped {
@@ -168,7 +168,10 @@ fn list(random: &mut Random, width: Width, draft: &Draft, seen: &mut Seen) -> Re
     let b = list_by_reference(width, sent, &shorts, &draft.times, &mut right);
     seen.call("full numbers", a);
     if (a, &left) != (b, &right) {
-        return Err(format!("K {sent} shorts {shorts:?} times {:?}\n left {a} {left:?}\nright {b} {right:?}\n", draft.times));
+        return Err(format!(
+            "K {sent} shorts {shorts:?} times {:?}\n left {a} {left:?}\nright {b} {right:?}\n",
+            draft.times
+        ));
     }
     if a == 0 && shorts.len() == MOST_ARRIVALS {
         seen.kind("full numbers: 4,096 arrivals");

@@ -3,6 +3,7 @@
 
 use std::hint::black_box;
 
+use crate::archive::{pointer, pointer_mut};
 use crate::boundary::{Meter, LIBRARY};
 use crate::compare::Seen;
 use crate::generate::{measured, sample_case, Order, Random};
@@ -62,17 +63,17 @@ fn by_library(file: &[u8], l: &mut Lent) -> Layout {
     // SAFETY: each pointer has as many places as the number after it says.
     unsafe {
         krakobran_sweep(
-            file.as_ptr(),
+            pointer(file),
             file.len(),
-            l.table.as_mut_ptr(),
+            pointer_mut(&mut l.table),
             t,
-            l.flags.as_mut_ptr(),
+            pointer_mut(&mut l.flags),
             f,
-            l.positions.as_mut_ptr(),
+            pointer_mut(&mut l.positions),
             p,
-            l.extents.as_mut_ptr(),
+            pointer_mut(&mut l.extents),
             e,
-            l.lates.as_mut_ptr(),
+            pointer_mut(&mut l.lates),
             z,
         )
     }
@@ -140,7 +141,8 @@ pub fn compare(seed: u64, samples: u64, seen: &mut Seen) -> Result<(), String> {
     for index in 0..samples {
         let case = sample_case(seed, index);
         let random = &mut Random::new(seed ^ 0x73_7765_6570, index);
-        one(random, &case.file, &case.records, seen).map_err(|text| format!("sweep of sample {index} of seed {seed}: {text}"))?;
+        one(random, &case.file, &case.records, seen)
+            .map_err(|text| format!("sweep of sample {index} of seed {seed}: {text}"))?;
     }
     Ok(())
 }

@@ -3,6 +3,7 @@
 
 use std::hint::black_box;
 
+use crate::archive::{pointer, pointer_mut};
 use crate::compare::Seen;
 use crate::generate::{clock_step, Random};
 use crate::reference::MOST_BACK;
@@ -51,12 +52,12 @@ extern "C" {
 fn import_by_library(log: &[u8], sent: u32, numbers: &mut [u32], times: &mut [u64]) -> Imported {
     let (n, t) = (numbers.len(), times.len());
     // SAFETY: each pointer has as many places as the number after it says; so below.
-    unsafe { krakobran_import_text(log.as_ptr(), log.len(), sent, numbers.as_mut_ptr(), n, times.as_mut_ptr(), t) }
+    unsafe { krakobran_import_text(pointer(log), log.len(), sent, pointer_mut(numbers), n, pointer_mut(times), t) }
 }
 
 fn write_by_library(sent: u32, numbers: &[u32], times: &[u64], out: &mut [u8]) -> Written {
     let (n, t) = (numbers.len(), times.len());
-    unsafe { krakobran_write_text(sent, numbers.as_ptr(), n, times.as_ptr(), t, out.as_mut_ptr(), out.len()) }
+    unsafe { krakobran_write_text(sent, pointer(numbers), n, pointer(times), t, pointer_mut(out), out.len()) }
 }
 
 // The reference.

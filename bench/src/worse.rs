@@ -1,5 +1,6 @@
 //! Of two samples the one with the greater reordered ratio: the archive's call, and a plain Rust implementation beside it.
 
+use crate::archive::pointer;
 use crate::compare::Seen;
 use crate::generate::{sample_case, Random};
 use crate::reference::{check, counts};
@@ -23,7 +24,7 @@ extern "C" {
 
 fn by_library(first: &[u8], second: &[u8]) -> Worse {
     // SAFETY: each pointer has as many octets as the number after it says.
-    unsafe { krakobran_worse(first.as_ptr(), first.len(), second.as_ptr(), second.len()) }
+    unsafe { krakobran_worse(pointer(first), first.len(), pointer(second), second.len()) }
 }
 
 // The reference.
@@ -57,7 +58,8 @@ pub fn compare(seed: u64, samples: u64, seen: &mut Seen) -> Result<(), String> {
         let random = &mut Random::new(seed ^ 0x77_6f72_7365, index);
         let file = sample_case(seed, index).file;
         for other in [index, index + 1, random.below(64) as u64] {
-            one(&file, &sample_case(seed, other).file, seen).map_err(|text| format!("samples {index} and {other} of seed {seed}: {text}"))?;
+            one(&file, &sample_case(seed, other).file, seen)
+                .map_err(|text| format!("samples {index} and {other} of seed {seed}: {text}"))?;
         }
     }
     Ok(())
