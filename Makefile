@@ -69,7 +69,7 @@ test: $(EXAMPLES) $(SHARED) target/interface $(if $(shell command -v $(CXX)),tar
 	tests/report.sh
 	tests/import.sh
 	target/interface
-	CC='$(CC)' CXX='$(CXX)' MAKE='$(MAKE)' tests/examples.sh
+	CC='$(CC)' CXX='$(CXX)' tests/examples.sh
 	$(if $(shell command -v cargo),$(MAKE) layout,@echo 'skipped the layouts in Rust: cargo is not on the path')
 
 # The table of sizes and offsets, by the header and by the declarations that the differential test calls with.

@@ -8,7 +8,7 @@ root=$(cd -- "$(dirname -- "${BASH_SOURCE[0]}")/.." && pwd) || exit 2
 dir=$(mktemp -d) || exit 2
 trap 'rm -rf -- "$dir"' EXIT
 failed=0 run=0 left=0
-CC=${CC:-cc} CXX=${CXX:-c++} MAKE=${MAKE:-make}
+CC=${CC:-cc} CXX=${CXX:-c++}
 
 # NAME STATUS COMMAND..: runs a command, and holds its output to $dir/expected and its status to STATUS.
 try() {
@@ -84,7 +84,7 @@ fi
 
 # Installed below a folder, and linked from there as an archive and as a shared object.
 : > "$dir/expected"
-try 'make install' 0 "$MAKE" -s -C "$root" install DESTDIR="$dir/root" PREFIX=/usr
+try 'make install' 0 make -s -C "$root" install DESTDIR="$dir/root" PREFIX=/usr
 if have pkg-config 'a program against the installed library'; then
     export PKG_CONFIG_PATH=$dir/root/usr/lib/pkgconfig PKG_CONFIG_SYSROOT_DIR=$dir/root
     read -ra flags <<< "$(pkg-config --cflags --libs krakobran)"
