@@ -68,6 +68,7 @@ uninstall:
 test: $(EXAMPLES) $(SHARED) target/interface $(if $(shell command -v $(CXX)),target/vectors)
 	tests/report.sh
 	tests/import.sh
+	tests/command.sh
 	target/interface
 	CC='$(CC)' CXX='$(CXX)' tests/examples.sh
 	$(if $(shell command -v cargo),$(MAKE) layout,@echo 'skipped the layouts in Rust: cargo is not on the path')
