@@ -1,8 +1,11 @@
 // The export program: reads a sample on standard input, and writes its arrivals on standard output, as a text log where the
 // argument is `log`, and as OWAMP records where it is `owamp`. Of a sample that is refused it writes the one line `refused N`
 // instead, which is neither: a line of a log begins with a digit, and a record with the octet 0.
+mod log;
+
 use libc::STDIN_FILENO;
 use libc::STDOUT_FILENO;
+use log::put_log;
 use sample::Written;
 
 // One octet more than the longest sample has.
@@ -10,9 +13,6 @@ const INPUT_OCTETS: usize = sample::LONGEST + 1;
 
 // The octets that suffice for any log, 46 for each of 4,096 lines, and so for any records, of 25 each.
 const OUTPUT_OCTETS: usize = 188_416;
-
-// The places of each list: as many as a sample may have packets, and arrivals.
-const PLACES: usize = 4096;
 
 // What the arrivals are written as.
 enum Kind {
@@ -30,43 +30,6 @@ fn write_first(out: &[u8], n: usize) {
     if n <= out.len() {
         io::write_all(STDOUT_FILENO, &out[0..n]);
     }
-}
-
-// The first n numbers: all where there are no more.
-fn first_numbers(s: &[u32], n: usize) -> &[u32] {
-    if s.len() < n {
-        return s;
-    }
-    &s[0..n]
-}
-
-// The first n times: all where there are no more.
-fn first_times(s: &[u64], n: usize) -> &[u64] {
-    if s.len() < n {
-        return s;
-    }
-    &s[0..n]
-}
-
-// Writes the text log of a sample's arrivals from the start of `out`.
-fn put_log(file: &[u8], out: &mut [u8]) -> Written {
-    let mut sizes = [0u16; PLACES];
-    let mut numbers = [0u32; PLACES];
-    let mut times = [0u64; PLACES];
-    let found = sample::read(file, &mut sizes, &mut numbers, &mut times);
-    if found.refusal != 0 {
-        return Written {
-            refusal: found.refusal,
-            length: 0,
-        };
-    }
-    let n = found.arrivals as usize;
-    textlog::write(
-        found.sent,
-        first_numbers(&numbers, n),
-        first_times(&times, n),
-        out,
-    )
 }
 
 // Writes a sample's arrivals from the start of `out`.

@@ -1,0 +1,2 @@
+-- What the program writes of a sample.
+pub mod Logged
