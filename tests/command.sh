@@ -127,6 +127,8 @@ try 'records of a late time' 1 "late: $(words 18)" export owamp "$dir/late"
 # The worse of two: 1/3 and 2/6 are equal, though their first samples differ.
 printf 'the first is worse: cable & <duct>\nfirst 1/3\nsecond undefined, as nothing arrived, and counted as 0\n' > "$dir/expected"
 try 'the first is worse' 0 '' worse "$dir/cable" "$dir/quiet"
+printf 'the first is worse, which has no label\nfirst 1/5\nsecond undefined, as nothing arrived, and counted as 0\n' > "$dir/expected"
+try 'the first is worse, without a label' 0 '' worse "$example" "$dir/quiet"
 printf 'the second is worse: radio\nfirst 1/5\nsecond 2/6\n' > "$dir/expected"
 try 'the second is worse' 0 '' worse "$example" "$dir/radio"
 try 'the second is worse, on standard input' 0 '' worse "$example" - < "$dir/radio"
@@ -135,6 +137,18 @@ try 'equal ratios' 0 '' worse "$dir/cable" "$dir/radio"
 : > "$dir/expected"
 try 'a damaged first sample' 1 "damaged: $damage" worse "$dir/damaged" "$dir/cable"
 try 'a damaged second sample' 1 "damaged: $damage" worse "$dir/cable" "$dir/damaged"
+
+# The check of a listing, where its script is there.
+if [ -x "$root/krakobran-check" ]; then
+    sed '6s/late/in/' "$root/crates/report/stdout" > "$dir/listing"
+    printf 'the listing is right\n' > "$dir/expected"
+    try 'a right listing' 0 '' check "$example" "$root/crates/report/stdout"
+    try 'a right listing on standard input' 0 '' check "$example" - < "$root/crates/report/stdout"
+    printf 'line 6 is wrong\n' > "$dir/expected"
+    try 'a wrong listing' 1 '' check "$example" "$dir/listing"
+    : > "$dir/expected"
+    try 'check of a missing listing' 1 'missing: there is no such file' check "$example" "$dir/missing"
+fi
 
 # The picture, and that of the documents.
 cp "$root/docs/picture.svg" "$dir/expected"

@@ -34,7 +34,8 @@ unfolding decodeInto decode
 refused-alike a b c file r e = rw e
 
 -- lists of 4,096 places are long enough for every sample
-into-whole : (a b c : ℕ) (file : List ℕ) → Octets file → 4096 ≤ a → 4096 ≤ b → 4096 ≤ c → (r : ℕ) → refusalIn file ≡ r → decodeInto a b c file ≡ decode file
+into-whole : (a b c : ℕ) (file : List ℕ) → Octets file → 4096 ≤ a → 4096 ≤ b → 4096 ≤ c → (r : ℕ) → refusalIn file ≡ r
+    → decodeInto a b c file ≡ decode file
 into-whole a b c file o p q t zero e =
     let d = decode-accepted file e in
     let l = accepted-limits file (sampleIn file) d o in
@@ -82,7 +83,8 @@ module _ (file sizes numbers times : List ℕ) (y : Layout) (sizes′ numbers′
         (f .filledTimes ∙ ap (λ (d : Decoded). over (timesOf (sampleOf d .arrivals)) times) same)
 
     -- and nothing of them is refused
-    pub read-lists : refusalOfLists (length (sampleOf (decode file) .sizes)) (numbersOf (sampleOf (decode file) .arrivals)) (timesOf (sampleOf (decode file) .arrivals)) ≡ 0
+    pub read-lists : refusalOfLists (length (sampleOf (decode file) .sizes)) (numbersOf (sampleOf (decode file) .arrivals))
+        (timesOf (sampleOf (decode file) .arrivals)) ≡ 0
     unfolding refusalFrom
     read-lists =
         let s = sampleOf (decode file) in

@@ -34,12 +34,23 @@ fn write_ratio(name: &[u8], counts: Counts) {
 // first.
 fn write_link(link: Link, turned: Link) {
     match link {
-        Link::Second => write_word(b"the second is worse: "),
+        Link::Second => write_word(b"the second is worse"),
         Link::First => match turned {
-            Link::Second => write_word(b"the first is worse: "),
-            Link::First => write_word(b"the ratios are equal, and the first is taken: "),
+            Link::Second => write_word(b"the first is worse"),
+            Link::First => write_word(b"the ratios are equal, and the first is taken"),
         },
     }
+}
+
+// Writes the label of that sample.
+fn write_label(label: &[u8]) {
+    if label.len() == 0 {
+        write_word(b", which has no label\n");
+        return;
+    }
+    write_word(b": ");
+    write_word(label);
+    write_word(b"\n");
 }
 
 // Writes what is found of two accepted samples.
@@ -49,8 +60,7 @@ fn write_found<'a>(first: &'a [u8], second: &'a [u8]) {
     let link = found.link;
     let other = turned.link;
     write_link(link, other);
-    write_word(worse::worse(first, second));
-    write_word(b"\n");
+    write_label(worse::worse(first, second));
 }
 
 // Writes the refusal of a sample, and whether there is one.

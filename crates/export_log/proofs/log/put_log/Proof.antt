@@ -30,12 +30,16 @@ octets : (c : tie.Else1) → Octets (file c)
 octets c = below-fits w8 (file c) (c .before .before .before .before .before .before .before .before .before .before .shared-slice-known .given)
 
 -- what the lists hold
-numbers : (c : tie.Else1) → (c .before .before .before .before .before .read .result .arrivals ≤ length (c .before .before .before .before .before .read .last .1 .1 .0))
-    × (take (c .before .before .before .before .before .read .result .arrivals) (c .before .before .before .before .before .read .last .1 .1 .0) ≡ numbersOf (sampleOf (decode (file c)) .arrivals))
+numbers : (c : tie.Else1)
+    → (c .before .before .before .before .before .read .result .arrivals ≤ length (c .before .before .before .before .before .read .last .1 .1 .0))
+    × (take (c .before .before .before .before .before .read .result .arrivals) (c .before .before .before .before .before .read .last .1 .1 .0)
+    ≡ numbersOf (sampleOf (decode (file c)) .arrivals))
 numbers c = read-numbers _ _ _ _ _ _ _ _ (c .before .before .before .before .before .read .ensures .0) (octets c) room room room (c .if1 .left)
 
-times : (c : tie.Else1) → (c .before .before .before .before .before .read .result .arrivals ≤ length (c .before .before .before .before .before .read .last .1 .1 .1 .0))
-    × (take (c .before .before .before .before .before .read .result .arrivals) (c .before .before .before .before .before .read .last .1 .1 .1 .0) ≡ timesOf (sampleOf (decode (file c)) .arrivals))
+times : (c : tie.Else1)
+    → (c .before .before .before .before .before .read .result .arrivals ≤ length (c .before .before .before .before .before .read .last .1 .1 .1 .0))
+    × (take (c .before .before .before .before .before .read .result .arrivals) (c .before .before .before .before .before .read .last .1 .1 .1 .0)
+    ≡ timesOf (sampleOf (decode (file c)) .arrivals))
 times c = read-times _ _ _ _ _ _ _ _ (c .before .before .before .before .before .read .ensures .0) (octets c) room room room (c .if1 .left)
 
 -- ---- the needs
@@ -56,7 +60,8 @@ returns : tie.Need-returns
 returns c =
     let f = now (c .before .before .before .before .before .before .before .before .before .before .before .args .file) in
     let o = below-fits w8 f (c .before .before .before .before .before .before .before .before .before .before .shared-slice-known .given) in
-    log-refused (decode f) (now (c .before .before .before .before .before .before .before .before .before .before .before .args .out)) (c .before .before .before .before .before .read .result .refusal)
+    log-refused (decode f) (now (c .before .before .before .before .before .before .before .before .before .before .before .args .out))
+    (c .before .before .before .before .before .read .result .refusal)
     (read-refusal _ _ _ _ _ _ _ _ (c .before .before .before .before .before .read .ensures .0) o room room room) (c .if1 .taken)
 
 cast-arrivals : tie.Need-cast-arrivals
@@ -87,7 +92,8 @@ returns-2 c =
     let f = c .before .before .before .before .before .before .before .before .before .before .before .before .read .ensures .0 in
     let o = octets kept in
     let z = kept .if1 .left in
-    log-written d (now (c .before .before .before .before .before .before .before .before .before .before .before .before .before .before .before .before .before .before .args .out)) (c .before .before .write .result) _ (read-sample _ _ _ _ _ _ _ _ f o room room room z)
+    let a = c .before .before .before .before .before .before .before .before .before .before .before .before .before .before .before .before .before .before .args in
+    log-written d (now (a .out)) (c .before .before .write .result) _ (read-sample _ _ _ _ _ _ _ _ f o room room room z)
     (read-lists _ _ _ _ _ _ _ _ f o room room room z) (read-sent _ _ _ _ _ _ _ _ f o room room room z) (numbers kept .1) (times kept .1)
     (c .before .before .write .ensures .0)
 

@@ -1,4 +1,5 @@
--- `picture::marks::place_all` is safe and ends. Invariant: i is at most the arrivals, and the lists keep their lengths. Measure: the arrivals from i on.
+-- `picture::marks::place_all` is safe and ends. Invariant: i is at most the arrivals, and the lists keep their lengths. Measure: the
+-- arrivals from i on.
 use borrow.Author.Needs.{needs}
 use Prim.Native.Nat.{_-_, _≤_}
 use mathlib.Core.Path.{_≡_}
