@@ -3,8 +3,7 @@ use crate::frame::across;
 use crate::frame::down;
 use crate::frame::middle;
 use crate::frame::tick_step;
-use crate::text::put_length;
-use crate::text::write_first;
+use crate::text::write_length;
 use crate::text::write_number;
 use crate::text::write_word;
 use std::num::wrapping_add_u32;
@@ -20,9 +19,7 @@ pub(crate) enum Axis {
 // Writes a word, a length and a word.
 fn write_between(before: &[u8], tenths: u64, after: &[u8]) {
     write_word(before);
-    let mut text = [0u8; 32];
-    let end = put_length(&mut text, 0, tenths);
-    write_first(&text, end);
+    write_length(tenths);
     write_word(after);
 }
 

@@ -2,7 +2,7 @@
 ghost use Prim.Native.Nat.{_≤_};
 
 // The frame of the arrivals: position 0 and the end of the positions; number 0 and the greatest number.
-pub(crate) const LEFT: u64 = 800;
+const LEFT: u64 = 800;
 
 const WIDE: u64 = 7700;
 

@@ -8,8 +8,6 @@ use crate::text::put_point;
 use crate::text::put_step;
 use crate::text::put_word;
 use crate::text::write_first;
-use crate::text::write_length;
-use crate::text::write_word;
 use sample::Layout;
 use sample::arrival;
 use std::num::wrapping_add_u32;
