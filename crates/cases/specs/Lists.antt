@@ -1,0 +1,9 @@
+-- The numbers of a text as a list has room for them. Assumes nothing.
+use Prim.Native.Nat.{ℕ, min}
+use mathlib.Core.List.{List, map}
+use lib.ListN.{take}
+use Rattle.cases.specs.Text.{numbersIn}
+
+-- the numbers of a text as far as there are places, each at most the greatest that a place holds
+abbrev pub fitting : ℕ → ℕ → List ℕ → List ℕ
+fitting most places t = take places (map (λ (n : ℕ). min n most) (numbersIn t))

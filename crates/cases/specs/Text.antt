@@ -1,0 +1,25 @@
+-- The parts of a text between separators, and the numbers in a text. Assumes nothing.
+use Prim.Native.Nat.{ℕ, min}
+use mathlib.Core.Bool.{Bool, true, false}
+use mathlib.Core.List.{List, [], _∷_, map}
+use lib.Dec.{eqb}
+use Rattle.decimal.specs.Reading.{leadingValue, wordMost}
+
+-- the parts with one octet more before them: a separator ends an empty part, any other octet begins the first one
+unfoldable pub onto : Bool → ℕ → List (List ℕ) → List (List ℕ)
+onto true o ps = [] ∷ ps
+onto false o [] = (o ∷ []) ∷ []
+onto false o (p ∷ ps) = (o ∷ p) ∷ ps
+
+-- the parts of a text: each ends before a separator, the last one at the text's end; an empty text has none
+unfoldable pub partsOf : ℕ → List ℕ → List (List ℕ)
+partsOf separator [] = []
+partsOf separator (o ∷ t) = onto (eqb o separator) o (partsOf separator t)
+
+-- the number of the digits that a part begins with, or the greatest of 64 bits where it is greater
+abbrev pub numberOf : List ℕ → ℕ
+numberOf p = min (leadingValue p) wordMost
+
+-- the numbers in a text, with one blank after each
+abbrev pub numbersIn : List ℕ → List ℕ
+numbersIn t = map numberOf (partsOf 32 t)
