@@ -1,6 +1,15 @@
 // The receiver's steps with short numbers.
+use crate::fields::FIELD;
+use crate::fields::number_in;
+use crate::fields::number16_in;
+use crate::fields::number32_in;
+use crate::fields::of_eight_bits;
 use crate::print::write_step;
+use cases::lists::fill_16;
+use cases::lists::first_16;
+use cases::text::part;
 use receiver::Receiver;
+use receiver::Stepped;
 use shortnumbers::step_8;
 use shortnumbers::step_10;
 
@@ -10,12 +19,20 @@ fn receiver_for(k: u32) -> Receiver {
     start.state
 }
 
-// The receiver after short numbers of 8 bits that arrive at 5,000.
-fn after_8(start: Receiver, shorts: &[u16]) -> Receiver {
+// One step with a short number, of 8 bits or of 10.
+fn step(eight: bool, r: Receiver, short: u16, time: u64) -> Stepped {
+    if eight {
+        return step_8(r, short, time);
+    }
+    step_10(r, short, time)
+}
+
+// The receiver after short numbers that arrive at 5,000.
+fn after(eight: bool, start: Receiver, shorts: &[u16]) -> Receiver {
     let mut r = start;
     let mut i: usize = 0;
     while i < shorts.len() {
-        let s = step_8(r, shorts[i], 5000);
+        let s = step(eight, r, shorts[i], 5000);
         let next = s.state;
         r = next;
         i += 1;
@@ -23,126 +40,39 @@ fn after_8(start: Receiver, shorts: &[u16]) -> Receiver {
     r
 }
 
-// The receiver after short numbers of 10 bits that arrive at 5,000.
-fn after_10(start: Receiver, shorts: &[u16]) -> Receiver {
-    let mut r = start;
-    let mut i: usize = 0;
-    while i < shorts.len() {
-        let s = step_10(r, shorts[i], 5000);
-        let next = s.state;
-        r = next;
-        i += 1;
-    }
-    r
-}
-
-// Feeds short numbers of 8 bits to a fresh receiver for k packets, and writes what is said of one more.
-fn run_8(name: &[u8], k: u32, shorts: &[u16], short: u16, time: u64) {
-    let r = after_8(receiver_for(k), shorts);
-    let s = step_8(r, short, time);
+// Steps with the short number of a line, and writes what is said of it.
+fn one_more(line: &[u8], r: Receiver) {
+    let s = step(
+        of_eight_bits(line),
+        r,
+        number16_in(line, 4),
+        number_in(line, 5),
+    );
     let outcome = s.outcome;
     let state = s.state;
-    write_step(name, outcome, state.stream.next, state.stream.arrived);
-}
-
-// Feeds short numbers of 10 bits to a fresh receiver for 4,096 packets, and writes what is said of one more.
-fn run_10(name: &[u8], shorts: &[u16], short: u16) {
-    let r = after_10(receiver_for(4096), shorts);
-    let s = step_10(r, short, 5000);
-    let outcome = s.outcome;
-    let state = s.state;
-    write_step(name, outcome, state.stream.next, state.stream.arrived);
-}
-
-// The first number, half the range, and wraps, of 8 bits.
-fn numbers() {
-    run_8(b"step, 8 bits: 127", 4096, &[], 127, 5000);
-    run_8(b"step, 8 bits: 128, which is below 1", 4096, &[], 128, 5000);
-    run_8(b"step, 8 bits: 200, which is below 1", 4096, &[], 200, 5000);
-    run_8(b"step, 8 bits: 128 below 200", 4096, &[100, 200], 72, 5000);
-    run_8(b"step, 8 bits: 127 above 200", 4096, &[100, 200], 71, 5000);
-    run_8(
-        b"step, 8 bits: a wrap at 256",
-        4096,
-        &[100, 200, 250],
-        3,
-        5000,
-    );
-    run_8(
-        b"step, 8 bits: late across the wrap",
-        4096,
-        &[100, 200, 250, 3],
-        254,
-        5000,
-    );
-    run_8(
-        b"step, 8 bits: after a late number",
-        4096,
-        &[100, 200, 250, 130],
-        10,
-        5000,
-    );
-    run_8(
-        b"step, 8 bits: after one that is refused",
-        4096,
-        &[100, 200, 256],
-        3,
-        5000,
-    );
-    run_8(b"step, 8 bits: a copy", 4096, &[100, 200], 200, 5000);
-}
-
-// Refusals, of 8 bits.
-fn refusals() {
-    run_8(b"step, 8 bits: 256 after 200", 4096, &[100, 200], 256, 5000);
-    run_8(b"step, 8 bits: number K + 1", 5, &[5], 6, 5000);
-    run_8(b"step, 8 bits: a time far back", 5, &[1], 2, 3000);
-    run_8(
-        b"step, 8 bits: 256, and a time far back",
-        5,
-        &[1],
-        256,
-        3000,
+    write_step(
+        part(line, FIELD, 1),
+        outcome,
+        state.stream.next,
+        state.stream.arrived,
     );
 }
 
-// Runs those of 8 bits.
-pub(crate) fn eight() {
-    numbers();
-    refusals();
-}
-
-// Runs those of 10 bits.
-pub(crate) fn ten() {
-    run_10(b"step, 10 bits: 511", &[], 511);
-    run_10(b"step, 10 bits: 512, which is below 1", &[], 512);
-    run_10(b"step, 10 bits: 512 below 1000", &[500, 1000], 488);
-    run_10(b"step, 10 bits: 511 above 1000", &[500, 1000], 487);
-    run_10(b"step, 10 bits: a wrap at 1024", &[500, 1000], 5);
-    run_10(
-        b"step, 10 bits: late across the wrap",
-        &[500, 1000, 5],
-        1020,
+// Feeds the short numbers of a line to a fresh receiver, and steps with one more.
+pub(crate) fn run(line: &[u8]) {
+    let mut shorts = [0u16; 10];
+    let n = fill_16(part(line, FIELD, 3), &mut shorts);
+    let start = receiver_for(number32_in(line, 2));
+    one_more(
+        line,
+        after(of_eight_bits(line), start, first_16(&shorts, n)),
     );
-    run_10(b"step, 10 bits: 1024 after 1000", &[500, 1000], 1024);
 }
 
-// Writes what is said of a short number in a state for five packets whose NextExp is set.
-fn run_unfit(name: &[u8], next: u32, short: u16) {
-    let mut r = receiver_for(5);
+// Steps in a fresh state whose NextExp is set.
+pub(crate) fn run_next(line: &[u8]) {
+    let mut r = receiver_for(number32_in(line, 2));
+    let next = number32_in(line, 3);
     r.stream.next = next;
-    let s = step_8(r, short, 5000);
-    let outcome = s.outcome;
-    let state = s.state;
-    write_step(name, outcome, state.stream.next, state.stream.arrived);
-}
-
-// States with a NextExp that is unfit, and the greatest that is fit.
-pub(crate) fn unfit() {
-    run_unfit(b"step, NextExp 0", 0, 1);
-    run_unfit(b"step, NextExp K + 2", 7, 1);
-    run_unfit(b"step, NextExp 4097", 4097, 1);
-    run_unfit(b"step, NextExp 4098", 4098, 256);
-    run_unfit(b"step, NextExp 4294967295", 4294967295, 1);
-    run_unfit(b"step, NextExp K + 1, and 6", 6, 6);
+    one_more(line, r);
 }

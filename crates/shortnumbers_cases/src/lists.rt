@@ -1,0 +1,72 @@
+// Lists of short numbers.
+use crate::fields::FIELD;
+use crate::fields::number_in;
+use crate::fields::number32_in;
+use crate::fields::of_eight_bits;
+use crate::print::write_list;
+use cases::lists::fill_16;
+use cases::lists::fill_64;
+use cases::lists::first_16;
+use cases::lists::first_64;
+use cases::text::part;
+use shortnumbers::full_numbers_8;
+use shortnumbers::full_numbers_10;
+
+// Finds the numbers of short ones, and writes the answer and the list.
+fn find<'a>(line: &[u8], shorts: &'a [u16], times: &'a [u64], numbers: &mut [u32]) {
+    let k = number32_in(line, 2);
+    let name = part(line, FIELD, 1);
+    if of_eight_bits(line) {
+        let refusal = full_numbers_8(k, shorts, times, numbers);
+        write_list(name, refusal, numbers);
+        return;
+    }
+    let refusal = full_numbers_10(k, shorts, times, numbers);
+    write_list(name, refusal, numbers);
+}
+
+// Finds the numbers of the short ones of a line in a lent list.
+fn find_into(line: &[u8], numbers: &mut [u32]) {
+    let mut shorts = [0u16; 10];
+    let mut times = [0u64; 10];
+    let n = fill_16(part(line, FIELD, 3), &mut shorts);
+    let m = fill_64(part(line, FIELD, 4), &mut times);
+    find(line, first_16(&shorts, n), first_64(&times, m), numbers);
+}
+
+// Runs the case of a line, with the places that it asks for.
+pub(crate) fn run(line: &[u8]) {
+    let places = number_in(line, 5);
+    if places == 1 {
+        find_into(line, &mut [77u32; 1]);
+    }
+    if places == 3 {
+        find_into(line, &mut [77u32; 3]);
+    }
+    if places == 7 {
+        find_into(line, &mut [77u32; 7]);
+    }
+    if places == 10 {
+        find_into(line, &mut [77u32; 10]);
+    }
+}
+
+// Runs the case of many short numbers.
+pub(crate) fn run_many(line: &[u8]) {
+    let n = number32_in(line, 3) as usize;
+    if of_eight_bits(line) {
+        find(
+            line,
+            first_16(&[256u16; 4097], n),
+            &[0u64; 0],
+            &mut [77u32; 3],
+        );
+        return;
+    }
+    find(
+        line,
+        first_16(&[0u16; 4097], n),
+        first_64(&[0u64; 4097], n),
+        &mut [77u32; 2],
+    );
+}
