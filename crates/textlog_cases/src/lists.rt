@@ -1,8 +1,8 @@
 // Lists: what they are filled with before a call, and what they hold after it.
 use crate::print::write_number;
 use crate::print::write_word;
-use crate::write_import;
 use std::num::wrapping_add_u64;
+use textlog::Imported;
 
 // What numbers are filled with.
 pub(crate) const NUMBER: u32 = 77;
@@ -12,14 +12,6 @@ pub(crate) const TIME: u64 = 99;
 
 // What octets are filled with.
 pub(crate) const OCTET: u8 = b'.';
-
-// The first n octets, or all where there are no more.
-pub(crate) fn first_octets(s: &[u8], n: usize) -> &[u8] {
-    if s.len() < n {
-        return s;
-    }
-    &s[0..n]
-}
 
 // A number of 32 bits as one of 64.
 fn wide(n: u32) -> u64 {
@@ -88,6 +80,22 @@ fn sum_up_times(s: &[u64]) {
         write_number(b" ", s[n - 1]);
     }
     write_number(b" ", sum_of_times(s));
+}
+
+// Writes what an import answers.
+pub(crate) fn write_import(name: &[u8], got: Imported) {
+    write_word(name);
+    if got.refusal == 0 {
+        write_number(b": arrivals ", got.arrivals as u64);
+        return;
+    }
+    write_number(b": refused ", got.refusal as u64);
+    if got.line != 0 {
+        write_number(b" at line ", got.line as u64);
+    }
+    if got.arrivals != 0 {
+        write_number(b" BUT ", got.arrivals as u64);
+    }
 }
 
 // Imports a log into two long lists, and writes the answer and what the lists come to.

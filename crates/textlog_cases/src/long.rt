@@ -1,9 +1,14 @@
 // The cases of long logs: 4,096 lines and more, and a million digits.
-use crate::import_into;
+use crate::fields::FIELD;
+use crate::fields::first_octet;
+use crate::fields::number_in;
+use crate::fields::octets_of;
 use crate::lists::NUMBER;
 use crate::lists::TIME;
-use crate::lists::first_octets;
 use crate::lists::import_and_sum;
+use crate::short::import_into;
+use cases::lists::first_8;
+use cases::text::part;
 
 // The octets of each line: line n is n in four digits, and `;2`.
 const LINE: usize = 7;
@@ -39,170 +44,55 @@ fn lines_in_turn() -> [u8; MOST] {
     log
 }
 
-// Imports the first so many lines, after another line is put at a place.
-fn run(name: &[u8], lines: u16, at: usize, line: &[u8]) {
+// Imports the first so many lines of a log into lists of so many places: 4,095 or 4,098.
+fn import_lines(line: &[u8], log: &[u8]) {
+    let name = part(line, FIELD, 1);
+    let lines = first_8(log, number_in(line, 3) as usize * LINE);
+    if number_in(line, 2) == 4095 {
+        import_and_sum(name, 4096, lines, &mut [NUMBER; 4095], &mut [TIME; 4095]);
+        return;
+    }
+    import_and_sum(name, 4096, lines, &mut [NUMBER; 4098], &mut [TIME; 4098]);
+}
+
+// Runs the case of many lines, after another line is put at a place.
+pub(crate) fn run_lines(line: &[u8]) {
     let mut log = lines_in_turn();
-    octets::put_octets(&mut log, at, line);
-    import_and_sum(
-        name,
-        4096,
-        first_octets(&log, lines as usize * LINE),
-        &mut [NUMBER; 4098],
-        &mut [TIME; 4098],
+    let mut other = [0u8; LINE];
+    let n = octets_of(part(line, FIELD, 5), &mut other);
+    octets::put_octets(
+        &mut log,
+        number_in(line, 4) as usize * LINE,
+        first_8(&other, n),
     );
-}
-
-// Imports the first so many lines into lists of 4,095 places.
-fn run_short(name: &[u8], lines: u16) {
-    let log = lines_in_turn();
-    import_and_sum(
-        name,
-        4096,
-        first_octets(&log, lines as usize * LINE),
-        &mut [NUMBER; 4095],
-        &mut [TIME; 4095],
-    );
-}
-
-// 4,096 lines and 4,097, with another line in place of the last.
-fn last_lines() {
-    run(b"4096 lines", 4096, 0, b"");
-    run(b"4097 lines", 4097, 0, b"");
-    run(
-        b"4097 lines, the last malformed",
-        4097,
-        4096 * LINE,
-        b"4097,2\n",
-    );
-    run(
-        b"4097 lines, the last of number 0",
-        4097,
-        4096 * LINE,
-        b"0000;2\n",
-    );
-    run(
-        b"4097 lines, the last early",
-        4097,
-        4096 * LINE,
-        b"4096;0\n",
-    );
-}
-
-// Another line in place of line 4,096, and lists that are too short.
-fn lines_before_last() {
-    run(
-        b"4097 lines, line 4096 malformed",
-        4097,
-        4095 * LINE,
-        b"4096;\0\n",
-    );
-    run(
-        b"4097 lines, line 4096 of number 0",
-        4097,
-        4095 * LINE,
-        b"0000;2\n",
-    );
-    run_short(b"4097 lines into too few places", 4097);
-    run_short(b"4096 lines into too few places", 4096);
-    run(
-        b"4096 lines, the last early",
-        4096,
-        4095 * LINE,
-        b"4096;0\n",
-    );
-}
-
-// Runs the cases of 4,096 lines and more.
-pub(crate) fn many_lines() {
-    last_lines();
-    lines_before_last();
+    import_lines(line, &log);
 }
 
 // Imports the first octets of a log, after others are put at its start and at a place.
 fn import_first(name: &[u8], log: &mut [u8], first: &[u8], at: usize, last: &[u8], end: usize) {
     octets::put_octets(log, 0, first);
     octets::put_octets(log, at, last);
-    import_into(
-        name,
-        1,
-        first_octets(log, end),
-        &mut [NUMBER; 3],
-        &mut [TIME; 3],
-    );
+    import_into(name, 1, first_8(log, end), &mut [NUMBER; 3], &mut [TIME; 3]);
 }
 
 // The same of over a million octets of one kind.
-fn run_digits(name: &[u8], digit: u8, first: &[u8], at: usize, last: &[u8], end: usize) {
+fn import_digits(name: &[u8], digit: u8, first: &[u8], at: usize, last: &[u8], end: usize) {
     let mut log = [digit; 1_000_010];
     import_first(name, &mut log, first, at, last, end);
 }
 
-// A million digits of a number.
-fn digits_of_number() {
-    run_digits(
-        b"a number of a million zeros and a 1",
-        b'0',
-        b"",
-        1_000_000,
-        b"1;1\n",
-        1_000_004,
+// Runs the case of over a million digits.
+pub(crate) fn run_digits(line: &[u8]) {
+    let mut before = [0u8; 8];
+    let mut after = [0u8; 8];
+    let m = octets_of(part(line, FIELD, 3), &mut before);
+    let n = octets_of(part(line, FIELD, 5), &mut after);
+    import_digits(
+        part(line, FIELD, 1),
+        first_octet(part(line, FIELD, 2)),
+        first_8(&before, m),
+        number_in(line, 4) as usize,
+        first_8(&after, n),
+        number_in(line, 6) as usize,
     );
-    run_digits(
-        b"a number of a million nines",
-        b'9',
-        b"",
-        1_000_000,
-        b"9;1\n",
-        1_000_004,
-    );
-}
-
-// A million digits of a time, and no more.
-fn digits_of_time() {
-    run_digits(
-        b"a time of a million zeros and a 5",
-        b'0',
-        b"1;",
-        1_000_002,
-        b"5\n",
-        1_000_004,
-    );
-    run_digits(
-        b"a time of a million zeros and 5,5",
-        b'0',
-        b"1;",
-        1_000_002,
-        b"5,5\n",
-        1_000_006,
-    );
-    run_digits(
-        b"a time of a million nines",
-        b'9',
-        b"1;",
-        1_000_002,
-        b"9,5\n",
-        1_000_006,
-    );
-    run_digits(
-        b"a million decimals",
-        b'0',
-        b"1;0,",
-        1_000_004,
-        b"1\n",
-        1_000_006,
-    );
-    run_digits(
-        b"a million digits and no line feed",
-        b'1',
-        b"",
-        1_000_000,
-        b"",
-        1_000_000,
-    );
-}
-
-// Runs the cases of a million digits.
-pub(crate) fn many_digits() {
-    digits_of_number();
-    digits_of_time();
 }

@@ -1,48 +1,62 @@
-// Runs the cases of text logs: lines of the form and others, ranges, the order of the refusals, short lists, long logs, and
-// what is written. A line is written for each case, with what both lists hold after it; they are filled with 77 and 99
-// before, and lent octets with points.
+// Runs the cases of text logs that stand on standard input: lines of the form and others, ranges, the order of the refusals, short
+// lists, long logs, and what is written. A line is written for each case, with what both lists hold after it; they are filled with 77
+// and 99 before, and lent octets with points. Its line there begins with the kind of case, and its name; then
+//   read: K, the log, and how many places are lent for numbers and for times;
+//   lines: how many places each list has, how many lines of `n;2` are read, and the line, from 0, in whose place another stands;
+//   digits: the digit of which there are over a million, the octets that stand before them, the place of those that stand after
+//   them, these, and where the log ends;
+//   write: K, the numbers and the times, and how many octets are lent;
+//   many: how many arrivals are written, and read again.
+mod fields;
 mod lists;
 mod long;
 mod print;
 mod short;
 mod writing;
 
-use lists::write_numbers;
-use lists::write_times;
-use print::write_number;
-use print::write_word;
-use textlog::Imported;
+use cases::lists::first_8;
+use cases::text::count;
+use cases::text::part;
+use fields::FIELD;
+use fields::first_octet;
+use libc::STDIN_FILENO;
 
-// Writes what an import answers.
-pub(crate) fn write_import(name: &[u8], got: Imported) {
-    write_word(name);
-    if got.refusal == 0 {
-        write_number(b": arrivals ", got.arrivals as u64);
-        return;
+// How many octets of cases are read at most.
+const MOST: usize = 8192;
+
+// Runs the case of a line.
+fn run(line: &[u8]) {
+    let kind = first_octet(part(line, FIELD, 0));
+    if kind == b'r' {
+        short::run(line);
     }
-    write_number(b": refused ", got.refusal as u64);
-    if got.line != 0 {
-        write_number(b" at line ", got.line as u64);
+    if kind == b'l' {
+        long::run_lines(line);
     }
-    if got.arrivals != 0 {
-        write_number(b" BUT ", got.arrivals as u64);
+    if kind == b'd' {
+        long::run_digits(line);
+    }
+    if kind == b'w' {
+        writing::run(line);
+    }
+    if kind == b'm' {
+        writing::run_many(line);
     }
 }
 
-// Imports a log into two lists, and writes the answer and both lists.
-pub(crate) fn import_into(name: &[u8], k: u32, log: &[u8], numbers: &mut [u32], times: &mut [u64]) {
-    write_import(name, textlog::import(log, k, numbers, times));
-    write_numbers(numbers);
-    write_times(times);
-    write_word(b"\n");
+// Runs the cases of all lines.
+fn run_all(text: &[u8]) {
+    let lines = count(text, b'\n');
+    let mut i: usize = 0;
+    while i < lines {
+        run(part(text, b'\n', i));
+        i += 1;
+    }
 }
 
 // Runs all cases.
 fn main() {
-    short::accepted();
-    short::refused();
-    short::in_order();
-    long::many_lines();
-    long::many_digits();
-    writing::written();
+    let mut text = [0u8; MOST];
+    let n = io::read_full(STDIN_FILENO, &mut text);
+    run_all(first_8(&text, n));
 }
