@@ -10,11 +10,3 @@ pub(crate) fn put_record(out: &mut [u8], i: u16, sequence: u64, time: u64) {
     octets::put_number(out, at, 4, sequence);
     octets::put_number(out, at + 16, 8, time);
 }
-
-// The first n octets, or all where there are no more.
-pub(crate) fn first_octets(s: &[u8], n: usize) -> &[u8] {
-    if s.len() < n {
-        return s;
-    }
-    &s[0..n]
-}

@@ -1,10 +1,13 @@
 // The cases of many records: after each arrival a lost record of the greatest sequence number.
 use crate::build::OTHER;
-use crate::build::first_octets;
 use crate::build::put_record;
+use crate::fields::FIELD;
+use crate::fields::number_in;
 use crate::import_and_sum;
 use crate::lists::NUMBER;
 use crate::lists::TIME;
+use cases::lists::first_8;
+use cases::text::part;
 
 // The most arrivals, and their octets with those of the lost records.
 const ARRIVALS: u16 = 4097;
@@ -14,8 +17,8 @@ const OCTETS: usize = 204_850;
 // The fractions between the times of two arrivals: 5 microseconds and a part of one.
 const STEP: u64 = 25_000;
 
-// How the times of arrivals lie: each after the one before, each before it, eight and eight of them reversed, all at one time,
-// and all lost.
+// How the times of arrivals lie, as a line has it: 0 each after the one before, 1 each before it, 2 eight and eight of them reversed, 3
+// all at one time, and 4 all lost.
 const IN_ORDER: u32 = 0;
 
 const REVERSED: u32 = 1;
@@ -54,64 +57,26 @@ fn put_records(out: &mut [u8], order: u32) {
     }
 }
 
-// Imports the first so many arrivals with their lost records, the last arrival being of a sequence number.
-fn run(name: &[u8], order: u32, arrivals: u16, sequence: u64) {
+// Imports records into lists of so many places: 4,095 or 4,098.
+fn import_records(line: &[u8], records: &[u8]) {
+    let name = part(line, FIELD, 1);
+    if number_in(line, 2) == 4095 {
+        import_and_sum(name, 4096, records, &mut [NUMBER; 4095], &mut [TIME; 4095]);
+        return;
+    }
+    import_and_sum(name, 4096, records, &mut [NUMBER; 4098], &mut [TIME; 4098]);
+}
+
+// Runs the case of a line.
+pub(crate) fn run(line: &[u8]) {
+    let order = number_in(line, 3);
     let mut records = [OTHER; OCTETS];
     put_records(&mut records, order);
     put_record(
         &mut records,
         2 * ARRIVALS - 4,
-        sequence,
+        number_in(line, 5) as u64,
         time_of(order, ARRIVALS - 2),
     );
-    import_and_sum(
-        name,
-        4096,
-        first_octets(&records, 50 * (arrivals as usize)),
-        &mut [NUMBER; 4098],
-        &mut [TIME; 4098],
-    );
-}
-
-// Imports the first so many arrivals into lists of 4,095 places.
-fn run_short(name: &[u8], arrivals: u16) {
-    let mut records = [OTHER; OCTETS];
-    put_records(&mut records, REVERSED);
-    import_and_sum(
-        name,
-        4096,
-        first_octets(&records, 50 * (arrivals as usize)),
-        &mut [NUMBER; 4095],
-        &mut [TIME; 4095],
-    );
-}
-
-// 4,096 arrivals in each order.
-fn orders() {
-    run(b"4096 arrivals in order", IN_ORDER, 4096, 4095);
-    run(b"4096 arrivals reversed", REVERSED, 4096, 4095);
-    run(b"4096 arrivals nearly in order", NEARLY, 4096, 4095);
-    run(b"4096 arrivals at one time", EQUAL, 4096, 4095);
-}
-
-// 4,096 arrivals, 4,097 and none.
-fn too_many() {
-    run(b"8194 lost records", LOST, 4097, 4095);
-    run(b"4097 arrivals", EQUAL, 4097, 4095);
-    run(b"4097 arrivals, one of packet 4097", EQUAL, 4097, 4096);
-    run(b"4096 arrivals, one of packet 4097", EQUAL, 4096, 4096);
-}
-
-// Lists of 4,095 places.
-fn short_lists() {
-    run_short(b"4097 arrivals into too few places", 4097);
-    run_short(b"4096 arrivals into too few places", 4096);
-    run_short(b"4095 arrivals reversed", 4095);
-}
-
-// Records in each order, 4,096 arrivals and 4,097, and lists that are too short.
-pub(crate) fn many() {
-    orders();
-    too_many();
-    short_lists();
+    import_records(line, first_8(&records, 50 * (number_in(line, 4) as usize)));
 }

@@ -1,16 +1,37 @@
 // The cases that write records from a sample's file, and read them again. The files are of the label `ab` and of packets of 100
 // octets.
-use crate::build::first_octets;
+use crate::fields::FIELD;
+use crate::fields::number_in;
 use crate::import_and_sum;
 use crate::import_into;
 use crate::lists::NUMBER;
 use crate::lists::TIME;
 use crate::print::write_number;
 use crate::print::write_word;
+use cases::lists::fill_32;
+use cases::lists::fill_64;
+use cases::lists::first_8;
+use cases::lists::first_32;
+use cases::lists::first_64;
+use cases::text::part;
 use std::num::wrapping_add_u64;
+ghost use Prim.Native.Nat.{_≤_};
 
 // What octets are filled with.
 const OCTET: u8 = 46;
+
+// The most octets that are lent for a few records.
+const ROOM: usize = 75;
+
+// So many octets: 75 at most.
+fn room_for(n: u32) -> usize
+    ensures { λ r. ⌜ r ≤ 75 ⌝ }
+{
+    if n < 75 {
+        return n as usize;
+    }
+    ROOM
+}
 
 // An octet as a number of 64 bits.
 fn wide(n: u8) -> u64 {
@@ -64,143 +85,38 @@ fn write_and_read(name: &[u8], file: &[u8], out: &mut [u8]) {
     import_into(
         b"  read again",
         3,
-        first_octets(out, length),
+        first_8(out, length),
         &mut [NUMBER; 3],
         &mut [TIME; 3],
     );
 }
 
 // Makes the file of three sent packets and of arrivals, cut to so many octets, and writes its records.
-fn run(name: &[u8], numbers: &[u32], times: &[u64], most: usize, out: &mut [u8]) {
+fn make_and_write(line: &[u8], numbers: &[u32], times: &[u64], out: &mut [u8]) {
     let mut file = [0u8; 60];
     let made = sample::write(b"ab", &[100u16; 3], numbers, times, &mut file);
+    let whole = first_8(&file, made.length as usize);
     write_and_read(
-        name,
-        first_octets(first_octets(&file, made.length as usize), most),
+        part(line, FIELD, 1),
+        first_8(whole, number_in(line, 4) as usize),
         out,
     );
 }
 
-// Times with and without fractions.
-fn times() {
-    run(
-        b"write packet 3 at 1500000",
-        &[3u32],
-        &[1_500_000u64],
-        60,
-        &mut [OCTET; 26],
+// Runs the case of a line.
+pub(crate) fn run(line: &[u8]) {
+    let mut numbers = [0u32; 3];
+    let mut times = [0u64; 3];
+    let mut out = [OCTET; ROOM];
+    let n = fill_32(part(line, FIELD, 2), &mut numbers);
+    let t = fill_64(part(line, FIELD, 3), &mut times);
+    let room = room_for(number_in(line, 5));
+    make_and_write(
+        line,
+        first_32(&numbers, n),
+        first_64(&times, t),
+        &mut out[0..room],
     );
-    run(
-        b"write times 0, 1 and 999999",
-        &[1u32, 2, 3],
-        &[0u64, 1, 999_999],
-        60,
-        &mut [OCTET; 75],
-    );
-}
-
-// Times that are equal or go back, and a packet that arrives twice.
-fn equal_and_back() {
-    run(
-        b"write equal times and a packet twice",
-        &[2u32, 1, 2],
-        &[7u64, 7, 1_000_000],
-        60,
-        &mut [OCTET; 75],
-    );
-    run(
-        b"write times that go back by 500",
-        &[1u32, 2, 3],
-        &[2000u64, 1500, 2000],
-        60,
-        &mut [OCTET; 75],
-    );
-}
-
-// A sample without arrivals.
-fn no_arrival() {
-    run(
-        b"write no arrival",
-        &[0u32; 0],
-        &[0u64; 0],
-        60,
-        &mut [OCTET; 3],
-    );
-    run(
-        b"write no arrival into no octet",
-        &[0u32; 0],
-        &[0u64; 0],
-        60,
-        &mut [OCTET; 0],
-    );
-}
-
-// The greatest time.
-fn greatest_time() {
-    run(
-        b"write the greatest time that can be",
-        &[1u32],
-        &[4_294_967_294_999_999u64],
-        60,
-        &mut [OCTET; 25],
-    );
-}
-
-// Arrivals that are written.
-pub(crate) fn written() {
-    times();
-    equal_and_back();
-    no_arrival();
-    greatest_time();
-}
-
-// Times that are too great.
-fn seconds_over() {
-    run(
-        b"write one time more",
-        &[1u32],
-        &[4_294_967_295_000_000u64],
-        60,
-        &mut [OCTET; 25],
-    );
-    run(
-        b"write the greatest time of a sample, after another",
-        &[1u32, 2],
-        &[0u64, 18_446_744_073_709_551_615],
-        60,
-        &mut [OCTET; 50],
-    );
-}
-
-// 18 after the sample's own, and before 8.
-fn order() {
-    run(
-        b"18 before 8",
-        &[1u32],
-        &[4_294_967_295_000_000u64],
-        60,
-        &mut [OCTET; 24],
-    );
-    run(
-        b"the sample's own before 18 and 8",
-        &[1u32],
-        &[4_294_967_295_000_000u64],
-        23,
-        &mut [OCTET; 24],
-    );
-}
-
-// Too few octets, lent and of the file.
-fn short() {
-    run(b"one octet too few", &[1u32], &[0u64], 60, &mut [OCTET; 24]);
-    run(b"a file that is cut", &[1u32], &[0u64], 1, &mut [OCTET; 25]);
-}
-
-// What is refused.
-pub(crate) fn refused() {
-    seconds_over();
-    order();
-    short();
 }
 
 // The numbers 4,096 to 1.
@@ -226,21 +142,21 @@ fn times_up() -> [u64; 4096] {
 }
 
 // Writes 4,096 records, and reads them again.
-fn run_many(file: &[u8], out: &mut [u8]) {
-    let length = write_into(b"write 4096 arrivals", file, out);
+fn write_and_sum(name: &[u8], file: &[u8], out: &mut [u8]) {
+    let length = write_into(name, file, out);
     sum_octets(out);
     write_word(b"\n");
     import_and_sum(
         b"  read again",
         4096,
-        first_octets(out, length),
+        first_8(out, length),
         &mut [NUMBER; 4096],
         &mut [TIME; 4096],
     );
 }
 
-// As many arrivals as a sample may have.
-pub(crate) fn many() {
+// Runs the case of as many arrivals as a sample may have.
+pub(crate) fn run_all_arrivals(line: &[u8]) {
     let mut file = [0u8; sample::LONGEST];
     let made = sample::write(
         b"ab",
@@ -249,8 +165,9 @@ pub(crate) fn many() {
         &times_up(),
         &mut file,
     );
-    run_many(
-        first_octets(&file, made.length as usize),
+    write_and_sum(
+        part(line, FIELD, 1),
+        first_8(&file, made.length as usize),
         &mut [OCTET; 102_400],
     );
 }

@@ -7,25 +7,34 @@ use Rattle.owamp_cases.proofs.few.put_records.Statement.{statement}
 use Rattle.owamp_cases.proofs.few.put_records.Tie as tie
 
 abbrev Inv-loop : tie.InvT-loop
-Inv-loop out₀ sequences times i₀ out i = (i ≤ 6) × (length out ≡ length out₀)
+Inv-loop out₀ sequences seconds fractions i₀ out i = (i ≤ 6) × (length out ≡ length out₀)
 
 abbrev μ-loop : tie.MeasureT-loop
-μ-loop out₀ sequences times i₀ out i = 6 - i
+μ-loop out₀ sequences seconds fractions i₀ out i = 6 - i
 
 loop-holds : tie.Need-loop-holds Inv-loop μ-loop
 loop-holds c = search needs
 
-cast-value-at : tie.Need-cast-value-at Inv-loop μ-loop
-cast-value-at c = search needs
+cast-number : tie.Need-cast-number Inv-loop μ-loop
+cast-number c = search needs
 
-value-at-requires : tie.Need-value-at-requires Inv-loop μ-loop
-value-at-requires c κs = search needs
+number-requires : tie.Need-number-requires Inv-loop μ-loop
+number-requires c κs = search needs
 
-cast-value-at-2 : tie.Need-cast-value-at-2 Inv-loop μ-loop
-cast-value-at-2 c = search needs
+cast-number-2 : tie.Need-cast-number-2 Inv-loop μ-loop
+cast-number-2 c = search needs
 
-value-at-requires-2 : tie.Need-value-at-requires-2 Inv-loop μ-loop
-value-at-requires-2 c κs = search needs
+number-requires-2 : tie.Need-number-requires-2 Inv-loop μ-loop
+number-requires-2 c κs = search needs
+
+time-of-requires : tie.Need-time-of-requires Inv-loop μ-loop
+time-of-requires c κs = search needs
+
+cast-number-3 : tie.Need-cast-number-3 Inv-loop μ-loop
+cast-number-3 c = search needs
+
+number-requires-3 : tie.Need-number-requires-3 Inv-loop μ-loop
+number-requires-3 c κs = search needs
 
 put-record-requires : tie.Need-put-record-requires Inv-loop μ-loop
 put-record-requires c κs = search needs
@@ -52,10 +61,13 @@ put-records-spec =
     Inv-loop
     μ-loop
     loop-holds
-    cast-value-at
-    value-at-requires
-    cast-value-at-2
-    value-at-requires-2
+    cast-number
+    number-requires
+    cast-number-2
+    number-requires-2
+    time-of-requires
+    cast-number-3
+    number-requires-3
     put-record-requires
     add-i
     loop-less
