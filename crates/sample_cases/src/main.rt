@@ -1,40 +1,62 @@
-// Runs the scope's cases on the sample file: the edges of label, its octets, K, A, number, time and length, and each
-// refusal of each call, where lent memory is filled with a pattern before and compared after. A line is written for
-// each case.
+// Runs the scope's cases on the sample file that stand on standard input: the edges of label, its octets, K, A, number, time and length,
+// and each refusal of each call, where lent memory is filled with a pattern before and compared after. A line is written for each case.
+// Its line there begins with the kind of case, and its name; then
+//   file: how many octets of label, sizes and arrivals a file has, what is changed in it (place, octets, value; up to four times), and
+//   how many octets of it are read where it is not the whole;
+//   into: how many places are lent for the sizes, numbers and times of the file of five arrivals;
+//   lists: how many octets of label, sizes, numbers and times a file is written from;
+//   octet: how many octets of label and sizes, and the place of one octet in the label, and that octet;
+//   small: how many sizes, the numbers and the times, and how many octets are lent.
 mod build;
+mod fields;
 mod files;
-mod lists;
 mod memory;
 mod print;
 mod writer;
 
-use files::damaged;
-use files::edges;
-use files::edges_of_arrivals;
-use files::label_octets;
-use files::label_octets_in_order;
-use files::short_lists;
-use files::times_back;
-use writer::arrival_lists;
-use writer::edges_of_lists;
-use writer::short_output;
-use writer::written_label_octets;
-use writer::written_label_octets_in_order;
-use writer::written_times_back;
+use cases::lists::first_8;
+use cases::text::count;
+use cases::text::part;
+use fields::FIELD;
+use fields::first_octet;
+use libc::STDIN_FILENO;
+
+// How many octets of cases are read at most.
+const MOST: usize = 8192;
+
+// Runs the case of a line.
+fn run(line: &[u8]) {
+    let kind = first_octet(part(line, FIELD, 0));
+    if kind == b'f' {
+        files::run(line);
+    }
+    if kind == b'i' {
+        files::run_into(line);
+    }
+    if kind == b'l' {
+        writer::run_lists(line);
+    }
+    if kind == b'o' {
+        writer::run_octet(line);
+    }
+    if kind == b's' {
+        writer::run_small(line);
+    }
+}
+
+// Runs the cases of all lines.
+fn run_all(text: &[u8]) {
+    let lines = count(text, b'\n');
+    let mut i: usize = 0;
+    while i < lines {
+        run(part(text, b'\n', i));
+        i += 1;
+    }
+}
 
 // Runs all cases.
 fn main() {
-    edges();
-    label_octets();
-    label_octets_in_order();
-    edges_of_arrivals();
-    times_back();
-    damaged();
-    short_lists();
-    edges_of_lists();
-    written_label_octets();
-    written_label_octets_in_order();
-    arrival_lists();
-    written_times_back();
-    short_output();
+    let mut text = [0u8; MOST];
+    let n = io::read_full(STDIN_FILENO, &mut text);
+    run_all(first_8(&text, n));
 }
