@@ -55,7 +55,10 @@ abbrev pub refusedTable : List (Piece × ℕ)
 refusedTable =
     (lf 3 1 0, 6) ∷ (lf 1 1 0, 17) ∷ (mf 1 0 9, 17) ∷ (lf 1 8191 8, 17) ∷ (lf 1 8191 7, 7) ∷ (wh 1 0, 7) ∷ []
 
+-- small lists have the flags and the usable arrivals that their cases say, and single arrivals the refusals
 pub record FlaggedAsGiven : Type 0 where
+  -- the lists
   pub marked : map (λ (c : List Piece × (List ℕ × List ℕ)). (flags (c .0), usable (c .0))) table
       ≡ map (λ (c : List Piece × (List ℕ × List ℕ)). c .1) table
+  -- the arrivals, after a greatest time of 2,000, K being 2
   pub refused : map (λ (c : Piece × ℕ). judgeOne 2 2000 (c .0)) refusedTable ≡ map (λ (c : Piece × ℕ). c .1) refusedTable

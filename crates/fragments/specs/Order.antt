@@ -4,6 +4,7 @@ use mathlib.Core.Bool.{Bool, cond, not, _&&_, _||_}
 use mathlib.Core.List.{List, foldl}
 use lib.Dec.{leb, ltb, eqb}
 use Rattle.rfc4737.specs.Arrivals.{each}
+use Rattle.rfc4737.specs.Numbering.{inOrderNumber, reorderedAfterNumber, duplicateNumber}
 use Rattle.fragments.specs.declared.Piece.{Piece}
 use Rattle.fragments.specs.declared.Expected.{Expected}
 use Rattle.fragments.specs.Pieces.{isLast, isCopy, firsts}
@@ -33,9 +34,9 @@ expectedAfter e a = cond (isReordered e a) e (inOrderAfter e a)
 unfoldable pub expected : List Piece → Expected
 expected earlier = foldl expectedAfter atStart (firsts earlier)
 
--- the flag: 0 in order, 1 reordered, 3 a copy
+-- the flag, a number of an answer's case: in order, reordered, or a copy
 unfoldable pub flagAfter : List Piece → Piece → ℕ
-flagAfter earlier a = cond (isCopy earlier a) 3 (cond (isReordered (expected earlier) a) 1 0)
+flagAfter earlier a = cond (isCopy earlier a) duplicateNumber (cond (isReordered (expected earlier) a) reorderedAfterNumber inOrderNumber)
 
 -- the flags of the arrivals
 unfoldable pub flags : List Piece → List ℕ

@@ -6,15 +6,16 @@ use mathlib.Core.Path.{_≡_}
 use Rattle.rfc4737.specs.declared.Answer.{Answer}
 use Rattle.rfc4737.specs.declared.Answer.the-variants.{Duplicate, InOrder, Reordered}
 use Rattle.rfc4737.specs.Answer.{answers}
+use Rattle.rfc4737.specs.Numbering.{inOrderNumber, reorderedAfterNumber, duplicateNumber}
 use Rattle.fragments.specs.declared.Piece.{Piece}
 use Rattle.fragments.specs.Pieces.{arrivalOf, isWhole, some}
 use Rattle.fragments.specs.Order.{flags}
 
--- the flag of an answer: 0 in order, 1 reordered, 3 a copy
+-- the flag of an answer: the number of its case, which for a reordered packet does not tell the late time's direction
 abbrev pub orderFlag : Answer → ℕ
-orderFlag (Duplicate d) = 3
-orderFlag (InOrder d) = 0
-orderFlag (Reordered d) = 1
+orderFlag (Duplicate d) = duplicateNumber
+orderFlag (InOrder d) = inOrderNumber
+orderFlag (Reordered d) = reorderedAfterNumber
 
 -- where no arrival is a fragment, the flags are those of the answers, whatever the payload sizes
 unfoldable pub WholeFlags : List Piece → Type 0

@@ -4,6 +4,7 @@ ghost use mathlib.Core.Bool.{cond};
 ghost use Prim.Native.Nat.{_≤_, _<_};
 ghost use lib.ListN.{length};
 ghost use Rattle.octets.specs.Memory.{over};
+ghost use Rattle.rfc4737.specs.Numbering.{inOrderNumber, reorderedAfterNumber, duplicateNumber};
 ghost use Rattle.fragments.specs.Pieces.{piecesOf};
 ghost use Rattle.fragments.specs.Order.{isReordered, expectedAfter, flags};
 ghost use Rattle.fragments.specs.Usable.{usable};
@@ -13,8 +14,17 @@ use crate::PACKETS;
 use crate::Piece;
 use crate::arrival::piece_at;
 use crate::duplicates::is_copy;
-use crate::tables::bit;
 use crate::tables::place;
+use rfc4737::numbering::DUPLICATE;
+use rfc4737::numbering::IN_ORDER;
+use rfc4737::numbering::REORDERED_AFTER;
+
+// The flags, each the number of an answer's case: a copy, reordered, and in order.
+const COPY: u8 = DUPLICATE as u8;
+
+const REORDERED: u8 = REORDERED_AFTER as u8;
+
+const ORDERED: u8 = IN_ORDER as u8;
 
 // Whether an arrival is reordered: the three cases.
 fn is_reordered(e: Expected, a: Piece) -> bool
@@ -34,12 +44,15 @@ fn is_reordered(e: Expected, a: Piece) -> bool
 
 // The flag of an arrival.
 fn flag_of(copy: bool, e: Expected, a: Piece) -> u8
-    ensures { λ r. ⌜ r ≡ cond copy 3 (cond (isReordered e a) 1 0) ⌝ }
+    ensures { λ r. ⌜ r ≡ cond copy duplicateNumber (cond (isReordered e a) reorderedAfterNumber inOrderNumber) ⌝ }
 {
     if copy {
-        return 3;
+        return COPY;
     }
-    bit(is_reordered(e, a))
+    if is_reordered(e, a) {
+        return REORDERED;
+    }
+    ORDERED
 }
 
 // What is expected after an arrival.

@@ -10,11 +10,11 @@ returns c = search needs
 is-reordered-requires : tie.Need-is-reordered-requires
 is-reordered-requires c κs = search needs
 
-bit-requires : tie.Need-bit-requires
-bit-requires c κs = search needs
-
 returns-2 : tie.Need-returns-2
-returns-2 c = rw (c .before .before .if1 .left, sym (c .before .is-reordered .ensures)) (c .bit .ensures)
+returns-2 c = rw (c .before .before .if1 .left, sym (c .before .is-reordered .ensures), c .if2 .taken)
+
+returns-3 : tie.Need-returns-3
+returns-3 c = rw (c .before .before .if1 .left, sym (c .before .is-reordered .ensures), c .if2 .left)
 
 pub flag-of-spec : {M : Type 1} → statement M
-flag-of-spec = tie.close (tie.spec returns is-reordered-requires bit-requires returns-2)
+flag-of-spec = tie.close (tie.spec returns is-reordered-requires returns-2 returns-3)
