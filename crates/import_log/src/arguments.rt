@@ -5,9 +5,10 @@ ghost use Rattle.import_log.specs.Arguments.{argumentIn, isRecords};
 // The greatest number that an argument may be.
 const MOST: u64 = 4_294_967_295;
 
-// The octets of the word `records`, and their value as a big-endian number.
+// How many octets the word `records` has.
 const RECORDS_OCTETS: usize = 7;
 
+// Their value as a big-endian number.
 const RECORDS_VALUE: u64 = 32199625090950259;
 
 // What an argument gives: its number, or that it is none, or too great.

@@ -12,9 +12,11 @@ pub record Case : Type 0 where
   pub short : ℕ
   pub number : ℕ
 
+-- a case by its four numbers
 abbrev pub case : (width greatest short number : ℕ) → Case
 case w g x n = record { width = w; greatest = g; short = x; number = n }
 
+-- the cases of one short number
 abbrev pub table : List Case
 table =
     -- the first numbers after 0, and 128 and 200 of 8 bits, which are below 1
@@ -27,6 +29,7 @@ table =
     ∷ case 8 259 256 0 ∷ case 10 1020 1024 0
     ∷ []
 
+-- what is found is what the tables say
 pub record FoundAsGiven : Type 0 where
   -- each number is found as its case says
   pub one : map (λ (c : Case). found (rangeOf (c .width)) (c .greatest) (c .short)) table ≡ map (λ (c : Case). c .number) table

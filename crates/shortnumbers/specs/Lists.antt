@@ -51,5 +51,6 @@ pub record ListsOfWidth (w : ℕ) : Type 0 where
   pub finds : TrueInLists (rangeOf w)
   pub demand2 : Demand2Reads (rangeOf w)
 
+-- what is said of the lists of a width, of every width
 abbrev pub EveryList : Type 0
 EveryList = (w : ℕ) → 1 ≤ w → ListsOfWidth w

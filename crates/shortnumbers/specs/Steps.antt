@@ -74,5 +74,6 @@ pub record StepsOfWidth (w : ℕ) : Type 0 where
   pub finds : (k : ℕ) → 1 ≤ k → k ≤ packets → TrueByReceiver (rangeOf w) k
   pub demand3 : (k : ℕ) → 1 ≤ k → k ≤ packets → (shorts : List Arrival) → Demand3Reads (rangeOf w) k shorts
 
+-- what is said of the steps of a width, of every width
 abbrev pub EveryStep : Type 0
 EveryStep = (w : ℕ) → 1 ≤ w → StepsOfWidth w

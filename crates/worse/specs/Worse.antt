@@ -38,8 +38,8 @@ refusalOfBoth a b = firstOf (refusalOf a ∷ refusalOf b ∷ [])
 unfoldable pub worseOf : Decoded → Decoded → Link
 worseOf a b = cond (greater (ratioIn b) (ratioIn a)) Second First
 
--- what stands beside a refusal or, with none, beside the sample found
 module _ {ℓ} {A : Type ℓ} where
+  -- what stands beside a refusal or, with none, beside the sample found
   abbrev pub beside : A → A → A → ℕ → Link → A
   beside none one other zero First = one
   beside none one other zero Second = other
