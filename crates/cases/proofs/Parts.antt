@@ -79,7 +79,8 @@ module _ (t : List ℕ) (s from end : ℕ) (p : Sought t s from end) where
 -- ---- the first part, and those after it
 
 -- with one octet more before a text
-split-more : (s o : ℕ) (t : List ℕ) (b : Bool) → (0 < length t → partsOf s t ≡ take (before s t) t ∷ partsOf s (drop (suc (before s t)) t))
+split-more : (s o : ℕ) (t : List ℕ) (b : Bool)
+    → (0 < length t → partsOf s t ≡ take (before s t) t ∷ partsOf s (drop (suc (before s t)) t))
     → onto b o (partsOf s t)
     ≡ take (cond b 0 (suc (before s t))) (o ∷ t) ∷ partsOf s (drop (suc (cond b 0 (suc (before s t)))) (o ∷ t))
 unfolding onto partsOf before

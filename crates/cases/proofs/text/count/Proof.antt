@@ -32,7 +32,8 @@ returns : tie.Need-returns Inv-loop μ-loop
 returns c =
     let l = c .before .before .before in
     let a = l .before .before .args in
-    let m = count-more (now (a .text)) (a .separator) (l .loop .at) (c .before .end-at .result) (c .before .end-at .ensures .0) (c .before .before .loop-test .taken) in
+    let e = c .before .end-at in
+    let m = count-more (now (a .text)) (a .separator) (l .loop .at) (e .result) (e .ensures .0) (c .before .before .loop-test .taken) in
     let z = count-none (now (a .text)) (a .separator) (c .before .end-at .result + 1) (omega arith) in
     omega (arith, l .loop .inv .2, m, z)
 
@@ -46,7 +47,8 @@ loop-again : tie.Need-loop-again Inv-loop μ-loop
 loop-again c =
     let l = c .before .before .before in
     let a = l .before .before .args in
-    let m = count-more (now (a .text)) (a .separator) (l .loop .at) (c .before .end-at .result) (c .before .end-at .ensures .0) (c .before .before .loop-test .taken) in
+    let e = c .before .end-at in
+    let m = count-more (now (a .text)) (a .separator) (l .loop .at) (e .result) (e .ensures .0) (c .before .before .loop-test .taken) in
     (search needs, search needs, omega (arith, l .loop .inv .2, m))
 
 returns-2 : tie.Need-returns-2 Inv-loop μ-loop

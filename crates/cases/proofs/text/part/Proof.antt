@@ -40,7 +40,8 @@ returns c =
     let a = l .before .before .args in
     let end = c .before .before .end-at .result in
     let z : end - end ≡ 0 = omega arith in
-    let p = part-none (now (a .text)) (a .separator) (l .loop .at) end (c .before .before .end-at .ensures .0) (l .loop .left) (omega arith) (omega arith) in
+    let e = c .before .before .end-at .ensures .0 in
+    let p = part-none (now (a .text)) (a .separator) (l .loop .at) end e (l .loop .left) (omega arith) (omega arith) in
     ap (λ (k : ℕ). take k (drop end (now (a .text)))) z ∙ sym (l .loop .inv .1 ∙ p)
 
 add-at : tie.Need-add-at Inv-loop μ-loop
@@ -56,7 +57,8 @@ loop-again : tie.Need-loop-again Inv-loop μ-loop
 loop-again c =
     let l = c .before .before .before in
     let a = l .before .before .args in
-    let p = part-later (now (a .text)) (a .separator) (l .loop .at) (c .before .end-at .result) (c .before .end-at .ensures .0) (l .loop .left) (omega arith) in
+    let e = c .before .end-at in
+    let p = part-later (now (a .text)) (a .separator) (l .loop .at) (e .result) (e .ensures .0) (l .loop .left) (omega arith) in
     (search needs, l .loop .inv .1 ∙ p)
 
 end-at-requires-2 : tie.Need-end-at-requires-2 Inv-loop μ-loop
