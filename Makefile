@@ -1,5 +1,5 @@
 # The library for C: `make` proves it and builds target/libkrakobran.a, the shared object beside it and the examples in C; this
-# needs the Rattle kit and a C compiler. `make test` runs all of it, the two scripts too, and says what it leaves out for want
+# needs the Rattle kit and a C compiler. `make test` runs all of it, the commands too, and says what it leaves out for want
 # of a C++ compiler, Python, pkg-config or cargo. `make install` puts header, library and pkg-config file below PREFIX.
 # `make layout` checks that C and Rust lay out every struct alike, `make diff` compares the library with an independent
 # implementation, and `make time` measures both; these three need cargo, which fetches nothing.
@@ -68,6 +68,7 @@ uninstall:
 test: $(EXAMPLES) $(SHARED) target/interface $(if $(shell command -v $(CXX)),target/vectors)
 	tests/report.sh
 	tests/import.sh
+	tests/check.sh
 	tests/command.sh
 	target/interface
 	CC='$(CC)' CXX='$(CXX)' tests/examples.sh

@@ -20,6 +20,10 @@ int main(void) {
     FIELD(worse_link, link);
     FIELD(worse_link, start);
     FIELD(worse_link, length);
+    SIZE(listing_checked);
+    FIELD(listing_checked, refusal);
+    FIELD(listing_checked, agrees);
+    FIELD(listing_checked, line);
     SIZE(disordered);
     FIELD(disordered, refusal);
     FIELD(disordered, total);

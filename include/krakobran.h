@@ -351,6 +351,20 @@ krakobran_worse_link krakobran_worse(const uint8_t *first, size_t first_octets, 
  * Refusals: the file's; 8 if this one does not fit. */
 krakobran_written krakobran_listing(const uint8_t *file, size_t octets, uint8_t *out, size_t room);
 
+/* What is found of a listing: whether it agrees (1 or 0), and the number of its first wrong line, from 1; 0 where it agrees.
+ * Both are 0 with a refusal. */
+typedef struct {
+    uint32_t refusal;
+    uint32_t agrees;
+    uint32_t line;
+} krakobran_listing_checked;
+KRAKOBRAN_SIZE(krakobran_listing_checked, 12);
+
+/* Checks a listing: it agrees exactly if it is the report of the sample. A missing or extra line is wrong at its place,
+ * and so is a last line without its line feed. Refusals: the file's, before the listing is looked at. */
+krakobran_listing_checked krakobran_check_listing(const uint8_t *file, size_t octets, const uint8_t *listing,
+                                                  size_t listing_octets);
+
 /* One sweep over a sample: fills four lists from their start with the case of every record, its position, extent
  * and the amount of its late time; what a record does not have is 0. The table needs KRAKOBRAN_TABLE_PLACES places
  * and may hold anything; those are 0 afterwards. Refusals: the file's; 8 if the table has fewer, or a list fewer

@@ -1,4 +1,4 @@
-# What the scripts share. It is sourced by krakobran, krakobran-report and krakobran-import, which set `me`, the name that their
+# What the scripts share. It is sourced by krakobran, krakobran-report, krakobran-import and krakobran-check, which set `me`, the name that their
 # messages begin with, and `root`, the folder that they stand in.
 
 # Says a line on standard error, and ends with a status.

@@ -4,6 +4,7 @@
 use std::hint::black_box;
 
 use crate::boundary::{Meter, Place};
+use crate::checker::Checked;
 use crate::disorder::Total;
 use crate::receiver::Jumps;
 use crate::records::Records;
@@ -492,6 +493,7 @@ pub fn layout() {
     table! {
         "layout" c::Layout: refusal label sent arrivals;
         "worse_link" Worse: refusal link start length;
+        "listing_checked" Checked: refusal agrees line;
         "disordered" Total: refusal total;
         "part" c::Part: start length;
         "written" c::Written: refusal length;

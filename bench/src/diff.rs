@@ -3,7 +3,7 @@
 use crate::boundary::{Meter, Reference, LIBRARY, LIBRARY_NAME};
 use crate::compare::{self, Buffers, Seen};
 use crate::generate::{arrival_list, sample_case, state_case};
-use crate::{disorder, fragments, meter, records, shortnumbers, sweep, text, worse};
+use crate::{checker, disorder, fragments, meter, records, shortnumbers, sweep, text, worse};
 
 /// How many generated inputs a run takes.
 pub struct Amounts {
@@ -42,6 +42,7 @@ pub fn run(seed: u64, amounts: &Amounts) -> bool {
         .and_then(|()| records::compare(seed, amounts.samples, &mut seen))
         .and_then(|()| sweep::compare(seed, amounts.samples, &mut seen))
         .and_then(|()| worse::compare(seed, amounts.samples, &mut seen))
+        .and_then(|()| checker::compare(seed, amounts.samples, &mut seen))
         .and_then(|()| disorder::compare(seed, amounts.samples, &mut seen))
         .and_then(|()| shortnumbers::compare(seed, amounts.samples, amounts.lists, amounts.states, &mut seen))
         .and_then(|()| fragments::compare(seed, amounts.samples, &mut seen))

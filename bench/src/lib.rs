@@ -4,6 +4,7 @@
 pub mod archive;
 pub mod boundary;
 pub mod cases;
+pub mod checker;
 pub mod compare;
 pub mod definition;
 pub mod diff;

@@ -5,7 +5,7 @@ use std::hint::black_box;
 use crate::boundary::{Meter, Reference, LIBRARY, LIBRARY_NAME};
 use crate::generate::{measured, Order};
 use crate::reference::*;
-use crate::{meter, records, sweep, text};
+use crate::{checker, meter, records, sweep, text};
 
 const AMOUNTS: [usize; 3] = [256, 1024, 4096];
 const ORDERS: [Order; 3] = [Order::InOrder, Order::Shuffled, Order::Reversed];
@@ -64,12 +64,13 @@ pub fn measure<const N: usize>(mut columns: [Calls; N]) -> [f64; N] {
 }
 
 /// The tables in their order, each by its name.
-const TABLES: [(&str, fn()); 8] = [
+const TABLES: [(&str, fn()); 9] = [
     ("listing", || each(listings, "listing", ["lanes", "swift"])),
     ("figures", || each(figures, "figure", ["by answers", "swift"])),
     ("others", || each(others, "other call", ["", ""])),
     ("text", || text::time(&AMOUNTS)),
     ("records", || records::time(&AMOUNTS)),
+    ("checker", || checker::time(&ORDERS, &AMOUNTS)),
     ("sweep", || sweep::time(&ORDERS, &AMOUNTS)),
     ("steps", receiver_steps),
     ("meter", || meter::time(&AMOUNTS)),

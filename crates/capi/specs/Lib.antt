@@ -1,4 +1,5 @@
 -- What C is given for each answer. Assumes nothing.
+pub mod Checked
 pub mod Figures
 pub mod Label
 pub mod Link

@@ -3,6 +3,7 @@
 // slice as a pointer and a length, and a result by cases as the number of its case and the figures of all cases, 0
 // where a case does not have one. include/krakobran.h declares them for C.
 
+mod checked;
 mod figures;
 pub mod held;
 mod label;

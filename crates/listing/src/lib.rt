@@ -29,7 +29,7 @@ const MINUS: u8 = b'-';
 
 // The most octets of a line, whatever its figures: `late`, six numbers of 32 bits and a time of 64 bits, with an
 // octet after each of these eight, and a minus.
-const LINE: usize = 93;
+pub const LINE: usize = 93;
 
 // The octets that suffice for any listing: 64 for each of 4,096 records. The longest line of a record has 61; what
 // is left holds the first line, of at most 24, and the last, of at most 38.

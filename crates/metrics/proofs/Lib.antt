@@ -14,4 +14,6 @@ pub mod Discovered
 pub mod Asked
 pub mod Within
 pub mod Listed
+pub mod Common
+mod Left
 pub mod Moved

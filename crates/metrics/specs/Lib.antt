@@ -2,5 +2,6 @@
 pub mod Sample
 pub mod Figures
 pub mod Report
+pub mod Agreement
 pub mod Moved
 pub mod Private

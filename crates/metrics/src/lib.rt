@@ -13,8 +13,10 @@ ghost use Rattle.listing.specs.Example.{ExampleHolds};
 ghost use Rattle.listing.specs.Room.{listingOctets};
 ghost use Rattle.metrics.specs.Report.{sampleText, ListedTo};
 ghost use Rattle.metrics.specs.Moved.{ClockMoved};
+ghost use Rattle.metrics.specs.Agreement.{sampleAgreement};
 
 mod answers;
+mod compare;
 mod engine;
 mod figures;
 mod gaps;
@@ -28,6 +30,8 @@ mod totals;
 
 use answers::answer_of;
 use answers::refusal_of;
+use compare::compare;
+use compare::same;
 use figures::counts_of;
 use figures::shares_of;
 use figures::tally_of;
@@ -90,6 +94,14 @@ pub struct SampleRatios {
 pub struct SampleListing {
     pub refusal: u32,
     pub length: u32,
+}
+
+// How many octets of a text agree with the listing of a sample, from the start on; whether the text is that listing; and the
+// refusal (0 for none), with which none agree.
+pub struct SampleAgreement {
+    pub refusal: u32,
+    pub octets: usize,
+    pub same: bool,
 }
 
 // The answer for a record: one pass over the arrivals before it, and one over the positions of its extent. A + K.
@@ -196,5 +208,27 @@ pub fn listing(file: &[u8], out: &mut [u8]) -> SampleListing
     SampleListing {
         refusal,
         length: list(file, y, out),
+    }
+}
+
+// A text against the listing of a sample, which is not made whole: a step for each octet that agrees, and the steps of `listing`
+// up to the first line that differs.
+pub fn agreement(file: &[u8], text: &[u8]) -> SampleAgreement
+    ensures { λ r. ⌜ r ≡ sampleAgreement (decode (now (file .entry))) (now (text .entry)) ⌝ }
+    ensures room { λ _. ⌜ length (sampleText (decode (now (file .entry)))) ≤ listingOctets ⌝ }
+{
+    let y = layout(file);
+    if y.refusal != NONE {
+        return SampleAgreement {
+            refusal: y.refusal,
+            octets: 0,
+            same: false,
+        };
+    }
+    let part = compare(file, y, text);
+    SampleAgreement {
+        refusal: NONE,
+        octets: part.octets,
+        same: same(part, text.len()),
     }
 }

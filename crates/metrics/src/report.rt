@@ -24,7 +24,7 @@ use rfc4737::refusal::OUTPUT_SHORT;
 use sample::Layout;
 
 // The counts under one answer more.
-fn counted_by(c: Counts, answer: Answer) -> Counts
+pub(crate) fn counted_by(c: Counts, answer: Answer) -> Counts
     requires { ⌜ Small c ⌝ }
     ensures { λ r. ⌜ r ≡ countsBy c (classOf answer) ⌝ }
 {

@@ -1,0 +1,11 @@
+-- What C is given of a listing: the sample's refusal, whether the listing agrees, and the number of its first wrong line. Assumes
+-- nothing.
+use Prim.Native.Nat.{ℕ}
+use Rattle.checker.specs.declared.Verdict.{Verdict}
+use Rattle.checker.specs.declared.Verdict.the-variants.{Agrees, WrongLine}
+use Rattle.capi.specs.declared.checked.ListingChecked.{ListingChecked}
+
+-- a verdict beside its refusal
+abbrev pub listingChecked : ℕ → Verdict → ListingChecked
+listingChecked refusal Agrees = record { refusal = refusal; agrees = 1; line = 0 }
+listingChecked refusal (WrongLine n) = record { refusal = refusal; agrees = 0; line = n }

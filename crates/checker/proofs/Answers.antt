@@ -1,0 +1,73 @@
+-- The checker's answer, from how far the listing agrees. Assumes nothing.
+use Prim.Native.Nat.{ℕ, zero, suc, _≤_}
+use mathlib.Core.Path.{_≡_, refl, sym, ap, _∙_}
+use mathlib.Core.Bool.{Bool, true, false}
+use mathlib.Core.List.{List}
+use native.Mathlib.Omega.{arith}
+use lib.ListN.{length}
+use Rattle.listing.specs.Room.{listingOctets}
+use Rattle.sample.specs.Decode.{Decoded, refusalOf}
+use Rattle.metrics.specs.Agreement.{common, sameText, agreementUnless, sampleAgreement}
+use Rattle.metrics.specs.Report.{sampleText}
+use Rattle.metrics.specs.declared.SampleAgreement.{SampleAgreement}
+use Rattle.metrics.proofs.Common.{common-le}
+use Rattle.checker.specs.declared.Verdict.{Verdict}
+use Rattle.checker.specs.declared.Checked.{Checked}
+use Rattle.checker.specs.Verdict.{verdictOn, verdictUnless, checked}
+use Rattle.checker.specs.Private.Feeds.{wrongAfter}
+use Rattle.checker.proofs.Lines.{by-prefix}
+
+-- the refusal of an agreement
+agreement-refusal : (r : ℕ) (e t : List ℕ) → agreementUnless r e t .refusal ≡ r
+agreement-refusal zero e t = refl
+agreement-refusal (suc r) e t = refl
+
+module _ (d : Decoded) (listing : List ℕ) (found : SampleAgreement) (is : found ≡ sampleAgreement d listing) where
+  -- it is the sample's
+  own : found .refusal ≡ refusalOf d
+  unfolding sampleAgreement
+  own = ap (λ (a : SampleAgreement). a .refusal) is ∙ agreement-refusal (refusalOf d) (sampleText d) listing
+
+  -- with one, line 0
+  pub checked-refused : (found .refusal ≡ 0 → ⊥) → record { refusal = found .refusal; verdict = Verdict.WrongLine 0 } ≡ checked d listing
+  unfolding checked
+  checked-refused n = rw own (go (refusalOf d) (λ e. n (own ∙ e)))
+    where
+      go : (r : ℕ) → (r ≡ 0 → ⊥)
+          → _≡_ {A = Checked} (record { refusal = r; verdict = Verdict.WrongLine 0 }) (record { refusal = r; verdict = verdictUnless r (verdictOn (sampleText d) listing) })
+      go zero n = absurd (n refl)
+      go (suc r) n = refl
+
+  module _ (z : found .refusal ≡ 0) where
+    -- without one, what was compared
+    compared : found ≡ record { refusal = 0; octets = common (sampleText d) listing; same = sameText (sampleText d) listing }
+    unfolding sampleAgreement
+    compared = is ∙ ap (λ (r : ℕ). agreementUnless r (sampleText d) listing) (sym own ∙ z)
+
+    -- the octets that agree
+    octets-are : found .octets ≡ common (sampleText d) listing
+    octets-are = ap (λ (a : SampleAgreement). a .octets) compared
+
+    -- whether it is the same text
+    same-is : found .same ≡ sameText (sampleText d) listing
+    same-is = ap (λ (a : SampleAgreement). a .same) compared
+
+    -- what agrees lies in the listing, and in the text that must be given
+    pub octets-most : length (sampleText d) ≤ listingOctets → (found .octets ≤ length listing) × (found .octets ≤ listingOctets)
+    octets-most h = omega (arith, octets-are, common-le (sampleText d) listing)
+
+    -- the same text
+    pub checked-same : found .same ≡ true → record { refusal = 0; verdict = Verdict.Agrees } ≡ checked d listing
+    unfolding checked
+    checked-same q =
+        let e : sameText (sampleText d) listing ≡ true = sym same-is ∙ q in
+        let r : refusalOf d ≡ 0 = sym own ∙ z in
+        rw (r, by-prefix (sampleText d) listing, e)
+
+    -- another one
+    pub checked-wrong : found .same ≡ false → (v : Verdict) → v ≡ wrongAfter (found .octets) listing → record { refusal = 0; verdict = v } ≡ checked d listing
+    unfolding checked
+    checked-wrong q v w =
+        let e : sameText (sampleText d) listing ≡ false = sym same-is ∙ q in
+        let r : refusalOf d ≡ 0 = sym own ∙ z in
+        rw (r, by-prefix (sampleText d) listing, e, w, octets-are)

@@ -1,0 +1,74 @@
+-- Yes is said exactly of the listing that the sample must give, and the start of a listing decides. Assumes nothing.
+use Prim.Native.Nat.{ℕ, zero, suc, _≤_}
+use mathlib.Core.Path.{_≡_, refl, sym, ap, ap₂, _∙_}
+use mathlib.Core.Bool.{Bool, true, false, cond, _&&_, true≢false}
+use mathlib.Core.List.{List, [], _∷_}
+use native.Mathlib.Omega.{arith}
+use lib.Dec.{eqb}
+use lib.ListN.{length, take}
+use borrow.Author.Tests.{eqb-true, eq-eqb}
+use Rattle.listing.specs.Room.{listingOctets}
+use Rattle.sample.specs.Decode.{Decoded, refusalOf}
+use Rattle.metrics.specs.Agreement.{common, sameText}
+use Rattle.metrics.specs.Report.{sampleText}
+use Rattle.checker.specs.declared.Verdict.{Verdict}
+use Rattle.checker.specs.Verdict.{verdictOn, verdictUnless, checked}
+use Rattle.checker.specs.Claims.{AgreesExactly, StartDecides}
+use Rattle.checker.specs.Private.Feeds.{wrongAfter}
+use Rattle.checker.proofs.Lines.{by-prefix, verdict-start}
+
+-- ---- the same text
+
+-- it is the same
+same-text : (e t : List ℕ) → sameText e t ≡ true → t ≡ e
+unfolding sameText
+same-text [] [] q = refl
+same-text [] (y ∷ t) q = absurd (true≢false (sym q))
+same-text (x ∷ e) [] q = absurd (true≢false (sym q))
+same-text (x ∷ e) (y ∷ t) q = go (eqb x y) refl (sameText e t) refl q (same-text e t)
+  where
+    go : (b : Bool) → eqb x y ≡ b → (s : Bool) → sameText e t ≡ s → (b && s) ≡ true → (sameText e t ≡ true → t ≡ e) → (y ∷ t) ≡ (x ∷ e)
+    go true q true r z h = ap₂ (λ (a : ℕ) (l : List ℕ). a ∷ l) (sym (eqb-true x y q)) (h r)
+    go true q false r z h = absurd (true≢false (sym z))
+    go false q s r z h = absurd (true≢false (sym z))
+
+-- any text is the same as itself
+same-self : (e : List ℕ) → sameText e e ≡ true
+unfolding sameText
+same-self [] = refl
+same-self (x ∷ e) = rw (eq-eqb x x refl, same-self e)
+
+-- ---- yes
+
+-- whether a verdict is yes
+abbrev isYes : Verdict → Bool
+isYes Verdict.Agrees = true
+isYes (Verdict.WrongLine n) = false
+
+-- yes to the one text
+verdict-only : (e t : List ℕ) → verdictOn e t ≡ Verdict.Agrees → t ≡ e
+verdict-only e t q = same-text e t (go (sameText e t) (sym (by-prefix e t) ∙ q))
+  where
+    go : (b : Bool) → cond b Verdict.Agrees (wrongAfter (common e t) t) ≡ Verdict.Agrees → b ≡ true
+    go true r = refl
+    go false r = absurd (true≢false (sym (ap isYes r)))
+
+-- and to that
+verdict-self : (e : List ℕ) → verdictOn e e ≡ Verdict.Agrees
+verdict-self e = by-prefix e e ∙ rw (same-self e)
+
+-- ---- the claims
+
+-- yes is said exactly of the listing that the sample must give
+pub agrees-exactly : (d : Decoded) → AgreesExactly d
+unfolding checked
+agrees-exactly d = record { only = λ listing q. go listing (refusalOf d) q; always = λ z. rw z (verdict-self (sampleText d)) }
+  where
+    go : (listing : List ℕ) (r : ℕ) → verdictUnless r (verdictOn (sampleText d) listing) ≡ Verdict.Agrees → (r ≡ 0) × (listing ≡ sampleText d)
+    go listing zero q = (refl, verdict-only (sampleText d) listing q)
+    go listing (suc r) q = absurd (true≢false (sym (ap isYes q)))
+
+-- the start of a listing decides
+pub start-decides : (d : Decoded) → length (sampleText d) ≤ listingOctets → StartDecides d
+unfolding checked
+start-decides d h = record { start = λ listing n g. rw (verdict-start n (sampleText d) listing (omega arith)) }

@@ -1,0 +1,6 @@
+-- Laws of the verdict. Assumes nothing.
+mod Lines
+mod Feeds
+mod Claims
+mod Cases
+mod Answers

@@ -1,0 +1,148 @@
+-- The verdict by lines is that by the longest common prefix: the wrong line is 1 more than its line feeds. Both are shown to be the verdict octet by octet: an
+-- octet more in front of the first lines of both changes nothing, unless it is a line feed, and no line is empty. Assumes nothing.
+use Prim.Native.Nat.{ℕ, zero, suc, _+_, _<_}
+use mathlib.Core.Path.{_≡_, refl, sym, ap, _∙_}
+use mathlib.Core.Bool.{Bool, true, false, cond, _&&_}
+use mathlib.Core.List.{List, [], _∷_}
+use native.Mathlib.Omega.{arith}
+use native.Mathlib.Nat.{add-zero}
+use lib.Dec.{eqb}
+use lib.ListN.{length, take}
+use borrow.Author.Tests.{eqb-true, eq-eqb}
+use Rattle.listing.specs.Words.{lineFeed}
+use Rattle.metrics.specs.Agreement.{common, sameText}
+use Rattle.checker.specs.declared.Verdict.{Verdict}
+use Rattle.checker.specs.Verdict.{inFront, lines, judged, verdictOn}
+use Rattle.checker.specs.Private.Feeds.{feeds, wrongAfter}
+
+-- ---- lines, octet by octet
+
+-- no line is empty
+abbrev Full : List (List ℕ) → Type 0
+Full [] = Unit
+Full ([] ∷ ls) = ⊥
+Full ((x ∷ l) ∷ ls) = Full ls
+
+-- nor with an octet more in front
+full-in-front : (x : ℕ) (ls : List (List ℕ)) → Full ls → Full (inFront x ls)
+full-in-front x [] h = tt
+full-in-front x ([] ∷ ls) h = absurd h
+full-in-front x ((y ∷ l) ∷ ls) h = h
+
+-- so of any text
+full-lines : (t : List ℕ) → Full (lines t)
+unfolding lines
+full-lines [] = tt
+full-lines (x ∷ t) = go (full-lines t) (eqb x lineFeed)
+  where
+    go : Full (lines t) → (b : Bool) → Full (cond b ((x ∷ []) ∷ lines t) (inFront x (lines t)))
+    go h true = h
+    go h false = full-in-front x (lines t) h
+
+-- one octet more in front of both changes nothing
+judged-in-front : (n x : ℕ) (es ls : List (List ℕ)) → Full es → Full ls → judged n (inFront x es) (inFront x ls) ≡ judged n es ls
+unfolding judged sameText
+judged-in-front n x [] [] h g = rw (eq-eqb x x refl)
+judged-in-front n x [] ([] ∷ ls) h g = absurd g
+judged-in-front n x [] ((y ∷ l) ∷ ls) h g = rw (eq-eqb x x refl)
+judged-in-front n x ([] ∷ es) ls h g = absurd h
+judged-in-front n x ((z ∷ e) ∷ es) [] h g = rw (eq-eqb x x refl)
+judged-in-front n x ((z ∷ e) ∷ es) ([] ∷ ls) h g = absurd g
+judged-in-front n x ((z ∷ e) ∷ es) ((y ∷ l) ∷ ls) h g = rw (eq-eqb x x refl)
+
+-- the verdict octet by octet, on line n
+unfoldable stepped : ℕ → List ℕ → List ℕ → Verdict
+stepped n [] [] = Verdict.Agrees
+stepped n [] (y ∷ t) = Verdict.WrongLine n
+stepped n (x ∷ e) [] = Verdict.WrongLine n
+stepped n (x ∷ e) (y ∷ t) = cond (eqb x y) (stepped (cond (eqb x lineFeed) (n + 1) n) e t) (Verdict.WrongLine n)
+
+-- by lines it is the same
+judged-lines : (n : ℕ) (e t : List ℕ) → judged n (lines e) (lines t) ≡ stepped n e t
+unfolding judged lines stepped sameText
+judged-lines n [] [] = refl
+judged-lines n [] (y ∷ t) = go (eqb y lineFeed) (lines t)
+  where
+    go : (b : Bool) (ls : List (List ℕ)) → judged n [] (cond b ((y ∷ []) ∷ ls) (inFront y ls)) ≡ Verdict.WrongLine n
+    go true ls = refl
+    go false [] = refl
+    go false (l ∷ ls) = refl
+judged-lines n (x ∷ e) [] = go (eqb x lineFeed) (lines e)
+  where
+    go : (b : Bool) (ls : List (List ℕ)) → judged n (cond b ((x ∷ []) ∷ ls) (inFront x ls)) [] ≡ Verdict.WrongLine n
+    go true ls = refl
+    go false [] = refl
+    go false (l ∷ ls) = refl
+judged-lines n (x ∷ e) (y ∷ t) = go (λ m. judged-lines m e t) (eqb x y) refl
+  where
+    both : ((m : ℕ) → judged m (lines e) (lines t) ≡ stepped m e t) → (b : Bool)
+        → judged n (cond b ((x ∷ []) ∷ lines e) (inFront x (lines e))) (cond b ((x ∷ []) ∷ lines t) (inFront x (lines t))) ≡ stepped (cond b (n + 1) n) e t
+    both h true = rw (eq-eqb x x refl) (h (n + 1))
+    both h false = judged-in-front n x (lines e) (lines t) (full-lines e) (full-lines t) ∙ h n
+
+    apart : eqb x y ≡ false → (b c : Bool) (es ls : List (List ℕ))
+        → judged n (cond b ((x ∷ []) ∷ es) (inFront x es)) (cond c ((y ∷ []) ∷ ls) (inFront y ls)) ≡ Verdict.WrongLine n
+    apart q true true es ls = rw q
+    apart q true false es [] = rw q
+    apart q true false es (l ∷ ls) = rw q
+    apart q false true [] ls = rw q
+    apart q false true (k ∷ es) ls = rw q
+    apart q false false [] [] = rw q
+    apart q false false [] (l ∷ ls) = rw q
+    apart q false false (k ∷ es) [] = rw q
+    apart q false false (k ∷ es) (l ∷ ls) = rw q
+
+    go : ((m : ℕ) → judged m (lines e) (lines t) ≡ stepped m e t) → (b : Bool) → eqb x y ≡ b
+        → judged n (cond (eqb x lineFeed) ((x ∷ []) ∷ lines e) (inFront x (lines e))) (cond (eqb y lineFeed) ((y ∷ []) ∷ lines t) (inFront y (lines t)))
+        ≡ cond b (stepped (cond (eqb x lineFeed) (n + 1) n) e t) (Verdict.WrongLine n)
+    go h true q = let s : x ≡ y = eqb-true x y q in rw (← s) (both h (eqb x lineFeed))
+    go h false q = apart q (eqb x lineFeed) (eqb y lineFeed) (lines e) (lines t)
+
+-- ---- the longest common prefix
+
+-- yes, or else a line
+abbrev unless : Bool → ℕ → Verdict
+unless same n = cond same Verdict.Agrees (Verdict.WrongLine n)
+
+-- two texts are the same, or the line is n and the line feeds of what they have in common
+stepped-prefix : (n : ℕ) (e t : List ℕ) → stepped n e t ≡ unless (sameText e t) (n + feeds (take (common e t) t))
+unfolding stepped common feeds sameText
+stepped-prefix n [] [] = refl
+stepped-prefix n [] (y ∷ t) = rw (add-zero n)
+stepped-prefix n (x ∷ e) [] = rw (add-zero n)
+stepped-prefix n (x ∷ e) (y ∷ t) = go (λ m. stepped-prefix m e t) (eqb x y) refl
+  where
+    later : (b : Bool) (m : ℕ) → cond b (n + 1) n + m ≡ n + cond b (m + 1) m
+    later true m = omega arith
+    later false m = refl
+
+    go : ((m : ℕ) → stepped m e t ≡ unless (sameText e t) (m + feeds (take (common e t) t))) → (b : Bool) → eqb x y ≡ b
+        → cond b (stepped (cond (eqb x lineFeed) (n + 1) n) e t) (Verdict.WrongLine n)
+        ≡ unless (b && sameText e t) (n + feeds (take (cond b (common e t + 1) 0) (y ∷ t)))
+    go h true q =
+        let s : x ≡ y = eqb-true x y q in
+        let a : common e t + 1 ≡ suc (common e t) = omega arith in
+        h (cond (eqb x lineFeed) (n + 1) n) ∙ rw (a, s) (ap (unless (sameText e t)) (later (eqb y lineFeed) (feeds (take (common e t) t))))
+    go h false q = rw (add-zero n)
+
+-- the verdict by lines is that by the longest common prefix
+pub by-prefix : (expected listing : List ℕ) → verdictOn expected listing ≡ cond (sameText expected listing) Verdict.Agrees (wrongAfter (common expected listing) listing)
+unfolding verdictOn
+by-prefix expected listing = judged-lines 1 expected listing ∙ stepped-prefix 1 expected listing
+
+-- ---- the start of a listing
+
+-- it decides, if it has more octets than the text that must be given
+stepped-start : (m n : ℕ) (e t : List ℕ) → length e < n → stepped m e (take n t) ≡ stepped m e t
+unfolding stepped
+stepped-start m zero e t h = absurd (omega arith)
+stepped-start m (suc n) [] [] h = refl
+stepped-start m (suc n) [] (y ∷ t) h = refl
+stepped-start m (suc n) (x ∷ e) [] h = refl
+stepped-start m (suc n) (x ∷ e) (y ∷ t) h = rw (stepped-start (cond (eqb x lineFeed) (m + 1) m) n e t (omega arith))
+
+-- so by lines
+pub verdict-start : (n : ℕ) (expected listing : List ℕ) → length expected < n → verdictOn expected (take n listing) ≡ verdictOn expected listing
+unfolding verdictOn
+verdict-start n expected listing h =
+    judged-lines 1 expected (take n listing) ∙ stepped-start 1 n expected listing h ∙ sym (judged-lines 1 expected listing)

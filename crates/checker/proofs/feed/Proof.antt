@@ -1,0 +1,13 @@
+-- `feed` meets its contract, case by case. Assumes nothing.
+use borrow.Author.Tests.{eq-eqb, ne-eqb}
+use Rattle.checker.proofs.feed.Statement.{statement}
+use Rattle.checker.proofs.feed.Tie as tie
+
+returns : tie.Need-returns
+returns c = simp (eq-eqb _ _ (c .if1 .taken))
+
+returns-2 : tie.Need-returns-2
+returns-2 c = simp (ne-eqb _ _ (c .if1 .left))
+
+pub feed-spec : {M : Type 1} → statement M
+feed-spec = tie.close (tie.spec returns returns-2)

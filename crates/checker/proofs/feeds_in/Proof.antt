@@ -1,0 +1,68 @@
+-- `feeds_in` counts octet by octet. The loop's invariant: what was found are the line feeds of the first i octets. The measure is what is left of the text.
+-- Assumes nothing.
+use Prim.Native.Nat.{_+_, _-_, _≤_}
+use native.Mathlib.Omega.{arith}
+use mathlib.Core.Path.{_≡_, refl, ap, _∙_}
+use borrow.Author.Needs.{needs}
+use denote.Ref.{now}
+use lib.ListN.{length, take}
+use lib.Seq.{take-all}
+use Rattle.checker.specs.Private.Feeds.{feeds}
+use Rattle.checker.proofs.Feeds.{feeds-next, feeds-take-le}
+use Rattle.checker.proofs.feeds_in.Statement.{statement}
+use Rattle.checker.proofs.feeds_in.Tie as tie
+
+abbrev Inv-loop : tie.InvT-loop
+Inv-loop text found₀ i₀ found i = (i ≤ length text) × (found ≡ feeds (take i text))
+
+abbrev μ-loop : tie.MeasureT-loop
+μ-loop text found₀ i₀ found i = length text - i
+
+loop-holds : tie.Need-loop-holds Inv-loop μ-loop
+unfolding feeds
+loop-holds c = (omega arith, refl)
+
+shared-slice-read-feed : tie.Need-shared-slice-read-feed Inv-loop μ-loop
+shared-slice-read-feed c = omega arith
+
+feed-requires : tie.Need-feed-requires Inv-loop μ-loop
+feed-requires c κs = search needs
+
+-- with the octet at i
+next : (c : tie.After-feed Inv-loop μ-loop)
+    → c .before .before .before .loop .found + c .feed .result ≡ feeds (take (c .before .before .before .loop .i + 1) (now (c .before .before .before .before .before .args .text)))
+next c =
+    let l = c .before .before .before .loop in
+    rw (l .inv .1) (feeds-next _ (l .i) (c .feed .result) (omega arith) (c .feed .ensures))
+
+add-found : tie.Need-add-found Inv-loop μ-loop
+add-found c =
+    let i = c .before .before .before .loop .i in
+    omega (arith, next c, feeds-take-le (i + 1) (now (c .before .before .before .before .before .args .text)))
+
+add-i : tie.Need-add-i Inv-loop μ-loop
+add-i c = omega arith
+
+loop-less : tie.Need-loop-less Inv-loop μ-loop
+loop-less c = omega arith
+
+loop-again : tie.Need-loop-again Inv-loop μ-loop
+loop-again c = (omega arith, next c)
+
+returns : tie.Need-returns Inv-loop μ-loop
+returns c = c .before .loop .inv .1 ∙ ap feeds (take-all (c .before .loop .i) (now (c .before .before .before .args .text)) (omega arith))
+
+pub feeds-in-spec : {M : Type 1} → statement M
+feeds-in-spec =
+    tie.close
+    (tie.spec
+    Inv-loop
+    μ-loop
+    loop-holds
+    shared-slice-read-feed
+    feed-requires
+    add-found
+    add-i
+    loop-less
+    loop-again
+    returns)

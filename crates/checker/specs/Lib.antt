@@ -1,0 +1,5 @@
+-- The verdict on a listing, by its lines, and what is shown of it. Assumes nothing.
+pub mod Verdict
+pub mod Claims
+pub mod Cases
+pub mod Private

@@ -1,0 +1,42 @@
+-- The verdict on a listing: its lines against those that the sample must give. Assumes nothing.
+use Prim.Native.Nat.{ℕ, zero, suc, _+_}
+use mathlib.Core.Bool.{cond}
+use mathlib.Core.List.{List, [], _∷_}
+use lib.Dec.{eqb}
+use Rattle.listing.specs.Words.{lineFeed}
+use Rattle.sample.specs.Decode.{Decoded, refusalOf}
+use Rattle.metrics.specs.Report.{sampleText}
+use Rattle.metrics.specs.Agreement.{sameText}
+use Rattle.checker.specs.declared.Verdict.{Verdict}
+use Rattle.checker.specs.declared.Checked.{Checked}
+
+-- lines with an octet more in front of the first of them
+abbrev pub inFront : ℕ → List (List ℕ) → List (List ℕ)
+inFront x [] = (x ∷ []) ∷ []
+inFront x (l ∷ ls) = (x ∷ l) ∷ ls
+
+-- the lines of a text, each with the line feed that ends it; what stands after the last line feed is a line without one
+unfoldable pub lines : List ℕ → List (List ℕ)
+lines [] = []
+lines (x ∷ t) = cond (eqb x lineFeed) ((x ∷ []) ∷ lines t) (inFront x (lines t))
+
+-- the first wrong line of those given, against those that must be given, where the first has the number n: one that differs, is
+-- missing or is extra, at its place
+unfoldable pub judged : ℕ → List (List ℕ) → List (List ℕ) → Verdict
+judged n [] [] = Verdict.Agrees
+judged n [] (l ∷ ls) = Verdict.WrongLine n
+judged n (e ∷ es) [] = Verdict.WrongLine n
+judged n (e ∷ es) (l ∷ ls) = cond (sameText e l) (judged (n + 1) es ls) (Verdict.WrongLine n)
+
+-- a listing against the text that must be given
+unfoldable pub verdictOn : List ℕ → List ℕ → Verdict
+verdictOn expected listing = judged 1 (lines expected) (lines listing)
+
+-- a verdict, or line 0 with a refusal
+abbrev pub verdictUnless : ℕ → Verdict → Verdict
+verdictUnless zero v = v
+verdictUnless (suc r) v = Verdict.WrongLine 0
+
+-- the checker's answer: the sample's refusal, with which the listing is not looked at, and the verdict
+unfoldable pub checked : Decoded → List ℕ → Checked
+checked d listing = record { refusal = refusalOf d; verdict = verdictUnless (refusalOf d) (verdictOn (sampleText d) listing) }

@@ -1,0 +1,84 @@
+// The checker of a supplier's listing: yes, or the number of its first wrong line.
+ghost use mathlib.Core.Path.{_≡_};
+ghost use mathlib.Core.Bool.{cond};
+ghost use Prim.Native.Nat.{_≤_};
+ghost use lib.Dec.{eqb};
+ghost use lib.ListN.{length};
+ghost use Rattle.listing.specs.Room.{listingOctets};
+ghost use Rattle.listing.specs.Words.{lineFeed};
+ghost use Rattle.sample.specs.Decode.{decode};
+ghost use Rattle.checker.specs.Verdict.{checked};
+ghost use Rattle.checker.specs.Claims.{AgreesExactly, StartDecides};
+ghost use Rattle.checker.specs.Cases.{CasesHold};
+ghost use Rattle.checker.specs.Private.Feeds.{feeds, wrongAfter};
+use rfc4737::refusal::NONE;
+
+// What is said of a listing: that it agrees, or the number of its first wrong line, from 1.
+pub enum Verdict {
+    Agrees,
+    WrongLine(u32),
+}
+
+// The verdict, and the refusal of the sample (0 for none); with a refusal the listing is not looked at, and the line is 0.
+pub struct Checked {
+    pub refusal: u32,
+    pub verdict: Verdict,
+}
+
+// 1 for a line feed, else 0.
+fn feed(x: u8) -> usize
+    ensures { λ r. ⌜ r ≡ cond (eqb x lineFeed) 1 0 ⌝ }
+{
+    if x == b'\n' {
+        return 1;
+    }
+    0
+}
+
+// The line feeds of a text.
+fn feeds_in(text: &[u8]) -> usize
+    ensures { λ r. ⌜ r ≡ feeds (now (text .entry)) ⌝ }
+{
+    let mut found: usize = 0;
+    let mut i: usize = 0;
+    while i < text.len() {
+        found += feed(text[i]);
+        i += 1;
+    }
+    found
+}
+
+// The wrong line after so many octets that agree: 1 more than their line feeds.
+fn wrong_line(listing: &[u8], octets: usize) -> Verdict
+    requires { ⌜ (octets ≤ length (now listing)) × (octets ≤ listingOctets) ⌝ }
+    ensures { λ r. ⌜ r ≡ wrongAfter octets (now (listing .entry)) ⌝ }
+{
+    Verdict::WrongLine((1 + feeds_in(&listing[..octets])) as u32)
+}
+
+// Checks a listing against a sample: yes exactly if it is the one that the sample must give, else the number of its first wrong
+// line. It costs what comparing the two costs, and once more the octets that agree.
+pub fn check(file: &[u8], listing: &[u8]) -> Checked
+    ensures { λ r. ⌜ r ≡ checked (decode (now (file .entry))) (now (listing .entry)) ⌝ }
+    ensures exactly { λ _. ⌜ AgreesExactly (decode (now (file .entry))) ⌝ }
+    ensures start { λ _. ⌜ StartDecides (decode (now (file .entry))) ⌝ }
+    ensures cases { λ _. ⌜ CasesHold ⌝ }
+{
+    let found = metrics::agreement(file, listing);
+    if found.refusal != NONE {
+        return Checked {
+            refusal: found.refusal,
+            verdict: Verdict::WrongLine(0),
+        };
+    }
+    if found.same {
+        return Checked {
+            refusal: NONE,
+            verdict: Verdict::Agrees,
+        };
+    }
+    Checked {
+        refusal: NONE,
+        verdict: wrong_line(listing, found.octets),
+    }
+}

@@ -1,0 +1,192 @@
+-- The listing of a sample against a text, line by line: the whole is what agrees so far and what is left. Assumes nothing.
+use Prim.Native.Nat.{ℕ, zero, suc, _+_, _≤_, _<_}
+use mathlib.Core.Path.{_≡_, refl, sym, ap, ap₂, _∙_}
+use mathlib.Core.Bool.{Bool, true, false, _&&_}
+use mathlib.Core.List.{List, [], _∷_, _++_, append-assoc}
+use native.Mathlib.Omega.{arith}
+use native.Mathlib.Nat.{zero-add}
+use lib.Dec.{eqb}
+use lib.ListN.{length, drop, length-append, length-drop, drop-of-length-le}
+use lib.Seq.{drop-cons, drop-drop}
+use borrow.Author.Tests.{eqb-true, eqb-false, eq-eqb, ne-eqb}
+use Rattle.rfc4737.specs.declared.Answer.{Answer}
+use Rattle.rfc4737.specs.declared.Counts.{Counts}
+use Rattle.rfc4737.specs.Runs.{counts}
+use Rattle.rfc4737.proofs.Folds.{length-answers}
+use Rattle.listing.specs.Lines.{headerLine, recordLine, recordLinesFrom, recordLines, endLine, listingOf}
+use Rattle.listing.specs.Private.Within.{CountsWithin}
+use Rattle.sample.specs.declared.Layout.{Layout}
+use Rattle.sample.specs.Decode.{Decoded, sampleOf, refusalOf}
+use Rattle.metrics.specs.Agreement.{common, agreementUnless, sampleAgreement}
+use Rattle.metrics.specs.Report.{sampleText}
+use Rattle.metrics.specs.Sample.{sizeOf, arrivalsOf, answersOf}
+use Rattle.metrics.specs.Private.Compared.{Agreed}
+use Rattle.metrics.specs.Private.Sample.{noArrival, arrivalAt, answerAt, Laid, Has}
+use Rattle.metrics.specs.declared.SampleAgreement.{SampleAgreement}
+use Rattle.metrics.specs.declared.compare.Part.{Part}
+use Rattle.metrics.proofs.Asked.{answer-at}
+use Rattle.metrics.proofs.Common.{common-le, common-part, common-after, same-common}
+use Rattle.metrics.proofs.Follow.{arrivals-laid}
+use Rattle.metrics.proofs.Passes.{answersTo, answers-end}
+use Rattle.metrics.proofs.Within.{counts-within}
+
+-- ---- a text of lines
+
+-- `at` octets of a text agree, and `rest` is what is left of the text that must be given
+pub record LeftOf (total text : List ℕ) (at : ℕ) (rest : List ℕ) : Type 0 where
+  pub most : at ≤ length text
+  pub same : common total text ≡ at + common rest (drop at text)
+  pub size : length total ≡ at + length rest
+
+-- at the start
+left-start : (total text : List ℕ) → LeftOf total text 0 total
+left-start total text = record { most = omega arith; same = sym (zero-add _); size = sym (zero-add _) }
+
+-- a part of a line that agrees lies in the text
+pub part-most : (line text : List ℕ) (at : ℕ) (p : Part) → at ≤ length text → Agreed line (drop at text) p → at + p .octets ≤ length text
+part-most line text at p h a = omega (arith, a .octets, common-le line (drop at text), length-drop at text)
+
+module _ (total text : List ℕ) (at : ℕ) (line rest : List ℕ) (h : LeftOf total text at (line ++ rest)) (p : Part) (a : Agreed line (drop at text) p) where
+  -- after a line that agrees
+  left-line : p .whole ≡ true → LeftOf total text (at + p .octets) rest
+  left-line w =
+      let e : common line (drop at text) ≡ length line = eqb-true _ _ (sym (a .whole) ∙ w) in
+      let n : p .octets ≡ length line = a .octets ∙ e in
+      let after = common-after line rest (drop at text) e ∙ ap (λ (l : List ℕ). length line + common rest l) (drop-drop (length line) at text) in
+      record {
+        most = part-most line text at p (h .most) a;
+        same = h .same ∙ ap (λ (k : ℕ). at + k) after ∙ rw (← n) (omega arith);
+        size = h .size ∙ rw (length-append line rest, n) (omega arith);
+      }
+
+  -- at a line that does not, the rest is not looked at
+  left-stop : p .whole ≡ false → Agreed total text (record { octets = at + p .octets; whole = false })
+  left-stop w =
+      let e : common line (drop at text) ≡ length line → ⊥ = eqb-false _ _ (sym (a .whole) ∙ w) in
+      let less : common line (drop at text) < length line = omega (arith, e, common-le line (drop at text)) in
+      let q : common total text ≡ at + p .octets =
+      h .same ∙ ap (λ (k : ℕ). at + k) (common-part line rest (drop at text) less ∙ sym (a .octets)) in
+      let other : common total text ≡ length total → ⊥ = λ r. omega (arith, r, q, less, a .octets, h .size, length-append line rest) in
+      record { octets = sym q; whole = sym (ne-eqb _ _ other) }
+
+-- at the last line
+left-last : (total text : List ℕ) (at : ℕ) (line : List ℕ) → LeftOf total text at line → (p : Part) → Agreed line (drop at text) p
+    → Agreed total text (record { octets = at + p .octets; whole = p .whole })
+left-last total text at line h p a =
+    record {
+      octets = sym (h .same ∙ ap (λ (k : ℕ). at + k) (sym (a .octets)));
+      whole = a .whole ∙ sym (go (eqb (common line (drop at text)) (length line)) refl);
+    }
+  where
+    go : (b : Bool) → eqb (common line (drop at text)) (length line) ≡ b → eqb (common total text) (length total) ≡ b
+    go true r =
+        let e : common line (drop at text) ≡ length line = eqb-true _ _ r in
+        eq-eqb _ _ (h .same ∙ ap (λ (k : ℕ). at + k) e ∙ sym (h .size))
+    go false r =
+        let e : common line (drop at text) ≡ length line → ⊥ = eqb-false _ _ r in
+        ne-eqb (common total text) (length total) (λ s. e (omega (arith, s, h .same, h .size)))
+
+-- ---- the listing of a sample
+
+-- what is left of it after record i
+abbrev pub textFrom : Decoded → ℕ → List ℕ
+textFrom d i = recordLinesFrom (i + 1) (drop i (arrivalsOf d)) (drop i (answersOf d)) ++ endLine (counts (answersOf d))
+
+-- the first line, and the records
+text-start : (d : Decoded) (y : Layout) → Laid d y → sampleText d ≡ headerLine (y .sent) (y .arrivals) ++ textFrom d 0
+unfolding listingOf recordLines
+text-start d y h = rw (h .laid)
+
+-- the line of record i + 1, and what is left after it
+text-next : (d : Decoded) (i : ℕ) → i < length (arrivalsOf d)
+    → textFrom d i ≡ recordLine (i + 1) (arrivalAt d i .number) (answerAt d i) ++ textFrom d (i + 1)
+unfolding recordLinesFrom
+text-next d i h =
+    let g : i < length (answersOf d) = omega (arith, length-answers (sizeOf d) (arrivalsOf d)) in
+    let other : Answer = Answer.InOrder (record { position = 0; jump = 0 }) in
+    let s : i + 1 ≡ suc i = omega arith in
+    ap₂ (λ (l : List _) (m : List _). recordLinesFrom (i + 1) l m ++ endLine (counts (answersOf d))) (drop-cons (arrivalsOf d) i noArrival h)
+    (drop-cons (answersOf d) i other g ∙ ap (λ (a : Answer). a ∷ drop (suc i) (answersOf d)) (answer-at d other i h))
+    ∙ append-assoc (recordLine (i + 1) (arrivalAt d i .number) (answerAt d i)) _ _
+    ∙ rw s
+
+-- the last line
+text-end : (d : Decoded) (i : ℕ) → length (arrivalsOf d) ≤ i → textFrom d i ≡ endLine (counts (answersOf d))
+unfolding recordLinesFrom
+text-end d i h = rw (drop-of-length-le (arrivalsOf d) h)
+
+-- ---- its lines against a text
+
+-- record i is behind: so many octets of the text agree, and the rest is left
+abbrev pub LeftAt : Decoded → List ℕ → ℕ → ℕ → Type 0
+LeftAt d text i at = LeftOf (sampleText d) text at (textFrom d i)
+
+module _ (d : Decoded) (y : Layout) (h : Laid d y) (text : List ℕ) (p : Part) where
+  -- the first line
+  abbrev header : List ℕ
+  header = headerLine (y .sent) (y .arrivals)
+
+  -- before it
+  header-at : LeftOf (sampleText d) text 0 (header ++ textFrom d 0)
+  header-at = rw (← text-start d y h) (left-start (sampleText d) text)
+
+  -- after it
+  pub header-left : Agreed header text p → p .whole ≡ true → LeftAt d text 0 (p .octets)
+  header-left a w = rw (zero-add (p .octets)) at (left-line (sampleText d) text 0 header (textFrom d 0) header-at p a w)
+
+  -- where it differs
+  pub header-stop : Agreed header text p → p .whole ≡ false → Agreed (sampleText d) text (record { octets = p .octets; whole = false })
+  header-stop a w = rw (zero-add (p .octets)) at (left-stop (sampleText d) text 0 header (textFrom d 0) header-at p a w)
+
+  module _ (i at : ℕ) (l : LeftAt d text i at) where
+    module _ (inside : i < y .arrivals) (number : ℕ) (answer : Answer) (is : number ≡ arrivalAt d i .number) (says : answer ≡ answerAt d i)
+        (a : Agreed (recordLine (i + 1) number answer) (drop at text) p) where
+      -- before the line of record i + 1
+      record-at : LeftOf (sampleText d) text at (recordLine (i + 1) number answer ++ textFrom d (i + 1))
+      record-at = rw (is, says, ← text-next d i (omega (arith, arrivals-laid d y h))) l
+
+      -- after it
+      pub record-left : p .whole ≡ true → LeftAt d text (i + 1) (at + p .octets)
+      record-left w = left-line (sampleText d) text at (recordLine (i + 1) number answer) (textFrom d (i + 1)) record-at p a w
+
+      -- where it differs
+      pub record-stop : p .whole ≡ false → Agreed (sampleText d) text (record { octets = at + p .octets; whole = false })
+      record-stop w = left-stop (sampleText d) text at (recordLine (i + 1) number answer) (textFrom d (i + 1)) record-at p a w
+
+    -- after the last line
+    pub end-left : y .arrivals ≤ i → (c : Counts) → c ≡ counts (answersTo d i) → Agreed (endLine c) (drop at text) p
+        → Agreed (sampleText d) text (record { octets = at + p .octets; whole = p .whole })
+    end-left all c e a =
+        let q : c ≡ counts (answersOf d) = e ∙ ap counts (answers-end d y i h all) in
+        let t : LeftOf (sampleText d) text at (endLine c) = rw (q, ← text-end d i (omega (arith, arrivals-laid d y h))) l in
+        left-last (sampleText d) text at (endLine c) t p a
+
+-- the counts have few digits
+pub end-within : (d : Decoded) (y : Layout) → Laid d y → (i : ℕ) → y .arrivals ≤ i → (c : Counts) → c ≡ counts (answersTo d i) → CountsWithin c
+end-within d y h i all c e =
+    let q : c ≡ counts (answersOf d) = e ∙ ap counts (answers-end d y i h all) in
+    rw q (counts-within (answersOf d) (omega (arith, h .few, arrivals-laid d y h, length-answers (sizeOf d) (arrivalsOf d))))
+
+-- ---- the call
+
+module _ (d : Decoded) (y : Layout) (h : Laid d y) (text : List ℕ) where
+  -- the refusal that is found
+  own : y .refusal ≡ refusalOf d
+  own = ap (λ (y : Layout). y .refusal) (h .laid)
+
+  -- with one the text is not looked at
+  pub agreed-refused : (y .refusal ≡ 0 → ⊥) → record { refusal = y .refusal; octets = 0; same = false } ≡ sampleAgreement d text
+  unfolding sampleAgreement
+  agreed-refused n = rw own (go (refusalOf d) (λ e. n (own ∙ e)))
+    where
+      go : (r : ℕ) → (r ≡ 0 → ⊥) → _≡_ {A = SampleAgreement} (record { refusal = r; octets = 0; same = false }) (agreementUnless r (sampleText d) text)
+      go zero n = absurd (n refl)
+      go (suc r) n = refl
+
+  -- without one it is compared
+  pub agreed-accepted : y .refusal ≡ 0 → (p : Part) → Agreed (sampleText d) text p → (same : Bool) → same ≡ (p .whole && eqb (p .octets) (length text))
+      → record { refusal = 0; octets = p .octets; same = same } ≡ sampleAgreement d text
+  unfolding sampleAgreement
+  agreed-accepted n p a same e =
+      let z : refusalOf d ≡ 0 = sym own ∙ n in
+      rw (z, e, a .octets, a .whole, same-common (sampleText d) text)

@@ -1,0 +1,42 @@
+-- `agreement` meets its contract: with a refusal the text is not looked at, else it is compared. Any listing has room in
+-- LISTING_OCTETS. Assumes nothing.
+use Prim.Native.Nat.{_≤_}
+use borrow.Author.Needs.{needs}
+use denote.Ref.{now}
+use lib.ListN.{length}
+use mir.Syntax.{w8}
+use Rattle.octets.proofs.Below.{below-fits}
+use Rattle.listing.specs.Room.{listingOctets}
+use Rattle.sample.specs.Decode.{decode}
+use Rattle.metrics.specs.Report.{sampleText}
+use Rattle.metrics.proofs.Left.{agreed-refused, agreed-accepted}
+use Rattle.metrics.proofs.Listed.{sample-within}
+use Rattle.metrics.proofs.agreement.Statement.{statement}
+use Rattle.metrics.proofs.agreement.Tie as tie
+
+-- any listing has room in LISTING_OCTETS
+room : (c : tie.After-layout) → length (sampleText (decode (now (c .before .before .before .args .file)))) ≤ listingOctets
+room c =
+    let file = now (c .before .before .before .args .file) in
+    sample-within file (c .layout .result) (c .layout .ensures) (below-fits w8 file (c .before .before .shared-slice-known .given))
+
+layout-requires : tie.Need-layout-requires
+layout-requires c κs = search needs
+
+returns : tie.Need-returns
+returns c = (agreed-refused _ _ (c .before .before .layout .ensures) _ (c .if1 .taken), room (c .before .before))
+
+compare-requires : tie.Need-compare-requires
+compare-requires c κs = search needs
+
+same-requires : tie.Need-same-requires
+same-requires c κs = search needs
+
+returns-2 : tie.Need-returns-2
+returns-2 c =
+    let l = c .before .before .before .before in
+    (agreed-accepted _ _ (l .layout .ensures) _ (c .before .before .if1 .left) _ (c .before .compare .ensures) _ (c .same .ensures), room l)
+
+pub agreement-spec : {M : Type 1} → statement M
+agreement-spec =
+    tie.close (tie.spec layout-requires returns compare-requires same-requires returns-2)

@@ -1,0 +1,32 @@
+-- `part_of` meets its contract by that of `common`. Assumes nothing.
+use borrow.Author.Needs.{needs}
+use mathlib.Core.Path.{_≡_, ap, _∙_}
+use denote.Ref.{now}
+use lib.ListN.{drop}
+use Rattle.metrics.specs.Agreement.{common}
+use Rattle.metrics.proofs.Common.{rest-part}
+use Rattle.metrics.proofs.compare.part_of.Statement.{statement}
+use Rattle.metrics.proofs.compare.part_of.Tie as tie
+
+sub-common : tie.Need-sub-common
+sub-common c = search needs
+
+part-common-start : tie.Need-part-common-start
+part-common-start c = search needs
+
+part-common-end : tie.Need-part-common-end
+part-common-end c = search needs
+
+common-requires : tie.Need-common-requires
+common-requires c κs = search needs
+
+returns : tie.Need-returns
+returns c =
+    let a = c .before .before .before .before .args in
+    let e : c .common .result ≡ common (now (a .line)) (drop (a .at) (now (a .text))) =
+    c .common .ensures ∙ ap (common (now (a .line))) (rest-part (now (a .text)) (a .at)) in
+    record { octets = e; whole = rw e }
+
+pub part-of-spec : {M : Type 1} → statement M
+part-of-spec =
+    tie.close (tie.spec sub-common part-common-start part-common-end common-requires returns)
