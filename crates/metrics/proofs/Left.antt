@@ -20,7 +20,7 @@ use Rattle.sample.specs.Decode.{Decoded, sampleOf, refusalOf}
 use Rattle.metrics.specs.Agreement.{common, agreementUnless, sampleAgreement}
 use Rattle.metrics.specs.Report.{sampleText}
 use Rattle.metrics.specs.Sample.{sizeOf, arrivalsOf, answersOf}
-use Rattle.metrics.specs.Private.Compared.{Agreed}
+use Rattle.metrics.specs.Private.Compared.{Agreed, LeftOf, textFrom, LeftAt}
 use Rattle.metrics.specs.Private.Sample.{noArrival, arrivalAt, answerAt, Laid, Has}
 use Rattle.metrics.specs.declared.SampleAgreement.{SampleAgreement}
 use Rattle.metrics.specs.declared.compare.Part.{Part}
@@ -31,12 +31,6 @@ use Rattle.metrics.proofs.Passes.{answersTo, answers-end}
 use Rattle.metrics.proofs.Within.{counts-within}
 
 -- ---- a text of lines
-
--- `at` octets of a text agree, and `rest` is what is left of the text that must be given
-pub record LeftOf (total text : List ℕ) (at : ℕ) (rest : List ℕ) : Type 0 where
-  pub most : at ≤ length text
-  pub same : common total text ≡ at + common rest (drop at text)
-  pub size : length total ≡ at + length rest
 
 -- at the start
 left-start : (total text : List ℕ) → LeftOf total text 0 total
@@ -60,14 +54,14 @@ module _ (total text : List ℕ) (at : ℕ) (line rest : List ℕ) (h : LeftOf t
       }
 
   -- at a line that does not, the rest is not looked at
-  left-stop : p .whole ≡ false → Agreed total text (record { octets = at + p .octets; whole = false })
+  left-stop : p .whole ≡ false → Agreed total text (record { octets = at + p .octets; whole = p .whole })
   left-stop w =
       let e : common line (drop at text) ≡ length line → ⊥ = eqb-false _ _ (sym (a .whole) ∙ w) in
       let less : common line (drop at text) < length line = omega (arith, e, common-le line (drop at text)) in
       let q : common total text ≡ at + p .octets =
       h .same ∙ ap (λ (k : ℕ). at + k) (common-part line rest (drop at text) less ∙ sym (a .octets)) in
       let other : common total text ≡ length total → ⊥ = λ r. omega (arith, r, q, less, a .octets, h .size, length-append line rest) in
-      record { octets = sym q; whole = sym (ne-eqb _ _ other) }
+      record { octets = sym q; whole = w ∙ sym (ne-eqb _ _ other) }
 
 -- at the last line
 left-last : (total text : List ℕ) (at : ℕ) (line : List ℕ) → LeftOf total text at line → (p : Part) → Agreed line (drop at text) p
@@ -87,10 +81,6 @@ left-last total text at line h p a =
         ne-eqb (common total text) (length total) (λ s. e (omega (arith, s, h .same, h .size)))
 
 -- ---- the listing of a sample
-
--- what is left of it after record i
-abbrev pub textFrom : Decoded → ℕ → List ℕ
-textFrom d i = recordLinesFrom (i + 1) (drop i (arrivalsOf d)) (drop i (answersOf d)) ++ endLine (counts (answersOf d))
 
 -- the first line, and the records
 text-start : (d : Decoded) (y : Layout) → Laid d y → sampleText d ≡ headerLine (y .sent) (y .arrivals) ++ textFrom d 0
@@ -117,10 +107,6 @@ text-end d i h = rw (drop-of-length-le (arrivalsOf d) h)
 
 -- ---- its lines against a text
 
--- record i is behind: so many octets of the text agree, and the rest is left
-abbrev pub LeftAt : Decoded → List ℕ → ℕ → ℕ → Type 0
-LeftAt d text i at = LeftOf (sampleText d) text at (textFrom d i)
-
 module _ (d : Decoded) (y : Layout) (h : Laid d y) (text : List ℕ) (p : Part) where
   -- the first line
   abbrev header : List ℕ
@@ -135,7 +121,7 @@ module _ (d : Decoded) (y : Layout) (h : Laid d y) (text : List ℕ) (p : Part) 
   header-left a w = rw (zero-add (p .octets)) at (left-line (sampleText d) text 0 header (textFrom d 0) header-at p a w)
 
   -- where it differs
-  pub header-stop : Agreed header text p → p .whole ≡ false → Agreed (sampleText d) text (record { octets = p .octets; whole = false })
+  pub header-stop : Agreed header text p → p .whole ≡ false → Agreed (sampleText d) text p
   header-stop a w = rw (zero-add (p .octets)) at (left-stop (sampleText d) text 0 header (textFrom d 0) header-at p a w)
 
   module _ (i at : ℕ) (l : LeftAt d text i at) where
@@ -150,7 +136,7 @@ module _ (d : Decoded) (y : Layout) (h : Laid d y) (text : List ℕ) (p : Part) 
       record-left w = left-line (sampleText d) text at (recordLine (i + 1) number answer) (textFrom d (i + 1)) record-at p a w
 
       -- where it differs
-      pub record-stop : p .whole ≡ false → Agreed (sampleText d) text (record { octets = at + p .octets; whole = false })
+      pub record-stop : p .whole ≡ false → Agreed (sampleText d) text (record { octets = at + p .octets; whole = p .whole })
       record-stop w = left-stop (sampleText d) text at (recordLine (i + 1) number answer) (textFrom d (i + 1)) record-at p a w
 
     -- after the last line

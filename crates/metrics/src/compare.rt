@@ -2,14 +2,14 @@
 // compared as it is made. The first line that differs ends the pass.
 ghost use mathlib.Core.Path.{_≡_};
 ghost use mathlib.Core.Bool.{_&&_};
-ghost use Prim.Native.Nat.{_≤_};
+ghost use Prim.Native.Nat.{_+_, _^_, _≤_, _<_};
 ghost use lib.Dec.{eqb};
 ghost use lib.ListN.{length, drop};
 ghost use Rattle.listing.specs.Lines.{headerLine, recordLine, endLine};
 ghost use Rattle.listing.specs.Private.Within.{AnswerWithin, CountsWithin, Small};
 ghost use Rattle.sample.specs.Decode.{decode};
 ghost use Rattle.metrics.specs.Agreement.{common};
-ghost use Rattle.metrics.specs.Private.Compared.{Agreed};
+ghost use Rattle.metrics.specs.Private.Compared.{Agreed, LeftAt};
 ghost use Rattle.metrics.specs.Private.Sample.{Laid};
 ghost use Rattle.metrics.specs.Report.{sampleText};
 use crate::engine::advance;
@@ -90,25 +90,29 @@ fn end_part(text: &[u8], at: usize, c: Counts) -> Part
     part_of(&line[..n], text, at)
 }
 
-// The listing of a sample against a text: one pass, which ends at the first line that differs.
-pub(crate) fn compare(file: &[u8], y: Layout, text: &[u8]) -> Part
-    requires { ⌜ Laid (decode (now file)) y ⌝ }
+// A part at a place, with what stands before it.
+fn after(at: usize, part: Part) -> Part
+    requires { ⌜ at + part .octets < 2 ^ 64 ⌝ }
+    ensures { λ r. ⌜ r ≡ record { octets = at + part .octets; whole = part .whole } ⌝ }
+{
+    Part {
+        octets: at + part.octets,
+        whole: part.whole,
+    }
+}
+
+// The lines after the first against a text from a place on, where these are left: one pass, which ends at the first that differs.
+fn compare_from(file: &[u8], y: Layout, text: &[u8], start: usize) -> Part
+    requires { ⌜ Laid (decode (now file)) y × LeftAt (decode (now file)) (now text) 0 start ⌝ }
     ensures { λ r. ⌜ Agreed (sampleText (decode (now (file .entry)))) (now (text .entry)) r ⌝ }
 {
-    let first = header_part(text, y.sent, y.arrivals);
-    let mut at = first.octets;
-    if !first.whole {
-        return Part {
-            octets: at,
-            whole: false,
-        };
-    }
     let mut numbers = [0u16; FIRSTS];
     let mut records = [0u16; PLACES];
     let mut skipped = [0u16; PLACES];
     let mut tree = [0u32; PAIRS];
     let mut known = fresh_engine();
     let mut c = no_counts();
+    let mut at = start;
     let mut i: u32 = 0;
     while i < y.arrivals {
         let arrival = input::arrival(file, y, i);
@@ -125,22 +129,27 @@ pub(crate) fn compare(file: &[u8], y: Layout, text: &[u8]) -> Part
         );
         let answer = step.answer;
         let part = record_part(text, at, i + 1, arrival.number, answer);
-        at += part.octets;
         if !part.whole {
-            return Part {
-                octets: at,
-                whole: false,
-            };
+            return after(at, part);
         }
+        at += part.octets;
         c = counted_by(c, answer);
         known = step.engine;
         i += 1;
     }
-    let last = end_part(text, at, c);
-    Part {
-        octets: at + last.octets,
-        whole: last.whole,
+    after(at, end_part(text, at, c))
+}
+
+// The listing of a sample against a text.
+pub(crate) fn compare(file: &[u8], y: Layout, text: &[u8]) -> Part
+    requires { ⌜ Laid (decode (now file)) y ⌝ }
+    ensures { λ r. ⌜ Agreed (sampleText (decode (now (file .entry)))) (now (text .entry)) r ⌝ }
+{
+    let first = header_part(text, y.sent, y.arrivals);
+    if !first.whole {
+        return first;
     }
+    compare_from(file, y, text, first.octets)
 }
 
 // Whether what is compared is the same text: all of the listing agrees, and these octets are all of the text.

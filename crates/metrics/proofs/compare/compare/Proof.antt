@@ -1,148 +1,23 @@
--- `compare` goes line by line. The loop's invariant: the engine knows the arrivals before i, the counts are those of their answers, the first line and their
--- lines agree with the text, and the rest is left. The measure is what is left of the arrivals. Assumes nothing.
-use mathlib.Core.Path.{_≡_, sym, ap, ap₂, _∙_}
-use Prim.Native.Nat.{_+_, _-_, _≤_, _<_}
-use native.Mathlib.Omega.{arith}
+-- `compare` meets its contract: where the first line differs it stops, else the others are compared. Assumes nothing.
 use borrow.Author.Needs.{needs}
 use borrow.Author.Tests.{not-true, not-false}
-use denote.Ref.{now}
-use mir.Syntax.{w8}
-use Rattle.octets.proofs.Below.{below-fits}
-use Rattle.rfc4737.specs.declared.Arrival.{Arrival}
-use Rattle.rfc4737.specs.Runs.{counts}
-use Rattle.sample.specs.Decode.{decode}
-use Rattle.metrics.specs.Private.Sample.{Has}
-use Rattle.metrics.specs.Private.Tables.{classOf}
-use Rattle.metrics.specs.Private.Engine.{Running}
-use Rattle.metrics.specs.Private.Steps.{countsBy}
-use Rattle.metrics.proofs.Running.{running-start}
-use Rattle.metrics.proofs.Passes.{answersTo, answers-start, answers-length, answers-next, counts-none, counts-small, counts-more}
-use Rattle.metrics.proofs.Within.{answers-within}
-use Rattle.metrics.proofs.Left.{LeftAt, part-most, header-left, header-stop, record-left, record-stop, end-left, end-within}
+use Rattle.metrics.proofs.Left.{header-left, header-stop}
 use Rattle.metrics.proofs.compare.compare.Statement.{statement}
 use Rattle.metrics.proofs.compare.compare.Tie as tie
 
-abbrev Inv-loop : tie.InvT-loop
-Inv-loop file y text at₀ numbers₀ records₀ skipped₀ tree₀ known₀ c₀ i₀ at numbers records skipped tree known c i =
-    (i ≤ y .arrivals) × Running (decode file) i numbers records skipped tree known × (c ≡ counts (answersTo (decode file) i))
-    × LeftAt (decode file) text i at
+header-part-requires : tie.Need-header-part-requires
+header-part-requires c κs = search needs
 
-abbrev μ-loop : tie.MeasureT-loop
-μ-loop file y text at₀ numbers₀ records₀ skipped₀ tree₀ known₀ c₀ i₀ at numbers records skipped tree known c i = y .arrivals - i
-
--- record i + 1 is there
-here : (c : tie.Then2 Inv-loop μ-loop) → Has (decode (now (c .before .before .before .before .before .before .before .before .before .before .args .file))) (c .before .before .before .before .before .before .before .before .before .before .args .y) (c .before .before .loop .i)
-here c = record { file = c .before .before .before .before .before .before .before .before .before .before .pre; inside = c .if2 .taken }
-
--- it is one of few
-few : (c : tie.Then2 Inv-loop μ-loop) → c .before .before .loop .i < 4096
-few c = omega (arith, c .if2 .taken, c .before .before .before .before .before .before .before .before .before .before .pre .few)
-
-header-part-requires : tie.Need-header-part-requires Inv-loop μ-loop
-header-part-requires c κs = (omega (arith, c .before .before .pre .sentFew), omega (arith, c .before .before .pre .few))
-
-returns : tie.Need-returns Inv-loop μ-loop
+returns : tie.Need-returns
 returns c = header-stop _ _ (c .before .before .before .before .before .pre) _ _ (c .before .before .header-part .ensures) (not-true _ (c .if1 .taken))
 
-fresh-engine-requires : tie.Need-fresh-engine-requires Inv-loop μ-loop
-fresh-engine-requires c κs = search needs
+compare-from-requires : tie.Need-compare-from-requires
+compare-from-requires c κs =
+    let h = c .before .before .before .before .before .pre in
+    (h, header-left _ _ h _ _ (c .before .before .header-part .ensures) (not-false _ (c .if1 .left)))
 
-no-counts-requires : tie.Need-no-counts-requires Inv-loop μ-loop
-no-counts-requires c κs = search needs
-
-loop-holds : tie.Need-loop-holds Inv-loop μ-loop
-loop-holds c =
-    let d = decode (now (c .before .before .before .before .before .before .before .args .file)) in (
-      omega arith,
-      rw (c .before .fresh-engine .ensures) (running-start d),
-      c .no-counts .ensures ∙ sym (ap counts (answers-start d) ∙ counts-none),
-      header-left d _ (c .before .before .before .before .before .before .before .pre) _ _ (c .before .before .before .before .header-part .ensures) (not-false _ (c .before .before .if1 .left)),
-    )
-
-arrival-requires : tie.Need-arrival-requires Inv-loop μ-loop
-arrival-requires c κs = here c
-
-slice-aggregate-advance : tie.Need-slice-aggregate-advance Inv-loop μ-loop
-slice-aggregate-advance c = search needs
-
-advance-requires : tie.Need-advance-requires Inv-loop μ-loop
-advance-requires c κs = (here (c .before .before .before .before .before), c .before .before .before .before .arrival .ensures .0, c .before .before .before .before .before .before .before .loop .inv .1)
-
-add-record-part : tie.Need-add-record-part Inv-loop μ-loop
-add-record-part c = omega (arith, few (c .before .before .before .before .before .before .before))
-
-record-part-requires : tie.Need-record-part-requires Inv-loop μ-loop
-record-part-requires c κs =
-    let file = now (c .before .before .before .before .before .before .before .before .before .before .before .before .before .before .before .before .before .args .file) in
-    let l = c .before .before .before .before .before .before .before .before .before .loop in (
-      l .inv .3 .most,
-      omega (arith, few (c .before .before .before .before .before .before .before)),
-      omega (arith, c .before .before .before .before .before .before .arrival .ensures .1),
-      rw (c .before .advance .ensures .0) (answers-within file _ (l .i) (below-fits w8 file (c .before .before .before .before .before .before .before .before .before .before .before .before .before .before .before .before .shared-slice-known .given)) (here (c .before .before .before .before .before .before .before))),
-    )
-
-add-at : tie.Need-add-at Inv-loop μ-loop
-add-at c = omega (arith, part-most _ _ _ _ (c .before .before .before .before .before .before .before .before .before .before .before .loop .inv .3 .most) (c .before .record-part .ensures), c .before .before .before .before .before .before .before .before .before .before .before .before .before .before .before .before .before .before .before .good .1 .1 .0 .0)
-
-returns-2 : tie.Need-returns-2 Inv-loop μ-loop
-returns-2 c =
-    record-stop _ _ (c .before .before .before .before .before .before .before .before .before .before .before .before .before .before .before .before .before .before .before .before .before .pre) _ _ _ _ (c .before .before .before .before .before .before .before .before .before .before .before .before .before .loop .inv .3) (c .before .before .before .before .before .before .before .before .before .before .before .if2 .taken) _ _
-    (ap (λ (b : Arrival). b .number) (c .before .before .before .before .before .before .before .before .before .before .arrival .ensures .0)) (c .before .before .before .before .before .advance .ensures .0) (c .before .before .before .record-part .ensures) (not-true _ (c .if3 .taken))
-
-counted-by-requires : tie.Need-counted-by-requires Inv-loop μ-loop
-counted-by-requires c κs =
-    let r = c .before .before .before .before .before .before .before .before .before .before .before in
-    rw (c .before .before .before .before .before .before .before .before .before .before .before .before .before .loop .inv .2) (counts-small _ (omega (arith, answers-length _ _ _ (here r), few r)))
-
-add-i : tie.Need-add-i Inv-loop μ-loop
-add-i c = omega (arith, few (c .before .before .before .before .before .before .before .before .before .before .before .before .before))
-
-loop-less : tie.Need-loop-less Inv-loop μ-loop
-loop-less c = omega (arith, here (c .before .before .before .before .before .before .before .before .before .before .before .before .before) .inside)
-
-loop-again : tie.Need-loop-again Inv-loop μ-loop
-loop-again c =
-    let l = c .before .before .before .before .before .before .before .before .before .before .before .before .before .before .before .loop in
-    let h = here (c .before .before .before .before .before .before .before .before .before .before .before .before .before) in
-    let step = c .before .before .before .before .before .before .before .advance .ensures in (
-      omega (arith, h .inside),
-      step .1,
-      c .before .counted-by .ensures ∙ ap₂ countsBy (l .inv .2) (ap classOf (step .0)) ∙ sym (ap counts (answers-next _ _ _ h) ∙ counts-more _ _),
-      record-left _ _ (c .before .before .before .before .before .before .before .before .before .before .before .before .before .before .before .before .before .before .before .before .before .before .before .pre) _ _ _ _ (l .inv .3) (c .before .before .before .before .before .before .before .before .before .before .before .before .before .if2 .taken) _ _
-          (ap (λ (b : Arrival). b .number) (c .before .before .before .before .before .before .before .before .before .before .before .before .arrival .ensures .0)) (step .0) (c .before .before .before .before .before .record-part .ensures) (not-false _ (c .before .before .if3 .left)),
-    )
-
-end-part-requires : tie.Need-end-part-requires Inv-loop μ-loop
-end-part-requires c κs = (c .before .before .loop .inv .3 .most, end-within _ _ (c .before .before .before .before .before .before .before .before .before .before .pre) _ (c .if2 .left) _ (c .before .before .loop .inv .2))
-
-add-t26 : tie.Need-add-t26 Inv-loop μ-loop
-add-t26 c = omega (arith, part-most _ _ _ _ (c .before .before .before .before .loop .inv .3 .most) (c .before .end-part .ensures), c .before .before .before .before .before .before .before .before .before .before .before .before .good .1 .1 .0 .0)
-
-returns-3 : tie.Need-returns-3 Inv-loop μ-loop
-returns-3 c = end-left _ _ (c .before .before .before .before .before .before .before .before .before .before .before .before .pre) _ _ _ _ (c .before .before .before .before .loop .inv .3) (c .before .before .if2 .left) _ (c .before .before .before .before .loop .inv .2) (c .before .end-part .ensures)
+returns-2 : tie.Need-returns-2
+returns-2 c = search needs
 
 pub compare-spec : {M : Type 1} → statement M
-compare-spec =
-    tie.close
-    (tie.spec
-    Inv-loop
-    μ-loop
-    header-part-requires
-    returns
-    fresh-engine-requires
-    no-counts-requires
-    loop-holds
-    arrival-requires
-    slice-aggregate-advance
-    advance-requires
-    add-record-part
-    record-part-requires
-    add-at
-    returns-2
-    counted-by-requires
-    add-i
-    loop-less
-    loop-again
-    end-part-requires
-    add-t26
-    returns-3)
+compare-spec = tie.close (tie.spec header-part-requires returns compare-from-requires returns-2)
