@@ -3,4 +3,4 @@ pub mod Checked
 pub mod Figures
 pub mod Label
 pub mod Link
-pub mod Noted
+pub mod ReceiverFigures

@@ -49,7 +49,7 @@ ghost use Rattle.metrics.specs.Report.{ListedTo};
 ghost use Rattle.receiver.specs.Step.{freshOf, stepOf};
 ghost use Rattle.capi.specs.Figures.{answerFigures, gapFigures, degreeFigures, ratiosFigures};
 ghost use Rattle.capi.specs.Label.{labelPart};
-ghost use Rattle.capi.specs.Noted.{stepAnswer, saidAnswer};
+ghost use Rattle.capi.specs.ReceiverFigures.{stepAnswer, saidAnswer};
 
 // Checks a file: what is found in it.
 #[no_mangle]

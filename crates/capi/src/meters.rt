@@ -9,7 +9,7 @@ use meter::MeterStarted;
 use meter::MeterStepped;
 ghost use mathlib.Core.Path.{_≡_};
 ghost use Rattle.meter.specs.Step.{newMeter, meterStart, meterStep};
-ghost use Rattle.capi.specs.Noted.{saidAnswer, meterStepAnswer};
+ghost use Rattle.capi.specs.ReceiverFigures.{saidAnswer, meterStepAnswer};
 
 // The answer of a step on a stream: the refusal (0 for none), what is noted, and the meter after it.
 #[repr(C)]

@@ -1,9 +1,9 @@
 // What a receiver says, as C has it: an enum is the number of its case beside the figures of all cases.
 
 use receiver::Lateness;
-use receiver::Noted;
 use receiver::Outcome;
 use receiver::Receiver;
+use receiver::ReceiverAnswer;
 use receiver::Stepped;
 use receiver::numbering::BEYOND_AFTER;
 use receiver::numbering::BEYOND_BEFORE;
@@ -15,7 +15,7 @@ use rfc4737::numbering::amount;
 use rfc4737::numbering::directed;
 ghost use mathlib.Core.Path.{_≡_};
 ghost use Rattle.rfc4737.specs.Numbering.{directed};
-ghost use Rattle.capi.specs.Noted.{notedFigures, lateFigures, stepAnswer, saidAnswer};
+ghost use Rattle.capi.specs.ReceiverFigures.{notedFigures, lateFigures, stepAnswer, saidAnswer};
 
 // What a receiver notes of an arrival: the case, and jump size, extent and the late time's amount, which the case gives
 // its direction.
@@ -56,24 +56,24 @@ fn late_figures(after: u32, before: u32, l: Lateness) -> NotedFigures
 }
 
 // What is noted, as figures.
-pub fn noted_figures(noted: Noted) -> NotedFigures
+pub fn noted_figures(noted: ReceiverAnswer) -> NotedFigures
     ensures { λ r. ⌜ r ≡ notedFigures noted ⌝ }
 {
     match noted {
-        Noted::Duplicate => NotedFigures {
+        ReceiverAnswer::Duplicate => NotedFigures {
             kind: DUPLICATE,
             jump: 0,
             extent: 0,
             late: 0,
         },
-        Noted::InOrder(jump) => NotedFigures {
+        ReceiverAnswer::InOrder(jump) => NotedFigures {
             kind: IN_ORDER,
             jump,
             extent: 0,
             late: 0,
         },
-        Noted::Exact(l) => late_figures(REORDERED_AFTER, REORDERED_BEFORE, l),
-        Noted::Beyond(l) => late_figures(BEYOND_AFTER, BEYOND_BEFORE, l),
+        ReceiverAnswer::Exact(l) => late_figures(REORDERED_AFTER, REORDERED_BEFORE, l),
+        ReceiverAnswer::Beyond(l) => late_figures(BEYOND_AFTER, BEYOND_BEFORE, l),
     }
 }
 

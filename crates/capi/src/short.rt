@@ -1,9 +1,9 @@
 // Short sequence numbers for C: the full numbers of lists, and the receiver's step by value.
 ghost use mathlib.Core.Path.{_≡_};
 ghost use Rattle.shortnumbers.specs.Number.{rangeOf};
-ghost use Rattle.shortnumbers.specs.Lists.{Filled};
+ghost use Rattle.shortnumbers.specs.Lists.{FilledTo};
 ghost use Rattle.shortnumbers.specs.Steps.{shortStep};
-ghost use Rattle.capi.specs.Noted.{stepAnswer};
+ghost use Rattle.capi.specs.ReceiverFigures.{stepAnswer};
 use crate::noted::StepAnswer;
 use crate::noted::step_answer;
 use receiver::Receiver;
@@ -16,7 +16,7 @@ pub extern "C" fn krakobran_full_numbers_8(
     times: &[u64],
     numbers: &mut [u32],
 ) -> u32
-    ensures { λ r. ⌜ Filled (rangeOf 8) sent (now (shorts .entry)) (now (times .entry)) (now (numbers .entry)) r (now (numbers .exit)) ⌝ }
+    ensures { λ r. ⌜ FilledTo (rangeOf 8) sent (now (shorts .entry)) (now (times .entry)) (now (numbers .entry)) r (now (numbers .exit)) ⌝ }
 {
     shortnumbers::full_numbers_8(sent, shorts, times, numbers)
 }
@@ -29,7 +29,7 @@ pub extern "C" fn krakobran_full_numbers_10(
     times: &[u64],
     numbers: &mut [u32],
 ) -> u32
-    ensures { λ r. ⌜ Filled (rangeOf 10) sent (now (shorts .entry)) (now (times .entry)) (now (numbers .entry)) r (now (numbers .exit)) ⌝ }
+    ensures { λ r. ⌜ FilledTo (rangeOf 10) sent (now (shorts .entry)) (now (times .entry)) (now (numbers .entry)) r (now (numbers .exit)) ⌝ }
 {
     shortnumbers::full_numbers_10(sent, shorts, times, numbers)
 }

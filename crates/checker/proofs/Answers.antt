@@ -6,7 +6,7 @@ use mathlib.Core.List.{List}
 use native.Mathlib.Omega.{arith}
 use lib.ListN.{length}
 use Rattle.listing.specs.Room.{listingOctets}
-use Rattle.sample.specs.Decode.{Decoded, refusalOf}
+use Rattle.sample.specs.Decode.{Decoded, decodedRefusal}
 use Rattle.metrics.specs.Agreement.{common, sameText, agreementUnless, sampleAgreement}
 use Rattle.metrics.specs.Report.{sampleText}
 use Rattle.metrics.specs.declared.SampleAgreement.{SampleAgreement}
@@ -24,14 +24,14 @@ agreement-refusal (suc r) e t = refl
 
 module _ (d : Decoded) (listing : List ℕ) (found : SampleAgreement) (is : found ≡ sampleAgreement d listing) where
   -- it is the sample's
-  own : found .refusal ≡ refusalOf d
+  own : found .refusal ≡ decodedRefusal d
   unfolding sampleAgreement
-  own = ap (λ (a : SampleAgreement). a .refusal) is ∙ agreement-refusal (refusalOf d) (sampleText d) listing
+  own = ap (λ (a : SampleAgreement). a .refusal) is ∙ agreement-refusal (decodedRefusal d) (sampleText d) listing
 
   -- with one, line 0
   pub checked-refused : (found .refusal ≡ 0 → ⊥) → record { refusal = found .refusal; verdict = Verdict.WrongLine 0 } ≡ checked d listing
   unfolding checked
-  checked-refused n = rw own (go (refusalOf d) (λ e. n (own ∙ e)))
+  checked-refused n = rw own (go (decodedRefusal d) (λ e. n (own ∙ e)))
     where
       go : (r : ℕ) → (r ≡ 0 → ⊥)
           → _≡_ {A = Checked} (record { refusal = r; verdict = Verdict.WrongLine 0 }) (record { refusal = r; verdict = verdictUnless r (verdictOn (sampleText d) listing) })
@@ -61,7 +61,7 @@ module _ (d : Decoded) (listing : List ℕ) (found : SampleAgreement) (is : foun
     unfolding checked
     checked-same q =
         let e : sameText (sampleText d) listing ≡ true = sym same-is ∙ q in
-        let r : refusalOf d ≡ 0 = sym own ∙ z in
+        let r : decodedRefusal d ≡ 0 = sym own ∙ z in
         rw (r, by-prefix (sampleText d) listing, e)
 
     -- another one
@@ -69,5 +69,5 @@ module _ (d : Decoded) (listing : List ℕ) (found : SampleAgreement) (is : foun
     unfolding checked
     checked-wrong q v w =
         let e : sameText (sampleText d) listing ≡ false = sym same-is ∙ q in
-        let r : refusalOf d ≡ 0 = sym own ∙ z in
+        let r : decodedRefusal d ≡ 0 = sym own ∙ z in
         rw (r, by-prefix (sampleText d) listing, e, w, octets-are)

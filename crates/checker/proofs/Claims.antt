@@ -8,7 +8,7 @@ use lib.Dec.{eqb}
 use lib.ListN.{length, take}
 use borrow.Author.Tests.{eqb-true, eq-eqb}
 use Rattle.listing.specs.Room.{listingOctets}
-use Rattle.sample.specs.Decode.{Decoded, refusalOf}
+use Rattle.sample.specs.Decode.{Decoded, decodedRefusal}
 use Rattle.metrics.specs.Agreement.{common, sameText}
 use Rattle.metrics.specs.Report.{sampleText}
 use Rattle.checker.specs.declared.Verdict.{Verdict}
@@ -62,7 +62,7 @@ verdict-self e = by-prefix e e ∙ rw (same-self e)
 -- yes is said exactly of the listing that the sample must give
 pub agrees-exactly : (d : Decoded) → AgreesExactly d
 unfolding checked
-agrees-exactly d = record { only = λ listing q. go listing (refusalOf d) q; always = λ z. rw z (verdict-self (sampleText d)) }
+agrees-exactly d = record { only = λ listing q. go listing (decodedRefusal d) q; always = λ z. rw z (verdict-self (sampleText d)) }
   where
     go : (listing : List ℕ) (r : ℕ) → verdictUnless r (verdictOn (sampleText d) listing) ≡ Verdict.Agrees → (r ≡ 0) × (listing ≡ sampleText d)
     go listing zero q = (refl, verdict-only (sampleText d) listing q)

@@ -4,7 +4,7 @@ use mathlib.Core.Bool.{cond}
 use mathlib.Core.List.{List, [], _∷_}
 use lib.Dec.{eqb}
 use Rattle.listing.specs.Words.{lineFeed}
-use Rattle.sample.specs.Decode.{Decoded, refusalOf}
+use Rattle.sample.specs.Decode.{Decoded, decodedRefusal}
 use Rattle.metrics.specs.Report.{sampleText}
 use Rattle.metrics.specs.Agreement.{sameText}
 use Rattle.checker.specs.declared.Verdict.{Verdict}
@@ -39,4 +39,4 @@ verdictUnless (suc r) v = Verdict.WrongLine 0
 
 -- the checker's answer: the sample's refusal, with which the listing is not looked at, and the verdict
 unfoldable pub checked : Decoded → List ℕ → Checked
-checked d listing = record { refusal = refusalOf d; verdict = verdictUnless (refusalOf d) (verdictOn (sampleText d) listing) }
+checked d listing = record { refusal = decodedRefusal d; verdict = verdictUnless (decodedRefusal d) (verdictOn (sampleText d) listing) }

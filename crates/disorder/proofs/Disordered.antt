@@ -20,12 +20,12 @@ use Rattle.sums.specs.Tree.{Added, sumTo}
 use Rattle.sums.proofs.Summed.{summed-none, summed-more, sum-summed}
 use Rattle.sample.specs.declared.Layout.{Layout}
 use Rattle.sample.specs.Decode.{Decoded, sampleOf}
-use Rattle.metrics.specs.Sample.{sizeOf, arrivalsOf}
+use Rattle.metrics.specs.Sample.{sizeOf, sampleArrivals}
 use Rattle.metrics.specs.Private.Sample.{noArrival, arrivalAt, before, Laid, Has}
 use Rattle.disorder.specs.Sample.{disorderOf, SumsOffsets}
 use Rattle.disorder.specs.Private.Pairs.{Paired}
 use Rattle.disorder.specs.declared.pairs.Pairs.{Pairs}
-use Rattle.metrics.proofs.Seen.{Seen, seen-start, seen-next}
+use Rattle.metrics.proofs.CountsBySeen.{Seen, seen-start, seen-next}
 use Rattle.metrics.proofs.Follow.{arrivals-laid, before-more}
 
 -- what holds at every place holds of every element
@@ -33,9 +33,9 @@ all-at : (P : Arrival → Type 0) (l : List Arrival) → ((i : ℕ) → i < leng
 all-at P l h = rw (take-all (length l) l (omega arith)) at (all-take P noArrival l (length l) h)
 
 -- every arrival's packet has one of the sizes
-sizes-one : (d : Decoded) (y : Layout) → Laid d y → sampleOf d .sizes ≡ replicate (length (sampleOf d .sizes)) 1 → All (SizeOne (sizeOf d)) (arrivalsOf d)
+sizes-one : (d : Decoded) (y : Layout) → Laid d y → sampleOf d .sizes ≡ replicate (length (sampleOf d .sizes)) 1 → All (SizeOne (sizeOf d)) (sampleArrivals d)
 unfolding sizeIn
-sizes-one d y h e = all-at (SizeOne (sizeOf d)) (arrivalsOf d) (λ i g. one i (h .numbers i (omega (arith, arrivals-laid d y h))))
+sizes-one d y h e = all-at (SizeOne (sizeOf d)) (sampleArrivals d) (λ i g. one i (h .numbers i (omega (arith, arrivals-laid d y h))))
   where
     one : (i : ℕ) → (1 ≤ arrivalAt d i .number) × (arrivalAt d i .number ≤ y .sent) → getD (sampleOf d .sizes) (arrivalAt d i .number - 1) 0 ≡ 1
     one i n =
@@ -45,7 +45,7 @@ sizes-one d y h e = all-at (SizeOne (sizeOf d)) (arrivalsOf d) (λ i g. one i (h
 -- if all its sizes are 1, the total is the sum of the byte offsets
 pub sums-offsets : (d : Decoded) (y : Layout) → Laid d y → SumsOffsets d
 unfolding disorderOf
-sums-offsets d y h ones = sum-wrong (sizeOf d) (arrivalsOf d) (sizes-one d y h ones)
+sums-offsets d y h ones = sum-wrong (sizeOf d) (sampleArrivals d) (sizes-one d y h ones)
 
 -- ---- the pairs, one first arrival after the other
 
@@ -110,4 +110,4 @@ pub disorder-end : (d : Decoded) (y : Layout) (i : ℕ) → Laid d y → y .arri
     → p .wrong ≡ disorderOf d
 unfolding disorderOf
 disorder-end d y i h end tree p k =
-    k .wrong ∙ ap (λ (l : List Arrival). wrongPairs (firsts l)) (take-all i (arrivalsOf d) (omega (arith, arrivals-laid d y h)))
+    k .wrong ∙ ap (λ (l : List Arrival). wrongPairs (firsts l)) (take-all i (sampleArrivals d) (omega (arith, arrivals-laid d y h)))

@@ -3,18 +3,18 @@ use mathlib.Core.Path.{_≡_}
 use Prim.Native.Nat.{ℕ}
 use lib.ListN.{length, replicate}
 use Rattle.rfc4737.specs.Arrivals.{firsts}
-use Rattle.sample.specs.Decode.{Decoded, sampleOf, refusalOf}
-use Rattle.metrics.specs.Sample.{arrivalsOf, answersOf}
+use Rattle.sample.specs.Decode.{Decoded, sampleOf, decodedRefusal}
+use Rattle.metrics.specs.Sample.{sampleArrivals, answersOf}
 use Rattle.disorder.specs.Disorder.{offsetSum, wrongPairs}
 use Rattle.disorder.specs.declared.SampleDisorder.{SampleDisorder}
 
 -- the total of disorder: how many pairs of first arrivals came in the wrong order, whatever the payload sizes
 unfoldable pub disorderOf : Decoded → ℕ
-disorderOf d = wrongPairs (firsts (arrivalsOf d))
+disorderOf d = wrongPairs (firsts (sampleArrivals d))
 
 -- the answer of the call; with a refusal 0
 unfoldable pub sampleDisorder : Decoded → SampleDisorder
-sampleDisorder d = record { refusal = refusalOf d; total = disorderOf d }
+sampleDisorder d = record { refusal = decodedRefusal d; total = disorderOf d }
 
 -- if every payload size of the sample is 1, the total is the sum of its byte offsets
 abbrev pub SumsOffsets : Decoded → Type 0

@@ -9,12 +9,12 @@ use lib.ListN.{length, take, drop, length-map, length-append}
 use Rattle.octets.specs.Below.{Octets}
 use Rattle.octets.specs.Memory.{over}
 use Rattle.octets.proofs.Memory.{over-read}
-use Rattle.rfc4737.specs.Judge.{sentMost, arrivalsMost, numbersOf, timesOf, arrivalsOf, refusalOfLists}
+use Rattle.rfc4737.specs.Judge.{sentMost, arrivalsMost, numbersOf, timesOf, arrivalsFrom, refusalOfLists}
 use Rattle.rfc4737.specs.Refusals.{inCase, firstOf, outputShort}
 use Rattle.rfc4737.proofs.Due.{first-none}
 use Rattle.rfc4737.proofs.Pairs.{arrivals-back}
-use Rattle.sample.specs.Calls.{unlessRefused, decodeInto, refusalFrom, ReadFrom}
-use Rattle.sample.specs.Decode.{Decoded, accepted, refusalIn, sampleIn, decode, sampleOf, refusalOf, layoutOf}
+use Rattle.sample.specs.Calls.{unlessRefused, decodeInto, sampleRefusal, ReadFrom}
+use Rattle.sample.specs.Decode.{Decoded, accepted, fileRefusal, sampleIn, decode, sampleOf, decodedRefusal, layoutOf}
 use Rattle.sample.specs.Format.{Sample}
 use Rattle.sample.specs.Judge.{judgeLabel, judgeOctets}
 use Rattle.sample.specs.declared.Layout.{Layout}
@@ -22,19 +22,19 @@ use Rattle.sample.specs.declared.Written.{Written}
 use Rattle.sample.proofs.Accepted.{found-sample, accepted-fit, accepted-limits}
 use Rattle.sample.proofs.Decoded.{decode-accepted}
 use Rattle.sample.proofs.RoundTrips.{into-room, none-from}
-use Rattle.textlog.specs.Calls.{refusalInto, WrittenTo}
+use Rattle.textlog.specs.Calls.{writeRefusal, WrittenTo}
 use Rattle.textlog.specs.Form.{logOf}
 use Rattle.export_log.specs.Logged.{sampleLog, logRefusal, LoggedTo}
 
 -- ---- what is read
 
 -- a refused file is refused alike, whatever the lists
-refused-alike : (a b c : ℕ) (file : List ℕ) (r : ℕ) → refusalIn file ≡ suc r → decodeInto a b c file ≡ decode file
+refused-alike : (a b c : ℕ) (file : List ℕ) (r : ℕ) → fileRefusal file ≡ suc r → decodeInto a b c file ≡ decode file
 unfolding decodeInto decode
 refused-alike a b c file r e = rw e
 
 -- lists of 4,096 places are long enough for every sample
-into-whole : (a b c : ℕ) (file : List ℕ) → Octets file → 4096 ≤ a → 4096 ≤ b → 4096 ≤ c → (r : ℕ) → refusalIn file ≡ r
+into-whole : (a b c : ℕ) (file : List ℕ) → Octets file → 4096 ≤ a → 4096 ≤ b → 4096 ≤ c → (r : ℕ) → fileRefusal file ≡ r
     → decodeInto a b c file ≡ decode file
 into-whole a b c file o p q t zero e =
     let d = decode-accepted file e in
@@ -52,13 +52,13 @@ module _ (file sizes numbers times : List ℕ) (y : Layout) (sizes′ numbers′
     (f : ReadFrom file sizes numbers times y sizes′ numbers′ times′) (o : Octets file)
     (p : 4096 ≤ length sizes) (q : 4096 ≤ length numbers) (t : 4096 ≤ length times) where
   same : decodeInto (length sizes) (length numbers) (length times) file ≡ decode file
-  same = into-whole (length sizes) (length numbers) (length times) file o p q t (refusalIn file) refl
+  same = into-whole (length sizes) (length numbers) (length times) file o p q t (fileRefusal file) refl
 
   -- the answer is the file's own
   pub read-layout : y ≡ layoutOf (decode file)
   read-layout = f .layout ∙ ap layoutOf same
 
-  pub read-refusal : y .refusal ≡ refusalOf (decode file)
+  pub read-refusal : y .refusal ≡ decodedRefusal (decode file)
   read-refusal = ap (λ (x : Layout). x .refusal) read-layout
 
   module _ (z : y .refusal ≡ 0) where
@@ -85,7 +85,7 @@ module _ (file sizes numbers times : List ℕ) (y : Layout) (sizes′ numbers′
     -- and nothing of them is refused
     pub read-lists : refusalOfLists (length (sampleOf (decode file) .sizes)) (numbersOf (sampleOf (decode file) .arrivals))
         (timesOf (sampleOf (decode file) .arrivals)) ≡ 0
-    unfolding refusalFrom
+    unfolding sampleRefusal
     read-lists =
         let s = sampleOf (decode file) in
         let r = refusalOfLists (length (s .sizes)) (numbersOf (s .arrivals)) (timesOf (s .arrivals)) in
@@ -96,7 +96,7 @@ module _ (file sizes numbers times : List ℕ) (y : Layout) (sizes′ numbers′
 -- ---- what is answered
 
 -- a refused file
-pub log-refused : (d : Decoded) (out : List ℕ) (r : ℕ) → r ≡ refusalOf d → (r ≡ 0 → ⊥) → LoggedTo d out (record { refusal = r; length = 0 }) out
+pub log-refused : (d : Decoded) (out : List ℕ) (r : ℕ) → r ≡ decodedRefusal d → (r ≡ 0 → ⊥) → LoggedTo d out (record { refusal = r; length = 0 }) out
 unfolding logRefusal
 log-refused d out zero e z = absurd (z refl)
 log-refused d out (suc r) e z =
@@ -111,10 +111,10 @@ log-refused d out (suc r) e z =
 log-lists : (s : Sample) (out : List ℕ) (written : Written) (out′ : List ℕ)
     → refusalOfLists (length (s .sizes)) (numbersOf (s .arrivals)) (timesOf (s .arrivals)) ≡ 0
     → WrittenTo (length (s .sizes)) (numbersOf (s .arrivals)) (timesOf (s .arrivals)) out written out′ → LoggedTo (accepted s) out written out′
-unfolding logRefusal refusalInto
+unfolding logRefusal writeRefusal
 log-lists s out written out′ j w =
-    let logs : logOf (arrivalsOf (numbersOf (s .arrivals)) (timesOf (s .arrivals))) ≡ logOf (s .arrivals) = ap logOf (arrivals-back (s .arrivals)) in
-    let due : refusalInto (length (s .sizes)) (length out) (numbersOf (s .arrivals)) (timesOf (s .arrivals)) ≡ logRefusal (length out) (accepted s) =
+    let logs : logOf (arrivalsFrom (numbersOf (s .arrivals)) (timesOf (s .arrivals))) ≡ logOf (s .arrivals) = ap logOf (arrivals-back (s .arrivals)) in
+    let due : writeRefusal (length (s .sizes)) (length out) (numbersOf (s .arrivals)) (timesOf (s .arrivals)) ≡ logRefusal (length out) (accepted s) =
     ap₂ (λ (r : ℕ) (os : List ℕ). firstOf (r ∷ inCase (ltb (length out) (length os)) outputShort ∷ [])) j logs in
     record {
       refusal = w .refusal ∙ due;

@@ -7,7 +7,7 @@ use lib.ListN.{length}
 use Rattle.octets.specs.Memory.{over}
 use Rattle.rfc4737.specs.Refusals.{inCase, firstOf, outputShort}
 use Rattle.sample.specs.Calls.{unlessRefused}
-use Rattle.sample.specs.Decode.{Decoded, sampleOf, refusalOf}
+use Rattle.sample.specs.Decode.{Decoded, sampleOf, decodedRefusal}
 use Rattle.sample.specs.declared.Written.{Written}
 use Rattle.textlog.specs.Form.{logOf}
 
@@ -17,7 +17,7 @@ sampleLog d = logOf (sampleOf d .arrivals)
 
 -- the first refusal that is due, where so many octets can be written: the file's own, then 8
 unfoldable pub logRefusal : (room : ℕ) → Decoded → ℕ
-logRefusal room d = firstOf (refusalOf d ∷ inCase (ltb room (length (sampleLog d))) outputShort ∷ [])
+logRefusal room d = firstOf (decodedRefusal d ∷ inCase (ltb room (length (sampleLog d))) outputShort ∷ [])
 
 -- the octets that are written: those of the log, or none with a refusal
 abbrev pub logInto : (room : ℕ) → Decoded → List ℕ

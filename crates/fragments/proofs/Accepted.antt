@@ -13,9 +13,9 @@ use Rattle.rfc4737.specs.Judge.{judgeSent, judgeArrivals}
 use Rattle.sample.specs.Calls.{unlessRefused}
 use Rattle.rfc4737.proofs.Due.{first-none, case-none, between, or-false}
 use Rattle.fragments.specs.Pieces.{piecesOf}
-use Rattle.fragments.specs.Judge.{judge}
-use Rattle.fragments.specs.Calls.{sameLengths, refusalOf}
-use Rattle.fragments.specs.Private.Engine.{Lists, In, Numbered}
+use Rattle.fragments.specs.Judge.{judgePieces}
+use Rattle.fragments.specs.Calls.{sameLengths, orderRefusal}
+use Rattle.fragments.specs.Private.Engine.{Lists, In, NumbersWithin}
 use Rattle.fragments.proofs.Laws.{pieces-length}
 use Rattle.fragments.proofs.Judged.{numbered}
 use Rattle.fragments.proofs.Spans.{pieces-number}
@@ -41,20 +41,20 @@ pub record Accepted (k : ℕ) (ns ts ls ms os : List ℕ) (f u : ℕ) : Type 0 w
   pub sent : k ≤ 4096
   pub lists : Lists ns ts ls ms os
   pub inside : In ns
-  pub numbers : Numbered k (piecesOf ns ts ls ms os)
+  pub numbers : NumbersWithin k (piecesOf ns ts ls ms os)
   pub flagRoom : length ns ≤ f
   pub usedRoom : length ns ≤ u
 
-pub accepted : (k : ℕ) (ns ts ls ms os : List ℕ) (f u : ℕ) → refusalOf k ns ts ls ms os f u ≡ 0 → Accepted k ns ts ls ms os f u
-unfolding refusalOf
+pub accepted : (k : ℕ) (ns ts ls ms os : List ℕ) (f u : ℕ) → orderRefusal k ns ts ls ms os f u ≡ 0 → Accepted k ns ts ls ms os f u
+unfolding orderRefusal
 accepted k ns ts ls ms os f u e =
     let same : Bool = sameLengths (length ns) (length ts) (length ls) (length ms) (length os) in
     let short : Bool = ltb f (length ns) || ltb u (length ns) in
     let p4 = first-none (inCase (ltb f (length ns) || ltb u (length ns)) outputShort) [] in
-    let p3 = first-none (judge k (piecesOf ns ts ls ms os)) (inCase short outputShort ∷ []) in
-    let p2 = first-none (inCase (not same) listsDiffer) (judge k (piecesOf ns ts ls ms os) ∷ inCase short outputShort ∷ []) in
-    let p1 = first-none (judgeArrivals (length ns)) (inCase (not same) listsDiffer ∷ judge k (piecesOf ns ts ls ms os) ∷ inCase short outputShort ∷ []) in
-    let a = first-none (judgeSent k) (judgeArrivals (length ns) ∷ inCase (not same) listsDiffer ∷ judge k (piecesOf ns ts ls ms os) ∷ inCase short outputShort ∷ []) e in
+    let p3 = first-none (judgePieces k (piecesOf ns ts ls ms os)) (inCase short outputShort ∷ []) in
+    let p2 = first-none (inCase (not same) listsDiffer) (judgePieces k (piecesOf ns ts ls ms os) ∷ inCase short outputShort ∷ []) in
+    let p1 = first-none (judgeArrivals (length ns)) (inCase (not same) listsDiffer ∷ judgePieces k (piecesOf ns ts ls ms os) ∷ inCase short outputShort ∷ []) in
+    let a = first-none (judgeSent k) (judgeArrivals (length ns) ∷ inCase (not same) listsDiffer ∷ judgePieces k (piecesOf ns ts ls ms os) ∷ inCase short outputShort ∷ []) e in
     let b = p1 (a .1) in
     let c = p2 (b .1) in
     let d = p3 (c .1) in

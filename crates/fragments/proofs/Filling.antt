@@ -9,8 +9,8 @@ use Rattle.rfc4737.specs.Arrivals.{each, eachAfter}
 use Rattle.rfc4737.proofs.Arrivals.{take-more, length-each}
 use Rattle.fragments.specs.declared.Piece.{Piece}
 use Rattle.fragments.specs.declared.Expected.{Expected}
-use Rattle.fragments.specs.Pieces.{isCopy, firsts}
-use Rattle.fragments.specs.Order.{atStart, isReordered, expectedAfter, expected, flagAfter, flags}
+use Rattle.fragments.specs.Pieces.{isCopy, noCopies}
+use Rattle.fragments.specs.Order.{atStart, isReorderedFragment, expectedAfter, expected, flagAfter, flags}
 use Rattle.fragments.specs.Usable.{complete, usableAfter, usable}
 use Rattle.fragments.specs.Private.Engine.{noPiece}
 use Rattle.fragments.proofs.Judged.{each-at}
@@ -26,7 +26,7 @@ usable-many l = length-each (usableAfter l) l
 
 module _ (l : List Piece) (i : ℕ) (a : Piece) (e : Expected) (copy : Bool) (h : i < length l) (here : a ≡ getD l i noPiece)
     (c : copy ≡ isCopy (take i l) a) (x : e ≡ expected (take i l)) where
-  pub flag-here : (r : ℕ) → r ≡ cond copy 3 (cond (isReordered e a) 1 0) → r ≡ getD (flags l) i 0
+  pub flag-here : (r : ℕ) → r ≡ cond copy 3 (cond (isReorderedFragment e a) 1 0) → r ≡ getD (flags l) i 0
   unfolding flags each flagAfter
   flag-here r q = q ∙ rw (c, x) refl ∙ ap (flagAfter (take i l)) here ∙ sym (each-at flagAfter l i h)
 
@@ -42,5 +42,5 @@ module _ (l : List Piece) (i : ℕ) (a : Piece) (e : Expected) (copy : Bool) (h 
   expected-here n q = q ∙ rw (c, x) refl ∙ sym (expected-more (take i l) a) ∙ ap expected (ap (λ (b : Piece). take i l ++ (b ∷ [])) here ∙ sym (take-more noPiece l i h))
 
 pub expected-none : atStart ≡ expected []
-unfolding expected firsts each eachAfter flatten
+unfolding expected noCopies each eachAfter flatten
 expected-none = refl

@@ -15,8 +15,8 @@ use Rattle.rfc4737.proofs.Due.{first-none, first-due, first-next, case-none, be
 use Rattle.rfc4737.proofs.Times.{greatest-more}
 use Rattle.fragments.specs.declared.Piece.{Piece}
 use Rattle.fragments.specs.Pieces.{arrivalOf}
-use Rattle.fragments.specs.Judge.{isUnfit, judgeOne, judgeAfter, judge}
-use Rattle.fragments.specs.Private.Engine.{noPiece, Numbered}
+use Rattle.fragments.specs.Judge.{isUnfit, judgePiece, judgeAfter, judgePieces}
+use Rattle.fragments.specs.Private.Engine.{noPiece, NumbersWithin}
 
 -- a number that is not 0
 pub positive : (n : ℕ) → (n ≡ 0 → ⊥) → 0 < n
@@ -39,29 +39,29 @@ each-at f l i h = at-after f [] l i h
 -- refused
 
 module _ (k : ℕ) (l : List Piece) (reference i : ℕ) (a : Piece) (h : i < length l) (here : a ≡ getD l i noPiece)
-    (past : reference ≡ greatestTime (map arrivalOf (take i l))) (inv : judge k l ≡ firstOf (drop i (each (judgeAfter k) l))) where
+    (past : reference ≡ greatestTime (map arrivalOf (take i l))) (inv : judgePieces k l ≡ firstOf (drop i (each (judgeAfter k) l))) where
   -- what is left, as its first and the rest
-  left : judge k l ≡ firstOf (judgeOne k reference a ∷ drop (suc i) (each (judgeAfter k) l))
+  left : judgePieces k l ≡ firstOf (judgePiece k reference a ∷ drop (suc i) (each (judgeAfter k) l))
   unfolding judgeAfter
   left =
       let n = length-each (judgeAfter k) l in
       let b : i < length (each (judgeAfter k) l) = omega arith in
-      let e : getD (each (judgeAfter k) l) i 0 ≡ judgeOne k reference a =
+      let e : getD (each (judgeAfter k) l) i 0 ≡ judgePiece k reference a =
       each-at (judgeAfter k) l i h
-      ∙ ap (λ (x : Piece). judgeOne k (greatestTime (map arrivalOf (take i l))) x) (sym here)
-      ∙ ap (λ (t : ℕ). judgeOne k t a) (sym past) in
+      ∙ ap (λ (x : Piece). judgePiece k (greatestTime (map arrivalOf (take i l))) x) (sym here)
+      ∙ ap (λ (t : ℕ). judgePiece k t a) (sym past) in
       inv ∙ ap firstOf (drop-cons (each (judgeAfter k) l) i 0 b ∙ ap (λ (x : ℕ). x ∷ drop (suc i) (each (judgeAfter k) l)) e)
 
   -- it is refused
-  pub turn-stop : (r : ℕ) → r ≡ judgeOne k reference a → (r ≡ 0 → ⊥) → r ≡ judge k l
+  pub turn-stop : (r : ℕ) → r ≡ judgePiece k reference a → (r ≡ 0 → ⊥) → r ≡ judgePieces k l
   turn-stop r e n =
-      let p : 0 < judgeOne k reference a = positive (judgeOne k reference a) (λ q. n (e ∙ q)) in
-      e ∙ sym (left ∙ first-due (judgeOne k reference a) (drop (suc i) (each (judgeAfter k) l)) p)
+      let p : 0 < judgePiece k reference a = positive (judgePiece k reference a) (λ q. n (e ∙ q)) in
+      e ∙ sym (left ∙ first-due (judgePiece k reference a) (drop (suc i) (each (judgeAfter k) l)) p)
 
   -- it is not refused
-  pub turn-next : (r : ℕ) → r ≡ judgeOne k reference a → r ≡ 0 → judge k l ≡ firstOf (drop (i + 1) (each (judgeAfter k) l))
+  pub turn-next : (r : ℕ) → r ≡ judgePiece k reference a → r ≡ 0 → judgePieces k l ≡ firstOf (drop (i + 1) (each (judgeAfter k) l))
   turn-next r e n =
-      left ∙ first-next (judgeOne k reference a) (drop (suc i) (each (judgeAfter k) l)) (sym e ∙ n)
+      left ∙ first-next (judgePiece k reference a) (drop (suc i) (each (judgeAfter k) l)) (sym e ∙ n)
       ∙ ap (λ (n : ℕ). firstOf (drop n (each (judgeAfter k) l))) (sym (add-one i))
 
   -- the reference for the next
@@ -72,12 +72,12 @@ module _ (k : ℕ) (l : List Piece) (reference i : ℕ) (a : Piece) (h : i < len
       ∙ ap greatestTime (sym (map-append arrivalOf (take i l) (a ∷ [])) ∙ ap (λ (b : Piece). map arrivalOf (take i l ++ (b ∷ []))) here ∙ ap (map arrivalOf) (sym (take-more noPiece l i h)))
 
 -- before the first
-pub turn-start : (k : ℕ) (l : List Piece) → (0 ≡ greatestTime (map arrivalOf (take 0 l))) × (judge k l ≡ firstOf (drop 0 (each (judgeAfter k) l)))
-unfolding judge greatestTime
+pub turn-start : (k : ℕ) (l : List Piece) → (0 ≡ greatestTime (map arrivalOf (take 0 l))) × (judgePieces k l ≡ firstOf (drop 0 (each (judgeAfter k) l)))
+unfolding judgePieces greatestTime
 turn-start k l = (refl, refl)
 
 -- at the end
-pub turn-done : (k : ℕ) (l : List Piece) (i : ℕ) → length l ≤ i → judge k l ≡ firstOf (drop i (each (judgeAfter k) l)) → 0 ≡ judge k l
+pub turn-done : (k : ℕ) (l : List Piece) (i : ℕ) → length l ≤ i → judgePieces k l ≡ firstOf (drop i (each (judgeAfter k) l)) → 0 ≡ judgePieces k l
 turn-done k l i h inv =
     let n = length-each (judgeAfter k) l in
     let b : length (each (judgeAfter k) l) ≤ i = omega arith in
@@ -91,15 +91,15 @@ none-at [] e i h = absurd (omega arith)
 none-at (r ∷ rs) e zero h = first-none r rs e .0
 none-at (r ∷ rs) e (suc i) h = none-at rs (first-none r rs e .1) i (omega arith)
 
-one-number : (k r : ℕ) (a : Piece) → judgeOne k r a ≡ 0 → (1 ≤ a .number) × (a .number ≤ k)
-unfolding judgeOne
+one-number : (k r : ℕ) (a : Piece) → judgePiece k r a ≡ 0 → (1 ≤ a .number) × (a .number ≤ k)
+unfolding judgePiece
 one-number k r a e =
     let p = first-none (inCase (outside 1 k (a .number)) numberOutside) (inCase (isUnfit a) fragmentUnfit ∷ inCase (tooEarly r (a .time)) timeBack ∷ []) e in
     between 1 k (a .number) (case-none (outside 1 k (a .number)) numberOutside (omega arith) (p .0))
 
 -- every number lies in 1 to k
-pub numbered : (k : ℕ) (l : List Piece) → judge k l ≡ 0 → Numbered k l
-unfolding judge judgeAfter
+pub numbered : (k : ℕ) (l : List Piece) → judgePieces k l ≡ 0 → NumbersWithin k l
+unfolding judgePieces judgeAfter
 numbered k l e = record { low = λ j h. at j h .0; high = λ j h. at j h .1 }
   where
     at : (j : ℕ) → j < length l → (1 ≤ getD l j noPiece .number) × (getD l j noPiece .number ≤ k)

@@ -9,7 +9,7 @@ use lib.Dec.{leb, eqb}
 use lib.ListN.{length, getD, drop}
 use lib.Seq.{getD-drop}
 use Rattle.fragments.specs.declared.Piece.{Piece}
-use Rattle.fragments.specs.Pieces.{piecesOf, some, isLast, end, copies}
+use Rattle.fragments.specs.Pieces.{piecesOf, some, isLast, pieceEnd, copies}
 use Rattle.fragments.specs.Private.Engine.{noPiece, endsBy, Reach}
 use Rattle.fragments.specs.Usable.{hasOctet, everyBelow, covered, complete}
 
@@ -57,10 +57,10 @@ below-reach p r h k (suc n) = go (below-reach p r h k n) (leb (suc n) r) refl
 
 -- packet s is complete exactly if one of its arrivals with no more to come ends by its first uncovered octet
 pub complete-reach : (l : List Piece) (s r : ℕ) → ((o : ℕ) → o < r → some (hasOctet s o) l ≡ true) → some (hasOctet s r) l ≡ false
-    → complete l s ≡ some (λ (a : Piece). eqb (a .number) s && (isLast a && leb (end a) r)) l
+    → complete l s ≡ some (λ (a : Piece). eqb (a .number) s && (isLast a && leb (pieceEnd a) r)) l
 unfolding complete covered
 complete-reach l s r h k =
-    some-same _ _ (λ (a : Piece). ap (λ (t : Bool). eqb (a .number) s && (isLast a && t)) (below-reach (λ (o : ℕ). some (hasOctet s o) l) r h k (end a))) l
+    some-same _ _ (λ (a : Piece). ap (λ (t : Bool). eqb (a .number) s && (isLast a && t)) (below-reach (λ (o : ℕ). some (hasOctet s o) l) r h k (pieceEnd a))) l
 
 -- ---- the arrivals of lists
 

@@ -10,9 +10,9 @@ use lib.Dec.{leb, ltb, eqb}
 use lib.ListN.{length, getD, take, set, length-set, replicate}
 use lib.Seq.{getD-set-same, getD-set-other, getD-take, length-take-le}
 use Rattle.fragments.specs.declared.Piece.{Piece}
-use Rattle.fragments.specs.Pieces.{piecesOf, some, start, end}
+use Rattle.fragments.specs.Pieces.{piecesOf, some, pieceStart, pieceEnd}
 use Rattle.fragments.specs.Usable.{hasOctet, complete}
-use Rattle.fragments.specs.Private.Engine.{noPiece, Within, Covered, Grown, In, Zero, Lasts, Firsts, Completed, Numbered, Filled}
+use Rattle.fragments.specs.Private.Engine.{noPiece, Within, Covered, Grown, In, Zero, Lasts, Firsts, Completed, NumbersWithin, SpansFilled}
 use Rattle.fragments.proofs.Laws.{some-at, some-none, octet-of, pieces-length, pieces-getD}
 
 -- none of the first j passes a test
@@ -43,16 +43,16 @@ both : (a b : Bool) → (a && b) ≡ true → (a ≡ true) × (b ≡ true)
 both true b e = (refl, e)
 both false b e = absurd (let z : _≡_ {A = ℕ} 0 1 = cc in omega arith)
 
-octet-facts : (s o : ℕ) (a : Piece) → hasOctet s o a ≡ true → (a .number ≡ s) × ((start a ≤ o) × (o < end a))
+octet-facts : (s o : ℕ) (a : Piece) → hasOctet s o a ≡ true → (a .number ≡ s) × ((pieceStart a ≤ o) × (o < pieceEnd a))
 unfolding hasOctet
 octet-facts s o a e =
-    let p = both (eqb (a .number) s) (leb (start a) o && ltb o (end a)) e in
-    let q = both (leb (start a) o) (ltb o (end a)) (p .1) in
-    (eqb-true (a .number) s (p .0), (leb-true (start a) o (q .0), ltb-true o (end a) (q .1)))
+    let p = both (eqb (a .number) s) (leb (pieceStart a) o && ltb o (pieceEnd a)) e in
+    let q = both (leb (pieceStart a) o) (ltb o (pieceEnd a)) (p .1) in
+    (eqb-true (a .number) s (p .0), (leb-true (pieceStart a) o (q .0), ltb-true o (pieceEnd a) (q .1)))
 
-octet-has : (s o : ℕ) (a : Piece) → a .number ≡ s → start a ≤ o → o < end a → hasOctet s o a ≡ true
+octet-has : (s o : ℕ) (a : Piece) → a .number ≡ s → pieceStart a ≤ o → o < pieceEnd a → hasOctet s o a ≡ true
 unfolding hasOctet
-octet-has s o a e h g = rw (eq-eqb (a .number) s e, le-leb (start a) o h, lt-ltb o (end a) g)
+octet-has s o a e h g = rw (eq-eqb (a .number) s e, le-leb (pieceStart a) o h, lt-ltb o (pieceEnd a) g)
 
 -- a pass from reach to r, over the first j
 pub record Going (l : List Piece) (s reach r j : ℕ) : Type 0 where
@@ -66,7 +66,7 @@ module _ (l : List Piece) (s reach : ℕ) where
       record { least = omega arith; covered = h; stays = λ _. none-start (hasOctet s reach) l s from to (λ a n. octet-of s reach a n) w }
 
   pub going-next : (r j r′ : ℕ) (a : Piece) → Going l s reach r j → j < length l → a ≡ getD l j noPiece
-      → r′ ≡ cond (hasOctet s r a) (end a) r
+      → r′ ≡ cond (hasOctet s r a) (pieceEnd a) r
       → r′ < 4294967296
       → Going l s reach r′ (j + 1)
   going-next r j r′ a g h here e f = go (hasOctet s r a) refl e
@@ -74,14 +74,14 @@ module _ (l : List Piece) (s reach : ℕ) where
       held : (o : ℕ) (t : Bool) → hasOctet s o a ≡ t → hasOctet s o (getD l j noPiece) ≡ t
       held o t q = rw (← here) q
 
-      each : (o : ℕ) (t : Bool) → ltb o r ≡ t → o < r′ → hasOctet s r a ≡ true → r′ ≡ end a → some (hasOctet s o) l ≡ true
+      each : (o : ℕ) (t : Bool) → ltb o r ≡ t → o < r′ → hasOctet s r a ≡ true → r′ ≡ pieceEnd a → some (hasOctet s o) l ≡ true
       each o true q p k e = g .covered .below o (ltb-true o r q)
       each o false q p k e =
           let n : r ≤ o = ltb-false o r q in
           let k = octet-facts s r a k in
           some-at (hasOctet s o) l j noPiece h (held o true (octet-has s o a (k .0) (omega arith) (omega arith)))
 
-      go : (t : Bool) → hasOctet s r a ≡ t → r′ ≡ cond t (end a) r → Going l s reach r′ (j + 1)
+      go : (t : Bool) → hasOctet s r a ≡ t → r′ ≡ cond t (pieceEnd a) r → Going l s reach r′ (j + 1)
       go true q e =
           let k = octet-facts s r a q in
           let low : reach ≤ r = g .least in
@@ -212,7 +212,7 @@ zeros (suc n) zero = refl
 zeros (suc n) (suc p) = zeros n p
 
 -- the table holds what is asked of every arrival's packet
-pub filled : (k : ℕ) (l : List Piece) (d : List ℕ) → Completed k l d → Numbered k l → Filled l d
+pub filled : (k : ℕ) (l : List Piece) (d : List ℕ) → Completed k l d → NumbersWithin k l → SpansFilled l d
 filled k l d c n =
     record {
       at = λ (j : ℕ) (h : j < length l).

@@ -17,8 +17,8 @@ use Rattle.rfc4737.proofs.Arrivals.{fold-more, firsts-more, has-firsts}
 use Rattle.rfc4737.proofs.Folds.{next-more}
 use Rattle.fragments.specs.declared.Piece.{Piece}
 use Rattle.fragments.specs.declared.Expected.{Expected}
-use Rattle.fragments.specs.Pieces.{arrivalOf, some, isLast, isWhole, copies, isCopy, firstAfter, firsts}
-use Rattle.fragments.specs.Order.{atStart, isReordered, inOrderAfter, expectedAfter, expected, flagAfter, flags}
+use Rattle.fragments.specs.Pieces.{arrivalOf, some, isLast, isWhole, copies, isCopy, firstAfter, noCopies}
+use Rattle.fragments.specs.Order.{atStart, isReorderedFragment, inOrderAfter, expectedAfter, expected, flagAfter, flags}
 use Rattle.fragments.specs.Whole.{orderFlag, WholeFlags}
 use Rattle.fragments.proofs.Laws.{some-more}
 
@@ -45,8 +45,8 @@ copy-whole (b ∷ l) a w c =
 
 -- ---- under one arrival more
 
-pub firsts-more-piece : (l : List Piece) (a : Piece) → firsts (l ++ (a ∷ [])) ≡ firsts l ++ firstAfter l a
-unfolding firsts
+pub firsts-more-piece : (l : List Piece) (a : Piece) → noCopies (l ++ (a ∷ [])) ≡ noCopies l ++ firstAfter l a
+unfolding noCopies
 firsts-more-piece l a = rw (each-more firstAfter l a) (flatten-more (each firstAfter l) (firstAfter l a))
 
 -- a copy changes nothing of what is expected
@@ -54,9 +54,9 @@ pub expected-more : (l : List Piece) (a : Piece) → expected (l ++ (a ∷ [])) 
 unfolding expected firstAfter
 expected-more l a = ap (foldl expectedAfter atStart) (firsts-more-piece l a) ∙ go (isCopy l a)
   where
-    go : (t : Bool) → foldl expectedAfter atStart (firsts l ++ cond t [] (a ∷ [])) ≡ cond t (foldl expectedAfter atStart (firsts l)) (expectedAfter (foldl expectedAfter atStart (firsts l)) a)
-    go true = ap (foldl expectedAfter atStart) (append-nil (firsts l))
-    go false = fold-more expectedAfter atStart (firsts l) a
+    go : (t : Bool) → foldl expectedAfter atStart (noCopies l ++ cond t [] (a ∷ [])) ≡ cond t (foldl expectedAfter atStart (noCopies l)) (expectedAfter (foldl expectedAfter atStart (noCopies l)) a)
+    go true = ap (foldl expectedAfter atStart) (append-nil (noCopies l))
+    go false = fold-more expectedAfter atStart (noCopies l) a
 
 -- some arrival is cut, under one arrival more
 uncut : (l : List Piece) (a : Piece) → cut (l ++ (a ∷ [])) ≡ false → (cut l ≡ false) × (isWhole a ≡ true)
@@ -69,8 +69,8 @@ uncut l a c =
 abbrev nextOnly : ℕ → Expected
 nextOnly n = record { next = n; packet = 0; fragment = 0 }
 
-reordered-whole : (n : ℕ) (a : Piece) → isReordered (nextOnly n) a ≡ ltb (a .number) n
-unfolding isReordered
+reordered-whole : (n : ℕ) (a : Piece) → isReorderedFragment (nextOnly n) a ≡ ltb (a .number) n
+unfolding isReorderedFragment
 reordered-whole n a =
     rw (le-ltb (a .number) 0 (omega arith), le-ltb (a .offset) 0 (omega arith), and-false (eqb (a .number) 0), and-false (leb n (a .number)))
     (or-false (ltb (a .number) n))
@@ -96,7 +96,7 @@ baseNext-more l a = rw (map-append arrivalOf l (a ∷ []), firsts-more (map arri
     go false = next-more (base.firsts (map arrivalOf l)) (arrivalOf a)
 
 expected-whole : (l : List Piece) → cut l ≡ false → expected l ≡ nextOnly (baseNext l)
-unfolding expected firsts each eachAfter flatten baseNext base.firsts nextExp
+unfolding expected noCopies each eachAfter flatten baseNext base.firsts nextExp
 expected-whole = snoc-ind (λ (l : List Piece). cut l ≡ false → expected l ≡ nextOnly (baseNext l)) more (λ c. refl)
   where
     go : (n : ℕ) (a : Piece) → isLast a ≡ true → (t : Bool) → cond t (nextOnly n) (expectedAfter (nextOnly n) a) ≡ nextOnly (cond t n (nextAfter n (a .number)))

@@ -12,25 +12,25 @@ use Rattle.sample.specs.Calls.{unlessRefused}
 use Rattle.fragments.specs.Pieces.{piecesOf}
 use Rattle.fragments.specs.Order.{flags}
 use Rattle.fragments.specs.Usable.{usable}
-use Rattle.fragments.specs.Judge.{judge}
+use Rattle.fragments.specs.Judge.{judgePieces}
 
 -- whether four lists are as long as one of n values
 unfoldable pub sameLengths : ℕ → ℕ → ℕ → ℕ → ℕ → Bool
 sameLengths n times lengths mores offsets = eqb n times && (eqb n lengths && (eqb n mores && eqb n offsets))
 
 -- the first refusal that is due: 4, 5 (by the list of numbers), 12, the arrivals in turn, 8
-unfoldable pub refusalOf : ℕ → List ℕ → List ℕ → List ℕ → List ℕ → List ℕ → ℕ → ℕ → ℕ
-refusalOf k numbers times lengths mores offsets flagRoom usableRoom =
+unfoldable pub orderRefusal : ℕ → List ℕ → List ℕ → List ℕ → List ℕ → List ℕ → ℕ → ℕ → ℕ
+orderRefusal k numbers times lengths mores offsets flagRoom usableRoom =
     firstOf
     (judgeSent k
     ∷ judgeArrivals (length numbers)
     ∷ inCase (not (sameLengths (length numbers) (length times) (length lengths) (length mores) (length offsets))) listsDiffer
-    ∷ judge k (piecesOf numbers times lengths mores offsets)
+    ∷ judgePieces k (piecesOf numbers times lengths mores offsets)
     ∷ inCase (ltb flagRoom (length numbers) || ltb usableRoom (length numbers)) outputShort
     ∷ [])
 
 -- the answer, and the two lent lists after it: the values from their start, all else as it was
-pub record Marked (k : ℕ) (numbers times lengths mores offsets flagged used : List ℕ) (answer : ℕ) (flagged′ used′ : List ℕ) : Type 0 where
-  pub refusal : answer ≡ refusalOf k numbers times lengths mores offsets (length flagged) (length used)
+pub record OrderedTo (k : ℕ) (numbers times lengths mores offsets flagged used : List ℕ) (answer : ℕ) (flagged′ used′ : List ℕ) : Type 0 where
+  pub refusal : answer ≡ orderRefusal k numbers times lengths mores offsets (length flagged) (length used)
   pub filledFlags : flagged′ ≡ over (unlessRefused answer (flags (piecesOf numbers times lengths mores offsets))) flagged
   pub filledUsable : used′ ≡ over (unlessRefused answer (usable (piecesOf numbers times lengths mores offsets))) used

@@ -5,7 +5,7 @@ use mathlib.Core.List.{List, [], _∷_, map}
 use Rattle.fragments.specs.declared.Piece.{Piece}
 use Rattle.fragments.specs.Order.{flags}
 use Rattle.fragments.specs.Usable.{usable}
-use Rattle.fragments.specs.Judge.{judgeOne}
+use Rattle.fragments.specs.Judge.{judgePiece}
 
 -- an arrival at time 0
 abbrev pub piece : ℕ → ℕ → ℕ → ℕ → Piece
@@ -61,4 +61,4 @@ pub record FlaggedAsGiven : Type 0 where
   pub marked : map (λ (c : List Piece × (List ℕ × List ℕ)). (flags (c .0), usable (c .0))) table
       ≡ map (λ (c : List Piece × (List ℕ × List ℕ)). c .1) table
   -- the arrivals, after a greatest time of 2,000, K being 2
-  pub refused : map (λ (c : Piece × ℕ). judgeOne 2 2000 (c .0)) refusedTable ≡ map (λ (c : Piece × ℕ). c .1) refusedTable
+  pub refused : map (λ (c : Piece × ℕ). judgePiece 2 2000 (c .0)) refusedTable ≡ map (λ (c : Piece × ℕ). c .1) refusedTable

@@ -7,7 +7,7 @@ use Rattle.rfc4737.specs.Arrivals.{each}
 use Rattle.rfc4737.specs.Times.{tooEarly, greatestTime}
 use Rattle.rfc4737.specs.Refusals.{outside, inCase, firstOf, numberOutside, timeBack, fragmentUnfit}
 use Rattle.fragments.specs.declared.Piece.{Piece}
-use Rattle.fragments.specs.Pieces.{arrivalOf, isLast, isWhole, end}
+use Rattle.fragments.specs.Pieces.{arrivalOf, isLast, isWhole, pieceEnd}
 
 -- the greatest end of a fragment
 abbrev pub endMost : ℕ
@@ -16,11 +16,11 @@ endMost = 65535
 -- a fragment of length 0, one with more to come and a length no multiple of 8, or one whose end is over 65,535
 unfoldable pub isUnfit : Piece → Bool
 isUnfit a =
-    not (isWhole a) && (eqb (a .length) 0 || (not (isLast a) && not (eqb (a .length % 8) 0) || ltb endMost (end a)))
+    not (isWhole a) && (eqb (a .length) 0 || (not (isLast a) && not (eqb (a .length % 8) 0) || ltb endMost (pieceEnd a)))
 
 -- one arrival, by K and the reference for its time: 6, 17, 7
-unfoldable pub judgeOne : ℕ → ℕ → Piece → ℕ
-judgeOne k reference a =
+unfoldable pub judgePiece : ℕ → ℕ → Piece → ℕ
+judgePiece k reference a =
     firstOf
     (inCase (outside 1 k (a .number)) numberOutside
     ∷ inCase (isUnfit a) fragmentUnfit
@@ -29,8 +29,8 @@ judgeOne k reference a =
 
 -- one arrival, after those before it, whose greatest time is the reference
 unfoldable pub judgeAfter : ℕ → List Piece → Piece → ℕ
-judgeAfter k earlier a = judgeOne k (greatestTime (map arrivalOf earlier)) a
+judgeAfter k earlier a = judgePiece k (greatestTime (map arrivalOf earlier)) a
 
 -- the arrivals in turn
-unfoldable pub judge : ℕ → List Piece → ℕ
-judge k l = firstOf (each (judgeAfter k) l)
+unfoldable pub judgePieces : ℕ → List Piece → ℕ
+judgePieces k l = firstOf (each (judgeAfter k) l)

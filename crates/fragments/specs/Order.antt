@@ -7,15 +7,15 @@ use Rattle.rfc4737.specs.Arrivals.{each}
 use Rattle.rfc4737.specs.Numbering.{inOrderNumber, reorderedAfterNumber, duplicateNumber}
 use Rattle.fragments.specs.declared.Piece.{Piece}
 use Rattle.fragments.specs.declared.Expected.{Expected}
-use Rattle.fragments.specs.Pieces.{isLast, isCopy, firsts}
+use Rattle.fragments.specs.Pieces.{isLast, isCopy, noCopies}
 
 -- what is expected at the start: NextExp 1, FragSeq# and NextExpFrag 0
 abbrev pub atStart : Expected
 atStart = record { next = 1; packet = 0; fragment = 0 }
 
 -- case 1: s < NextExp; case 2: s < FragSeq#; case 3: s >= NextExp and s = FragSeq# and FragOffset < NextExpFrag
-unfoldable pub isReordered : Expected → Piece → Bool
-isReordered e a =
+unfoldable pub isReorderedFragment : Expected → Piece → Bool
+isReorderedFragment e a =
     ltb (a .number) (e .next) || (ltb (a .number) (e .packet)
     || (leb (e .next) (a .number) && (eqb (a .number) (e .packet) && ltb (a .offset) (e .fragment))))
 
@@ -28,15 +28,15 @@ inOrderAfter e a =
 
 -- reordered, nothing changes
 unfoldable pub expectedAfter : Expected → Piece → Expected
-expectedAfter e a = cond (isReordered e a) e (inOrderAfter e a)
+expectedAfter e a = cond (isReorderedFragment e a) e (inOrderAfter e a)
 
 -- what is expected after some arrivals, of which copies change nothing
 unfoldable pub expected : List Piece → Expected
-expected earlier = foldl expectedAfter atStart (firsts earlier)
+expected earlier = foldl expectedAfter atStart (noCopies earlier)
 
 -- the flag, a number of an answer's case: in order, reordered, or a copy
 unfoldable pub flagAfter : List Piece → Piece → ℕ
-flagAfter earlier a = cond (isCopy earlier a) duplicateNumber (cond (isReordered (expected earlier) a) reorderedAfterNumber inOrderNumber)
+flagAfter earlier a = cond (isCopy earlier a) duplicateNumber (cond (isReorderedFragment (expected earlier) a) reorderedAfterNumber inOrderNumber)
 
 -- the flags of the arrivals
 unfoldable pub flags : List Piece → List ℕ

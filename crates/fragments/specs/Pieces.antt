@@ -28,12 +28,12 @@ abbrev pub isWhole : Piece → Bool
 isWhole a = isLast a && eqb (a .offset) 0
 
 -- the place of its first octet in its packet; offsets are in units of 8 octets
-abbrev pub start : Piece → ℕ
-start a = 8 * a .offset
+abbrev pub pieceStart : Piece → ℕ
+pieceStart a = 8 * a .offset
 
 -- the place after its last octet
-abbrev pub end : Piece → ℕ
-end a = 8 * a .offset + a .length
+abbrev pub pieceEnd : Piece → ℕ
+pieceEnd a = 8 * a .offset + a .length
 
 module _ {ℓ} {A : Type ℓ} where
   -- whether some element passes a test
@@ -55,5 +55,5 @@ unfoldable pub firstAfter : List Piece → Piece → List Piece
 firstAfter earlier a = cond (isCopy earlier a) [] (a ∷ [])
 
 -- the arrivals that are no copies
-unfoldable pub firsts : List Piece → List Piece
-firsts l = flatten (each firstAfter l)
+unfoldable pub noCopies : List Piece → List Piece
+noCopies l = flatten (each firstAfter l)

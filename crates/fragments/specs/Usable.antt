@@ -5,11 +5,11 @@ use mathlib.Core.List.{List}
 use lib.Dec.{leb, ltb, eqb}
 use Rattle.rfc4737.specs.Arrivals.{each}
 use Rattle.fragments.specs.declared.Piece.{Piece}
-use Rattle.fragments.specs.Pieces.{isLast, start, end, some, isCopy}
+use Rattle.fragments.specs.Pieces.{isLast, pieceStart, pieceEnd, some, isCopy}
 
 -- whether an arrival is of packet s and has its octet o
 unfoldable pub hasOctet : ℕ → ℕ → Piece → Bool
-hasOctet s o a = eqb (a .number) s && (leb (start a) o && ltb o (end a))
+hasOctet s o a = eqb (a .number) s && (leb (pieceStart a) o && ltb o (pieceEnd a))
 
 -- whether every number below n passes a test
 unfoldable pub everyBelow : ℕ → (ℕ → Bool) → Bool
@@ -22,7 +22,7 @@ covered l s n = everyBelow n (λ (o : ℕ). some (hasOctet s o) l)
 
 -- whether packet s's arrivals cover every octet from 0 to the end of one with no more to come
 unfoldable pub complete : List Piece → ℕ → Bool
-complete l s = some (λ (a : Piece). eqb (a .number) s && (isLast a && covered l s (end a))) l
+complete l s = some (λ (a : Piece). eqb (a .number) s && (isLast a && covered l s (pieceEnd a))) l
 
 -- usable: no copy, and its packet is complete; 1 if so, else 0
 unfoldable pub usableAfter : List Piece → List Piece → Piece → ℕ

@@ -1,7 +1,7 @@
 // How far a packet's arrivals cover it, and whether it is complete.
 ghost use mathlib.Core.Path.{_≡_};
 ghost use mathlib.Core.Bool.{cond};
-ghost use Rattle.fragments.specs.Pieces.{piecesOf, end};
+ghost use Rattle.fragments.specs.Pieces.{piecesOf, pieceEnd};
 ghost use Rattle.fragments.specs.Usable.{hasOctet, complete};
 ghost use Rattle.fragments.specs.Private.Engine.{Lists, Within, Covered, Reach, Grown, endsBy};
 use crate::Piece;
@@ -23,7 +23,7 @@ fn has_octet(s: u32, o: u32, a: Piece) -> bool
 
 // How far an arrival takes a packet that is covered up to r.
 fn grown(s: u32, r: u32, a: Piece) -> u32
-    ensures { λ n. ⌜ n ≡ cond (hasOctet s r a) (end a) r ⌝ }
+    ensures { λ n. ⌜ n ≡ cond (hasOctet s r a) (pieceEnd a) r ⌝ }
 {
     if has_octet(s, r, a) {
         return end_of(a);

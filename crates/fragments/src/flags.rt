@@ -6,9 +6,9 @@ ghost use lib.ListN.{length};
 ghost use Rattle.octets.specs.Memory.{over};
 ghost use Rattle.rfc4737.specs.Numbering.{inOrderNumber, reorderedAfterNumber, duplicateNumber};
 ghost use Rattle.fragments.specs.Pieces.{piecesOf};
-ghost use Rattle.fragments.specs.Order.{isReordered, expectedAfter, flags};
+ghost use Rattle.fragments.specs.Order.{isReorderedFragment, expectedAfter, flags};
 ghost use Rattle.fragments.specs.Usable.{usable};
-ghost use Rattle.fragments.specs.Private.Engine.{Lists, In, Firsts, Filled};
+ghost use Rattle.fragments.specs.Private.Engine.{Lists, In, Firsts, SpansFilled};
 use crate::Expected;
 use crate::PACKETS;
 use crate::Piece;
@@ -28,7 +28,7 @@ const ORDERED: u8 = IN_ORDER as u8;
 
 // Whether an arrival is reordered: the three cases.
 fn is_reordered(e: Expected, a: Piece) -> bool
-    ensures { λ r. ⌜ r ≡ isReordered e a ⌝ }
+    ensures { λ r. ⌜ r ≡ isReorderedFragment e a ⌝ }
 {
     if a.number < e.next {
         return true;
@@ -44,7 +44,7 @@ fn is_reordered(e: Expected, a: Piece) -> bool
 
 // The flag of an arrival.
 fn flag_of(copy: bool, e: Expected, a: Piece) -> u8
-    ensures { λ r. ⌜ r ≡ cond copy duplicateNumber (cond (isReordered e a) reorderedAfterNumber inOrderNumber) ⌝ }
+    ensures { λ r. ⌜ r ≡ cond copy duplicateNumber (cond (isReorderedFragment e a) reorderedAfterNumber inOrderNumber) ⌝ }
 {
     if copy {
         return COPY;
@@ -103,7 +103,7 @@ pub(crate) fn fill(
     used: &mut [u8],
 )
     requires { ⌜ Lists (now numbers) (now times) (now lengths) (now mores) (now offsets) × In (now numbers) × Firsts (now numbers) (now firsts)
-        × Filled (piecesOf (now numbers) (now times) (now lengths) (now mores) (now offsets)) (now table)
+        × SpansFilled (piecesOf (now numbers) (now times) (now lengths) (now mores) (now offsets)) (now table)
         × (length (now numbers) ≤ length (now flagged)) × (length (now numbers) ≤ length (now used)) ⌝ }
     ensures { λ _. ⌜ (now (flagged .exit) ≡ over (flags (piecesOf (now (numbers .entry)) (now (times .entry)) (now (lengths .entry)) (now (mores .entry)) (now (offsets .entry)))) (now (flagged .entry)))
         × (now (used .exit) ≡ over (usable (piecesOf (now (numbers .entry)) (now (times .entry)) (now (lengths .entry)) (now (mores .entry)) (now (offsets .entry)))) (now (used .entry))) ⌝ }

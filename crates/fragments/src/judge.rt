@@ -1,9 +1,9 @@
 // What is refused: K, the lists, and the arrivals in turn.
 ghost use mathlib.Core.Path.{_≡_};
 ghost use Rattle.fragments.specs.Pieces.{piecesOf};
-ghost use Rattle.fragments.specs.Judge.{isUnfit, judgeOne, judge};
+ghost use Rattle.fragments.specs.Judge.{isUnfit, judgePiece, judgePieces};
 ghost use Rattle.fragments.specs.Private.Engine.{Lists};
-ghost use Rattle.fragments.specs.Calls.{sameLengths, refusalOf};
+ghost use Rattle.fragments.specs.Calls.{sameLengths, orderRefusal};
 use crate::Piece;
 use crate::arrival::end_of;
 use crate::arrival::is_whole;
@@ -45,7 +45,7 @@ fn is_unfit(a: Piece) -> bool
 
 // One arrival: 6, 17, 7.
 fn judge_one(k: u64, reference: u64, a: Piece) -> u32
-    ensures { λ r. ⌜ r ≡ judgeOne k reference a ⌝ }
+    ensures { λ r. ⌜ r ≡ judgePiece k reference a ⌝ }
 {
     if outside(1, k, a.number as u64) {
         return NUMBER_OUTSIDE;
@@ -69,7 +69,7 @@ fn judge_all(
     offsets: &[u16],
 ) -> u32
     requires { ⌜ Lists (now numbers) (now times) (now lengths) (now mores) (now offsets) ⌝ }
-    ensures { λ r. ⌜ r ≡ judge k (piecesOf (now (numbers .entry)) (now (times .entry)) (now (lengths .entry)) (now (mores .entry)) (now (offsets .entry))) ⌝ }
+    ensures { λ r. ⌜ r ≡ judgePieces k (piecesOf (now (numbers .entry)) (now (times .entry)) (now (lengths .entry)) (now (mores .entry)) (now (offsets .entry))) ⌝ }
 {
     let mut reference: u64 = 0;
     let mut i = 0;
@@ -112,7 +112,7 @@ pub(crate) fn refusal_of(
     flagroom: usize,
     usedroom: usize,
 ) -> u32
-    ensures { λ r. ⌜ r ≡ refusalOf k (now (numbers .entry)) (now (times .entry)) (now (lengths .entry)) (now (mores .entry)) (now (offsets .entry)) flagroom usedroom ⌝ }
+    ensures { λ r. ⌜ r ≡ orderRefusal k (now (numbers .entry)) (now (times .entry)) (now (lengths .entry)) (now (mores .entry)) (now (offsets .entry)) flagroom usedroom ⌝ }
 {
     if outside(1, SENT_MOST, k as u64) {
         return SENT_OUTSIDE;

@@ -7,8 +7,8 @@ ghost use Rattle.octets.specs.Memory.{over};
 ghost use Rattle.fragments.specs.Pieces.{piecesOf};
 ghost use Rattle.fragments.specs.Order.{flags};
 ghost use Rattle.fragments.specs.Usable.{usable};
-ghost use Rattle.fragments.specs.Private.Engine.{Lists, In, Numbered};
-ghost use Rattle.fragments.specs.Calls.{Marked};
+ghost use Rattle.fragments.specs.Private.Engine.{Lists, In, NumbersWithin};
+ghost use Rattle.fragments.specs.Calls.{OrderedTo};
 ghost use Rattle.fragments.specs.Whole.{WholeFlags};
 ghost use Rattle.fragments.specs.Cases.{FlaggedAsGiven};
 
@@ -56,7 +56,7 @@ fn mark(
     used: &mut [u8],
 )
     requires { ⌜ (k ≤ 4096) × Lists (now numbers) (now times) (now lengths) (now mores) (now offsets) × In (now numbers)
-        × Numbered k (piecesOf (now numbers) (now times) (now lengths) (now mores) (now offsets))
+        × NumbersWithin k (piecesOf (now numbers) (now times) (now lengths) (now mores) (now offsets))
         × (length (now numbers) ≤ length (now flagged)) × (length (now numbers) ≤ length (now used)) ⌝ }
     ensures { λ _. ⌜ (now (flagged .exit) ≡ over (flags (piecesOf (now (numbers .entry)) (now (times .entry)) (now (lengths .entry)) (now (mores .entry)) (now (offsets .entry)))) (now (flagged .entry)))
         × (now (used .exit) ≡ over (usable (piecesOf (now (numbers .entry)) (now (times .entry)) (now (lengths .entry)) (now (mores .entry)) (now (offsets .entry)))) (now (used .entry))) ⌝ }
@@ -103,7 +103,7 @@ pub fn order(
     flagged: &mut [u8],
     used: &mut [u8],
 ) -> u32
-    ensures { λ r. ⌜ Marked k (now (numbers .entry)) (now (times .entry)) (now (lengths .entry)) (now (mores .entry)) (now (offsets .entry)) (now (flagged .entry)) (now (used .entry)) r (now (flagged .exit)) (now (used .exit)) ⌝ }
+    ensures { λ r. ⌜ OrderedTo k (now (numbers .entry)) (now (times .entry)) (now (lengths .entry)) (now (mores .entry)) (now (offsets .entry)) (now (flagged .entry)) (now (used .entry)) r (now (flagged .exit)) (now (used .exit)) ⌝ }
     ensures whole { λ _. ⌜ WholeFlags (piecesOf (now (numbers .entry)) (now (times .entry)) (now (lengths .entry)) (now (mores .entry)) (now (offsets .entry))) ⌝ }
     ensures cases { λ _. ⌜ FlaggedAsGiven ⌝ }
 {

@@ -9,13 +9,13 @@ use lib.ListN.{length, take, drop, replicate, length-map, length-append, length-
 use Rattle.octets.specs.Memory.{over}
 use Rattle.octets.proofs.Memory.{over-read}
 use Rattle.rfc4737.specs.declared.Arrival.{Arrival}
-use Rattle.rfc4737.specs.Judge.{arrivalsMost, sentMost, numbersOf, timesOf, arrivalsOf, refusalOfLists}
+use Rattle.rfc4737.specs.Judge.{arrivalsMost, sentMost, numbersOf, timesOf, arrivalsFrom, refusalOfLists}
 use Rattle.rfc4737.specs.Refusals.{outside, inCase, firstOf, outputShort}
 use Rattle.rfc4737.proofs.Due.{first-one}
 use Rattle.rfc4737.proofs.Pairs.{arrivals-back}
 use Rattle.sample.specs.Format.{fileOf}
 use Rattle.sample.specs.Judge.{someUnshown}
-use Rattle.sample.specs.Calls.{unlessRefused, refusalFrom, refusalInto, WrittenTo}
+use Rattle.sample.specs.Calls.{unlessRefused, sampleRefusal, writeRefusal, WrittenTo}
 use Rattle.sample.specs.declared.Written.{Written}
 use Rattle.textlog.specs.Decode.{lines, arrivalsIn, judgeLog}
 use Rattle.textlog.specs.Calls.{arrivalsUnless, ImportedFrom}
@@ -23,7 +23,7 @@ use Rattle.textlog.specs.declared.Imported.{Imported}
 use Rattle.textlog.proofs.Filling.{lines-length}
 use Rattle.textlog.proofs.Accepted.{accepted-log, accepted-lists}
 use Rattle.textlog.proofs.Answers.{import-room}
-use Rattle.owamp.specs.Judge.{refusalIn}
+use Rattle.owamp.specs.Judge.{recordsRefusal}
 use Rattle.owamp.specs.Calls.{imported, importRefusal}
 use Rattle.owamp.specs.Calls.{ImportedFrom as RecordsImported}
 use Rattle.owamp.specs.declared.Imported.{Imported as Records}
@@ -87,11 +87,11 @@ module _ (k : ℕ) (log numbers times : List ℕ) (y : Imported) (numbers′ tim
 module _ (k : ℕ) (os numbers times : List ℕ) (y : Records) (numbers′ times′ : List ℕ)
     (f : RecordsImported k os numbers times y numbers′ times′) (n : arrivalsMost ≤ length numbers) (t : arrivalsMost ≤ length times) where
   -- where there are places for 4,096 arrivals, the refusal is the records' own
-  pub records-refusal : y .refusal ≡ refusalIn k os
+  pub records-refusal : y .refusal ≡ recordsRefusal k os
   records-refusal = f .refusal ∙ records-room k (length numbers) (length times) os n t
 
   module _ (z : y .refusal ≡ 0) where
-    pub records-none : refusalIn k os ≡ 0
+    pub records-none : recordsRefusal k os ≡ 0
     records-none = sym records-refusal ∙ z
 
     pub records-sent : k ≤ sentMost
@@ -117,13 +117,13 @@ module _ (k : ℕ) (os numbers times : List ℕ) (y : Records) (numbers′ times
 -- ---- what is answered
 
 -- with no label, and nothing of K and the lists refused, the sample's writer refuses by 8 alone
-label-none : (sizes numbers times : List ℕ) → refusalOfLists (length sizes) numbers times ≡ 0 → refusalFrom [] sizes numbers times ≡ 0
-unfolding refusalFrom outside someUnshown
+label-none : (sizes numbers times : List ℕ) → refusalOfLists (length sizes) numbers times ≡ 0 → sampleRefusal [] sizes numbers times ≡ 0
+unfolding sampleRefusal outside someUnshown
 label-none sizes numbers times e = rw e
 
 room-alone : (room : ℕ) (sizes numbers times : List ℕ) → refusalOfLists (length sizes) numbers times ≡ 0
-    → refusalInto room [] sizes numbers times ≡ inCase (ltb room (length (fileOf (record { label = []; sizes = sizes; arrivals = arrivalsOf numbers times })))) outputShort
-unfolding refusalInto
+    → writeRefusal room [] sizes numbers times ≡ inCase (ltb room (length (fileOf (record { label = []; sizes = sizes; arrivals = arrivalsFrom numbers times })))) outputShort
+unfolding writeRefusal
 room-alone room sizes numbers times e = rw (label-none sizes numbers times e) (first-one _)
 
 module _ (k size refusal line : ℕ) (l : List Arrival) (out : List ℕ) where
@@ -159,7 +159,7 @@ module _ (k size refusal line : ℕ) (l : List Arrival) (out : List ℕ) where
       subst (λ (x : List ℕ). WrittenTo [] (replicate k size) (numbersOf l) x out written out′) et
       (subst (λ (x : List ℕ). WrittenTo [] (replicate k size) x times out written out′) en w₀) in
       let short : ℕ = inCase (ltb (length out) (length (fileOf (sampleWith k size l)))) outputShort in
-      let same : fileOf (record { label = []; sizes = replicate k size; arrivals = arrivalsOf (numbersOf l) (timesOf l) }) ≡ fileOf (sampleWith k size l) =
+      let same : fileOf (record { label = []; sizes = replicate k size; arrivals = arrivalsFrom (numbersOf l) (timesOf l) }) ≡ fileOf (sampleWith k size l) =
       ap (λ (x : List Arrival). fileOf (sampleWith k size x)) (arrivals-back l) in
       let alone : written .refusal ≡ short =
       w .refusal

@@ -4,7 +4,7 @@ ghost use mathlib.Core.List.{[]};
 ghost use lib.ListN.{replicate};
 ghost use Rattle.sample.specs.Calls.{WrittenTo};
 ghost use Rattle.textlog.specs.Decode.{judgeLog, arrivalsIn};
-ghost use Rattle.owamp.specs.Judge.{refusalIn};
+ghost use Rattle.owamp.specs.Judge.{recordsRefusal};
 ghost use Rattle.owamp.specs.Calls.{imported};
 ghost use Rattle.import_log.specs.Convert.{sampleWith, ConvertedTo};
 use sample::Written;
@@ -55,7 +55,7 @@ pub(crate) fn convert(log: &[u8], k: u32, size: u16, out: &mut [u8]) -> Converte
 
 // The same of OWAMP records.
 pub(crate) fn convert_records(records: &[u8], k: u32, size: u16, out: &mut [u8]) -> Converted
-    ensures { λ r. ⌜ ConvertedTo (refusalIn k (now (records .entry))) 0 (sampleWith k size (imported (now (records .entry)))) (now (out .entry)) r (now (out .exit)) ⌝ }
+    ensures { λ r. ⌜ ConvertedTo (recordsRefusal k (now (records .entry))) 0 (sampleWith k size (imported (now (records .entry)))) (now (out .entry)) r (now (out .exit)) ⌝ }
 {
     let mut numbers = [0u32; PLACES];
     let mut times = [0u64; PLACES];

@@ -8,10 +8,10 @@ use Rattle.rfc4737.specs.Extent.{firstAbove, discontinuity, extentFrom, lateFro
 use Rattle.rfc4737.specs.Times.{elapsed}
 use Rattle.rfc4737.specs.Answer.{inOrderAnswer, reorderedAnswer, firstAnswer, answerTo, answers}
 use Rattle.rfc4737.specs.Runs.{arrived, lengthened, ended, runsAfter, runs, counts}
-use Rattle.rfc4737.specs.Cases.{figuresOf, measured, timed, p1}
+use Rattle.rfc4737.specs.Cases.{caseFigures, measured, timed, p1}
 use Rattle.listing.specs.Lines.{lateTime, headerLine, recordLine, endLine, recordLinesFrom, recordLines, listingOf}
 use Rattle.listing.specs.Example.{listingOfCase, ExampleHolds}
 
 pub example-holds : ExampleHolds
-unfolding flatten significant decimalOf has withArrival firsts recordFrom firstRecord eachAfter each count nextAfter nextExp isInOrder jumpSize placed firstAbove discontinuity extentFrom elapsed lateFrom sizeIn byteOffset largestN inOrderAnswer reorderedAnswer firstAnswer answerTo answers arrived lengthened ended runsAfter runs counts figuresOf measured timed p1 lateTime headerLine recordLine endLine recordLinesFrom recordLines listingOf listingOfCase
+unfolding flatten significant decimalOf has withArrival firsts recordFrom firstRecord eachAfter each count nextAfter nextExp isInOrder jumpSize placed firstAbove discontinuity extentFrom elapsed lateFrom sizeIn byteOffset largestN inOrderAnswer reorderedAnswer firstAnswer answerTo answers arrived lengthened ended runsAfter runs counts caseFigures measured timed p1 lateTime headerLine recordLine endLine recordLinesFrom recordLines listingOf listingOfCase
 example-holds = refl

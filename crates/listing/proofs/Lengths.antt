@@ -13,10 +13,10 @@ use Rattle.rfc4737.specs.declared.LateTime.the-variants.{After, Before}
 use Rattle.rfc4737.specs.declared.Counts.{Counts}
 use Rattle.listing.specs.Words.{minus}
 use Rattle.listing.specs.Lines.{number, sign, lateTime, headerLine, recordLine, endLine, refusedLine}
-use Rattle.listing.specs.Private.Within.{Small, TimeWithin, AnswerWithin, CountsWithin}
+use Rattle.listing.specs.Private.DigitBounds.{FourDigits, TimeWithin, AnswerWithin, CountsWithin}
 
 -- a number of at most four digits
-small : (n : ℕ) → Small n → length (number n) ≤ 4
+small : (n : ℕ) → FourDigits n → length (number n) ≤ 4
 small n h = at-most 4 n (omega arith) h
 
 -- at most a minus
@@ -35,12 +35,12 @@ time-octets (After t) h = at-most-20 t h
 time-octets (Before t) h = simp length-append (omega (arith, sign-octets (Before t), small t (omega arith)))
 
 -- the first line
-pub header-octets : (k a : ℕ) → Small k → Small a → length (headerLine k a) ≤ 24
+pub header-octets : (k a : ℕ) → FourDigits k → FourDigits a → length (headerLine k a) ≤ 24
 unfolding headerLine
 header-octets k a hk ha = simp length-append (omega (arith, small k hk, small a ha))
 
 -- a record's line
-pub record-octets : (r n : ℕ) (a : Answer) → Small r → Small n → AnswerWithin a → length (recordLine r n a) ≤ 61
+pub record-octets : (r n : ℕ) (a : Answer) → FourDigits r → FourDigits n → AnswerWithin a → length (recordLine r n a) ≤ 61
 unfolding recordLine
 record-octets r n (Duplicate f) hr hn h = simp length-append (omega (arith, small r hr, small n hn, small (f .first) h))
 record-octets r n (InOrder f) hr hn h =

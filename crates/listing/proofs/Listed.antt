@@ -10,21 +10,21 @@ use Rattle.rfc4737.specs.declared.Arrival.{Arrival}
 use Rattle.rfc4737.specs.declared.Answer.{Answer}
 use Rattle.rfc4737.specs.declared.Counts.{Counts}
 use Rattle.listing.specs.Lines.{headerLine, recordLine, endLine, recordLinesFrom, recordLines, listingOf}
-use Rattle.listing.specs.Private.Listed.{upTo, Listed}
+use Rattle.listing.specs.Private.Listed.{listingUpTo, Listed}
 use Rattle.listing.proofs.Records.{lines-more}
 
 -- no record
-pub up-to-none : (k a : ℕ) → upTo k a [] [] ≡ headerLine k a
+pub up-to-none : (k a : ℕ) → listingUpTo k a [] [] ≡ headerLine k a
 unfolding recordLines recordLinesFrom
 up-to-none k a = append-nil (headerLine k a)
 
 -- one record more
 pub up-to-more : (k a : ℕ) (l : List Arrival) (m : List Answer) (x : Arrival) (y : Answer) → length m ≡ length l
-    → upTo k a (l ++ (x ∷ [])) (m ++ (y ∷ [])) ≡ upTo k a l m ++ recordLine (length l + 1) (x .number) y
+    → listingUpTo k a (l ++ (x ∷ [])) (m ++ (y ∷ [])) ≡ listingUpTo k a l m ++ recordLine (length l + 1) (x .number) y
 up-to-more k a l m x y e = rw (lines-more l m x y e) (sym (append-assoc (headerLine k a) (recordLines l m) _))
 
 -- and the last line: the listing
-pub up-to-end : (k : ℕ) (l : List Arrival) (m : List Answer) (c : Counts) → upTo k (length l) l m ++ endLine c ≡ listingOf k l m c
+pub up-to-end : (k : ℕ) (l : List Arrival) (m : List Answer) (c : Counts) → listingUpTo k (length l) l m ++ endLine c ≡ listingOf k l m c
 unfolding listingOf
 up-to-end k l m c = append-assoc (headerLine k (length l)) (recordLines l m) (endLine c)
 
@@ -44,13 +44,13 @@ pub listed-next : (k a : ℕ) (old : List ℕ) {l : List Arrival} {m : List Answ
     → newer ≡ put at (recordLine (i + 1) (x .number) y) new → Listed k a (l ++ (x ∷ [])) (m ++ (y ∷ [])) (at + n) old newer
 listed-next k a old {l} {m} {at} {n} {new} {newer} i x y p s e w =
     let text : List ℕ = recordLine (i + 1) (x .number) y in
-    let so : upTo k a (l ++ (x ∷ [])) (m ++ (y ∷ [])) ≡ upTo k a l m ++ text = rw p at (up-to-more k a l m x y (s .paired)) in
+    let so : listingUpTo k a (l ++ (x ∷ [])) (m ++ (y ∷ [])) ≡ listingUpTo k a l m ++ text = rw p at (up-to-more k a l m x y (s .paired)) in
     record {
       paired = simp length-append (omega (arith, s .paired));
-      place = rw (so, length-append (upTo k a l m) text) (omega (arith, s .place));
+      place = rw (so, length-append (listingUpTo k a l m) text) (omega (arith, s .place));
       memory =
           λ h.
-          rw (so, w, s .memory (omega arith)) (put-over at (upTo k a l m) text old (s .place) (omega arith));
+          rw (so, w, s .memory (omega arith)) (put-over at (listingUpTo k a l m) text old (s .place) (omega arith));
     }
 
 -- after the last line the listing stands at the start of memory, whole, if it fits
@@ -58,8 +58,8 @@ pub listed-end : (k : ℕ) (old : List ℕ) {l : List Arrival} {m : List Answer}
     → Listed k (length l) l m at old new → n ≡ length (endLine c) → newer ≡ put at (endLine c) new
     → (at + n ≡ length (listingOf k l m c)) × (at + n ≤ length old → newer ≡ over (listingOf k l m c) old)
 listed-end k old {l} {m} {at} {n} {new} {newer} c s e w =
-    let whole : upTo k (length l) l m ++ endLine c ≡ listingOf k l m c = up-to-end k l m c in (
-      rw (← whole, length-append (upTo k (length l) l m) (endLine c)) (omega (arith, s .place)),
+    let whole : listingUpTo k (length l) l m ++ endLine c ≡ listingOf k l m c = up-to-end k l m c in (
+      rw (← whole, length-append (listingUpTo k (length l) l m) (endLine c)) (omega (arith, s .place)),
       λ h.
-          rw (← whole, w, s .memory (omega arith)) (put-over at (upTo k (length l) l m) (endLine c) old (s .place) (omega arith)),
+          rw (← whole, w, s .memory (omega arith)) (put-over at (listingUpTo k (length l) l m) (endLine c) old (s .place) (omega arith)),
     )

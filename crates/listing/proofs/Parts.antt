@@ -13,19 +13,19 @@ use Rattle.rfc4737.specs.declared.LateTime.{LateTime}
 use Rattle.rfc4737.specs.Numbering.{amountOf}
 use Rattle.listing.specs.Words.{space}
 use Rattle.listing.specs.Lines.{number, sign, lateTime, line, answerFields, recordLine}
-use Rattle.listing.specs.Private.Written.{Written}
+use Rattle.listing.specs.Private.Written.{PartWritten}
 
 -- nothing written
-pub nothing : (at : ℕ) (old : List ℕ) → Written at 1 at [] old old
+pub nothing : (at : ℕ) (old : List ℕ) → PartWritten at 1 at [] old old
 nothing at old = record { place = omega arith; within = omega arith; memory = sym (splice-nil at old) }
 
 -- one octet stored where there is room
-pub one : (at x : ℕ) (old : List ℕ) → at < length old → Written at 1 (at + 1) (x ∷ []) old (set old at x)
+pub one : (at x : ℕ) (old : List ℕ) → at < length old → PartWritten at 1 (at + 1) (x ∷ []) old (set old at x)
 one at x old h = record { place = refl; within = omega arith; memory = splice-set at x old h }
 
 -- octets put where there is room, and one octet stored after them
 pub with-after : (at : ℕ) (xs : List ℕ) (x : ℕ) (old : List ℕ) → at + (length xs + 1) ≤ length old
-    → Written at (length xs + 1) (at + length xs + 1) (xs ++ (x ∷ [])) old (set (put at xs old) (at + length xs) x)
+    → PartWritten at (length xs + 1) (at + length xs + 1) (xs ++ (x ∷ [])) old (set (put at xs old) (at + length xs) x)
 with-after at xs x old h =
     let room : at + length xs ≤ length old = omega arith in
     let more : at + length xs < length (splice at xs old) = rw (splice-length at xs old room) (omega arith) in
@@ -39,12 +39,12 @@ with-after at xs x old h =
     }
 
 -- a part of at most so many octets is one of at most more
-pub weaken : {at most next : ℕ} {xs old new : List ℕ} (more : ℕ) → most ≤ more → Written at most next xs old new → Written at more next xs old new
+pub weaken : {at most next : ℕ} {xs old new : List ℕ} (more : ℕ) → most ≤ more → PartWritten at most next xs old new → PartWritten at more next xs old new
 weaken more h w = record { place = w .place; within = omega arith; memory = w .memory }
 
 -- a part, and one at the place after it, are one part
-pub then : {at a mid b next : ℕ} {xs ys old new newer : List ℕ} → at ≤ length old → Written at a mid xs old new → Written mid b next ys new newer
-    → Written at (a + b) next (xs ++ ys) old newer
+pub then : {at a mid b next : ℕ} {xs ys old new newer : List ℕ} → at ≤ length old → PartWritten at a mid xs old new → PartWritten mid b next ys new newer
+    → PartWritten at (a + b) next (xs ++ ys) old newer
 then {at} {a} {mid} {b} {next} {xs} {ys} {old} {new} {newer} h w v =
     record {
       place = simp length-append (omega (arith, w .place, v .place));
@@ -53,21 +53,21 @@ then {at} {a} {mid} {b} {next} {xs} {ys} {old} {new} {newer} h w v =
     }
 
 -- a line written where there is room for it is a line put
-pub whole : {at most next : ℕ} {xs old new : List ℕ} → at + most ≤ length old → Written at most next xs old new → new ≡ put at xs old
+pub whole : {at most next : ℕ} {xs old new : List ℕ} → at + most ≤ length old → PartWritten at most next xs old new → new ≡ put at xs old
 whole {at} {most} {next} {xs} {old} h w = w .memory ∙ sym (put-room at xs old (omega (arith, w .within)))
 
 -- a line written at the start of other memory stands in its first places
-read-back : {most next : ℕ} {xs text new : List ℕ} → Written 0 most next xs text new → take next new ≡ xs
+read-back : {most next : ℕ} {xs text new : List ℕ} → PartWritten 0 most next xs text new → take next new ≡ xs
 read-back {most} {next} {xs} {text} {new} w =
     let e : next ≡ length xs = omega (arith, w .place) in
     rw (e, w .memory) (splice-part 0 xs text (omega arith))
 
 -- so many of them as the place after it says
-pub read-length : {most next : ℕ} {xs text new : List ℕ} → Written 0 most next xs text new → next ≡ length (take next new)
+pub read-length : {most next : ℕ} {xs text new : List ℕ} → PartWritten 0 most next xs text new → next ≡ length (take next new)
 read-length w = rw (read-back w) (omega (arith, w .place))
 
 -- and copied from there it is a line put
-pub copied : {most next : ℕ} {xs text new newer : List ℕ} (at : ℕ) (old : List ℕ) → Written 0 most next xs text new
+pub copied : {most next : ℕ} {xs text new newer : List ℕ} (at : ℕ) (old : List ℕ) → PartWritten 0 most next xs text new
     → newer ≡ put at (take next new) old → (next ≡ length xs) × (newer ≡ put at xs old)
 copied at old w e = (omega (arith, w .place), e ∙ ap (λ (l : List ℕ). put at l old) (read-back w))
 

@@ -12,7 +12,7 @@ use Rattle.rfc4737.specs.declared.LateTime.{LateTime}
 use Rattle.rfc4737.specs.declared.LateTime.the-variants.{After, Before}
 use Rattle.rfc4737.specs.declared.Counts.{Counts}
 use Rattle.rfc4737.specs.Numbering.{amountOf}
-use Rattle.listing.specs.Words.{space, minus, lineFeed, sent, arrivals, inOrder, late, copy, end, refused}
+use Rattle.listing.specs.Words.{space, minus, lineFeed, sentWord, arrivalsWord, inWord, lateWord, copyWord, endWord, refusedWord}
 
 -- ---- fields and lines
 
@@ -30,28 +30,28 @@ unfoldable pub lateTime : LateTime → List ℕ
 lateTime t = sign t ++ decimalOf (amountOf t)
 
 -- fields parted by one space
-abbrev pub parted : List (List ℕ) → List ℕ
-parted [] = []
-parted (f ∷ []) = f
-parted (f ∷ (g ∷ fs)) = f ++ (space ∷ parted (g ∷ fs))
+abbrev pub joinedBySpaces : List (List ℕ) → List ℕ
+joinedBySpaces [] = []
+joinedBySpaces (f ∷ []) = f
+joinedBySpaces (f ∷ (g ∷ fs)) = f ++ (space ∷ joinedBySpaces (g ∷ fs))
 
 -- a line: fields parted by one space, and a line feed at its end
 abbrev pub line : List (List ℕ) → List ℕ
-line fs = parted fs ++ (lineFeed ∷ [])
+line fs = joinedBySpaces fs ++ (lineFeed ∷ [])
 
 -- ---- the lines
 
 -- the first line: K and the number of arrivals
 unfoldable pub headerLine : ℕ → ℕ → List ℕ
-headerLine k a = line (sent ∷ number k ∷ arrivals ∷ number a ∷ [])
+headerLine k a = line (sentWord ∷ number k ∷ arrivalsWord ∷ number a ∷ [])
 
 -- what a record's line says of its answer: `copy` and the record of the first copy; or `in`, position, jump size; or `late`,
 -- position, extent, late time, byte offset, largest n
 abbrev pub answerFields : Answer → List (List ℕ)
-answerFields (Duplicate f) = copy ∷ number (f .first) ∷ []
-answerFields (InOrder f) = inOrder ∷ number (f .position) ∷ number (f .jump) ∷ []
+answerFields (Duplicate f) = copyWord ∷ number (f .first) ∷ []
+answerFields (InOrder f) = inWord ∷ number (f .position) ∷ number (f .jump) ∷ []
 answerFields (Reordered f) =
-    late ∷ number (f .position) ∷ number (f .extent) ∷ lateTime (f .late) ∷ number (f .offset) ∷ number (f .largest) ∷ []
+    lateWord ∷ number (f .position) ∷ number (f .extent) ∷ lateTime (f .late) ∷ number (f .offset) ∷ number (f .largest) ∷ []
 
 -- a record's line: the record, its number and its answer
 unfoldable pub recordLine : ℕ → ℕ → Answer → List ℕ
@@ -61,11 +61,11 @@ recordLine r n a = line (number r ∷ number n ∷ answerFields a)
 unfoldable pub endLine : Counts → List ℕ
 endLine c =
     line
-    (end ∷ number (c .arrived) ∷ number (c .reordered) ∷ number (c .duplicates) ∷ number (c .runs .closed) ∷ number (c .runs .squares) ∷ number (c .runs .current) ∷ [])
+    (endWord ∷ number (c .arrived) ∷ number (c .reordered) ∷ number (c .duplicates) ∷ number (c .runs .closed) ∷ number (c .runs .squares) ∷ number (c .runs .current) ∷ [])
 
 -- the one line of a refused input
 unfoldable pub refusedLine : ℕ → List ℕ
-refusedLine n = line (refused ∷ number n ∷ [])
+refusedLine n = line (refusedWord ∷ number n ∷ [])
 
 -- ---- the listing
 

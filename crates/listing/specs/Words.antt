@@ -23,23 +23,23 @@ abbrev pub lineFeed : ℕ
 lineFeed = code "\n"
 
 -- the octets of the words
-abbrev pub sent : List ℕ
-sent = ascii "sent"
+abbrev pub sentWord : List ℕ
+sentWord = ascii "sent"
 
-abbrev pub arrivals : List ℕ
-arrivals = ascii "arrivals"
+abbrev pub arrivalsWord : List ℕ
+arrivalsWord = ascii "arrivals"
 
-abbrev pub inOrder : List ℕ
-inOrder = ascii "in"
+abbrev pub inWord : List ℕ
+inWord = ascii "in"
 
-abbrev pub late : List ℕ
-late = ascii "late"
+abbrev pub lateWord : List ℕ
+lateWord = ascii "late"
 
-abbrev pub copy : List ℕ
-copy = ascii "copy"
+abbrev pub copyWord : List ℕ
+copyWord = ascii "copy"
 
-abbrev pub end : List ℕ
-end = ascii "end"
+abbrev pub endWord : List ℕ
+endWord = ascii "end"
 
-abbrev pub refused : List ℕ
-refused = ascii "refused"
+abbrev pub refusedWord : List ℕ
+refusedWord = ascii "refused"

@@ -9,7 +9,7 @@ ghost use Rattle.octets.specs.Memory.{put};
 ghost use Rattle.decimal.specs.Decimal.{decimalOf};
 ghost use Rattle.rfc4737.specs.declared.Answer.the-variants.{Duplicate, InOrder, Reordered};
 ghost use Rattle.listing.specs.Lines.{number, sign, lateTime, line, answerFields, headerLine, recordLine, endLine, refusedLine};
-ghost use Rattle.listing.specs.Private.Written.{Written};
+ghost use Rattle.listing.specs.Private.Written.{PartWritten};
 use rfc4737::Answer;
 use rfc4737::Counts;
 use rfc4737::DuplicateFigures;
@@ -38,7 +38,7 @@ pub const LISTING_OCTETS: usize = 262_144;
 // Writes a word and the octet after it.
 fn write_word(out: &mut [u8], at: usize, word: &[u8], after: u8) -> usize
     requires { ⌜ at + (length (now word) + 1) ≤ length (now out) ⌝ }
-    ensures { λ r. ⌜ Written at (length (now (word .entry)) + 1) r (now (word .entry) ++ (after ∷ [])) (now (out .entry)) (now (out .exit)) ⌝ }
+    ensures { λ r. ⌜ PartWritten at (length (now (word .entry)) + 1) r (now (word .entry) ++ (after ∷ [])) (now (out .entry)) (now (out .exit)) ⌝ }
 {
     octets::put_octets(out, at, word);
     let end = at + word.len();
@@ -49,7 +49,7 @@ fn write_word(out: &mut [u8], at: usize, word: &[u8], after: u8) -> usize
 // Writes the digits of a number and the octet after them.
 fn write_digits(out: &mut [u8], at: usize, v: u64, after: u8) -> usize
     requires { ⌜ at + (length (decimalOf v) + 1) ≤ length (now out) ⌝ }
-    ensures { λ r. ⌜ Written at (length (decimalOf v) + 1) r (decimalOf v ++ (after ∷ [])) (now (out .entry)) (now (out .exit)) ⌝ }
+    ensures { λ r. ⌜ PartWritten at (length (decimalOf v) + 1) r (decimalOf v ++ (after ∷ [])) (now (out .entry)) (now (out .exit)) ⌝ }
 {
     let end = at + decimal::put_decimal(out, at, v);
     out[end] = after;
@@ -59,7 +59,7 @@ fn write_digits(out: &mut [u8], at: usize, v: u64, after: u8) -> usize
 // Writes a number and the octet after it.
 fn write_number(out: &mut [u8], at: usize, n: u32, after: u8) -> usize
     requires { ⌜ at + 11 ≤ length (now out) ⌝ }
-    ensures { λ r. ⌜ Written at 11 r (number n ++ (after ∷ [])) (now (out .entry)) (now (out .exit)) ⌝ }
+    ensures { λ r. ⌜ PartWritten at 11 r (number n ++ (after ∷ [])) (now (out .entry)) (now (out .exit)) ⌝ }
 {
     write_digits(out, at, n as u64, after)
 }
@@ -67,7 +67,7 @@ fn write_number(out: &mut [u8], at: usize, n: u32, after: u8) -> usize
 // Writes what stands in front of a late time's amount.
 fn write_sign(out: &mut [u8], at: usize, late: LateTime) -> usize
     requires { ⌜ at + 1 ≤ length (now out) ⌝ }
-    ensures { λ r. ⌜ Written at 1 r (sign late) (now (out .entry)) (now (out .exit)) ⌝ }
+    ensures { λ r. ⌜ PartWritten at 1 r (sign late) (now (out .entry)) (now (out .exit)) ⌝ }
 {
     let LateTime::Before(t) = late else {
         return at;
@@ -82,7 +82,7 @@ fn write_sign(out: &mut [u8], at: usize, late: LateTime) -> usize
 // Writes a late time and the octet after it.
 fn write_time(out: &mut [u8], at: usize, late: LateTime, after: u8) -> usize
     requires { ⌜ at + 22 ≤ length (now out) ⌝ }
-    ensures { λ r. ⌜ Written at 22 r (lateTime late ++ (after ∷ [])) (now (out .entry)) (now (out .exit)) ⌝ }
+    ensures { λ r. ⌜ PartWritten at 22 r (lateTime late ++ (after ∷ [])) (now (out .entry)) (now (out .exit)) ⌝ }
 {
     let digits = write_sign(out, at, late);
     write_digits(out, digits, amount(late), after)
@@ -91,7 +91,7 @@ fn write_time(out: &mut [u8], at: usize, late: LateTime, after: u8) -> usize
 // Writes the first line.
 fn write_header(out: &mut [u8], at: usize, k: u32, a: u32) -> usize
     requires { ⌜ at + 36 ≤ length (now out) ⌝ }
-    ensures { λ r. ⌜ Written at 36 r (headerLine k a) (now (out .entry)) (now (out .exit)) ⌝ }
+    ensures { λ r. ⌜ PartWritten at 36 r (headerLine k a) (now (out .entry)) (now (out .exit)) ⌝ }
 {
     let sent = write_word(out, at, b"sent", SPACE);
     let word = write_number(out, sent, k, SPACE);
@@ -112,7 +112,7 @@ pub fn put_header(out: &mut [u8], at: usize, k: u32, a: u32) -> usize
 // Writes the answer of a duplicate.
 fn write_copy(out: &mut [u8], at: usize, f: DuplicateFigures) -> usize
     requires { ⌜ at + 16 ≤ length (now out) ⌝ }
-    ensures { λ r. ⌜ Written at 16 r (line (answerFields (Duplicate f))) (now (out .entry)) (now (out .exit)) ⌝ }
+    ensures { λ r. ⌜ PartWritten at 16 r (line (answerFields (Duplicate f))) (now (out .entry)) (now (out .exit)) ⌝ }
 {
     let first = write_word(out, at, b"copy", SPACE);
     write_number(out, first, f.first, LINE_FEED)
@@ -121,7 +121,7 @@ fn write_copy(out: &mut [u8], at: usize, f: DuplicateFigures) -> usize
 // Writes the answer of an in-order packet.
 fn write_in(out: &mut [u8], at: usize, f: InOrderFigures) -> usize
     requires { ⌜ at + 25 ≤ length (now out) ⌝ }
-    ensures { λ r. ⌜ Written at 25 r (line (answerFields (InOrder f))) (now (out .entry)) (now (out .exit)) ⌝ }
+    ensures { λ r. ⌜ PartWritten at 25 r (line (answerFields (InOrder f))) (now (out .entry)) (now (out .exit)) ⌝ }
 {
     let position = write_word(out, at, b"in", SPACE);
     let jump = write_number(out, position, f.position, SPACE);
@@ -131,7 +131,7 @@ fn write_in(out: &mut [u8], at: usize, f: InOrderFigures) -> usize
 // Writes the answer of a reordered packet.
 fn write_late(out: &mut [u8], at: usize, f: ReorderedFigures) -> usize
     requires { ⌜ at + 71 ≤ length (now out) ⌝ }
-    ensures { λ r. ⌜ Written at 71 r (line (answerFields (Reordered f))) (now (out .entry)) (now (out .exit)) ⌝ }
+    ensures { λ r. ⌜ PartWritten at 71 r (line (answerFields (Reordered f))) (now (out .entry)) (now (out .exit)) ⌝ }
 {
     let position = write_word(out, at, b"late", SPACE);
     let extent = write_number(out, position, f.position, SPACE);
@@ -145,7 +145,7 @@ fn write_late(out: &mut [u8], at: usize, f: ReorderedFigures) -> usize
 // Writes an answer, and with it the end of a record's line.
 fn write_answer(out: &mut [u8], at: usize, answer: Answer) -> usize
     requires { ⌜ at + 71 ≤ length (now out) ⌝ }
-    ensures { λ r. ⌜ Written at 71 r (line (answerFields answer)) (now (out .entry)) (now (out .exit)) ⌝ }
+    ensures { λ r. ⌜ PartWritten at 71 r (line (answerFields answer)) (now (out .entry)) (now (out .exit)) ⌝ }
 {
     match answer {
         Answer::Duplicate(f) => write_copy(out, at, f),
@@ -157,7 +157,7 @@ fn write_answer(out: &mut [u8], at: usize, answer: Answer) -> usize
 // Writes a record's line.
 fn write_record(out: &mut [u8], at: usize, record: u32, number: u32, answer: Answer) -> usize
     requires { ⌜ at + 93 ≤ length (now out) ⌝ }
-    ensures { λ r. ⌜ Written at 93 r (recordLine «record» number answer) (now (out .entry)) (now (out .exit)) ⌝ }
+    ensures { λ r. ⌜ PartWritten at 93 r (recordLine «record» number answer) (now (out .entry)) (now (out .exit)) ⌝ }
 {
     let second = write_number(out, at, record, SPACE);
     let rest = write_number(out, second, number, SPACE);
@@ -180,7 +180,7 @@ pub fn put_record(out: &mut [u8], at: usize, record: u32, number: u32, answer: A
 // Writes the last line.
 fn write_end(out: &mut [u8], at: usize, c: Counts) -> usize
     requires { ⌜ at + 70 ≤ length (now out) ⌝ }
-    ensures { λ r. ⌜ Written at 70 r (endLine c) (now (out .entry)) (now (out .exit)) ⌝ }
+    ensures { λ r. ⌜ PartWritten at 70 r (endLine c) (now (out .entry)) (now (out .exit)) ⌝ }
 {
     let runs = c.runs;
     let arrived = write_word(out, at, b"end", SPACE);
@@ -205,7 +205,7 @@ pub fn put_end(out: &mut [u8], at: usize, c: Counts) -> usize
 // Writes the line of a refused input.
 fn write_refused(out: &mut [u8], at: usize, n: u32) -> usize
     requires { ⌜ at + 19 ≤ length (now out) ⌝ }
-    ensures { λ r. ⌜ Written at 19 r (refusedLine n) (now (out .entry)) (now (out .exit)) ⌝ }
+    ensures { λ r. ⌜ PartWritten at 19 r (refusedLine n) (now (out .entry)) (now (out .exit)) ⌝ }
 {
     let number = write_word(out, at, b"refused", SPACE);
     write_number(out, number, n, LINE_FEED)

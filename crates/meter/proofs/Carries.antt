@@ -23,7 +23,7 @@ use Rattle.receiver.specs.Step.{freshStream, madeFor, stepWith}
 use Rattle.receiver.specs.Account.{accountWith, jumpIn, outcomeIn}
 use Rattle.receiver.proofs.Fits.{both, within-true}
 use Rattle.receiver.proofs.Accepted.{Sound, sound-none, sound-with}
-use Rattle.receiver.proofs.Late.{Split}
+use Rattle.receiver.proofs.ReorderedInWindow.{Split}
 use Rattle.receiver.proofs.HeldJumps.{Long, Holds, holds-count, noneHeld}
 use Rattle.receiver.proofs.State.{stateWith, state-fresh}
 use Rattle.receiver.proofs.Fitness.{state-fit}
@@ -32,7 +32,7 @@ use Rattle.meter.specs.declared.StreamState.{StreamState}
 use Rattle.meter.specs.declared.Meter.{Meter}
 use Rattle.meter.specs.declared.MeterStepped.{MeterStepped}
 use Rattle.meter.specs.Streams.{Side, one, two, other, mostKept, freeBeside, takesPlace, streamOf, receiverOf, streamIn, withStream, withReceiver, keptIn, free}
-use Rattle.meter.specs.Step.{newMeter, streamFit, meterFit, stepOn}
+use Rattle.meter.specs.Step.{newMeter, fitOnMeter, meterFit, stepOn}
 use Rattle.meter.specs.Account.{Part, freshPart, keptWith, Account, freeIn, withPart}
 use Rattle.meter.proofs.Facing.{own-back, heldTurned, other-old, other-new, turned-frame}
 use Rattle.meter.proofs.KeptJumps.{KeptOf, kept-arrival}
@@ -141,7 +141,7 @@ other-held s r m =
 module _ (account : Account) (m : Meter) (g : Carries account m) where
   -- it is fit
   pub carries-fit : meterFit m ≡ true
-  unfolding meterFit streamFit every
+  unfolding meterFit fitOnMeter every
   carries-fit =
       let p : length (account one .window) + length (account two .window) ≤ window = g .places in
       let c : keptIn one m ≡ length (account one .window) = carried-kept _ _ (g .streams one) in

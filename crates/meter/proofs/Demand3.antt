@@ -23,7 +23,7 @@ use Rattle.receiver.specs.declared.Receiver.{Receiver}
 use Rattle.receiver.specs.declared.Started.{Started}
 use Rattle.receiver.specs.Limits.{packets}
 use Rattle.receiver.specs.Step.{madeFor, freshOf}
-use Rattle.receiver.specs.Account.{refusalIn, answerIn, answersIn, outcomeIn}
+use Rattle.receiver.specs.Account.{accountRefusal, answerIn, answersIn, outcomeIn}
 use Rattle.receiver.specs.Demand3.{Answered}
 use Rattle.receiver.proofs.Fits.{within-true}
 use Rattle.receiver.proofs.State.{stateWith}
@@ -35,7 +35,7 @@ use Rattle.meter.specs.declared.MeterStarted.{MeterStarted}
 use Rattle.meter.specs.Streams.{Side, one, two, sideOf, receiverOf, streamIn, withStream, withReceiver}
 use Rattle.meter.specs.Step.{meterStep, notStarted, startOn, meterStart}
 use Rattle.meter.specs.Account.{Call, arrives, starts, numberOf, Reply, said, started, Part, freshPart, partAfter, replyIn, Account, freeIn, withPart, accountAfter, accountOf, accountReply}
-use Rattle.meter.specs.Demand3.{metAfter, replyOf, meterAfter, meterReply, refusalSaid, numbersOf, Agrees, Demand3}
+use Rattle.meter.specs.Demand3.{metAfter, replyOf, meterAfter, meterReply, refusalSaid, streamNumbers, Agrees, Demand3}
 use Rattle.meter.proofs.Sides.{stepFor, startFor, accountFor, replyFor}
 use Rattle.meter.proofs.Carries.{Carried, Carries, carries-fit, receiverThen, carries-step, carries-after, new-carries, carries-started}
 
@@ -164,9 +164,9 @@ unfolding counts stateWith
 kept s calls =
     let h : Part = accountOf calls s in
     let g : Carried h (receiverOf s (meterAfter calls)) = calls-carry calls .streams s in
-    let arrived-eq : numbersOf s calls .arrived ≡ arrived (answersIn (h .accepted)) = ap (λ (r : Receiver). r .stream .arrived) (g .state) ∙ sym (arrived-in (h .accepted)) in
-    let duplicates-eq : numbersOf s calls .duplicates ≡ count isDuplicate (answersIn (h .accepted)) = ap (λ (r : Receiver). r .stream .duplicates) (g .state) in
-    let inorder-eq : numbersOf s calls .inorder ≡ count isInOrderAnswer (answersIn (h .accepted)) = ap (λ (r : Receiver). r .stream .inorder) (g .state) in
+    let arrived-eq : streamNumbers s calls .arrived ≡ arrived (answersIn (h .accepted)) = ap (λ (r : Receiver). r .stream .arrived) (g .state) ∙ sym (arrived-in (h .accepted)) in
+    let duplicates-eq : streamNumbers s calls .duplicates ≡ count isDuplicate (answersIn (h .accepted)) = ap (λ (r : Receiver). r .stream .duplicates) (g .state) in
+    let inorder-eq : streamNumbers s calls .inorder ≡ count isInOrderAnswer (answersIn (h .accepted)) = ap (λ (r : Receiver). r .stream .inorder) (g .state) in
     let reordered-eq = in-order-or-reordered (answersIn (h .accepted)) in
     let accepted-eq = accepted-count (h .accepted) in
     let first-eq = arrived-in (h .accepted) in

@@ -18,17 +18,17 @@ use Rattle.rfc4737.proofs.Lists.{snoc-ind, each-more, flatten-more}
 use Rattle.rfc4737.proofs.Arrivals.{fold-more}
 use Rattle.receiver.specs.declared.Stream.{Stream}
 use Rattle.receiver.specs.declared.Receiver.{Receiver}
-use Rattle.receiver.specs.declared.Noted.the-variants.{Exact, Beyond}
+use Rattle.receiver.specs.declared.ReceiverAnswer.the-variants.{Exact, Beyond}
 use Rattle.receiver.specs.declared.Outcome.{Outcome}
 use Rattle.receiver.specs.Limits.{packets}
 use Rattle.receiver.specs.Kept.{Held}
-use Rattle.receiver.specs.Said.{refused, accepted}
-use Rattle.receiver.specs.Account.{refusalIn, accountWith, answerIn, answersIn, inWindow, trueFigures, beyondFigures, inForm, jumpIn, outcomeIn}
+use Rattle.receiver.specs.Outcomes.{refusedOutcome, acceptedOutcome}
+use Rattle.receiver.specs.Account.{accountRefusal, accountWith, answerIn, answersIn, inWindow, trueFigures, beyondFigures, inForm, jumpIn, outcomeIn}
 use Rattle.receiver.proofs.State.{stateWith}
 use Rattle.receiver.proofs.Agrees.{jump-cases}
 use Rattle.meter.specs.Streams.{Side, one, two, sideOf, receiverOf}
 use Rattle.meter.specs.Account.{Call, arrives, starts, numberOf, Reply, said, started, Part, freshPart, keptWith, partAfter, replyIn, Account, freeIn, accountAfter, accountOf, accountReply}
-use Rattle.meter.specs.Demand3.{meterAfter, meterReply, numbersOf}
+use Rattle.meter.specs.Demand3.{meterAfter, meterReply, streamNumbers}
 use Rattle.meter.specs.Independence.{isSide, ofOwn, ownCalls, ownReplies, Flag, flag, flagOf, Alone, freeAt, trace, Independence}
 use Rattle.meter.proofs.Sides.{accountFor, replyFor}
 use Rattle.meter.proofs.Carries.{heldIn}
@@ -93,7 +93,7 @@ same-after f e h g (starts n k) q = go (outside 1 packets k)
 flag-window : (ws vs : List Placed) (k : ℕ) (account : List Arrival) (a : Arrival)
     → flagOf (said (outcomeIn ws k account a)) ≡ flagOf (said (outcomeIn vs k account a))
 unfolding outcomeIn inForm
-flag-window ws vs k account a = go (eqb (refusalIn k account a) 0)
+flag-window ws vs k account a = go (eqb (accountRefusal k account a) 0)
   where
     form : (x : Answer) → flag 0 (inForm ws account a x) ≡ flag 0 (inForm vs account a x)
     form (answer.Duplicate d) = refl
@@ -107,8 +107,8 @@ flag-window ws vs k account a = go (eqb (refusalIn k account a) 0)
         late false false = refl
 
     go : (t : Bool)
-        → flagOf (said (cond {A = Outcome} t (accepted (inForm ws account a (answerIn account a))) (refused (refusalIn k account a))))
-        ≡ flagOf (said (cond {A = Outcome} t (accepted (inForm vs account a (answerIn account a))) (refused (refusalIn k account a))))
+        → flagOf (said (cond {A = Outcome} t (acceptedOutcome (inForm ws account a (answerIn account a))) (refusedOutcome (accountRefusal k account a))))
+        ≡ flagOf (said (cond {A = Outcome} t (acceptedOutcome (inForm vs account a (answerIn account a))) (refusedOutcome (accountRefusal k account a))))
     go true = form (answerIn account a)
     go false = refl
 
@@ -156,10 +156,10 @@ flags-alone s = snoc-ind (λ (calls : List Call). map flagOf (ownReplies s calls
 -- numbers of a stream that its account gives
 known-alone {ℓ} : {A : Type ℓ} (f : Stream → A) (of : List Arrival → A)
     → ((k : ℕ) (account : List Arrival) (h : Held) → f (stateWith k account h .stream) ≡ of account)
-    → (s : Side) (calls : List Call) → f (numbersOf s calls) ≡ f (numbersOf s (ownCalls s calls))
+    → (s : Side) (calls : List Call) → f (streamNumbers s calls) ≡ f (streamNumbers s (ownCalls s calls))
 known-alone f of e s calls = known calls ∙ ap of (same-alone s calls .accepted) ∙ sym (known (ownCalls s calls))
   where
-    known : (l : List Call) → f (numbersOf s l) ≡ of (accountOf l s .accepted)
+    known : (l : List Call) → f (streamNumbers s l) ≡ of (accountOf l s .accepted)
     known l =
         ap (λ (r : Receiver). f (r .stream)) (calls-carry l .streams s .state)
         ∙ e (accountOf l s .sent) (accountOf l s .accepted) (heldIn (receiverOf s (meterAfter l)))

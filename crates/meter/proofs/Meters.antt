@@ -15,12 +15,12 @@ use Rattle.receiver.specs.Limits.{window}
 use Rattle.receiver.specs.Fit.{every}
 use Rattle.receiver.specs.Step.{freshOf, stepWith, stepWithin}
 use Rattle.receiver.proofs.Fits.{and-true, every-true}
-use Rattle.receiver.proofs.Steps.{refused-equal}
+use Rattle.receiver.proofs.StepCases.{refused-equal}
 use Rattle.meter.specs.declared.Meter.{Meter}
 use Rattle.meter.specs.declared.MeterStepped.{MeterStepped}
 use Rattle.meter.specs.declared.MeterStarted.{MeterStarted}
 use Rattle.meter.specs.Streams.{Side, one, two, sideOf, other, shared, mostKept, freeBeside, takesPlace, facing, receiverOf, streamIn, withStream, withReceiver, keptIn, free}
-use Rattle.meter.specs.Step.{streamFit, meterFit, notStepped, stepOn, meterStep, notStarted, startOn, meterStart}
+use Rattle.meter.specs.Step.{fitOnMeter, meterFit, notStepped, stepOn, meterStep, notStarted, startOn, meterStart}
 use Rattle.meter.proofs.Sides.{stepFor, startFor}
 use Rattle.meter.proofs.Facing.{put-back}
 use Rattle.meter.proofs.KeptJumps.{takes, takes-none}
@@ -53,8 +53,8 @@ side-known (suc (suc (suc n))) a h = absurd (omega arith)
 -- ---- fit meters
 
 -- a fit stream keeps at most 48 jumps
-pub stream-few : (r : Receiver) → streamFit r ≡ true → r .stream .kept ≤ mostKept
-unfolding streamFit
+pub stream-few : (r : Receiver) → fitOnMeter r ≡ true → r .stream .kept ≤ mostKept
+unfolding fitOnMeter
 stream-few r e = leb-true _ _ (and-true _ _ e .0)
 
 module _ (m : Meter) where
@@ -65,15 +65,15 @@ module _ (m : Meter) where
   meter-few e two = let a = every-true _ _ e in stream-few (receiverOf two m) (every-true _ _ (a .1) .0)
 
   -- a meter is fit exactly if its streams are and keep few jumps together
-  pub unfit-first : streamFit (receiverOf one m) ≡ false → false ≡ meterFit m
+  pub unfit-first : fitOnMeter (receiverOf one m) ≡ false → false ≡ meterFit m
   unfolding meterFit every
   unfit-first e = simp e
 
-  pub unfit-second : streamFit (receiverOf one m) ≡ true → streamFit (receiverOf two m) ≡ false → false ≡ meterFit m
+  pub unfit-second : fitOnMeter (receiverOf one m) ≡ true → fitOnMeter (receiverOf two m) ≡ false → false ≡ meterFit m
   unfolding meterFit every
   unfit-second e f = simp (e, f)
 
-  pub fit-together : streamFit (receiverOf one m) ≡ true → streamFit (receiverOf two m) ≡ true
+  pub fit-together : fitOnMeter (receiverOf one m) ≡ true → fitOnMeter (receiverOf two m) ≡ true
       → leb (keptIn one m + keptIn two m) shared ≡ meterFit m
   unfolding meterFit every
   fit-together e f = rw (e, f) (sym (and-one (leb (keptIn one m + keptIn two m) shared)))
@@ -88,8 +88,8 @@ pub second-known : (m : Meter) (r : Receiver) (p : Places) → r ≡ record { st
 second-known m r p e q = e ∙ ap (λ (x : Places). record { stream = m .second .stream; marks = m .second .marks; places = x }) q
 
 -- the fit test of a stream, as it was called
-pub fit-known : (q r : Receiver) (t u : Bool) → r ≡ q → t ≡ streamFit r → t ≡ u → streamFit q ≡ u
-fit-known q r t u e f g = sym (ap streamFit e) ∙ sym f ∙ g
+pub fit-known : (q r : Receiver) (t u : Bool) → r ≡ q → t ≡ fitOnMeter r → t ≡ u → fitOnMeter q ≡ u
+fit-known q r t u e f g = sym (ap fitOnMeter e) ∙ sym f ∙ g
 
 -- ---- the step on a stream
 

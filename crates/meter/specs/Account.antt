@@ -10,7 +10,7 @@ use Rattle.rfc4737.specs.Order.{Placed}
 use Rattle.rfc4737.specs.Refusals.{outside, inCase, sentOutside, noStream}
 use Rattle.receiver.specs.declared.Outcome.{Outcome}
 use Rattle.receiver.specs.Limits.{packets}
-use Rattle.receiver.specs.Said.{refused}
+use Rattle.receiver.specs.Outcomes.{refusedOutcome}
 use Rattle.receiver.specs.Account.{accountWith, jumpIn, outcomeIn}
 use Rattle.meter.specs.Streams.{Side, one, two, sideOf, onStream, freeBeside, takesPlace}
 
@@ -62,7 +62,7 @@ replyIn h (starts n k) = started (inCase (outside 1 packets k) sentOutside)
 
 -- the reply to a call on no stream
 abbrev pub noReply : Call → Reply
-noReply (arrives n a) = said (refused noStream)
+noReply (arrives n a) = said (refusedOutcome noStream)
 noReply (starts n k) = started noStream
 
 -- ---- of both

@@ -16,7 +16,7 @@ use Rattle.rfc4737.specs.Runs.{counts}
 use Rattle.rfc4737.specs.Refusals.{stateUnfit}
 use Rattle.receiver.specs.declared.Stream.{Stream}
 use Rattle.receiver.specs.Kept.{heldOf, keptOf}
-use Rattle.receiver.specs.Account.{refusalIn, answerIn, answersIn}
+use Rattle.receiver.specs.Account.{accountRefusal, answerIn, answersIn}
 use Rattle.receiver.specs.Demand3.{Answered}
 use Rattle.meter.specs.declared.Meter.{Meter}
 use Rattle.meter.specs.Streams.{Side, one, two, sideOf, shared, mostKept, streamOf, receiverOf}
@@ -49,8 +49,8 @@ refusalSaid (started n) = n
 -- ---- a stream after the calls
 
 -- its numbers on the meter
-abbrev pub numbersOf : Side → List Call → Stream
-numbersOf s calls = streamOf s (meterAfter calls) .stream
+abbrev pub streamNumbers : Side → List Call → Stream
+streamNumbers s calls = streamOf s (meterAfter calls) .stream
 
 -- the jumps that it keeps there
 abbrev pub keptAfter : Side → List Call → List Placed
@@ -69,12 +69,12 @@ jumpsOf s calls = jumps (firsts (accountOf calls s .accepted))
 -- what a stream holds after the calls agrees with the account
 pub record Agrees (s : Side) (calls : List Call) : Type 0 where
   -- L, duplicates, in-order count, and open run, closed runs and squares are the account's
-  pub arrived : numbersOf s calls .arrived ≡ countsOf s calls .arrived
-  pub duplicates : numbersOf s calls .duplicates ≡ countsOf s calls .duplicates
-  pub inorder : numbersOf s calls .inorder ≡ countsOf s calls .inorder
-  pub runs : numbersOf s calls .runs ≡ countsOf s calls .runs
+  pub arrived : streamNumbers s calls .arrived ≡ countsOf s calls .arrived
+  pub duplicates : streamNumbers s calls .duplicates ≡ countsOf s calls .duplicates
+  pub inorder : streamNumbers s calls .inorder ≡ countsOf s calls .inorder
+  pub runs : streamNumbers s calls .runs ≡ countsOf s calls .runs
   -- duplicates, in-order and reordered packets are together the accepted arrivals
-  pub sum : numbersOf s calls .duplicates + numbersOf s calls .inorder + countsOf s calls .reordered
+  pub sum : streamNumbers s calls .duplicates + streamNumbers s calls .inorder + countsOf s calls .reordered
       ≡ length (accountOf calls s .accepted)
   -- the jumps that it keeps are its window
   pub kept : keptAfter s calls ≡ accountOf calls s .window
@@ -94,7 +94,7 @@ pub record Demand3 (calls : List Call) : Type 0 where
       → calls ≡ earlier ++ (arrives n a ∷ later)
       → (s : Side)
       → sideOf n ≡ some s
-      → refusalIn (accountOf earlier s .sent) (accountOf earlier s .accepted) a ≡ 0
+      → accountRefusal (accountOf earlier s .sent) (accountOf earlier s .accepted) a ≡ 0
       → (d : ReorderedFigures)
       → answerIn (accountOf earlier s .accepted) a ≡ answer.Reordered d
       → Answered (accountOf earlier s .window) (accountOf earlier s .accepted) a d

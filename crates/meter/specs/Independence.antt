@@ -6,12 +6,12 @@ use mathlib.Core.List.{List, [], _∷_, map, flatten}
 use mathlib.Core.Option.{Option, none, some}
 use Rattle.rfc4737.specs.Arrivals.{each}
 use Rattle.rfc4737.specs.Order.{Placed}
-use Rattle.receiver.specs.declared.Noted.{Noted}
-use Rattle.receiver.specs.declared.Noted.the-variants.{Duplicate, InOrder, Exact, Beyond}
+use Rattle.receiver.specs.declared.ReceiverAnswer.{ReceiverAnswer}
+use Rattle.receiver.specs.declared.ReceiverAnswer.the-variants.{Duplicate, InOrder, Exact, Beyond}
 use Rattle.receiver.specs.Account.{jumpIn}
 use Rattle.meter.specs.Streams.{Side, one, two, sideOf}
 use Rattle.meter.specs.Account.{Call, arrives, starts, numberOf, Reply, said, started, Part, freeIn, accountOf}
-use Rattle.meter.specs.Demand3.{meterReply, numbersOf, jumpsOf}
+use Rattle.meter.specs.Demand3.{meterReply, streamNumbers, jumpsOf}
 
 -- whether a stream is the one of a call, if that is on one
 abbrev pub isSide : Side → Option Side → Bool
@@ -45,7 +45,7 @@ pub data Flag : Type 0 where
   fresh : Flag
 
 -- of what is noted of an arrival, with its refusal
-abbrev pub flag : ℕ → Noted → Flag
+abbrev pub flag : ℕ → ReceiverAnswer → Flag
 flag (suc n) w = refused (suc n)
 flag zero Duplicate = duplicate
 flag zero (InOrder size) = inOrder size
@@ -63,10 +63,10 @@ pub record Alone (s : Side) (calls : List Call) : Type 0 where
   pub flags : map flagOf (ownReplies s calls) ≡ map flagOf (each meterReply (ownCalls s calls))
   pub accepted : accountOf calls s .accepted ≡ accountOf (ownCalls s calls) s .accepted
   pub jumps : jumpsOf s calls ≡ jumpsOf s (ownCalls s calls)
-  pub runs : numbersOf s calls .runs ≡ numbersOf s (ownCalls s calls) .runs
-  pub arrived : numbersOf s calls .arrived ≡ numbersOf s (ownCalls s calls) .arrived
-  pub duplicates : numbersOf s calls .duplicates ≡ numbersOf s (ownCalls s calls) .duplicates
-  pub inorder : numbersOf s calls .inorder ≡ numbersOf s (ownCalls s calls) .inorder
+  pub runs : streamNumbers s calls .runs ≡ streamNumbers s (ownCalls s calls) .runs
+  pub arrived : streamNumbers s calls .arrived ≡ streamNumbers s (ownCalls s calls) .arrived
+  pub duplicates : streamNumbers s calls .duplicates ≡ streamNumbers s (ownCalls s calls) .duplicates
+  pub inorder : streamNumbers s calls .inorder ≡ streamNumbers s (ownCalls s calls) .inorder
 
 -- ---- through the number of free places
 

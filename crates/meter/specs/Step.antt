@@ -7,7 +7,7 @@ use Rattle.rfc4737.specs.Refusals.{stateUnfit, noStream}
 use Rattle.receiver.specs.declared.Receiver.{Receiver}
 use Rattle.receiver.specs.declared.Stepped.{Stepped}
 use Rattle.receiver.specs.declared.Started.{Started}
-use Rattle.receiver.specs.Said.{refused}
+use Rattle.receiver.specs.Outcomes.{refusedOutcome}
 use Rattle.receiver.specs.Fit.{every, fit}
 use Rattle.receiver.specs.Step.{madeFor, freshOf, stepWith}
 use Rattle.meter.specs.declared.Meter.{Meter}
@@ -25,18 +25,18 @@ newMeter =
     }
 
 -- whether a stream, seen as a receiver, is fit: it keeps at most 48 jumps, and is fit as a receiver
-unfoldable pub streamFit : Receiver → Bool
-streamFit r = leb (r .stream .kept) mostKept && fit r
+unfoldable pub fitOnMeter : Receiver → Bool
+fitOnMeter r = leb (r .stream .kept) mostKept && fit r
 
 -- whether a meter is fit: both streams are, and they keep at most 64 jumps together
 unfoldable pub meterFit : Meter → Bool
-meterFit m = every (streamFit (receiverOf one m) ∷ streamFit (receiverOf two m) ∷ leb (keptIn one m + keptIn two m) shared ∷ [])
+meterFit m = every (fitOnMeter (receiverOf one m) ∷ fitOnMeter (receiverOf two m) ∷ leb (keptIn one m + keptIn two m) shared ∷ [])
 
 -- ---- an arrival
 
 -- refused: an equal meter
 abbrev pub notStepped : ℕ → Meter → MeterStepped
-notStepped n m = record { outcome = refused n; state = m }
+notStepped n m = record { outcome = refusedOutcome n; state = m }
 
 -- the receiver's step on a stream; a new jump takes a free place, or the stream's own oldest kept jump is dropped for it
 unfoldable pub stepOn : Side → Meter → ℕ → ℕ → MeterStepped

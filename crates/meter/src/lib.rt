@@ -5,10 +5,10 @@ mod places;
 
 use places::turned;
 use receiver::MARK_WORDS;
-use receiver::Noted;
 use receiver::Outcome;
 use receiver::Places;
 use receiver::Receiver;
+use receiver::ReceiverAnswer;
 use receiver::Stream;
 use rfc4737::refusal;
 ghost use mathlib.Core.Path.{_≡_};
@@ -16,7 +16,7 @@ ghost use mathlib.Core.Bool.{true};
 ghost use mathlib.Core.List.{List};
 ghost use Prim.Native.Nat.{_-_, _≤_, min};
 ghost use Rattle.meter.specs.Streams.{one, two, shared, mostKept, streamIn, withStream};
-ghost use Rattle.meter.specs.Step.{newMeter, streamFit, meterFit, notStepped, stepOn, meterStep, meterStart};
+ghost use Rattle.meter.specs.Step.{newMeter, fitOnMeter, meterFit, notStepped, stepOn, meterStep, meterStart};
 ghost use Rattle.meter.specs.Account.{Call};
 ghost use Rattle.meter.specs.Demand3.{Demand3};
 ghost use Rattle.meter.specs.Independence.{Independence};
@@ -144,7 +144,7 @@ fn not_stepped(refusal: u32, m: Meter) -> MeterStepped
     MeterStepped {
         outcome: Outcome {
             refusal,
-            noted: Noted::InOrder(0),
+            noted: ReceiverAnswer::InOrder(0),
         },
         state: m,
     }
@@ -190,7 +190,7 @@ fn with_second(mut m: Meter, t: StreamState) -> Meter
 
 // Whether a stream, seen as a receiver, is fit.
 fn stream_fit(r: Receiver) -> bool
-    ensures { λ t. ⌜ t ≡ streamFit r ⌝ }
+    ensures { λ t. ⌜ t ≡ fitOnMeter r ⌝ }
 {
     if Meter::MOST_KEPT < r.stream.kept {
         return false;

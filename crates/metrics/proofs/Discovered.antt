@@ -13,7 +13,7 @@ use Rattle.rfc4737.specs.declared.Gap.{Gap}
 use Rattle.rfc4737.specs.Runs.{arrived}
 use Rattle.rfc4737.specs.Gaps.{discoverer, isSome, discontinuitiesTo, discontinuities, earlier, gapAfter, gapAmong, gapOf}
 use Rattle.rfc4737.proofs.Lists.{All, all-append, all-weaken}
-use Rattle.metrics.specs.Private.Steps.{orZero, Marked, lastTo, gapFrom, gapBy}
+use Rattle.metrics.specs.Private.Steps.{orZero, DiscoverersAt, lastTo, gapFrom, gapBy}
 
 -- ---- the last discontinuity of a table up to a position
 
@@ -156,7 +156,7 @@ module _ (l : List Answer) where
 
   -- ---- by the table
 
-  module _ (found : List ℕ) (m : Marked l found) where
+  module _ (found : List ℕ) (m : DiscoverersAt l found) where
     -- a discontinuity is marked
     marked-some : (p : ℕ) → 1 ≤ p → p ≤ 4096 → isSome (discoverer p l) ≡ not (eqb (getD found p 0) 0)
     marked-some p low high = go (discoverer p l) refl

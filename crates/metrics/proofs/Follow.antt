@@ -19,7 +19,7 @@ use Rattle.rfc4737.proofs.Folds.{next-more}
 use Rattle.rfc4737.proofs.Jumps.{has-more-false, placed-more, firstAbove-append, firstAbove-none, search-agrees, Within, jumps-within, reordered-discontinuity}
 use Rattle.sample.specs.declared.Layout.{Layout}
 use Rattle.sample.specs.Decode.{Decoded}
-use Rattle.metrics.specs.Sample.{arrivalsOf}
+use Rattle.metrics.specs.Sample.{sampleArrivals}
 use Rattle.metrics.specs.Private.Sample.{noArrival, arrivalAt, before, Laid, Has}
 use Rattle.metrics.specs.Private.Tables.{Filled, Numbered, Recorded, Follows, placeOf}
 use Rattle.metrics.specs.declared.tables.State.{State}
@@ -208,12 +208,12 @@ module _ (l : List Arrival) (a : Arrival) (numbers records skipped : List ℕ) (
 -- ---- along a file
 
 -- a file of this layout has as many arrivals
-pub arrivals-laid : (d : Decoded) (y : Layout) → Laid d y → y .arrivals ≡ length (arrivalsOf d)
+pub arrivals-laid : (d : Decoded) (y : Layout) → Laid d y → y .arrivals ≡ length (sampleArrivals d)
 arrivals-laid d y h = ap (λ (y : Layout). y .arrivals) (h .laid)
 
 -- there are i among its first i
 pub before-count : (d : Decoded) (y : Layout) (i : ℕ) → Laid d y → i ≤ y .arrivals → length (before d i) ≡ i
-before-count d y i h most = length-take-le i (arrivalsOf d) (omega (arith, arrivals-laid d y h))
+before-count d y i h most = length-take-le i (sampleArrivals d) (omega (arith, arrivals-laid d y h))
 
 module _ (d : Decoded) (y : Layout) (i : ℕ) (h : Has d y i) where
   -- the number of its arrival is that of a packet
@@ -224,12 +224,12 @@ module _ (d : Decoded) (y : Layout) (i : ℕ) (h : Has d y i) where
       (same, omega (arith, n), omega (arith, n, h .file .sentFew))
 
   -- record i + 1 is one of the arrivals
-  pub inside-laid : i < length (arrivalsOf d)
+  pub inside-laid : i < length (sampleArrivals d)
   inside-laid = omega (arith, arrivals-laid d y (h .file))
 
   -- the arrivals up to record i + 1 are those before it and its own
   pub before-more : before d (i + 1) ≡ before d i ++ (arrivalAt d i ∷ [])
-  before-more = take-more noArrival (arrivalsOf d) i inside-laid
+  before-more = take-more noArrival (sampleArrivals d) i inside-laid
 
   -- i arrivals are before it
   pub before-length : length (before d i) ≡ i

@@ -14,21 +14,21 @@ use Rattle.rfc4737.specs.declared.Counts.{Counts}
 use Rattle.rfc4737.specs.Runs.{counts}
 use Rattle.rfc4737.proofs.Folds.{length-answers}
 use Rattle.listing.specs.Lines.{headerLine, recordLine, recordLinesFrom, recordLines, endLine, listingOf}
-use Rattle.listing.specs.Private.Within.{CountsWithin}
+use Rattle.listing.specs.Private.DigitBounds.{CountsWithin}
 use Rattle.sample.specs.declared.Layout.{Layout}
-use Rattle.sample.specs.Decode.{Decoded, sampleOf, refusalOf}
+use Rattle.sample.specs.Decode.{Decoded, sampleOf, decodedRefusal}
 use Rattle.metrics.specs.Agreement.{common, agreementUnless, sampleAgreement}
 use Rattle.metrics.specs.Report.{sampleText}
-use Rattle.metrics.specs.Sample.{sizeOf, arrivalsOf, answersOf}
+use Rattle.metrics.specs.Sample.{sizeOf, sampleArrivals, answersOf}
 use Rattle.metrics.specs.Private.Compared.{Agreed, LeftOf, textFrom, LeftAt}
 use Rattle.metrics.specs.Private.Sample.{noArrival, arrivalAt, answerAt, Laid, Has}
 use Rattle.metrics.specs.declared.SampleAgreement.{SampleAgreement}
 use Rattle.metrics.specs.declared.compare.Part.{Part}
-use Rattle.metrics.proofs.Asked.{answer-at}
+use Rattle.metrics.proofs.RecordsAsked.{answer-at}
 use Rattle.metrics.proofs.Common.{common-le, common-part, common-after, same-common}
 use Rattle.metrics.proofs.Follow.{arrivals-laid}
-use Rattle.metrics.proofs.Passes.{answersTo, answers-end}
-use Rattle.metrics.proofs.Within.{counts-within}
+use Rattle.metrics.proofs.OneArrivalMore.{answersTo, answers-end}
+use Rattle.metrics.proofs.DigitBounds.{counts-within}
 
 -- ---- a text of lines
 
@@ -88,22 +88,22 @@ unfolding listingOf recordLines
 text-start d y h = rw (h .laid)
 
 -- the line of record i + 1, and what is left after it
-text-next : (d : Decoded) (i : ℕ) → i < length (arrivalsOf d)
+text-next : (d : Decoded) (i : ℕ) → i < length (sampleArrivals d)
     → textFrom d i ≡ recordLine (i + 1) (arrivalAt d i .number) (answerAt d i) ++ textFrom d (i + 1)
 unfolding recordLinesFrom
 text-next d i h =
-    let g : i < length (answersOf d) = omega (arith, length-answers (sizeOf d) (arrivalsOf d)) in
+    let g : i < length (answersOf d) = omega (arith, length-answers (sizeOf d) (sampleArrivals d)) in
     let other : Answer = Answer.InOrder (record { position = 0; jump = 0 }) in
     let s : i + 1 ≡ suc i = omega arith in
-    ap₂ (λ (l : List _) (m : List _). recordLinesFrom (i + 1) l m ++ endLine (counts (answersOf d))) (drop-cons (arrivalsOf d) i noArrival h)
+    ap₂ (λ (l : List _) (m : List _). recordLinesFrom (i + 1) l m ++ endLine (counts (answersOf d))) (drop-cons (sampleArrivals d) i noArrival h)
     (drop-cons (answersOf d) i other g ∙ ap (λ (a : Answer). a ∷ drop (suc i) (answersOf d)) (answer-at d other i h))
     ∙ append-assoc (recordLine (i + 1) (arrivalAt d i .number) (answerAt d i)) _ _
     ∙ rw s
 
 -- the last line
-text-end : (d : Decoded) (i : ℕ) → length (arrivalsOf d) ≤ i → textFrom d i ≡ endLine (counts (answersOf d))
+text-end : (d : Decoded) (i : ℕ) → length (sampleArrivals d) ≤ i → textFrom d i ≡ endLine (counts (answersOf d))
 unfolding recordLinesFrom
-text-end d i h = rw (drop-of-length-le (arrivalsOf d) h)
+text-end d i h = rw (drop-of-length-le (sampleArrivals d) h)
 
 -- ---- its lines against a text
 
@@ -151,19 +151,19 @@ module _ (d : Decoded) (y : Layout) (h : Laid d y) (text : List ℕ) (p : Part) 
 pub end-within : (d : Decoded) (y : Layout) → Laid d y → (i : ℕ) → y .arrivals ≤ i → (c : Counts) → c ≡ counts (answersTo d i) → CountsWithin c
 end-within d y h i all c e =
     let q : c ≡ counts (answersOf d) = e ∙ ap counts (answers-end d y i h all) in
-    rw q (counts-within (answersOf d) (omega (arith, h .few, arrivals-laid d y h, length-answers (sizeOf d) (arrivalsOf d))))
+    rw q (counts-within (answersOf d) (omega (arith, h .few, arrivals-laid d y h, length-answers (sizeOf d) (sampleArrivals d))))
 
 -- ---- the call
 
 module _ (d : Decoded) (y : Layout) (h : Laid d y) (text : List ℕ) where
   -- the refusal that is found
-  own : y .refusal ≡ refusalOf d
+  own : y .refusal ≡ decodedRefusal d
   own = ap (λ (y : Layout). y .refusal) (h .laid)
 
   -- with one the text is not looked at
   pub agreed-refused : (y .refusal ≡ 0 → ⊥) → record { refusal = y .refusal; octets = 0; same = false } ≡ sampleAgreement d text
   unfolding sampleAgreement
-  agreed-refused n = rw own (go (refusalOf d) (λ e. n (own ∙ e)))
+  agreed-refused n = rw own (go (decodedRefusal d) (λ e. n (own ∙ e)))
     where
       go : (r : ℕ) → (r ≡ 0 → ⊥) → _≡_ {A = SampleAgreement} (record { refusal = r; octets = 0; same = false }) (agreementUnless r (sampleText d) text)
       go zero n = absurd (n refl)
@@ -174,5 +174,5 @@ module _ (d : Decoded) (y : Layout) (h : Laid d y) (text : List ℕ) where
       → record { refusal = 0; octets = p .octets; same = same } ≡ sampleAgreement d text
   unfolding sampleAgreement
   agreed-accepted n p a same e =
-      let z : refusalOf d ≡ 0 = sym own ∙ n in
+      let z : decodedRefusal d ≡ 0 = sym own ∙ n in
       rw (z, e, a .octets, a .whole, same-common (sampleText d) text)

@@ -1,18 +1,18 @@
 -- Laws of the engine. Assumes nothing.
-pub mod Places
+pub mod FoundInFile
 pub mod Records
 pub mod Follow
 pub mod Reordered
-pub mod Told
-pub mod Passes
-pub mod Seen
+pub mod AnswersByClass
+pub mod OneArrivalMore
+pub mod CountsBySeen
 pub mod Linked
-pub mod Noted
+pub mod NotingArrivals
 pub mod Pairs
 pub mod Running
 pub mod Discovered
-pub mod Asked
-pub mod Within
+pub mod RecordsAsked
+pub mod DigitBounds
 pub mod Listed
 pub mod Common
 mod Left

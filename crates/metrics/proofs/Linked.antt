@@ -19,8 +19,8 @@ use Rattle.metrics.specs.Private.Sample.{noArrival}
 use Rattle.metrics.specs.Private.Tables.{Filled, Numbered, Above, Links, Linked}
 use Rattle.metrics.proofs.Records.{has-at}
 use Rattle.metrics.proofs.Reordered.{above-back, above-join}
-use Rattle.metrics.proofs.Passes.{zeros}
-use Rattle.metrics.proofs.Seen.{has-below}
+use Rattle.metrics.proofs.OneArrivalMore.{zeros}
+use Rattle.metrics.proofs.CountsBySeen.{has-below}
 
 -- ---- what a link passes over
 

@@ -17,35 +17,35 @@ use Rattle.rfc4737.specs.declared.Counts.{Counts}
 use Rattle.rfc4737.specs.Runs.{counts}
 use Rattle.rfc4737.specs.Refusals.{inCase, firstOf, outputShort}
 use Rattle.listing.specs.Lines.{headerLine, recordLine, endLine, listingOf}
-use Rattle.listing.specs.Private.Listed.{upTo, Listed}
+use Rattle.listing.specs.Private.Listed.{listingUpTo, Listed}
 use Rattle.listing.specs.Room.{listingOctets}
 use Rattle.listing.proofs.Lengths.{header-octets, record-octets, end-octets}
 use Rattle.listing.proofs.Listed.{up-to-none, up-to-more, up-to-end, listed-start, listed-next, listed-end}
 use Rattle.rfc4737.proofs.Folds.{length-answers}
-use Rattle.sample.specs.Decode.{Decoded, decode, sampleOf, refusalOf}
+use Rattle.sample.specs.Decode.{Decoded, decode, sampleOf, decodedRefusal}
 use Rattle.sample.specs.declared.Layout.{Layout}
-use Rattle.metrics.specs.Sample.{arrivalsOf, answersOf, sizeOf}
+use Rattle.metrics.specs.Sample.{sampleArrivals, answersOf, sizeOf}
 use Rattle.metrics.specs.Private.Sample.{arrivalAt, before, answerAt, Laid, Has}
 use Rattle.metrics.specs.Report.{sampleText, listingRefusal, ListedTo}
 use Rattle.metrics.proofs.Follow.{arrivals-laid, before-more, before-length}
-use Rattle.metrics.proofs.Passes.{answersTo, answers-start, answers-next, answers-end, answers-length}
-use Rattle.metrics.proofs.Within.{answers-within, counts-within}
+use Rattle.metrics.proofs.OneArrivalMore.{answersTo, answers-start, answers-next, answers-end, answers-length}
+use Rattle.metrics.proofs.DigitBounds.{answers-within, counts-within}
 
 -- ---- how long it is
 
 -- the listing up to record i
 abbrev linesTo : Decoded → Layout → ℕ → List ℕ
-linesTo d y i = upTo (y .sent) (y .arrivals) (before d i) (answersTo d i)
+linesTo d y i = listingUpTo (y .sent) (y .arrivals) (before d i) (answersTo d i)
 
 module _ (d : Decoded) (y : Layout) (laid : Laid d y) where
   -- up to the last record, with the last line, it is whole
   lines-end : linesTo d y (y .arrivals) ++ endLine (counts (answersOf d)) ≡ sampleText d
   lines-end =
       let many = arrivals-laid d y laid in
-      let l : before d (y .arrivals) ≡ arrivalsOf d = take-all (y .arrivals) (arrivalsOf d) (omega (arith, many)) in
+      let l : before d (y .arrivals) ≡ sampleArrivals d = take-all (y .arrivals) (sampleArrivals d) (omega (arith, many)) in
       let m : answersTo d (y .arrivals) ≡ answersOf d = answers-end d y (y .arrivals) laid (omega arith) in
       let k : y .sent ≡ length (sampleOf d .sizes) = ap (λ (y : Layout). y .sent) (laid .laid) in
-      rw (m, l, many, k) (up-to-end (length (sampleOf d .sizes)) (arrivalsOf d) (answersOf d) (counts (answersOf d)))
+      rw (m, l, many, k) (up-to-end (length (sampleOf d .sizes)) (sampleArrivals d) (answersOf d) (counts (answersOf d)))
 
 module _ (file : List ℕ) (y : Layout) (laid : Laid (decode file) y) (o : Octets file) where
   -- up to record i it has at most 24 octets for the first line and 61 for each record
@@ -68,7 +68,7 @@ module _ (file : List ℕ) (y : Layout) (laid : Laid (decode file) y) (o : Octet
   pub sample-within : length (sampleText (decode file)) ≤ listingOctets
   sample-within =
       let d = decode file in
-      let few : length (answersOf d) ≤ 4096 = omega (arith, laid .few, arrivals-laid d y laid, length-answers (sizeOf d) (arrivalsOf d)) in
+      let few : length (answersOf d) ≤ 4096 = omega (arith, laid .few, arrivals-laid d y laid, length-answers (sizeOf d) (sampleArrivals d)) in
       let end = end-octets (counts (answersOf d)) (counts-within (answersOf d) few) in
       let lines = lines-within (y .arrivals) (omega arith) in
       rw (← lines-end d y laid, length-append (linesTo d y (y .arrivals)) _) (omega (arith, laid .few))
@@ -125,15 +125,15 @@ module _ (d : Decoded) (y : Layout) (laid : Laid d y) (old : List ℕ) {start : 
       → (at + n ≡ length (sampleText d)) × (at + n ≤ length old → newer ≡ over (sampleText d) old)
   listing-end {i} {at} {n} {c} {out} {newer} h s ec e w =
       let many = arrivals-laid d y laid in
-      let l : before d i ≡ arrivalsOf d = take-all i (arrivalsOf d) (omega (arith, many)) in
+      let l : before d i ≡ sampleArrivals d = take-all i (sampleArrivals d) (omega (arith, many)) in
       let m : answersTo d i ≡ answersOf d = answers-end d y i laid h in
-      let all : Listed (y .sent) (length (arrivalsOf d)) (arrivalsOf d) (answersOf d) at start out = rw (m, l, many) at s in
+      let all : Listed (y .sent) (length (sampleArrivals d)) (sampleArrivals d) (answersOf d) at start out = rw (m, l, many) at s in
       let cs : c ≡ counts (answersOf d) = ec ∙ ap counts m in
       let k : y .sent ≡ length (sampleOf d .sizes) = ap (λ (y : Layout). y .sent) (laid .laid) in
-      let text : listingOf (y .sent) (arrivalsOf d) (answersOf d) c ≡ sampleText d = ap₂ (λ (k : ℕ) (c : Counts). listingOf k (arrivalsOf d) (answersOf d) c) k cs in
+      let text : listingOf (y .sent) (sampleArrivals d) (answersOf d) c ≡ sampleText d = ap₂ (λ (k : ℕ) (c : Counts). listingOf k (sampleArrivals d) (answersOf d) c) k cs in
       let r = listed-end (y .sent) start c all e w in
       let head : length header ≤ length (sampleText d) =
-      rw (← text, many) (header-le (y .sent) (arrivalsOf d) (answersOf d) c) in
+      rw (← text, many) (header-le (y .sent) (sampleArrivals d) (answersOf d) c) in
       let long : at + n ≡ length (sampleText d) = r .0 ∙ ap length text in (
         long,
         λ fits.
@@ -150,17 +150,17 @@ own-due short (suc r) h = refl
 
 module _ (d : Decoded) (room : ℕ) where
   -- the file's own refusal
-  pub refused-own : {own : ℕ} → own ≡ refusalOf d → (own ≡ 0 → ⊥) → own ≡ listingRefusal d room
+  pub refused-own : {own : ℕ} → own ≡ decodedRefusal d → (own ≡ 0 → ⊥) → own ≡ listingRefusal d room
   unfolding listingRefusal
   refused-own {own} e h = rw (← e) (own-due (inCase (ltb room (length (sampleText d))) outputShort) own h)
 
   -- the listing does not fit
-  pub refused-short : {own : ℕ} → own ≡ refusalOf d → own ≡ 0 → room < length (sampleText d) → 8 ≡ listingRefusal d room
+  pub refused-short : {own : ℕ} → own ≡ decodedRefusal d → own ≡ 0 → room < length (sampleText d) → 8 ≡ listingRefusal d room
   unfolding listingRefusal
   refused-short e z h = rw (← e, z, lt-ltb _ _ h)
 
   -- nothing is refused
-  pub refused-none : {own : ℕ} → own ≡ refusalOf d → own ≡ 0 → length (sampleText d) ≤ room → 0 ≡ listingRefusal d room
+  pub refused-none : {own : ℕ} → own ≡ decodedRefusal d → own ≡ 0 → length (sampleText d) ≤ room → 0 ≡ listingRefusal d room
   unfolding listingRefusal
   refused-none e z h = rw (← e, z, le-ltb _ _ h)
 
@@ -182,7 +182,7 @@ pub listed-whole : (d : Decoded) (old : List ℕ) (r n : ℕ) {new : List ℕ} �
 unfolding listingRefusal
 listed-whole d old r n e z l w =
     let none : 0 ≡ listingRefusal d (length old) = sym z ∙ e in
-    let fits : length (sampleText d) ≤ length old = ltb-false _ _ (fits-into (refusalOf d) (ltb (length old) (length (sampleText d))) none) in
+    let fits : length (sampleText d) ≤ length old = ltb-false _ _ (fits-into (decodedRefusal d) (ltb (length old) (length (sampleText d))) none) in
     record {
       answer = rw (z, l, ← none);
       memory = rw (← none) (w (omega arith));

@@ -14,17 +14,17 @@ use Rattle.sample.specs.declared.Layout.{Layout}
 use Rattle.sample.specs.Decode.{Decoded}
 use Rattle.metrics.specs.Sample.{sizeOf}
 use Rattle.metrics.specs.Private.Sample.{arrivalAt, before, Has}
-use Rattle.metrics.specs.Private.Tables.{Follows, Links, Linked, Noted, classBy, lateOnly}
+use Rattle.metrics.specs.Private.Tables.{Follows, Links, Linked, ReceiverAnswer, classBy, lateOnly}
 use Rattle.metrics.specs.Private.Engine.{Totalled, Filling, Running}
 use Rattle.metrics.specs.declared.engine.Engine.{Engine}
 use Rattle.metrics.specs.declared.look.Class.{Class}
 use Rattle.metrics.specs.declared.tables.State.{State}
 use Rattle.metrics.specs.declared.totals.Totals.{Totals}
 use Rattle.metrics.proofs.Follow.{before-more}
-use Rattle.metrics.proofs.Told.{packets, late-told}
-use Rattle.metrics.proofs.Passes.{follows-start}
+use Rattle.metrics.proofs.AnswersByClass.{packets, late-told}
+use Rattle.metrics.proofs.OneArrivalMore.{follows-start}
 use Rattle.metrics.proofs.Linked.{linked-none, linked-links}
-use Rattle.metrics.proofs.Noted.{noted-follows, noted-linked}
+use Rattle.metrics.proofs.NotingArrivals.{noted-follows, noted-linked}
 use Rattle.metrics.proofs.Pairs.{totalled-none}
 
 -- no links yet
@@ -61,7 +61,7 @@ module _ (d : Decoded) (y : Layout) (i : ℕ) (h : Has d y i) where
 
     module _ (number : ℕ) (is : number ≡ arrivalAt d i .number) (low : 1 ≤ number) (high : number ≤ 4096)
         (k : Class) (e : k ≡ classBy records skipped (state .next) number) (largest : ℕ) (most : largest ≡ lateOnly (largestN (firsts (before d i)) number) k)
-        (numbers′ records′ skipped′ : List ℕ) (state′ : State) (n : Noted i number largest numbers records skipped state numbers′ records′ skipped′ state′) where
+        (numbers′ records′ skipped′ : List ℕ) (state′ : State) (n : ReceiverAnswer i number largest numbers records skipped state numbers′ records′ skipped′ state′) where
       -- the links under record i + 1, which is linked by its largest n
       pub linked-next : Linked (firsts (before d i)) skipped → Linked (firsts (before d (i + 1))) skipped′
       linked-next l =

@@ -3,7 +3,7 @@ use Prim.Native.Nat.{ℕ, zero, suc, _+_}
 use mathlib.Core.Bool.{Bool, true, false, cond, _&&_}
 use mathlib.Core.List.{List, [], _∷_}
 use lib.Dec.{eqb}
-use Rattle.sample.specs.Decode.{Decoded, refusalOf}
+use Rattle.sample.specs.Decode.{Decoded, decodedRefusal}
 use Rattle.metrics.specs.Report.{sampleText}
 use Rattle.metrics.specs.declared.SampleAgreement.{SampleAgreement}
 
@@ -27,4 +27,4 @@ agreementUnless (suc r) expected text = record { refusal = suc r; octets = 0; sa
 
 -- a text against the listing of a sample
 unfoldable pub sampleAgreement : Decoded → List ℕ → SampleAgreement
-sampleAgreement d text = agreementUnless (refusalOf d) (sampleText d) text
+sampleAgreement d text = agreementUnless (decodedRefusal d) (sampleText d) text

@@ -12,8 +12,8 @@ use Rattle.rfc4737.specs.Runs.{arrived, counts}
 use Rattle.rfc4737.specs.Tally.{tally}
 use Rattle.rfc4737.specs.Gaps.{gaps}
 use Rattle.rfc4737.specs.Ratios.{nReordered, degree, ratios}
-use Rattle.sample.specs.Decode.{Decoded, refusalOf}
-use Rattle.metrics.specs.Sample.{arrivalsOf, answersOf}
+use Rattle.sample.specs.Decode.{Decoded, decodedRefusal}
+use Rattle.metrics.specs.Sample.{sampleArrivals, answersOf}
 use Rattle.metrics.specs.declared.RecordAnswer.{RecordAnswer}
 use Rattle.metrics.specs.declared.RecordGap.{RecordGap}
 use Rattle.metrics.specs.declared.SampleCounts.{SampleCounts}
@@ -32,11 +32,11 @@ module _ {ℓ} {A : Type ℓ} where
 
 -- the refusal of a call that asks for a number from low to high: the file's own, then 9
 abbrev pub askedRefusal : Decoded → ℕ → ℕ → ℕ → ℕ
-askedRefusal d low high asked = firstOf (refusalOf d ∷ inCase (not (within low high asked)) askedOutside ∷ [])
+askedRefusal d low high asked = firstOf (decodedRefusal d ∷ inCase (not (within low high asked)) askedOutside ∷ [])
 
 -- the refusal of a call that asks for a record: 1 to A
 abbrev pub recordRefusal : Decoded → ℕ → ℕ
-recordRefusal d asked = askedRefusal d 1 (length (arrivalsOf d)) asked
+recordRefusal d asked = askedRefusal d 1 (length (sampleArrivals d)) asked
 
 -- whether n is 1 to 100
 abbrev pub degreeInside : ℕ → Bool
@@ -62,11 +62,11 @@ recordGap d asked = record { refusal = recordRefusal d asked; gap = atRecord Gap
 
 -- the counts of a sample
 unfoldable pub sampleCounts : Decoded → SampleCounts
-sampleCounts d = record { refusal = refusalOf d; counts = counts (answersOf d) }
+sampleCounts d = record { refusal = decodedRefusal d; counts = counts (answersOf d) }
 
 -- the extent tally of a sample
 unfoldable pub sampleTally : Decoded → SampleTally
-sampleTally d = record { refusal = refusalOf d; tally = tally (answersOf d) }
+sampleTally d = record { refusal = decodedRefusal d; tally = tally (answersOf d) }
 
 -- the two counts of a degree of n-reordering: the n-reordered packets, and L
 unfoldable pub degreeCounts : Decoded → ℕ → DegreeCounts
@@ -83,4 +83,4 @@ sampleDegree d n = record { refusal = askedRefusal d 1 100 n; ratio = degree n (
 
 -- the ratio figures of a sample
 unfoldable pub sampleRatios : Decoded → SampleRatios
-sampleRatios d = record { refusal = refusalOf d; ratios = ratios (answersOf d) }
+sampleRatios d = record { refusal = decodedRefusal d; ratios = ratios (answersOf d) }

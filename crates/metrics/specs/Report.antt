@@ -9,17 +9,17 @@ use Rattle.rfc4737.specs.Refusals.{inCase, firstOf, outputShort}
 use Rattle.rfc4737.specs.Runs.{counts}
 use Rattle.listing.specs.Lines.{listingOf}
 use Rattle.sample.specs.Calls.{unlessRefused}
-use Rattle.sample.specs.Decode.{Decoded, sampleOf, refusalOf}
-use Rattle.metrics.specs.Sample.{arrivalsOf, answersOf}
+use Rattle.sample.specs.Decode.{Decoded, sampleOf, decodedRefusal}
+use Rattle.metrics.specs.Sample.{sampleArrivals, answersOf}
 use Rattle.metrics.specs.declared.SampleListing.{SampleListing}
 
 -- the listing of a sample: K, its arrivals, their answers and the counts
 abbrev pub sampleText : Decoded → List ℕ
-sampleText d = listingOf (length (sampleOf d .sizes)) (arrivalsOf d) (answersOf d) (counts (answersOf d))
+sampleText d = listingOf (length (sampleOf d .sizes)) (sampleArrivals d) (answersOf d) (counts (answersOf d))
 
 -- the refusal of a listing into so many octets: the file's own, then 8 if it does not fit
 unfoldable pub listingRefusal : Decoded → ℕ → ℕ
-listingRefusal d room = firstOf (refusalOf d ∷ inCase (ltb room (length (sampleText d))) outputShort ∷ [])
+listingRefusal d room = firstOf (decodedRefusal d ∷ inCase (ltb room (length (sampleText d))) outputShort ∷ [])
 
 -- what is written into so many octets: the listing, or nothing with a refusal
 abbrev pub listingInto : Decoded → ℕ → List ℕ

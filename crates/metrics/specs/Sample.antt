@@ -12,9 +12,9 @@ abbrev pub sizeOf : Decoded → ℕ → ℕ
 sizeOf d = sizeIn (sampleOf d .sizes)
 
 -- the arrivals, in order of arrival
-abbrev pub arrivalsOf : Decoded → List Arrival
-arrivalsOf d = sampleOf d .arrivals
+abbrev pub sampleArrivals : Decoded → List Arrival
+sampleArrivals d = sampleOf d .arrivals
 
 -- the answer for every record
 abbrev pub answersOf : Decoded → List Answer
-answersOf d = answers (sizeOf d) (arrivalsOf d)
+answersOf d = answers (sizeOf d) (sampleArrivals d)

@@ -6,7 +6,7 @@ ghost use Prim.Native.Nat.{_+_, _^_, _≤_, _<_};
 ghost use lib.Dec.{eqb};
 ghost use lib.ListN.{length, drop};
 ghost use Rattle.listing.specs.Lines.{headerLine, recordLine, endLine};
-ghost use Rattle.listing.specs.Private.Within.{AnswerWithin, CountsWithin, Small};
+ghost use Rattle.listing.specs.Private.DigitBounds.{AnswerWithin, CountsWithin, FourDigits};
 ghost use Rattle.sample.specs.Decode.{decode};
 ghost use Rattle.metrics.specs.Agreement.{common};
 ghost use Rattle.metrics.specs.Private.Compared.{Agreed, LeftAt};
@@ -62,7 +62,7 @@ fn part_of(line: &[u8], text: &[u8], at: usize) -> Part
 
 // The first line against a text.
 fn header_part(text: &[u8], k: u32, a: u32) -> Part
-    requires { ⌜ Small k × Small a ⌝ }
+    requires { ⌜ FourDigits k × FourDigits a ⌝ }
     ensures { λ r. ⌜ Agreed (headerLine k a) (now (text .entry)) r ⌝ }
 {
     let mut line = [0u8; LINE];
@@ -72,7 +72,7 @@ fn header_part(text: &[u8], k: u32, a: u32) -> Part
 
 // A record's line against a text from a place on.
 fn record_part(text: &[u8], at: usize, record: u32, number: u32, answer: Answer) -> Part
-    requires { ⌜ (at ≤ length (now text)) × Small «record» × Small number × AnswerWithin answer ⌝ }
+    requires { ⌜ (at ≤ length (now text)) × FourDigits «record» × FourDigits number × AnswerWithin answer ⌝ }
     ensures { λ r. ⌜ Agreed (recordLine «record» number answer) (drop at (now (text .entry))) r ⌝ }
 {
     let mut line = [0u8; LINE];

@@ -8,7 +8,7 @@ ghost use Rattle.rfc4737.specs.Tally.{tallyPlace, tally};
 ghost use Rattle.sample.specs.Decode.{decode};
 ghost use Rattle.metrics.specs.Sample.{answersOf};
 ghost use Rattle.metrics.specs.Private.Sample.{Laid};
-ghost use Rattle.metrics.specs.Private.Steps.{Inside, Small, noCounts, countsBy, kindBy, tallyBy, Fewer, noParts, reachedBy, partsBy, partsOf};
+ghost use Rattle.metrics.specs.Private.Steps.{Inside, FewCounted, noCounts, countsBy, kindBy, tallyBy, Fewer, noParts, reachedBy, partsBy, partsOf};
 use crate::input;
 use crate::look::Class;
 use crate::look::class_of;
@@ -64,7 +64,7 @@ fn ended(r: Runs) -> Runs
 
 // The counts under one arrival more.
 pub(crate) fn counted(c: Counts, class: Class) -> Counts
-    requires { ⌜ Small c ⌝ }
+    requires { ⌜ FewCounted c ⌝ }
     ensures { λ r. ⌜ r ≡ countsBy c class ⌝ }
 {
     let runs = c.runs;

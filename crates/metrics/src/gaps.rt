@@ -6,7 +6,7 @@ ghost use Rattle.sample.specs.Decode.{decode};
 ghost use Rattle.metrics.specs.Sample.{answersOf};
 ghost use Rattle.metrics.specs.Private.Sample.{Laid, answerAt};
 ghost use Rattle.metrics.specs.Figures.{recordGap};
-ghost use Rattle.metrics.specs.Private.Steps.{Inside, placeIn, placeBy, Marked, markBy, lastTo, gapBy};
+ghost use Rattle.metrics.specs.Private.Steps.{Inside, placeIn, placeBy, DiscoverersAt, markBy, lastTo, gapBy};
 use crate::RecordGap;
 use crate::answers::refusal_of;
 use crate::input;
@@ -55,7 +55,7 @@ fn position_of(count: u32, class: Class) -> u32
 fn mark_all(file: &[u8], y: Layout, asked: u32, found: &mut [u16; PLACES]) -> u32
     requires { ⌜ Laid (decode (now file)) y × (1 ≤ asked) × (asked ≤ y .arrivals) × (now found ≡ replicate 4097 0) ⌝ }
     ensures { λ r. ⌜ (r ≡ placeIn (answerAt (decode (now (file .entry))) (asked - 1)))
-        × Marked (answersOf (decode (now (file .entry)))) (now (found .exit)) ⌝ }
+        × DiscoverersAt (answersOf (decode (now (file .entry)))) (now (found .exit)) ⌝ }
 {
     let mut numbers = [0u16; FIRSTS];
     let mut records = [0u16; PLACES];

@@ -6,7 +6,7 @@ ghost use Rattle.octets.specs.Memory.{over};
 ghost use Rattle.sample.specs.Decode.{decode};
 ghost use Rattle.metrics.specs.Private.Sample.{Laid};
 ghost use Rattle.metrics.specs.Private.Tables.{classOf};
-ghost use Rattle.metrics.specs.Private.Steps.{Small, countsBy};
+ghost use Rattle.metrics.specs.Private.Steps.{FewCounted, countsBy};
 ghost use Rattle.metrics.specs.Report.{sampleText, listingRefusal};
 use crate::engine::advance;
 use crate::engine::fresh_engine;
@@ -25,7 +25,7 @@ use sample::Layout;
 
 // The counts under one answer more.
 pub(crate) fn counted_by(c: Counts, answer: Answer) -> Counts
-    requires { ⌜ Small c ⌝ }
+    requires { ⌜ FewCounted c ⌝ }
     ensures { λ r. ⌜ r ≡ countsBy c (classOf answer) ⌝ }
 {
     match answer {

@@ -5,7 +5,7 @@
 ghost use mathlib.Core.Path.{_≡_};
 ghost use Prim.Native.Nat.{_≤_};
 ghost use lib.ListN.{length};
-ghost use Rattle.metrics.specs.Private.Tables.{Filled, Noting, Noted};
+ghost use Rattle.metrics.specs.Private.Tables.{Filled, Noting, ReceiverAnswer};
 
 // The greatest number of first arrivals.
 pub(crate) const FIRSTS: usize = 4096;
@@ -58,7 +58,7 @@ pub(crate) fn note(
     state: State,
 ) -> State
     requires { ⌜ Noting (now numbers) (now records) (now skipped) state i number ⌝ }
-    ensures { λ r. ⌜ Noted i number largest (now (numbers .entry)) (now (records .entry)) (now (skipped .entry)) state
+    ensures { λ r. ⌜ ReceiverAnswer i number largest (now (numbers .entry)) (now (records .entry)) (now (skipped .entry)) state
         (now (numbers .exit)) (now (records .exit)) (now (skipped .exit)) r ⌝ }
 {
     let at = number as usize;

@@ -16,11 +16,11 @@ use Rattle.rfc4737.proofs.Due.{first-none, case-none, between, not-outside}
 use Rattle.rfc4737.proofs.Pairs.{arrivals-back}
 use Rattle.rfc4737.proofs.Judged.{fit-lists}
 use Rattle.sample.specs.Judge.{judgeLabel, judgeOctets}
-use Rattle.sample.specs.Calls.{refusalFrom}
+use Rattle.sample.specs.Calls.{sampleRefusal}
 use Rattle.owamp.specs.Record.{arrivalsIn}
-use Rattle.owamp.specs.Order.{NotBefore, Rising, insert, inOrder}
+use Rattle.owamp.specs.Order.{NotBefore, NotBack, insert, inOrder}
 use Rattle.owamp.specs.Clock.{microseconds, smallest, since, fromSmallest}
-use Rattle.owamp.specs.Judge.{judgeNumber, judgeNumbers, refusalIn}
+use Rattle.owamp.specs.Judge.{judgeNumber, judgeNumbers, recordsRefusal}
 use Rattle.owamp.specs.Calls.{imported}
 use Rattle.owamp.specs.RoundTrip.{AcceptedLists}
 use Rattle.owamp.proofs.Sorted.{in-order, order-more}
@@ -72,12 +72,12 @@ module _ (b : ℕ) where
   since-before t [] n = tt
   since-before t (a ∷ l) n = ((let m = micro-rising t (a .time) (n .0) in omega arith), since-before t l (n .1))
 
-  since-rising : (l : List Arrival) → Rising l → Rising (map (since b) l)
+  since-rising : (l : List Arrival) → NotBack l → NotBack (map (since b) l)
   since-rising [] r = tt
   since-rising (a ∷ l) r = (since-before (a .time) l (r .0), since-rising l (r .1))
 
 -- no imported time goes back
-pub imported-rising : (os : List ℕ) → Rising (imported os)
+pub imported-rising : (os : List ℕ) → NotBack (imported os)
 unfolding imported fromSmallest
 imported-rising os =
     let l : List Arrival = inOrder (arrivalsIn os) in
@@ -94,7 +94,7 @@ reference-on reference time h = go (ltb reference time) refl
     go true e = refl
     go false e = omega (arith, ltb-false)
 
-judge-none : (k reference : ℕ) (l : List Arrival) → All (Within k) l → NotBefore reference l → Rising l → judge k reference l ≡ 0
+judge-none : (k reference : ℕ) (l : List Arrival) → All (Within k) l → NotBefore reference l → NotBack l → judge k reference l ≡ 0
 unfolding judge judgeOne tooEarly
 judge-none k reference [] h n r = refl
 judge-none k reference (a ∷ l) h n r =
@@ -116,7 +116,7 @@ imported-length : (os : List ℕ) → length (imported os) ≡ length (arrivalsI
 unfolding imported
 imported-length os = smallest-length (inOrder (arrivalsIn os)) ∙ order-length (arrivalsIn os)
 
-accepted : (k : ℕ) (os : List ℕ) → refusalIn k os ≡ 0 → refusalOfLists k (numbersOf (imported os)) (timesOf (imported os)) ≡ 0
+accepted : (k : ℕ) (os : List ℕ) → recordsRefusal k os ≡ 0 → refusalOfLists k (numbersOf (imported os)) (timesOf (imported os)) ≡ 0
 accepted k os e =
     let n = none-refused k os e in
     let l : List Arrival = imported os in
@@ -128,8 +128,8 @@ accepted k os e =
 
 -- the label's refusals alone
 label-alone : (label sizes numbers times : List ℕ) → refusalOfLists (length sizes) numbers times ≡ 0
-    → refusalFrom label sizes numbers times ≡ firstOf (judgeLabel (length label) ∷ judgeOctets label ∷ [])
-unfolding refusalFrom
+    → sampleRefusal label sizes numbers times ≡ firstOf (judgeLabel (length label) ∷ judgeOctets label ∷ [])
+unfolding sampleRefusal
 label-alone label sizes numbers times e =
     ap (λ (x : ℕ). firstOf (judgeLabel (length label) ∷ judgeOctets label ∷ x ∷ [])) e ∙ last (judgeLabel (length label)) (judgeOctets label)
   where

@@ -15,7 +15,7 @@ use Rattle.sample.specs.Calls.{unlessRefused}
 use Rattle.owamp.specs.Record.{arrivalsIn}
 use Rattle.owamp.specs.Order.{inOrder}
 use Rattle.owamp.specs.Clock.{fromSmallest}
-use Rattle.owamp.specs.Judge.{judgeLength, judgeNumbers, refusalIn}
+use Rattle.owamp.specs.Judge.{judgeLength, judgeNumbers, recordsRefusal}
 use Rattle.owamp.specs.Calls.{importRefusal, imported, ImportedFrom}
 use Rattle.rfc4737.proofs.Due.{first-none, first-one, case-none, between}
 use Rattle.owamp.proofs.Sorted.{in-order}
@@ -29,8 +29,8 @@ pub record NoneRefused (k : ℕ) (os : List ℕ) : Type 0 where
   pub few : length (arrivalsIn os) ≤ 4096
   pub numbers : judgeNumbers k (arrivalsIn os) ≡ 0
 
-pub none-refused : (k : ℕ) (os : List ℕ) → refusalIn k os ≡ 0 → NoneRefused k os
-unfolding refusalIn
+pub none-refused : (k : ℕ) (os : List ℕ) → recordsRefusal k os ≡ 0 → NoneRefused k os
+unfolding recordsRefusal
 none-refused k os e =
     let n = length (arrivalsIn os) in
     let p = first-none (judgeLength (length os)) (judgeSent k ∷ judgeArrivals n ∷ judgeNumbers k (arrivalsIn os) ∷ []) e in
@@ -59,20 +59,20 @@ module _ (k : ℕ) (os numbers times : List ℕ) where
   }
 
   -- the records or K are refused
-  pub import-refused : (r : ℕ) → r ≡ refusalIn k os → (r ≡ 0 → ⊥) → ImportedFrom k os numbers times (record { refusal = r; arrivals = 0 }) numbers times
+  pub import-refused : (r : ℕ) → r ≡ recordsRefusal k os → (r ≡ 0 → ⊥) → ImportedFrom k os numbers times (record { refusal = r; arrivals = 0 }) numbers times
   unfolding importRefusal
   import-refused zero e n = absurd (n refl)
   import-refused (suc r) e n =
       left 0 (ap (λ (x : ℕ). firstOf (x ∷ inCase (ltb (length numbers) (length (arrivalsIn os)) || ltb (length times) (length (arrivalsIn os))) outputShort ∷ [])) (sym e)) refl refl refl
 
   -- a list is too short
-  pub import-short : refusalIn k os ≡ 0 → (ltb (length numbers) (length (arrivalsIn os)) || ltb (length times) (length (arrivalsIn os))) ≡ true
+  pub import-short : recordsRefusal k os ≡ 0 → (ltb (length numbers) (length (arrivalsIn os)) || ltb (length times) (length (arrivalsIn os))) ≡ true
       → ImportedFrom k os numbers times (record { refusal = 8; arrivals = 0 }) numbers times
   unfolding importRefusal
   import-short e s = left 0 (simp (e, s)) refl refl refl
 
   -- the lists are filled
-  pub import-filled : (n : ℕ) {numbers′ times′ : List ℕ} → refusalIn k os ≡ 0 → n ≡ length (arrivalsIn os) → n ≤ length numbers → n ≤ length times
+  pub import-filled : (n : ℕ) {numbers′ times′ : List ℕ} → recordsRefusal k os ≡ 0 → n ≡ length (arrivalsIn os) → n ≤ length numbers → n ≤ length times
       → numbers′ ≡ over (numbersOf (inOrder (arrivalsIn os))) numbers → times′ ≡ over (timesOf (fromSmallest (inOrder (arrivalsIn os)))) times
       → ImportedFrom k os numbers times (record { refusal = 0; arrivals = n }) numbers′ times′
   unfolding importRefusal imported
@@ -84,11 +84,11 @@ module _ (k : ℕ) (os numbers times : List ℕ) where
       left n (simp (e, le-ltb _ _ a, le-ltb _ _ b)) (c ∙ sym m) (f ∙ ap (λ (x : List ℕ). over x numbers) (smallest-numbers l)) t
 
 -- where there are places for 4,096 arrivals, the refusal is that of K and the records
-pub import-room : (k numbers times : ℕ) (os : List ℕ) → 4096 ≤ numbers → 4096 ≤ times → importRefusal k numbers times os ≡ refusalIn k os
+pub import-room : (k numbers times : ℕ) (os : List ℕ) → 4096 ≤ numbers → 4096 ≤ times → importRefusal k numbers times os ≡ recordsRefusal k os
 unfolding importRefusal
-import-room k numbers times os n t = go (refusalIn k os) refl
+import-room k numbers times os n t = go (recordsRefusal k os) refl
   where
-    go : (r : ℕ) → refusalIn k os ≡ r → importRefusal k numbers times os ≡ refusalIn k os
+    go : (r : ℕ) → recordsRefusal k os ≡ r → importRefusal k numbers times os ≡ recordsRefusal k os
     go zero e =
         let f = none-refused k os e .few in
         rw (e, le-ltb numbers (length (arrivalsIn os)) (omega arith), le-ltb times (length (arrivalsIn os)) (omega arith))

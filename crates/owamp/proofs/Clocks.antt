@@ -5,7 +5,7 @@ use mathlib.Core.List.{List, [], _∷_, foldl, map}
 use mathlib.Core.Path.{_≡_, refl, ap, _∙_}
 use Rattle.rfc4737.specs.declared.Arrival.{Arrival}
 use Rattle.rfc4737.specs.Judge.{timesOf}
-use Rattle.owamp.specs.Order.{NotBefore, Rising}
+use Rattle.owamp.specs.Order.{NotBefore, NotBack}
 use Rattle.owamp.specs.Clock.{fractions, micros, microseconds, takenOff, Distance, smallest}
 
 -- the distance from the exact time
@@ -32,5 +32,5 @@ first-smallest t (a ∷ l) n =
     ap (λ (x : ℕ). foldl min x (map microseconds (timesOf l))) e ∙ first-smallest t l (n .1)
 
 -- where no time goes back the smallest is the first
-pub rising-smallest : (a : Arrival) (l : List Arrival) → Rising (a ∷ l) → smallest (map microseconds (timesOf (a ∷ l))) ≡ microseconds (a .time)
+pub rising-smallest : (a : Arrival) (l : List Arrival) → NotBack (a ∷ l) → smallest (map microseconds (timesOf (a ∷ l))) ≡ microseconds (a .time)
 rising-smallest a l r = first-smallest (a .time) l (r .0)

@@ -9,7 +9,7 @@ use Rattle.octets.specs.Memory.{over}
 use Rattle.octets.proofs.Memory.{over-read, over-drop}
 use Rattle.rfc4737.specs.declared.Arrival.{Arrival}
 use Rattle.rfc4737.specs.Judge.{numbersOf, timesOf}
-use Rattle.owamp.specs.Order.{Rising}
+use Rattle.owamp.specs.Order.{NotBack}
 use Rattle.owamp.specs.Clock.{microseconds, smallest, since, fromSmallest}
 use Rattle.owamp.proofs.Clocks.{micro-rising, rising-smallest}
 
@@ -75,7 +75,7 @@ unfolding fromSmallest
 smallest-length l = length-map l (since (smallest (map microseconds (timesOf l))))
 
 -- the times, from the first on
-first-times : (l : List Arrival) (old : List ℕ) → Rising l
+first-times : (l : List Arrival) (old : List ℕ) → NotBack l
     → map (λ (s : ℕ). microseconds s - microseconds (getD (over (timesOf l) old) 0 0)) (timesOf l) ≡ timesOf (fromSmallest l)
 unfolding fromSmallest
 first-times [] old r = refl
@@ -83,7 +83,7 @@ first-times (a ∷ l) old r =
     since-times (microseconds (a .time)) (a ∷ l) ∙ ap (λ (b : ℕ). timesOf (map (since b) (a ∷ l))) (sym (rising-smallest a l r))
 
 -- the list of times as it is left
-pub times-converted : (l : List Arrival) (n : ℕ) (old : List ℕ) {d d′ : List ℕ} → Rising l → n ≡ length l → d ≡ over (timesOf l) old
+pub times-converted : (l : List Arrival) (n : ℕ) (old : List ℕ) {d d′ : List ℕ} → NotBack l → n ≡ length l → d ≡ over (timesOf l) old
     → d′ ≡ over (map (λ (s : ℕ). microseconds s - microseconds (getD d 0 0)) (take n d)) d
     → d′ ≡ over (timesOf (fromSmallest l)) old
 times-converted l n old {d} {d′} r e f g =

@@ -16,7 +16,7 @@ use Rattle.octets.proofs.Below.{below-cons, below-nil}
 use Rattle.rfc4737.specs.declared.Arrival.{Arrival}
 use Rattle.rfc4737.specs.Refusals.{outside, firstOf, numberOutside}
 use Rattle.rfc4737.specs.Judge.{numbersOf}
-use Rattle.owamp.specs.Record.{recordIn, recordCount, recordsIn, keptIf, passing, arrived, arrivalsIn}
+use Rattle.owamp.specs.Record.{recordIn, recordCount, recordsIn, keptIf, passing, isArrival, arrivalsIn}
 use Rattle.owamp.specs.Judge.{judgeNumber, judgeNumbers}
 use Rattle.owamp.specs.Private.Reading.{noArrival, oneIfArrived, judgeRecord}
 use Rattle.sample.proofs.Items.{items-length, items-getD}
@@ -54,23 +54,23 @@ module _ {ℓ} {A : Type ℓ} (p : A → Bool) where
 
 -- ---- how many are arrivals
 
-kept-many : (a : Arrival) → length (keptIf (arrived a) a []) ≡ oneIfArrived (a .time)
+kept-many : (a : Arrival) → length (keptIf (isArrival a) a []) ≡ oneIfArrived (a .time)
 kept-many a = go (eqb (a .time) 0)
   where
     go : (t : Bool) → length (keptIf (not t) a []) ≡ cond t 0 1
     go true = refl
     go false = refl
 
-pub count-next : (os : List ℕ) (i n : ℕ) {t r : ℕ} → i < recordCount os → n ≡ length (passing arrived (take i (recordsIn os)))
+pub count-next : (os : List ℕ) (i n : ℕ) {t r : ℕ} → i < recordCount os → n ≡ length (passing isArrival (take i (recordsIn os)))
     → t ≡ getD (recordsIn os) i noArrival .time → r ≡ oneIfArrived t
-    → n + r ≡ length (passing arrived (take (i + 1) (recordsIn os)))
+    → n + r ≡ length (passing isArrival (take (i + 1) (recordsIn os)))
 count-next os i n {t} {r} h e f g =
     let a : Arrival = getD (recordsIn os) i noArrival in
     let k : i < length (recordsIn os) = omega (arith, records-length os) in
-    let s : r ≡ length (keptIf (arrived a) a []) = g ∙ ap oneIfArrived f ∙ sym (kept-many a) in
-    sym (ap length (passing-take arrived (recordsIn os) i noArrival k)
-    ∙ length-append (passing arrived (take i (recordsIn os))) (keptIf (arrived a) a [])
-    ∙ (let w : length (passing arrived (take i (recordsIn os))) + length (keptIf (arrived a) a []) ≡ n + r = omega arith in w))
+    let s : r ≡ length (keptIf (isArrival a) a []) = g ∙ ap oneIfArrived f ∙ sym (kept-many a) in
+    sym (ap length (passing-take isArrival (recordsIn os) i noArrival k)
+    ∙ length-append (passing isArrival (take i (recordsIn os))) (keptIf (isArrival a) a [])
+    ∙ (let w : length (passing isArrival (take i (recordsIn os))) + length (keptIf (isArrival a) a []) ≡ n + r = omega arith in w))
 
 pub arrived-at-most : (t : ℕ) → oneIfArrived t ≤ 1
 arrived-at-most t = go (eqb t 0)
@@ -79,25 +79,25 @@ arrived-at-most t = go (eqb t 0)
     go true = omega arith
     go false = omega arith
 
-pub count-done : (os : List ℕ) (i n : ℕ) → recordCount os ≤ i → n ≡ length (passing arrived (take i (recordsIn os))) → n ≡ length (arrivalsIn os)
+pub count-done : (os : List ℕ) (i n : ℕ) → recordCount os ≤ i → n ≡ length (passing isArrival (take i (recordsIn os))) → n ≡ length (arrivalsIn os)
 unfolding arrivalsIn
-count-done os i n h e = e ∙ ap (λ (l : List Arrival). length (passing arrived l)) (take-all i (recordsIn os) (let k = records-length os in omega arith))
+count-done os i n h e = e ∙ ap (λ (l : List Arrival). length (passing isArrival l)) (take-all i (recordsIn os) (let k = records-length os in omega arith))
 
 -- ---- the judge
 
 -- of arrivals alone, and of all records
-pub judge-all : (k : ℕ) (l : List Arrival) → firstOf (map (judgeRecord k) l) ≡ judgeNumbers k (passing arrived l)
+pub judge-all : (k : ℕ) (l : List Arrival) → firstOf (map (judgeRecord k) l) ≡ judgeNumbers k (passing isArrival l)
 unfolding judgeNumbers judgeRecord passing
 judge-all k [] = refl
-judge-all k (a ∷ l) = go (judge-all k l) (arrived a)
+judge-all k (a ∷ l) = go (judge-all k l) (isArrival a)
   where
     same : (r : ℕ) (xs ys : List ℕ) → firstOf xs ≡ firstOf ys → firstOf (r ∷ xs) ≡ firstOf (r ∷ ys)
     same zero xs ys e = e
     same (suc r) xs ys e = refl
 
-    go : firstOf (map (judgeRecord k) l) ≡ judgeNumbers k (passing arrived l) → (t : Bool)
-        → firstOf (cond t (judgeNumber k a) 0 ∷ map (judgeRecord k) l) ≡ judgeNumbers k (keptIf t a (passing arrived l))
-    go e true = same (judgeNumber k a) (map (judgeRecord k) l) (map (judgeNumber k) (passing arrived l)) e
+    go : firstOf (map (judgeRecord k) l) ≡ judgeNumbers k (passing isArrival l) → (t : Bool)
+        → firstOf (cond t (judgeNumber k a) 0 ∷ map (judgeRecord k) l) ≡ judgeNumbers k (keptIf t a (passing isArrival l))
+    go e true = same (judgeNumber k a) (map (judgeRecord k) l) (map (judgeNumber k) (passing isArrival l)) e
     go e false = e
 
 -- numbers that are not refused fit

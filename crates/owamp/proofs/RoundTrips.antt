@@ -15,10 +15,10 @@ use Rattle.rfc4737.specs.declared.Arrival.{Arrival}
 use Rattle.rfc4737.specs.Refusals.{outside, firstOf, numberOutside, secondsOver}
 use Rattle.rfc4737.specs.Judge.{numbersOf}
 use Rattle.sample.specs.Format.{itemsIn, itemOctets}
-use Rattle.owamp.specs.Record.{recordIn, recordCount, passing, arrived, arrivalsIn}
-use Rattle.owamp.specs.Order.{NotBefore, Rising, inOrder}
+use Rattle.owamp.specs.Record.{recordIn, recordCount, passing, isArrival, arrivalsIn}
+use Rattle.owamp.specs.Order.{NotBefore, NotBack, inOrder}
 use Rattle.owamp.specs.Clock.{fromSmallest, writtenSeconds, writtenFraction}
-use Rattle.owamp.specs.Judge.{judgeNumber, judgeNumbers, refusalIn, secondsMost, judgeTime, judgeSeconds}
+use Rattle.owamp.specs.Judge.{judgeNumber, judgeNumbers, recordsRefusal, secondsMost, judgeTime, judgeSeconds}
 use Rattle.owamp.specs.Calls.{imported, recordOctets, recordsOf}
 use Rattle.rfc4737.proofs.Due.{first-none, case-none, between, not-outside}
 use Rattle.sample.proofs.Items.{octets-many}
@@ -104,7 +104,7 @@ pub records-many : (l : List Arrival) → length (recordsOf l) ≡ 25 * length l
 unfolding recordsOf
 records-many l = octets-many recordOctets 25 record-long l
 
-all-arrived : (l : List Arrival) → passing arrived (map stamped l) ≡ map stamped l
+all-arrived : (l : List Arrival) → passing isArrival (map stamped l) ≡ map stamped l
 unfolding passing
 all-arrived [] = refl
 all-arrived (a ∷ l) =
@@ -115,13 +115,13 @@ pub arrivals-read : (k : ℕ) (l : List Arrival) → k ≤ 4096 → judgeNumbers
 unfolding arrivalsIn recordsOf
 arrivals-read k l h e s =
     let n : recordCount (itemOctets recordOctets l) ≡ length l = omega (arith, octets-many recordOctets 25 record-long l) in
-    ap (λ (c : ℕ). passing arrived (itemsIn 25 recordIn c (itemOctets recordOctets l))) n ∙ ap (passing arrived) (items-read k l h e s) ∙ all-arrived l
+    ap (λ (c : ℕ). passing isArrival (itemsIn 25 recordIn c (itemOctets recordOctets l))) n ∙ ap (passing isArrival) (items-read k l h e s) ∙ all-arrived l
 
 stamped-before : (t : ℕ) (l : List Arrival) → NotBefore t l → NotBefore (stampOf t) (map stamped l)
 stamped-before t [] n = tt
 stamped-before t (a ∷ l) n = (stamp-rising t (a .time) (n .0), stamped-before t l (n .1))
 
-stamped-rising : (l : List Arrival) → Rising l → Rising (map stamped l)
+stamped-rising : (l : List Arrival) → NotBack l → NotBack (map stamped l)
 stamped-rising [] r = tt
 stamped-rising (a ∷ l) r = (stamped-before (a .time) l (r .0), stamped-rising l (r .1))
 
@@ -140,9 +140,9 @@ stamped-judged k l = ap firstOf (stamped-each k l)
 
 -- arrivals of packets 1 to K whose times can be written and do not go back, written as records and read again: none is refused, and they
 -- have the same numbers in the same order
-pub records-again : (k : ℕ) (l : List Arrival) → 1 ≤ k → k ≤ 4096 → length l ≤ 4096 → judgeNumbers k l ≡ 0 → judgeSeconds l ≡ 0 → Rising l
-    → (refusalIn k (recordsOf l) ≡ 0) × (numbersOf (imported (recordsOf l)) ≡ numbersOf l)
-unfolding refusalIn imported
+pub records-again : (k : ℕ) (l : List Arrival) → 1 ≤ k → k ≤ 4096 → length l ≤ 4096 → judgeNumbers k l ≡ 0 → judgeSeconds l ≡ 0 → NotBack l
+    → (recordsRefusal k (recordsOf l) ≡ 0) × (numbersOf (imported (recordsOf l)) ≡ numbersOf l)
+unfolding recordsRefusal imported
 records-again k l h₁ h₂ m e s r =
     let q : arrivalsIn (recordsOf l) ≡ map stamped l = arrivals-read k l h₂ e s in
     let n : length (recordsOf l) % 25 ≡ 0 = omega (arith, records-many l) in

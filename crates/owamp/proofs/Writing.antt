@@ -14,14 +14,14 @@ use Rattle.octets.proofs.Memory.{put-next, over-splice, over-read}
 use Rattle.rfc4737.specs.declared.Arrival.{Arrival}
 use Rattle.rfc4737.specs.Refusals.{inCase, firstOf, outputShort}
 use Rattle.rfc4737.specs.Judge.{numbersOf}
-use Rattle.sample.specs.Decode.{decode, sampleOf, refusalOf, layoutOf, accepted}
+use Rattle.sample.specs.Decode.{decode, sampleOf, decodedRefusal, layoutOf, accepted}
 use Rattle.sample.specs.Calls.{unlessRefused}
 use Rattle.owamp.specs.Record.{arrivalsIn}
 use Rattle.owamp.specs.Clock.{writtenSeconds, writtenFraction}
-use Rattle.owamp.specs.Judge.{judgeNumber, judgeNumbers, refusalIn, judgeSeconds}
+use Rattle.owamp.specs.Judge.{judgeNumber, judgeNumbers, recordsRefusal, judgeSeconds}
 use Rattle.owamp.specs.Calls.{importRefusal, imported, ImportedFrom, recordOctets, recordsOf, arrivalsOfFile, writeRefusal, WrittenFrom}
 use Rattle.owamp.specs.RoundTrip.{ReadAgain}
-use Rattle.owamp.specs.Private.Reading.{noArrival, Found}
+use Rattle.owamp.specs.Private.Reading.{noArrival, AcceptedLayout}
 use Rattle.sample.specs.declared.Layout.{Layout}
 use Rattle.rfc4737.proofs.Due.{first-none, not-outside}
 use Rattle.sample.proofs.Accepted.{found-sample, accepted-limits, number-within}
@@ -71,11 +71,11 @@ record-put n t old {s = s} {f = f} l p₁ p₂ p₃ p₄ es p₅ ef p₆ p₇ =
 -- ---- the file
 
 -- the layout of an accepted file has the number of its arrivals
-pub found-many : (file : List ℕ) (y : Layout) → Found file y → y .arrivals ≡ length (arrivalsOfFile file)
+pub found-many : (file : List ℕ) (y : Layout) → AcceptedLayout file y → y .arrivals ≡ length (arrivalsOfFile file)
 found-many file y f = ap (λ (x : Layout). x .arrivals) (f .layout)
 
 -- the refusal of the layout is the file's
-pub found-refusal : (file : List ℕ) (y : Layout) → y ≡ layoutOf (decode file) → y .refusal ≡ refusalOf (decode file)
+pub found-refusal : (file : List ℕ) (y : Layout) → y ≡ layoutOf (decode file) → y .refusal ≡ decodedRefusal (decode file)
 found-refusal file y e = ap (λ (x : Layout). x .refusal) e
 
 -- ---- the answers
@@ -89,26 +89,26 @@ module _ (file out : List ℕ) where
   }
 
   -- the sample's own
-  pub write-refused : (r : ℕ) → r ≡ refusalOf (decode file) → (r ≡ 0 → ⊥) → WrittenFrom file out (record { refusal = r; length = 0 }) out
+  pub write-refused : (r : ℕ) → r ≡ decodedRefusal (decode file) → (r ≡ 0 → ⊥) → WrittenFrom file out (record { refusal = r; length = 0 }) out
   unfolding writeRefusal
   write-refused zero e n = absurd (n refl)
   write-refused (suc r) e n =
       due r (ap (λ (x : ℕ). firstOf (x ∷ judgeSeconds (arrivalsOfFile file) ∷ inCase (ltb (length out) (length (recordsOf (arrivalsOfFile file)))) outputShort ∷ [])) (sym e))
 
   -- 18
-  pub write-over : (r : ℕ) → refusalOf (decode file) ≡ 0 → r ≡ judgeSeconds (arrivalsOfFile file) → (r ≡ 0 → ⊥) → WrittenFrom file out (record { refusal = r; length = 0 }) out
+  pub write-over : (r : ℕ) → decodedRefusal (decode file) ≡ 0 → r ≡ judgeSeconds (arrivalsOfFile file) → (r ≡ 0 → ⊥) → WrittenFrom file out (record { refusal = r; length = 0 }) out
   unfolding writeRefusal
   write-over zero z e n = absurd (n refl)
   write-over (suc r) z e n = due r (simp (z, sym e))
 
   -- 8
-  pub write-short : refusalOf (decode file) ≡ 0 → judgeSeconds (arrivalsOfFile file) ≡ 0 → length out < length (recordsOf (arrivalsOfFile file))
+  pub write-short : decodedRefusal (decode file) ≡ 0 → judgeSeconds (arrivalsOfFile file) ≡ 0 → length out < length (recordsOf (arrivalsOfFile file))
       → WrittenFrom file out (record { refusal = 8; length = 0 }) out
   unfolding writeRefusal
   write-short z e h = due 7 (simp (z, e, lt-ltb _ _ h))
 
   -- written
-  pub write-filled : (n : ℕ) {out′ : List ℕ} → refusalOf (decode file) ≡ 0 → judgeSeconds (arrivalsOfFile file) ≡ 0 → length (recordsOf (arrivalsOfFile file)) ≤ length out
+  pub write-filled : (n : ℕ) {out′ : List ℕ} → decodedRefusal (decode file) ≡ 0 → judgeSeconds (arrivalsOfFile file) ≡ 0 → length (recordsOf (arrivalsOfFile file)) ≤ length out
       → n ≡ length (recordsOf (arrivalsOfFile file)) → out′ ≡ splice 0 (recordsOf (arrivalsOfFile file)) out
       → WrittenFrom file out (record { refusal = 0; length = n }) out′
   unfolding writeRefusal
@@ -137,7 +137,7 @@ read-again file o out out′ numbers times numbers′ times′ written read w z 
     let k : ℕ = length (sampleOf (decode file) .sizes) in
     let rs : List ℕ = recordsOf l in
     let q : writeRefusal (length out) file ≡ 0 = sym (w .refusal) ∙ z in
-    let p₁ = first-none (refusalOf (decode file)) (judgeSeconds l ∷ inCase (ltb (length out) (length rs)) outputShort ∷ []) q in
+    let p₁ = first-none (decodedRefusal (decode file)) (judgeSeconds l ∷ inCase (ltb (length out) (length rs)) outputShort ∷ []) q in
     let p₂ = first-none (judgeSeconds l) (inCase (ltb (length out) (length rs)) outputShort ∷ []) (p₁ .1) in
     let d : decode file ≡ accepted (sampleOf (decode file)) = found-sample file (layoutOf (decode file)) refl (p₁ .0) in
     let m = accepted-limits file (sampleOf (decode file)) d o in

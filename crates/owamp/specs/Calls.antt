@@ -10,13 +10,13 @@ use Rattle.rfc4737.specs.declared.Arrival.{Arrival}
 use Rattle.rfc4737.specs.Judge.{numbersOf, timesOf}
 use Rattle.rfc4737.specs.Refusals.{inCase, firstOf, outputShort}
 use Rattle.sample.specs.Format.{itemOctets}
-use Rattle.sample.specs.Decode.{decode, sampleOf, refusalOf}
+use Rattle.sample.specs.Decode.{decode, sampleOf, decodedRefusal}
 use Rattle.sample.specs.Calls.{unlessRefused}
 use Rattle.sample.specs.declared.Written.{Written}
 use Rattle.owamp.specs.Record.{sequenceNumber, sendError, receiveError, sendTime, receiveSeconds, receiveFraction, ttl, fieldOctets, arrivalsIn}
 use Rattle.owamp.specs.Order.{inOrder}
 use Rattle.owamp.specs.Clock.{fromSmallest, writtenSeconds, writtenFraction}
-use Rattle.owamp.specs.Judge.{refusalIn, judgeSeconds}
+use Rattle.owamp.specs.Judge.{recordsRefusal, judgeSeconds}
 use Rattle.owamp.specs.declared.Imported.{Imported}
 
 -- ---- the importer
@@ -29,7 +29,7 @@ imported os = fromSmallest (inOrder (arrivalsIn os))
 unfoldable pub importRefusal : (k numbers times : ℕ) (os : List ℕ) → ℕ
 importRefusal k numbers times os =
     firstOf
-    (refusalIn k os
+    (recordsRefusal k os
     ∷ inCase (ltb numbers (length (arrivalsIn os)) || ltb times (length (arrivalsIn os))) outputShort
     ∷ [])
 
@@ -73,7 +73,7 @@ arrivalsOfFile file = sampleOf (decode file) .arrivals
 unfoldable pub writeRefusal : ℕ → List ℕ → ℕ
 writeRefusal room file =
     firstOf
-    (refusalOf (decode file)
+    (decodedRefusal (decode file)
     ∷ judgeSeconds (arrivalsOfFile file)
     ∷ inCase (ltb room (length (recordsOf (arrivalsOfFile file)))) outputShort
     ∷ [])

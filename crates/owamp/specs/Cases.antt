@@ -6,7 +6,7 @@ use lib.ListN.{replicate}
 use Rattle.octets.specs.BigEndian.{beOctets}
 use Rattle.rfc4737.specs.declared.Arrival.{Arrival}
 use Rattle.owamp.specs.Clock.{microseconds, takenOff}
-use Rattle.owamp.specs.Judge.{refusalIn}
+use Rattle.owamp.specs.Judge.{recordsRefusal}
 use Rattle.owamp.specs.Calls.{imported, recordOctets}
 
 -- ---- what is read
@@ -54,7 +54,7 @@ importTable =
 
 pub record ReadAsGiven : Type 0 where
   pub times : map (λ (c : ℕ × (ℕ × ℕ)). (microseconds (c .0), takenOff (c .0))) timeTable ≡ map (λ (c : ℕ × (ℕ × ℕ)). c .1) timeTable
-  pub refusals : map (λ (c : (ℕ × List ℕ) × ℕ). refusalIn (c .0 .0) (c .0 .1)) refusalTable ≡ map (λ (c : (ℕ × List ℕ) × ℕ). c .1) refusalTable
+  pub refusals : map (λ (c : (ℕ × List ℕ) × ℕ). recordsRefusal (c .0 .0) (c .0 .1)) refusalTable ≡ map (λ (c : (ℕ × List ℕ) × ℕ). c .1) refusalTable
   pub arrivals : map (λ (c : List ℕ × List Arrival). imported (c .0)) importTable ≡ map (λ (c : List ℕ × List Arrival). c .1) importTable
 
 -- ---- what is written

@@ -23,8 +23,8 @@ unfoldable pub judgeNumbers : ℕ → List Arrival → ℕ
 judgeNumbers k l = firstOf (map (judgeNumber k) l)
 
 -- the first refusal that is due of K and records: 15, 4, 5 over all that are not lost, 6 in file order; 0 if none is
-unfoldable pub refusalIn : ℕ → List ℕ → ℕ
-refusalIn k os =
+unfoldable pub recordsRefusal : ℕ → List ℕ → ℕ
+recordsRefusal k os =
     firstOf
     (judgeLength (length os)
     ∷ judgeSent k

@@ -79,9 +79,9 @@ passing p [] = []
 passing p (a ∷ l) = keptIf (p a) a (passing p l)
 
 -- whether a record is an arrival; one with a receive time of zero is a lost packet
-abbrev pub arrived : Arrival → Bool
-arrived a = not (eqb (a .time) 0)
+abbrev pub isArrival : Arrival → Bool
+isArrival a = not (eqb (a .time) 0)
 
 -- the arrivals in file order, their times as recorded
 unfoldable pub arrivalsIn : List ℕ → List Arrival
-arrivalsIn os = passing arrived (recordsIn os)
+arrivalsIn os = passing isArrival (recordsIn os)

@@ -9,24 +9,24 @@ use Rattle.rfc4737.specs.Judge.{numbersOf, timesOf, refusalOfLists}
 use Rattle.rfc4737.specs.Refusals.{firstOf}
 use Rattle.sample.specs.Judge.{judgeLabel, judgeOctets}
 use Rattle.sample.specs.Decode.{decode, sampleOf}
-use Rattle.sample.specs.Calls.{refusalFrom}
+use Rattle.sample.specs.Calls.{sampleRefusal}
 use Rattle.sample.specs.declared.Written.{Written}
-use Rattle.owamp.specs.Order.{Rising}
-use Rattle.owamp.specs.Judge.{refusalIn}
+use Rattle.owamp.specs.Order.{NotBack}
+use Rattle.owamp.specs.Judge.{recordsRefusal}
 use Rattle.owamp.specs.Calls.{imported, ImportedFrom, arrivalsOfFile, WrittenFrom}
 use Rattle.owamp.specs.declared.Imported.{Imported}
 
 -- imported arrivals that a sample may have: no time goes back, and with K nothing of them is refused; so of a label, K payload sizes and
 -- these arrivals the sample's writer refuses, before 8, the label alone, by 3 or 13
 pub record Accepted (k : ℕ) (os : List ℕ) : Type 0 where
-  pub rising : Rising (imported os)
+  pub rising : NotBack (imported os)
   pub lists : refusalOfLists k (numbersOf (imported os)) (timesOf (imported os)) ≡ 0
   pub written : (label sizes : List ℕ) → length sizes ≡ k
-      → refusalFrom label sizes (numbersOf (imported os)) (timesOf (imported os)) ≡ firstOf (judgeLabel (length label) ∷ judgeOctets label ∷ [])
+      → sampleRefusal label sizes (numbersOf (imported os)) (timesOf (imported os)) ≡ firstOf (judgeLabel (length label) ∷ judgeOctets label ∷ [])
 
 -- the arrivals of records that are not refused are such
 abbrev pub AcceptedLists : ℕ → List ℕ → Type 0
-AcceptedLists k os = refusalIn k os ≡ 0 → Accepted k os
+AcceptedLists k os = recordsRefusal k os ≡ 0 → Accepted k os
 
 -- a sample's file that is written as records, and these read again with its K into lists that are long enough: where no time goes back, the
 -- same numbers in the same order. Of the times nothing is said: written and read they are rounded down, and a microsecond may be lost
@@ -35,7 +35,7 @@ ReadAgain file =
     (out out′ numbers times numbers′ times′ : List ℕ) (written : Written) (read : Imported)
     → WrittenFrom file out written out′
     → written .refusal ≡ 0
-    → Rising (arrivalsOfFile file)
+    → NotBack (arrivalsOfFile file)
     → length (arrivalsOfFile file) ≤ length numbers
     → length (arrivalsOfFile file) ≤ length times
     → ImportedFrom (length (sampleOf (decode file) .sizes)) (take (written .length) out′) numbers times read numbers′ times′

@@ -2,9 +2,9 @@
 ghost use mathlib.Core.Path.{_≡_};
 ghost use lib.ListN.{length};
 ghost use Rattle.owamp.specs.Record.{arrivalsIn};
-ghost use Rattle.owamp.specs.Judge.{judgeNumbers, refusalIn, judgeTime, judgeSeconds};
+ghost use Rattle.owamp.specs.Judge.{judgeNumbers, recordsRefusal, judgeTime, judgeSeconds};
 ghost use Rattle.owamp.specs.Calls.{arrivalsOfFile};
-ghost use Rattle.owamp.specs.Private.Reading.{oneIfArrived, judgeRecord, Found};
+ghost use Rattle.owamp.specs.Private.Reading.{oneIfArrived, judgeRecord, AcceptedLayout};
 use crate::clock::seconds_of;
 use crate::records::WIDTH;
 use crate::records::number_of;
@@ -78,7 +78,7 @@ fn judge_numbers(records: &[u8], k: u64) -> u32
 // The first refusal that is due of K and records, so many of them arrivals: 15, 4, 5, 6; 0 if none is.
 pub(crate) fn refusal_in(records: &[u8], k: u32, count: usize) -> u32
     requires { ⌜ count ≡ length (arrivalsIn (now records)) ⌝ }
-    ensures { λ r. ⌜ r ≡ refusalIn k (now (records .entry)) ⌝ }
+    ensures { λ r. ⌜ r ≡ recordsRefusal k (now (records .entry)) ⌝ }
 {
     if records.len() % WIDTH != 0 {
         return RECORD_CUT;
@@ -104,7 +104,7 @@ fn judge_time(time: u64) -> u32
 
 // The arrivals of an accepted file in turn, each by 18.
 pub(crate) fn judge_seconds(file: &[u8], found: Layout) -> u32
-    requires { ⌜ Found (now file) found ⌝ }
+    requires { ⌜ AcceptedLayout (now file) found ⌝ }
     ensures { λ r. ⌜ r ≡ judgeSeconds (arrivalsOfFile (now (file .entry))) ⌝ }
 {
     let count = found.arrivals;

@@ -10,7 +10,7 @@ ghost use Rattle.owamp.specs.Clock.{RoundedDown};
 ghost use Rattle.owamp.specs.Calls.{ImportedFrom, recordsOf, arrivalsOfFile, WrittenFrom};
 ghost use Rattle.owamp.specs.RoundTrip.{AcceptedLists, ReadAgain};
 ghost use Rattle.owamp.specs.Cases.{ReadAsGiven, WrittenAsGiven};
-ghost use Rattle.owamp.specs.Private.Reading.{Found};
+ghost use Rattle.owamp.specs.Private.Reading.{AcceptedLayout};
 
 mod clock;
 mod fill;
@@ -74,7 +74,7 @@ pub fn import(records: &[u8], k: u32, numbers: &mut [u32], times: &mut [u64]) ->
 
 // Writes the records of an accepted file's arrivals from the start of `out`.
 fn write_records(file: &[u8], found: Layout, out: &mut [u8])
-    requires { ⌜ Found (now file) found × (25 * (found .arrivals) ≤ length (now out)) ⌝ }
+    requires { ⌜ AcceptedLayout (now file) found × (25 * (found .arrivals) ≤ length (now out)) ⌝ }
     ensures { λ _. ⌜ now (out .exit) ≡ splice 0 (recordsOf (arrivalsOfFile (now (file .entry)))) (now (out .entry)) ⌝ }
 {
     let count = found.arrivals;

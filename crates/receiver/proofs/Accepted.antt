@@ -15,7 +15,7 @@ use Rattle.rfc4737.proofs.Arrivals.{fold-more}
 use Rattle.rfc4737.proofs.Packets.{OfPackets}
 use Rattle.receiver.specs.Limits.{packets}
 use Rattle.receiver.proofs.Fits.{within-true}
-use Rattle.receiver.specs.Account.{refusalIn, accountWith, accountOf}
+use Rattle.receiver.specs.Account.{accountRefusal, accountWith, accountOf}
 
 -- what an arrival has that is not refused
 pub record Accepted (k : ℕ) (account : List Arrival) (a : Arrival) : Type 0 where
@@ -23,8 +23,8 @@ pub record Accepted (k : ℕ) (account : List Arrival) (a : Arrival) : Type 0 wh
   pub numbered : OfPackets k a
 
 -- an arrival that is not refused has it
-pub accepted-arrival : (k : ℕ) (account : List Arrival) (a : Arrival) → refusalIn k account a ≡ 0 → Accepted k account a
-unfolding refusalIn
+pub accepted-arrival : (k : ℕ) (account : List Arrival) (a : Arrival) → accountRefusal k account a ≡ 0 → Accepted k account a
+unfolding accountRefusal
 accepted-arrival k account a e =
     go (eqb (length account) packets) (within 1 k (a .number)) (tooEarly (greatestTime account) (a .time)) refl refl refl e
   where
@@ -66,9 +66,9 @@ sound-none k = record { numbered = tt; short = omega arith }
 -- any arrival keeps it so
 pub sound-with : (k : ℕ) (account : List Arrival) (a : Arrival) → Sound k account → Sound k (accountWith k account a)
 unfolding accountWith
-sound-with k account a h = go (eqb (refusalIn k account a) 0) refl
+sound-with k account a h = go (eqb (accountRefusal k account a) 0) refl
   where
-    go : (t : Bool) → eqb (refusalIn k account a) 0 ≡ t → Sound k (cond t (account ++ (a ∷ [])) account)
+    go : (t : Bool) → eqb (accountRefusal k account a) 0 ≡ t → Sound k (cond t (account ++ (a ∷ [])) account)
     go true e = sound-more k account a h (accepted-arrival k account a (eqb-true _ _ e))
     go false e = h
 

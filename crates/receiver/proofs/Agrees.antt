@@ -25,20 +25,20 @@ use Rattle.rfc4737.proofs.Packets.{OfPackets, all-firsts}
 use Rattle.rfc4737.proofs.Times.{greatest-more}
 use Rattle.receiver.specs.declared.Stream.{Stream}
 use Rattle.receiver.specs.declared.Receiver.{Receiver}
-use Rattle.receiver.specs.declared.Noted.{Noted}
-use Rattle.receiver.specs.declared.Noted.the-variants.{Duplicate, Exact, Beyond}
+use Rattle.receiver.specs.declared.ReceiverAnswer.{ReceiverAnswer}
+use Rattle.receiver.specs.declared.ReceiverAnswer.the-variants.{Duplicate, Exact, Beyond}
 use Rattle.receiver.specs.declared.Outcome.{Outcome}
 use Rattle.receiver.specs.Limits.{window, packets}
 use Rattle.receiver.specs.Marks.{markAt, withMark}
-use Rattle.receiver.specs.Said.{refused, accepted}
+use Rattle.receiver.specs.Outcomes.{refusedOutcome, acceptedOutcome}
 use Rattle.receiver.specs.Kept.{Held, withJump, heldAfter}
-use Rattle.receiver.specs.Step.{refusalOf, latenessFrom, reorderedOutcome, firstOutcome, lookedAt, outcomeOf, duplicateStream, inOrderStream, reorderedStream, inOrderState, reorderedState, notedState, stepWith}
-use Rattle.receiver.specs.Account.{standsIn, refusalIn, accountWith, jumpIn, answerIn, answersIn, isIn, inWindow, beyondFigures, inForm, outcomeIn}
+use Rattle.receiver.specs.Step.{stepRefusal, latenessFrom, reorderedOutcome, firstOutcome, lookedAt, outcomeOf, duplicateStream, inOrderStream, reorderedStream, inOrderState, reorderedState, notedState, stepWith}
+use Rattle.receiver.specs.Account.{standsIn, accountRefusal, accountWith, jumpIn, answerIn, answersIn, isIn, inWindow, beyondFigures, inForm, outcomeIn}
 use Rattle.receiver.proofs.Window.{lastNumber}
 use Rattle.receiver.proofs.HeldJumps.{Holds}
 use Rattle.receiver.proofs.Marks.{marksOf, marks-more, marked-is-arrived}
 use Rattle.receiver.proofs.Accepted.{Accepted, accepted-arrival, Sound}
-use Rattle.receiver.proofs.Late.{Split, WindowSearch, search-late}
+use Rattle.receiver.proofs.ReorderedInWindow.{Split, WindowSearch, search-late}
 use Rattle.receiver.proofs.State.{stateWith}
 use Rattle.receiver.proofs.Fitness.{accepted-count, state-fit}
 
@@ -103,7 +103,7 @@ no-jump fs a h = rw (lt-leb _ _ h)
 -- there is no new jump or one
 pub jump-cases : (P : List Placed → Type 0) → P [] → ((p : Placed) → P (p ∷ [])) → (k : ℕ) (account : List Arrival) (a : Arrival) → P (jumpIn k account a)
 unfolding jumpIn jumpAfter
-jump-cases P none one k account a = go (eqb (refusalIn k account a) 0) (has (a .number) account) (isJump (firsts account) (a .number))
+jump-cases P none one k account a = go (eqb (accountRefusal k account a) 0) (has (a .number) account) (isJump (firsts account) (a .number))
   where
     go : (t u v : Bool) → P (cond t (cond u [] (cond v (placeAfter (firsts account) a ∷ []) [])) [])
     go false u v = none
@@ -115,7 +115,7 @@ jump-cases P none one k account a = go (eqb (refusalIn k account a) 0) (has (a .
 pub jumps-with : (k : ℕ) (account : List Arrival) (a : Arrival)
     → jumps (firsts (accountWith k account a)) ≡ jumps (firsts account) ++ jumpIn k account a
 unfolding jumpIn accountWith
-jumps-with k account a = go (eqb (refusalIn k account a) 0) (has (a .number) account) refl
+jumps-with k account a = go (eqb (accountRefusal k account a) 0) (has (a .number) account) refl
   where
     go : (t u : Bool) → has (a .number) account ≡ u
         → jumps (firsts (cond t (account ++ (a ∷ [])) account)) ≡ jumps (firsts account) ++ cond t (cond u [] (jumpAfter (firsts account) a)) []
@@ -126,7 +126,7 @@ jumps-with k account a = go (eqb (refusalIn k account a) 0) (has (a .number) acc
 -- ---- what is said
 
 -- a reordered packet in the receiver's forms, exact or not, d being its discontinuity
-lateForm : List Placed → List Arrival → Arrival → Bool → Option Placed → Noted
+lateForm : List Placed → List Arrival → Arrival → Bool → Option Placed → ReceiverAnswer
 lateForm ws account a t d =
     cond t (Exact (latenessFrom (length (firsts account) + 1) (a .time) d))
     (Beyond (beyondFigures ws account a))
@@ -165,7 +165,7 @@ search-window account ds ws a s = rw (s .is)
 module _ (k : ℕ) (account : List Arrival) (a : Arrival) (ds ws : List Placed) (sp : Split account ds ws) where
   -- exact or not, d being the oldest kept jump of a greater number
   said-late : (d : Placed) (t : Bool) → ltb (a .number) (lastNumber ds) ≡ not t
-      → reorderedOutcome ws (lastNumber ds) (length (firsts account) + 1) (a .number) (a .time) (some d) ≡ accepted (lateForm ws account a t (some d))
+      → reorderedOutcome ws (lastNumber ds) (length (firsts account) + 1) (a .number) (a .time) (some d) ≡ acceptedOutcome (lateForm ws account a t (some d))
   unfolding reorderedOutcome lateForm latenessFrom beyondFigures
   said-late d true e = rw e
   said-late d false e = rw e
@@ -173,7 +173,7 @@ module _ (k : ℕ) (account : List Arrival) (a : Arrival) (ds ws : List Placed) 
   -- it is what the account says
   late-agrees : OfPackets k a → has (a .number) account ≡ false → a .number < nextExp (firsts account)
       → reorderedOutcome ws (lastNumber ds) (length (firsts account) + 1) (a .number) (a .time) (firstAbove (a .number) ws)
-      ≡ accepted (inForm ws account a (answerIn account a))
+      ≡ acceptedOutcome (inForm ws account a (answerIn account a))
   unfolding lateForm
   late-agrees n e g = go (ltb (a .number) (lastNumber ds)) refl
     where
@@ -186,14 +186,14 @@ module _ (k : ℕ) (account : List Arrival) (a : Arrival) (ds ws : List Placed) 
       said : (d : Placed) (t : Bool) → ltb (a .number) (lastNumber ds) ≡ not t → firstAbove (a .number) ws ≡ some d
           → lateForm ws account a t (some d) ≡ inForm ws account a (answerIn account a)
           → reorderedOutcome ws (lastNumber ds) (length (firsts account) + 1) (a .number) (a .time) (firstAbove (a .number) ws)
-          ≡ accepted (inForm ws account a (answerIn account a))
+          ≡ acceptedOutcome (inForm ws account a (answerIn account a))
       said d t l f q =
           ap (reorderedOutcome ws (lastNumber ds) (length (firsts account) + 1) (a .number) (a .time)) f
-          ∙ said-late d t l ∙ ap accepted q
+          ∙ said-late d t l ∙ ap acceptedOutcome q
 
       go : (t : Bool) → ltb (a .number) (lastNumber ds) ≡ t
           → reorderedOutcome ws (lastNumber ds) (length (firsts account) + 1) (a .number) (a .time) (firstAbove (a .number) ws)
-          ≡ accepted (inForm ws account a (answerIn account a))
+          ≡ acceptedOutcome (inForm ws account a (answerIn account a))
       go true t =
           let d = search .dropped (ltb-true _ _ t) in
           said (search .oldest) false t (d .oldest) (sym (rw (search-window account ds ws a search, d .apart) at formed))
@@ -283,8 +283,8 @@ module _ (room : Bool) (h : Held) (k : ℕ) (account : List Arrival) (a : Arriva
 module _ (k : ℕ) (low : 1 ≤ k) (high : k ≤ packets) (account : List Arrival) (a : Arrival) (sound : Sound k account)
     (ds ws : List Placed) (sp : Split account ds ws) (h : Held) (o : Holds ds ws h) (few : length ws ≤ window) (room : Bool) where
   -- the refusals agree
-  refusal-agrees : refusalOf (stateWith k account h) (a .number) (a .time) ≡ refusalIn k account a
-  unfolding refusalOf refusalIn stateWith
+  refusal-agrees : stepRefusal (stateWith k account h) (a .number) (a .time) ≡ accountRefusal k account a
+  unfolding stepRefusal accountRefusal stateWith
   refusal-agrees = rw (state-fit k low high account sound ds ws sp h o few, accepted-count)
 
   -- so do the marks and the arrivals
@@ -298,26 +298,26 @@ module _ (k : ℕ) (low : 1 ≤ k) (high : k ≤ packets) (account : List Arriva
   abbrev before : Receiver
   before = stateWith k account h
 
-  abbrev noted : Noted
+  abbrev noted : ReceiverAnswer
   noted = inForm ws account a (answerIn account a)
 
   -- an arrival that is not refused is noted so
-  looked-agrees : Accepted k account a → lookedAt before (a .number) (a .time) ≡ accepted noted
+  looked-agrees : Accepted k account a → lookedAt before (a .number) (a .time) ≡ acceptedOutcome noted
   unfolding lookedAt firstOutcome stateWith inForm inOrderAnswer jumpSize
   looked-agrees n = go (has (a .number) account) refl
     where
       looked : Bool → Outcome
-      looked t = cond t (accepted Duplicate) (firstOutcome before (a .number) (a .time))
+      looked t = cond t (acceptedOutcome Duplicate) (firstOutcome before (a .number) (a .time))
 
       order : (t : Bool) → leb (nextExp (firsts account)) (a .number) ≡ t → has (a .number) account ≡ false
-          → firstOutcome before (a .number) (a .time) ≡ accepted noted
-      order true t e = rw t (sym (ap (λ (b : Answer). accepted (inForm ws account a b)) (answer-in-order account a e (leb-true _ _ t))))
+          → firstOutcome before (a .number) (a .time) ≡ acceptedOutcome noted
+      order true t e = rw t (sym (ap (λ (b : Answer). acceptedOutcome (inForm ws account a b)) (answer-in-order account a e (leb-true _ _ t))))
       order false t e =
           rw (t, o .kept, o .dropped) (late-agrees k account a ds ws sp (n .numbered) e (leb-false _ _ t))
 
-      go : (t : Bool) → has (a .number) account ≡ t → lookedAt before (a .number) (a .time) ≡ accepted noted
+      go : (t : Bool) → has (a .number) account ≡ t → lookedAt before (a .number) (a .time) ≡ acceptedOutcome noted
       go true e =
-          ap looked (mark-agrees (n .numbered) ∙ e) ∙ sym (ap (λ (b : Answer). accepted (inForm ws account a b)) (answer-again account a e))
+          ap looked (mark-agrees (n .numbered) ∙ e) ∙ sym (ap (λ (b : Answer). acceptedOutcome (inForm ws account a b)) (answer-again account a e))
       go false e = ap looked (mark-agrees (n .numbered) ∙ e) ∙ order (leb (nextExp (firsts account)) (a .number)) refl e
 
   -- what is noted of a reordered packet makes one state
@@ -360,9 +360,9 @@ module _ (k : ℕ) (low : 1 ≤ k) (high : k ≤ packets) (account : List Arriva
   -- what is said
   outcome-agrees : outcomeOf before (a .number) (a .time) ≡ outcomeIn ws k account a
   unfolding outcomeOf outcomeIn
-  outcome-agrees = go (eqb (refusalIn k account a) 0) refl
+  outcome-agrees = go (eqb (accountRefusal k account a) 0) refl
     where
-      go : (t : Bool) → eqb (refusalIn k account a) 0 ≡ t → outcomeOf before (a .number) (a .time) ≡ outcomeIn ws k account a
+      go : (t : Bool) → eqb (accountRefusal k account a) 0 ≡ t → outcomeOf before (a .number) (a .time) ≡ outcomeIn ws k account a
       go true t = rw (refusal-agrees, t) (looked-agrees (accepted-arrival k account a (eqb-true _ _ t)))
       go false t = rw (refusal-agrees, t)
 
@@ -370,9 +370,9 @@ module _ (k : ℕ) (low : 1 ≤ k) (high : k ≤ packets) (account : List Arriva
   state-agrees : cond (eqb (outcomeIn ws k account a .refusal) 0) (notedState room before (a .number) (a .time) (outcomeIn ws k account a .noted)) before
       ≡ stateWith k (accountWith k account a) (foldl (withJump room) h (jumpIn k account a))
   unfolding outcomeIn accountWith jumpIn
-  state-agrees = go (eqb (refusalIn k account a) 0) refl
+  state-agrees = go (eqb (accountRefusal k account a) 0) refl
     where
-      go : (t : Bool) → eqb (refusalIn k account a) 0 ≡ t
+      go : (t : Bool) → eqb (accountRefusal k account a) 0 ≡ t
           → cond (eqb (outcomeIn ws k account a .refusal) 0) (notedState room before (a .number) (a .time) (outcomeIn ws k account a .noted)) before
           ≡ stateWith k (accountWith k account a) (foldl (withJump room) h (jumpIn k account a))
       go true t = rw t noted-agrees

@@ -28,23 +28,23 @@ use Rattle.receiver.specs.declared.Outcome.{Outcome}
 use Rattle.receiver.specs.declared.Stepped.{Stepped}
 use Rattle.receiver.specs.declared.Started.{Started}
 use Rattle.receiver.specs.Limits.{window, packets}
-use Rattle.receiver.specs.Said.{refused, accepted}
+use Rattle.receiver.specs.Outcomes.{refusedOutcome, acceptedOutcome}
 use Rattle.receiver.specs.Kept.{Held, hasRoom, withJump}
 use Rattle.receiver.specs.Step.{freshStream, madeFor, freshOf}
-use Rattle.receiver.specs.Account.{refusalIn, accountWith, accountOf, jumpIn, answerIn, answersIn, windowIn, inWindow, beyondFigures, inForm, outcomeIn, accountOutcomes}
+use Rattle.receiver.specs.Account.{accountRefusal, accountWith, accountOf, jumpIn, answerIn, answersIn, windowIn, inWindow, beyondFigures, inForm, outcomeIn, accountOutcomes}
 use Rattle.receiver.specs.Demand3.{fedTo, stateAfter, outcomeAfter, receiverOutcomes, Answered, Demand3}
 use Rattle.receiver.proofs.Window.{lastNumber}
 use Rattle.receiver.proofs.Fits.{within-true}
 use Rattle.receiver.proofs.Accepted.{Sound, accepted-arrival, account-sound}
-use Rattle.receiver.proofs.Late.{droppedIn, Split, split-window, WindowSearch, search-late}
+use Rattle.receiver.proofs.ReorderedInWindow.{droppedIn, Split, split-window, WindowSearch, search-late}
 use Rattle.receiver.proofs.State.{stateWith, state-fresh}
 use Rattle.receiver.proofs.Fitness.{arrived-in, accepted-count}
 use Rattle.receiver.proofs.Agrees.{answer-late, search-window, jump-cases, jumps-with, step-agrees}
 use Rattle.receiver.proofs.HeldJumps.{heldFrom, held-more, Holds, held-last}
 
 -- no refusal over the account is 10
-refusal-fit : (k : ℕ) (account : List Arrival) (a : Arrival) → eqb (refusalIn k account a) stateUnfit ≡ false
-unfolding refusalIn
+refusal-fit : (k : ℕ) (account : List Arrival) (a : Arrival) → eqb (accountRefusal k account a) stateUnfit ≡ false
+unfolding accountRefusal
 refusal-fit k account a = go (eqb (length account) packets) (within 1 k (a .number)) (tooEarly (greatestTime account) (a .time))
   where
     go : (t u v : Bool) → eqb (cond t stateFull (cond (not u) numberOutside (cond v timeBack 0))) stateUnfit ≡ false
@@ -56,18 +56,18 @@ refusal-fit k account a = go (eqb (length account) packets) (within 1 k (a .numb
 -- the account never says 10
 pub outcome-fit : (ws : List Placed) (k : ℕ) (account : List Arrival) (a : Arrival) → eqb (outcomeIn ws k account a .refusal) stateUnfit ≡ false
 unfolding outcomeIn
-outcome-fit ws k account a = go (eqb (refusalIn k account a) 0)
+outcome-fit ws k account a = go (eqb (accountRefusal k account a) 0)
   where
     go : (t : Bool)
         → eqb
-        (cond {A = Outcome} t (accepted (inForm ws account a (answerIn account a))) (refused (refusalIn k account a)) .refusal)
+        (cond {A = Outcome} t (acceptedOutcome (inForm ws account a (answerIn account a))) (refusedOutcome (accountRefusal k account a)) .refusal)
         stateUnfit
         ≡ false
     go true = refl
     go false = refusal-fit k account a
 
 -- what the account says of an arrival that is added
-outcome-added : (ws : List Placed) (k : ℕ) (account : List Arrival) (a : Arrival) → refusalIn k account a ≡ 0 → outcomeIn ws k account a .noted ≡ inForm ws account a (answerIn account a)
+outcome-added : (ws : List Placed) (k : ℕ) (account : List Arrival) (a : Arrival) → accountRefusal k account a ≡ 0 → outcomeIn ws k account a .noted ≡ inForm ws account a (answerIn account a)
 unfolding outcomeIn
 outcome-added ws k account a e = rw e
 
@@ -133,7 +133,7 @@ module _ (account : List Arrival) (a : Arrival) (d : ReorderedFigures) (q : answ
 
 -- how a reordered packet that is added is answered, over any split of the jumps
 pub late-answered : (k : ℕ) (account : List Arrival) (ds ws : List Placed) → Split account ds ws
-    → (a : Arrival) → refusalIn k account a ≡ 0 → (d : ReorderedFigures) → answerIn account a ≡ answer.Reordered d
+    → (a : Arrival) → accountRefusal k account a ≡ 0 → (d : ReorderedFigures) → answerIn account a ≡ answer.Reordered d
     → Answered ws account a d (outcomeIn ws k account a .noted)
 unfolding inForm
 late-answered k account ds ws sp a e d q =

@@ -27,7 +27,7 @@ use Rattle.receiver.proofs.Window.{lastNumber, last-more}
 use Rattle.receiver.proofs.HeldJumps.{Holds, holds-count}
 use Rattle.receiver.proofs.Accepted.{Sound}
 use Rattle.receiver.proofs.State.{stateWith}
-use Rattle.receiver.proofs.Late.{Split}
+use Rattle.receiver.proofs.ReorderedInWindow.{Split}
 
 -- fit kept jumps pass the test
 pub jumps-pass : (s : Stream) (l : List Placed) → All (JumpFit s) l → every (map (jumpFit s) l) ≡ true

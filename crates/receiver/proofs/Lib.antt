@@ -1,16 +1,16 @@
 -- Laws behind the receiver's step and demand 3. Assumes nothing.
 pub mod Fits
 pub mod Search
-pub mod Passes
+pub mod FitTests
 pub mod Shift
 pub mod Squares
-pub mod Steps
-pub mod Written
+pub mod StepCases
+pub mod StatesWritten
 pub mod Window
 pub mod HeldJumps
 pub mod Marks
 pub mod Accepted
-pub mod Late
+pub mod ReorderedInWindow
 pub mod State
 pub mod Fitness
 pub mod Agrees

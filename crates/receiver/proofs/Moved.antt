@@ -19,7 +19,7 @@ use Rattle.rfc4737.proofs.Moved.{early-greatest, firsts-moved, movedPlace, jump
 use Rattle.receiver.specs.declared.Outcome.{Outcome}
 use Rattle.receiver.specs.Limits.{window}
 use Rattle.receiver.specs.Step.{freshOf}
-use Rattle.receiver.specs.Account.{refusalIn, accountWith, accountOf, answerIn, windowIn, standsIn, isIn, inWindow, beyondFigures, inForm, outcomeIn, accountOutcomes}
+use Rattle.receiver.specs.Account.{accountRefusal, accountWith, accountOf, answerIn, windowIn, standsIn, isIn, inWindow, beyondFigures, inForm, outcomeIn, accountOutcomes}
 use Rattle.receiver.specs.Moved.{MovedAnswers}
 use Rattle.receiver.proofs.Demand3.{demand3-fresh}
 
@@ -28,14 +28,14 @@ module _ (c : ℕ) where
 
   module _ (k : ℕ) where
     -- the refusal of an arrival
-    refusal-moved : (account : List Arrival) (a : Arrival) → refusalIn k (moved c account) (movedOne c a) ≡ refusalIn k account a
-    unfolding refusalIn
+    refusal-moved : (account : List Arrival) (a : Arrival) → accountRefusal k (moved c account) (movedOne c a) ≡ accountRefusal k account a
+    unfolding accountRefusal
     refusal-moved account a = rw (length-map account (movedOne c), early-greatest c account (a .time))
 
     -- after an arrival
     with-moved : (account : List Arrival) (a : Arrival) → accountWith k (moved c account) (movedOne c a) ≡ moved c (accountWith k account a)
     unfolding accountWith
-    with-moved account a = rw (refusal-moved account a) (go (eqb (refusalIn k account a) 0))
+    with-moved account a = rw (refusal-moved account a) (go (eqb (accountRefusal k account a) 0))
       where
         go : (b : Bool) → cond b (moved c account ++ (movedOne c a ∷ [])) (moved c account) ≡ moved c (cond b (account ++ (a ∷ [])) account)
         go true = sym (map-append (movedOne c) account (a ∷ []))

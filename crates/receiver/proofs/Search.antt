@@ -15,7 +15,7 @@ use Rattle.rfc4737.specs.Extent.{firstAbove}
 use Rattle.receiver.specs.declared.Places.{Places}
 use Rattle.receiver.specs.Fit.{every}
 use Rattle.receiver.specs.Kept.{placeAt, placesFrom}
-use Rattle.receiver.specs.Private.Decision.{Found}
+use Rattle.receiver.specs.Private.Decision.{FirstAbove}
 use Rattle.receiver.proofs.Fits.{every-true}
 
 -- the places from one on, with that one first
@@ -55,7 +55,7 @@ module _ (places : Places) (s : ℕ) where
       ∙ rw (places-cons places n k (omega arith), p k (omega arith), add-one k)
 
   -- what the search finds, from the place that the code finds
-  pub search-found : (kept place : ℕ) → place < kept → Found (places .numbers) kept s place
+  pub search-found : (kept place : ℕ) → place < kept → FirstAbove (places .numbers) kept s place
       → firstAbove s (placesFrom places 0 kept) ≡ some (placeAt places place)
   unfolding firstAbove placeAt
   search-found kept place h p =
@@ -63,7 +63,7 @@ module _ (places : Places) (s : ℕ) where
       ∙ rw (places-cons places kept place h, lt-ltb s (getD (places .numbers) place 0) (p .above h))
 
   -- the search finds nothing if the code passed all places
-  pub search-none : (kept place : ℕ) → kept ≤ place → Found (places .numbers) kept s place
+  pub search-none : (kept place : ℕ) → kept ≤ place → FirstAbove (places .numbers) kept s place
       → firstAbove s (placesFrom places 0 kept) ≡ none
   unfolding firstAbove
   search-none kept place h p =

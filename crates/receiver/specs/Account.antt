@@ -17,23 +17,23 @@ use Rattle.rfc4737.specs.Answer.{answerTo, answers}
 use Rattle.rfc4737.specs.Times.{tooEarly, greatestTime}
 use Rattle.rfc4737.specs.Refusals.{within, numberOutside, timeBack, stateFull}
 use Rattle.receiver.specs.declared.Lateness.{Lateness}
-use Rattle.receiver.specs.declared.Noted.{Noted}
-use Rattle.receiver.specs.declared.Noted.the-variants.{Duplicate, InOrder, Exact, Beyond}
+use Rattle.receiver.specs.declared.ReceiverAnswer.{ReceiverAnswer}
+use Rattle.receiver.specs.declared.ReceiverAnswer.the-variants.{Duplicate, InOrder, Exact, Beyond}
 use Rattle.receiver.specs.declared.Outcome.{Outcome}
 use Rattle.receiver.specs.Limits.{window, packets}
-use Rattle.receiver.specs.Said.{refused, accepted}
+use Rattle.receiver.specs.Outcomes.{refusedOutcome, acceptedOutcome}
 
 -- the refusal of an arrival, 0 for none: 11 if the account has 4,096; else 6 in its case; else 7 in its case, judged against
 -- the greatest time of the account, 0 at first
-unfoldable pub refusalIn : ℕ → List Arrival → Arrival → ℕ
-refusalIn k account a =
+unfoldable pub accountRefusal : ℕ → List Arrival → Arrival → ℕ
+accountRefusal k account a =
     cond (eqb (length account) packets) stateFull
     (cond (not (within 1 k (a .number))) numberOutside
     (cond (tooEarly (greatestTime account) (a .time)) timeBack 0))
 
 -- the account after an arrival: refused it stays, any other arrival is added
 unfoldable pub accountWith : ℕ → List Arrival → Arrival → List Arrival
-accountWith k account a = cond (eqb (refusalIn k account a) 0) (account ++ (a ∷ [])) account
+accountWith k account a = cond (eqb (accountRefusal k account a) 0) (account ++ (a ∷ [])) account
 
 -- the account of the arrivals fed, empty at first
 unfoldable pub accountOf : ℕ → List Arrival → List Arrival
@@ -42,7 +42,7 @@ accountOf k fed = foldl (accountWith k) [] fed
 -- the jump that an arrival is, if it is accepted and is one
 unfoldable pub jumpIn : ℕ → List Arrival → Arrival → List Placed
 jumpIn k account a =
-    cond (eqb (refusalIn k account a) 0) (cond (has (a .number) account) [] (jumpAfter (firsts account) a)) []
+    cond (eqb (accountRefusal k account a) 0) (cond (has (a .number) account) [] (jumpAfter (firsts account) a)) []
 
 -- the answer of "What is measured" over the account; sizes play no part in the receiver's fields
 unfoldable pub answerIn : List Arrival → Arrival → Answer
@@ -85,7 +85,7 @@ beyondFigures kept account a =
 
 -- an answer in the receiver's forms and with their fields only. A reordered packet is exact exactly if its discontinuity is
 -- in the window, which is given; otherwise it is beyond it
-unfoldable pub inForm : List Placed → List Arrival → Arrival → Answer → Noted
+unfoldable pub inForm : List Placed → List Arrival → Arrival → Answer → ReceiverAnswer
 inForm kept account a (answer.Duplicate d) = Duplicate
 inForm kept account a (answer.InOrder d) = InOrder (d .jump)
 inForm kept account a (answer.Reordered d) =
@@ -94,8 +94,8 @@ inForm kept account a (answer.Reordered d) =
 -- what the account says of an arrival over a window; with a refusal, "in order" with 0
 unfoldable pub outcomeIn : List Placed → ℕ → List Arrival → Arrival → Outcome
 outcomeIn kept k account a =
-    cond (eqb (refusalIn k account a) 0) (accepted (inForm kept account a (answerIn account a)))
-    (refused (refusalIn k account a))
+    cond (eqb (accountRefusal k account a) 0) (acceptedOutcome (inForm kept account a (answerIn account a)))
+    (refusedOutcome (accountRefusal k account a))
 
 -- what the account says of each arrival fed, after those fed before it
 unfoldable pub accountOutcomes : ℕ → List Arrival → List Outcome

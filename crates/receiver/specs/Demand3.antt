@@ -16,11 +16,11 @@ use Rattle.rfc4737.specs.Runs.{counts}
 use Rattle.rfc4737.specs.Refusals.{stateUnfit}
 use Rattle.receiver.specs.declared.Receiver.{Receiver}
 use Rattle.receiver.specs.declared.Stepped.{Stepped}
-use Rattle.receiver.specs.declared.Noted.{Noted}
+use Rattle.receiver.specs.declared.ReceiverAnswer.{ReceiverAnswer}
 use Rattle.receiver.specs.declared.Outcome.{Outcome}
-use Rattle.receiver.specs.declared.Noted.the-variants.{Exact, Beyond}
+use Rattle.receiver.specs.declared.ReceiverAnswer.the-variants.{Exact, Beyond}
 use Rattle.receiver.specs.Step.{freshOf, stepOf}
-use Rattle.receiver.specs.Account.{refusalIn, accountOf, answerIn, answersIn, windowIn, inWindow, trueFigures, beyondFigures, accountOutcomes}
+use Rattle.receiver.specs.Account.{accountRefusal, accountOf, answerIn, answersIn, windowIn, inWindow, trueFigures, beyondFigures, accountOutcomes}
 
 -- the step with an arrival
 abbrev pub fedTo : Receiver → Arrival → Stepped
@@ -39,7 +39,7 @@ unfoldable pub receiverOutcomes : ℕ → List Arrival → List Outcome
 receiverOutcomes k fed = each (outcomeAfter k) fed
 
 -- how a reordered packet a is answered over a window and an account: so it is noted, and d has its true figures
-pub record Answered (kept : List Placed) (account : List Arrival) (a : Arrival) (d : ReorderedFigures) (noted : Noted) : Type 0 where
+pub record Answered (kept : List Placed) (account : List Arrival) (a : Arrival) (d : ReorderedFigures) (noted : ReceiverAnswer) : Type 0 where
   -- its discontinuity is in the window: exact, with the true figures
   pub exact : inWindow kept account (a .number) ≡ true → noted ≡ Exact (trueFigures d)
   -- it is not: beyond the window,
@@ -62,7 +62,7 @@ pub record Demand3 (k : ℕ) (fed : List Arrival) : Type 0 where
   -- every accepted arrival that is a reordered packet over the account is answered so
   pub reordered : (earlier : List Arrival) (a : Arrival) (later : List Arrival)
       → fed ≡ earlier ++ (a ∷ later)
-      → refusalIn k (accountOf k earlier) a ≡ 0
+      → accountRefusal k (accountOf k earlier) a ≡ 0
       → (d : ReorderedFigures)
       → answerIn (accountOf k earlier) a ≡ answer.Reordered d
       → Answered (windowIn (accountOf k earlier)) (accountOf k earlier) a d (outcomeAfter k earlier a .noted)

@@ -1,6 +1,6 @@
 -- The receiver's rule, after the scope's "The receiver": a fresh receiver, a fit state, and the step. Assumes nothing.
 pub mod Limits
-pub mod Said
+pub mod Outcomes
 pub mod Marks
 pub mod Kept
 pub mod Fit

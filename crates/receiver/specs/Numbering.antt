@@ -2,8 +2,8 @@
 -- of its late time. Assumes nothing.
 use Prim.Native.Nat.{ℕ}
 use Rattle.rfc4737.specs.Numbering.{inOrderNumber, reorderedNumber, duplicateNumber, directed}
-use Rattle.receiver.specs.declared.Noted.{Noted}
-use Rattle.receiver.specs.declared.Noted.the-variants.{Duplicate, InOrder, Exact, Beyond}
+use Rattle.receiver.specs.declared.ReceiverAnswer.{ReceiverAnswer}
+use Rattle.receiver.specs.declared.ReceiverAnswer.the-variants.{Duplicate, InOrder, Exact, Beyond}
 
 -- 4: reordered beyond the window, and late after the arrival of the window's oldest jump
 abbrev pub beyondAfterNumber : ℕ
@@ -14,7 +14,7 @@ abbrev pub beyondBeforeNumber : ℕ
 beyondBeforeNumber = 5
 
 -- the number of the case of what is noted
-abbrev pub notedNumber : Noted → ℕ
+abbrev pub notedNumber : ReceiverAnswer → ℕ
 notedNumber (InOrder jump) = inOrderNumber
 notedNumber (Exact l) = reorderedNumber (l .late)
 notedNumber Duplicate = duplicateNumber

@@ -14,13 +14,13 @@ use Rattle.rfc4737.specs.Refusals.{within, sentOutside, numberOutside, timeBack
 use Rattle.receiver.specs.declared.Stream.{Stream}
 use Rattle.receiver.specs.declared.Receiver.{Receiver}
 use Rattle.receiver.specs.declared.Lateness.{Lateness}
-use Rattle.receiver.specs.declared.Noted.{Noted}
-use Rattle.receiver.specs.declared.Noted.the-variants.{Duplicate, InOrder, Exact, Beyond}
+use Rattle.receiver.specs.declared.ReceiverAnswer.{ReceiverAnswer}
+use Rattle.receiver.specs.declared.ReceiverAnswer.the-variants.{Duplicate, InOrder, Exact, Beyond}
 use Rattle.receiver.specs.declared.Outcome.{Outcome}
 use Rattle.receiver.specs.declared.Stepped.{Stepped}
 use Rattle.receiver.specs.declared.Started.{Started}
 use Rattle.receiver.specs.Limits.{window, packets}
-use Rattle.receiver.specs.Said.{refused, accepted}
+use Rattle.receiver.specs.Outcomes.{refusedOutcome, acceptedOutcome}
 use Rattle.receiver.specs.Marks.{markAt, withMark}
 use Rattle.receiver.specs.Kept.{Held, heldOf, keptOf, hasRoom, heldAfter}
 use Rattle.receiver.specs.Fit.{fit}
@@ -58,8 +58,8 @@ freshOf k =
 -- ---- what is said of an arrival
 
 -- the refusal that an arrival meets before it is looked at, 0 for none: unfit state 10, then 11, 6, 7
-unfoldable pub refusalOf : Receiver → ℕ → ℕ → ℕ
-refusalOf r number time =
+unfoldable pub stepRefusal : Receiver → ℕ → ℕ → ℕ
+stepRefusal r number time =
     cond (not (fit r)) stateUnfit
     (cond (eqb (r .stream .arrived + r .stream .duplicates) packets) stateFull
     (cond (not (within 1 (r .stream .sent) number)) numberOutside
@@ -73,9 +73,9 @@ latenessFrom position time d = record { extent = extentFrom position d; late = l
 -- one dropped, d being the oldest kept jump of a greater number. With none it is refused. It is beyond the window if its
 -- number is below the dropped one, and the oldest kept jump gives the figures; if not, d gives the exact figures
 unfoldable pub reorderedOutcome : List Placed → ℕ → ℕ → ℕ → ℕ → Option Placed → Outcome
-reorderedOutcome kept dropped position number time none = refused stateUnfit
+reorderedOutcome kept dropped position number time none = refusedOutcome stateUnfit
 reorderedOutcome kept dropped position number time (some d) =
-    accepted
+    acceptedOutcome
     (cond (ltb number dropped) (Beyond (latenessFrom position time (head? kept))) (Exact (latenessFrom position time (some d))))
 
 -- what is said of a reordered packet over what is held of the jumps
@@ -86,17 +86,17 @@ lateOutcome h position number time =
 -- what is said of a first arrival: in order, with the jump size, if its number is at least NextExp, else reordered
 unfoldable pub firstOutcome : Receiver → ℕ → ℕ → Outcome
 firstOutcome r number time =
-    cond (leb (r .stream .next) number) (accepted (InOrder (number - r .stream .next)))
+    cond (leb (r .stream .next) number) (acceptedOutcome (InOrder (number - r .stream .next)))
     (lateOutcome (heldOf (r .stream) (r .places)) (r .stream .arrived + 1) number time)
 
 -- an arrival that meets no refusal so far: a duplicate if the packet is marked, else a first arrival
 unfoldable pub lookedAt : Receiver → ℕ → ℕ → Outcome
-lookedAt r number time = cond (markAt (r .marks) number) (accepted Duplicate) (firstOutcome r number time)
+lookedAt r number time = cond (markAt (r .marks) number) (acceptedOutcome Duplicate) (firstOutcome r number time)
 
 -- what is said of an arrival
 unfoldable pub outcomeOf : Receiver → ℕ → ℕ → Outcome
 outcomeOf r number time =
-    cond (eqb (refusalOf r number time) 0) (lookedAt r number time) (refused (refusalOf r number time))
+    cond (eqb (stepRefusal r number time) 0) (lookedAt r number time) (refusedOutcome (stepRefusal r number time))
 
 -- ---- the state after it
 
@@ -165,7 +165,7 @@ reorderedState r number time =
     }
 
 -- the state after an arrival that is noted
-unfoldable pub notedState : Bool → Receiver → ℕ → ℕ → Noted → Receiver
+unfoldable pub notedState : Bool → Receiver → ℕ → ℕ → ReceiverAnswer → Receiver
 notedState room r number time Duplicate =
     record { stream = duplicateStream (r .stream) time; marks = r .marks; places = r .places }
 notedState room r number time (InOrder size) = inOrderState room r size number time

@@ -8,27 +8,27 @@ use Rattle.rfc4737.specs.declared.Arrival.{Arrival}
 use Rattle.rfc4737.specs.declared.Answer.{Answer}
 use Rattle.rfc4737.specs.declared.Answer.the-variants as answer
 use Rattle.rfc4737.specs.declared.LateTime.the-variants.{After}
-use Rattle.receiver.specs.declared.Noted.{Noted}
-use Rattle.receiver.specs.declared.Noted.the-variants.{Exact, Beyond}
+use Rattle.receiver.specs.declared.ReceiverAnswer.{ReceiverAnswer}
+use Rattle.receiver.specs.declared.ReceiverAnswer.the-variants.{Exact, Beyond}
 use Rattle.receiver.specs.declared.Outcome.{Outcome}
-use Rattle.receiver.specs.Said.{accepted}
+use Rattle.receiver.specs.Outcomes.{acceptedOutcome}
 use Rattle.receiver.specs.Account.{accountOf, answerIn, windowIn, outcomeIn}
 use Rattle.receiver.specs.Demand3.{outcomeAfter}
 
 -- record r of a packet
-abbrev pub atRecord : ℕ → ℕ → Arrival
-atRecord r number = record { number = number; time = 10 * r }
+abbrev pub recordOfPacket : ℕ → ℕ → Arrival
+recordOfPacket r number = record { number = number; time = 10 * r }
 
 -- the first n even numbers, from record r on
 unfoldable pub evensFrom : ℕ → ℕ → List Arrival
 evensFrom r zero = []
-evensFrom r (suc n) = atRecord r (2 * r) ∷ evensFrom (r + 1) n
+evensFrom r (suc n) = recordOfPacket r (2 * r) ∷ evensFrom (r + 1) n
 
 -- a case: how many even numbers arrive, which packet is late, and what is to come of it
 pub record WindowCase : Type 0 where
   pub evens : ℕ
   pub late : ℕ
-  pub noted : Noted
+  pub noted : ReceiverAnswer
   pub truth : Answer
 
 -- what is said of the late packet, and its answer
@@ -41,7 +41,7 @@ pub record WindowOutcome : Type 0 where
 unfoldable pub computed : WindowCase → WindowOutcome
 computed c =
     let earlier = evensFrom 1 (c .evens) in
-    let a = atRecord (c .evens + 1) (c .late) in
+    let a = recordOfPacket (c .evens + 1) (c .late) in
     record {
       receiver = outcomeAfter 130 earlier a;
       account = outcomeIn (windowIn (accountOf 130 earlier)) 130 (accountOf 130 earlier) a;
@@ -49,11 +49,11 @@ computed c =
     }
 
 -- what is to come of it
-unfoldable pub expected : WindowCase → WindowOutcome
-expected c =
+unfoldable pub outcomeDue : WindowCase → WindowOutcome
+outcomeDue c =
     record {
-      receiver = accepted (c .noted);
-      account = accepted (c .noted);
+      receiver = acceptedOutcome (c .noted);
+      account = acceptedOutcome (c .noted);
       answer = c .truth;
     }
 
@@ -93,4 +93,4 @@ table = case1 ∷ case2 ∷ case3 ∷ []
 
 -- each comes out as it is to
 abbrev pub WindowCasesHold : Type 0
-WindowCasesHold = map computed table ≡ map expected table
+WindowCasesHold = map computed table ≡ map outcomeDue table

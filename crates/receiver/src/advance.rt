@@ -3,9 +3,9 @@
 
 use crate::MARK_WORDS;
 use crate::MOST;
-use crate::Noted;
 use crate::Outcome;
 use crate::Receiver;
+use crate::ReceiverAnswer;
 use crate::Stream;
 use crate::decide::decide;
 use crate::kept::push;
@@ -46,11 +46,11 @@ pub(crate) fn advance_within<'a>(
     }
     let noted = outcome.noted;
     match noted {
-        Noted::Duplicate => Advanced {
+        ReceiverAnswer::Duplicate => Advanced {
             outcome,
             stream: after_duplicate(s, time),
         },
-        Noted::InOrder(size) => {
+        ReceiverAnswer::InOrder(size) => {
             let stream = after_in_order(s, most, numbers, size, number, time);
             mark(marks, number);
             if size != 0 {

@@ -2,9 +2,9 @@
 
 use crate::Lateness;
 use crate::MARK_WORDS;
-use crate::Noted;
 use crate::Outcome;
 use crate::Receiver;
+use crate::ReceiverAnswer;
 use crate::Stream;
 use crate::fit::places_fit;
 use crate::fit::stream_fit;
@@ -18,7 +18,7 @@ ghost use mathlib.Core.List.{[]};
 ghost use mathlib.Core.Option.{some};
 ghost use Prim.Native.Nat.{ℕ, _+_};
 ghost use lib.ListN.{getD};
-ghost use Rattle.receiver.specs.Step.{refusalOf, latenessFrom, lateOutcome, outcomeOf};
+ghost use Rattle.receiver.specs.Step.{stepRefusal, latenessFrom, lateOutcome, outcomeOf};
 ghost use Rattle.receiver.specs.Kept.{heldOf};
 ghost use Rattle.receiver.specs.Private.Parts.{placesOf, whole};
 ghost use Rattle.receiver.specs.Private.Decision.{Unrefused, After};
@@ -32,7 +32,7 @@ fn refusal_of<'a>(
     number: u32,
     time: u64,
 ) -> u32
-    ensures { λ r. ⌜ r ≡ refusalOf (whole s [] (now (positions .entry)) (now (numbers .entry)) (now (times .entry))) number time ⌝ }
+    ensures { λ r. ⌜ r ≡ stepRefusal (whole s [] (now (positions .entry)) (now (numbers .entry)) (now (times .entry))) number time ⌝ }
 {
     if !stream_fit(s) {
         return refusal::STATE_UNFIT;
@@ -88,20 +88,20 @@ fn late<'a>(
     if s.kept as usize <= place {
         return Outcome {
             refusal: refusal::STATE_UNFIT,
-            noted: Noted::InOrder(0),
+            noted: ReceiverAnswer::InOrder(0),
         };
     }
     if number < s.dropped {
         let lateness = lateness_from(positions, times, 0, s.arrived + 1, time);
         return Outcome {
             refusal: 0,
-            noted: Noted::Beyond(lateness),
+            noted: ReceiverAnswer::Beyond(lateness),
         };
     }
     let lateness = lateness_from(positions, times, place, s.arrived + 1, time);
     Outcome {
         refusal: 0,
-        noted: Noted::Exact(lateness),
+        noted: ReceiverAnswer::Exact(lateness),
     }
 }
 
@@ -121,19 +121,19 @@ pub(crate) fn decide<'a>(
     if refusal != 0 {
         return Outcome {
             refusal,
-            noted: Noted::InOrder(0),
+            noted: ReceiverAnswer::InOrder(0),
         };
     }
     if is_marked(marks, number) {
         return Outcome {
             refusal: 0,
-            noted: Noted::Duplicate,
+            noted: ReceiverAnswer::Duplicate,
         };
     }
     if s.next <= number {
         return Outcome {
             refusal: 0,
-            noted: Noted::InOrder(number - s.next),
+            noted: ReceiverAnswer::InOrder(number - s.next),
         };
     }
     late(s, positions, numbers, times, number, time)

@@ -9,7 +9,7 @@ ghost use Rattle.rfc4737.specs.Refusals.{within};
 ghost use Rattle.receiver.specs.Limits.{window, packets};
 ghost use Rattle.receiver.specs.Fit.{streamFit, placesFit};
 ghost use Rattle.receiver.specs.Private.Parts.{placesOf};
-ghost use Rattle.receiver.specs.Private.Decision.{firstPass, upTo};
+ghost use Rattle.receiver.specs.Private.Decision.{firstPass, notAfter};
 
 // The greatest sum of squares.
 const SQUARES_MOST: u32 = 16777216;
@@ -85,7 +85,7 @@ fn all_within(places: &[u16; Receiver::WINDOW], count: usize, most: u16) -> bool
 // Whether none of the first times is after the greatest. All are looked at, several at a time.
 fn none_after(times: &[u64; Receiver::WINDOW], count: usize, greatest: u64) -> bool
     requires { ⌜ count ≤ window ⌝ }
-    ensures { λ r. ⌜ r ≡ firstPass (upTo greatest) (now (times .entry)) count ⌝ }
+    ensures { λ r. ⌜ r ≡ firstPass (notAfter greatest) (now (times .entry)) count ⌝ }
 {
     let mut fit = true;
     let mut i = 0;

@@ -9,7 +9,7 @@ ghost use lib.ListN.{getD};
 ghost use Rattle.receiver.specs.Limits.{window};
 ghost use Rattle.receiver.specs.Kept.{pushed};
 ghost use Rattle.receiver.specs.Private.Parts.{Most, Full};
-ghost use Rattle.receiver.specs.Private.Decision.{Found};
+ghost use Rattle.receiver.specs.Private.Decision.{FirstAbove};
 
 // The last place.
 const LAST: usize = Receiver::WINDOW - 1;
@@ -24,7 +24,7 @@ fn wide(x: u16) -> u32
 // The place of the oldest kept jump with a number above the given one; the count of kept jumps if there is none.
 pub(crate) fn place_above(numbers: &[u16; Receiver::WINDOW], kept: u32, number: u32) -> usize
     requires { ⌜ kept ≤ window ⌝ }
-    ensures { λ r. ⌜ Found (now (numbers .entry)) kept number r ⌝ }
+    ensures { λ r. ⌜ FirstAbove (now (numbers .entry)) kept number r ⌝ }
 {
     let count = kept as usize;
     let mut i = 0;

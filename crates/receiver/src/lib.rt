@@ -68,7 +68,7 @@ pub struct Lateness {
 
 // What a receiver notes of an arrival: a duplicate; in order, with the jump size; reordered, with exact extent
 // and late time; or reordered beyond the window, with those of the oldest kept jump.
-pub enum Noted {
+pub enum ReceiverAnswer {
     Duplicate,
     InOrder(u32),
     Exact(Lateness),
@@ -78,7 +78,7 @@ pub enum Noted {
 // What is said of an arrival: the refusal (0 for none), and what is noted.
 pub struct Outcome {
     pub refusal: u32,
-    pub noted: Noted,
+    pub noted: ReceiverAnswer,
 }
 
 // The answer of a step: what is said of the arrival, and the state after it.

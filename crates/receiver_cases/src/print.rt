@@ -1,7 +1,7 @@
 // What the cases are written with: words, numbers, and what a receiver notes, on standard output.
 use libc::STDOUT_FILENO;
 use receiver::Lateness;
-use receiver::Noted;
+use receiver::ReceiverAnswer;
 use rfc4737::LateTime;
 
 // Writes a word.
@@ -45,19 +45,19 @@ fn write_late(l: Lateness) {
 }
 
 // Writes what a receiver notes of an arrival.
-fn write_noted(noted: Noted) {
+fn write_noted(noted: ReceiverAnswer) {
     match noted {
-        Noted::Duplicate => {
+        ReceiverAnswer::Duplicate => {
             write_word(b"duplicate");
         }
-        Noted::InOrder(jump) => {
+        ReceiverAnswer::InOrder(jump) => {
             write_number(b"in order, jump ", jump as u64);
         }
-        Noted::Exact(l) => {
+        ReceiverAnswer::Exact(l) => {
             write_word(b"reordered,");
             write_late(l);
         }
-        Noted::Beyond(l) => {
+        ReceiverAnswer::Beyond(l) => {
             write_word(b"beyond the window,");
             write_late(l);
         }
@@ -65,7 +65,7 @@ fn write_noted(noted: Noted) {
 }
 
 // Writes what a receiver says of an arrival: the refusal, or else what is noted.
-pub(crate) fn write_answer(refusal: u32, noted: Noted) {
+pub(crate) fn write_answer(refusal: u32, noted: ReceiverAnswer) {
     if refusal != 0 {
         write_number(b"refused ", refusal as u64);
     } else {

@@ -14,7 +14,7 @@ use Rattle.listing.specs.Lines.{refusedLine}
 use Rattle.metrics.specs.Report.{sampleText, listingRefusal, listingInto, ListedTo}
 use Rattle.metrics.specs.declared.SampleListing.{SampleListing}
 use Rattle.sample.specs.Calls.{unlessRefused}
-use Rattle.sample.specs.Decode.{Decoded, refused, accepted, refusalOf}
+use Rattle.sample.specs.Decode.{Decoded, refused, accepted, decodedRefusal}
 use Rattle.sample.specs.Format.{Sample}
 use Rattle.report.specs.Text.{reportText, fitting, PutWhole}
 
@@ -31,7 +31,7 @@ put-fitting text old e w h =
     record { answer = simp (le-ltb _ _ s) e; memory = simp (le-ltb _ _ s) (w ∙ put-over 0 [] text old refl (omega arith)) }
 
 -- the text of a refused input
-pub text-refused : (d : Decoded) {r : ℕ} → r ≡ refusalOf d → (r ≡ 0 → ⊥) → reportText d ≡ refusedLine r
+pub text-refused : (d : Decoded) {r : ℕ} → r ≡ decodedRefusal d → (r ≡ 0 → ⊥) → reportText d ≡ refusedLine r
 unfolding reportText
 text-refused (refused q) own due = ap refusedLine (sym own)
 text-refused (accepted s) own due = absurd (due own)
@@ -47,7 +47,7 @@ none-but-short true text = refl
 none-but-short false text = refl
 
 -- what a listing of an accepted sample leaves is its text
-pub listed-text : (d : Decoded) (old : List ℕ) {r : SampleListing} {new : List ℕ} → 0 ≡ refusalOf d → reportText d ≡ sampleText d → ListedTo d old r new
+pub listed-text : (d : Decoded) (old : List ℕ) {r : SampleListing} {new : List ℕ} → 0 ≡ decodedRefusal d → reportText d ≡ sampleText d → ListedTo d old r new
     → PutWhole (reportText d) old (r .length) new
 unfolding listingRefusal
 listed-text d old {r} {new} own text l =

@@ -12,7 +12,7 @@ use lib.Seq.{drop-cons}
 use Rattle.rfc4737.specs.declared.Arrival.{Arrival}
 use Rattle.rfc4737.specs.Refusals.{outside, inCase, sentOutside, manyArrivals, numberOutside, timeBack, listsDiffer}
 use Rattle.rfc4737.specs.Times.{backMost, tooEarly, nextReference}
-use Rattle.rfc4737.specs.Judge.{sentMost, arrivalsMost, arrivalsOf, judgeSent, judgeArrivals, judgeOne, judge, refusalOfLists}
+use Rattle.rfc4737.specs.Judge.{sentMost, arrivalsMost, arrivalsFrom, judgeSent, judgeArrivals, judgeOne, judge, refusalOfLists}
 use Rattle.rfc4737.proofs.Due.{first-none, first-due, first-next, first-one, case-none, between, not-outside}
 use Rattle.rfc4737.proofs.Times.{reference-above}
 use Rattle.rfc4737.proofs.Pairs.{arrivals-length, arrivals-getD}
@@ -112,13 +112,13 @@ pub record ListsFit (k : ℕ) (numbers times : List ℕ) : Type 0 where
   pub most : k ≤ sentMost
   pub few : length numbers ≤ arrivalsMost
   pub same : length times ≡ length numbers
-  pub judged : judge k 0 (arrivalsOf numbers times) ≡ 0
+  pub judged : judge k 0 (arrivalsFrom numbers times) ≡ 0
   pub numbered : (i : ℕ) → i < length numbers → (1 ≤ getD numbers i 0) × (getD numbers i 0 ≤ k)
 
 pub lists-fit : (k : ℕ) (numbers times : List ℕ) → refusalOfLists k numbers times ≡ 0 → ListsFit k numbers times
 unfolding refusalOfLists
 lists-fit k numbers times e =
-    let j = judge k 0 (arrivalsOf numbers times) in
+    let j = judge k 0 (arrivalsFrom numbers times) in
     let d = inCase (not (eqb (length numbers) (length times))) listsDiffer in
     let p = first-none (judgeSent k) (judgeArrivals (length numbers) ∷ d ∷ j ∷ []) e in
     let q = first-none (judgeArrivals (length numbers)) (d ∷ j ∷ []) (p .1) in
@@ -138,17 +138,17 @@ lists-fit k numbers times e =
       numbered = λ i h. numbered n s u i h;
     }
   where
-    numbered : length (arrivalsOf numbers times) ≡ length numbers → length times ≡ length numbers → judge k 0 (arrivalsOf numbers times) ≡ 0
+    numbered : length (arrivalsFrom numbers times) ≡ length numbers → length times ≡ length numbers → judge k 0 (arrivalsFrom numbers times) ≡ 0
         → (i : ℕ) → i < length numbers → (1 ≤ getD numbers i 0) × (getD numbers i 0 ≤ k)
     numbered n s u i h =
         let z : Arrival = record { number = 0; time = 0 } in
-        let m : getD numbers i 0 ≡ getD (arrivalsOf numbers times) i z .number = ap (λ (a : Arrival). a .number) (arrivals-getD numbers times i z s h) in
-        let w = judged-number k 0 (arrivalsOf numbers times) u i z (omega arith) in
+        let m : getD numbers i 0 ≡ getD (arrivalsFrom numbers times) i z .number = ap (λ (a : Arrival). a .number) (arrivals-getD numbers times i z s h) in
+        let w = judged-number k 0 (arrivalsFrom numbers times) u i z (omega arith) in
         (omega arith, omega arith)
 
 -- and the other way
 pub fit-lists : (k : ℕ) (numbers times : List ℕ) → 1 ≤ k → k ≤ sentMost → length numbers ≤ arrivalsMost → length times ≡ length numbers
-    → judge k 0 (arrivalsOf numbers times) ≡ 0 → refusalOfLists k numbers times ≡ 0
+    → judge k 0 (arrivalsFrom numbers times) ≡ 0 → refusalOfLists k numbers times ≡ 0
 unfolding refusalOfLists
 fit-lists k numbers times a b c s j =
     rw (not-outside 1 sentMost k a b, not-outside 0 arrivalsMost (length numbers) (omega arith) c, eq-eqb (length numbers) (length times) (sym s), j)

@@ -45,8 +45,8 @@ unfoldable pub closes : List Answer → Answer → List ℕ
 closes before a = cond (run.isReordered a) (run.runs before .current ∷ []) []
 
 -- the figures of a sample by its answers
-unfoldable pub figuresOf : List Answer → Figures
-figuresOf l =
+unfoldable pub caseFigures : List Answer → Figures
+caseFigures l =
     record {
       answers = l;
       discontinuities = gap.discontinuities l;
@@ -59,7 +59,7 @@ figuresOf l =
 
 -- the figures of a case by the definitions
 unfoldable pub measured : Case → Figures
-measured c = figuresOf (answer.answers (sizeIn (replicate (c .sent) 100)) (c .arrivals))
+measured c = caseFigures (answer.answers (sizeIn (replicate (c .sent) 100)) (c .arrivals))
 
 -- ---- how the table is written
 

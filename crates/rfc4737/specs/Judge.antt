@@ -29,10 +29,10 @@ abbrev pub timesOf : List Arrival → List ℕ
 timesOf l = map (λ (a : Arrival). a .time) l
 
 -- the arrivals of a list of numbers and a list of times
-unfoldable pub arrivalsOf : List ℕ → List ℕ → List Arrival
-arrivalsOf [] times = []
-arrivalsOf (n ∷ ns) [] = []
-arrivalsOf (n ∷ ns) (t ∷ ts) = record { number = n; time = t } ∷ arrivalsOf ns ts
+unfoldable pub arrivalsFrom : List ℕ → List ℕ → List Arrival
+arrivalsFrom [] times = []
+arrivalsFrom (n ∷ ns) [] = []
+arrivalsFrom (n ∷ ns) (t ∷ ts) = record { number = n; time = t } ∷ arrivalsFrom ns ts
 
 -- ---- what is refused
 
@@ -61,5 +61,5 @@ refusalOfLists k numbers times =
     (judgeSent k
     ∷ judgeArrivals (length numbers)
     ∷ inCase (not (eqb (length numbers) (length times))) listsDiffer
-    ∷ judge k 0 (arrivalsOf numbers times)
+    ∷ judge k 0 (arrivalsFrom numbers times)
     ∷ [])

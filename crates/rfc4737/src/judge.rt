@@ -2,7 +2,7 @@
 ghost use mathlib.Core.Path.{_≡_};
 ghost use lib.ListN.{length};
 ghost use Rattle.rfc4737.specs.Refusals.{outside};
-ghost use Rattle.rfc4737.specs.Judge.{arrivalsOf, judgeOne, judge, refusalOfLists};
+ghost use Rattle.rfc4737.specs.Judge.{arrivalsFrom, judgeOne, judge, refusalOfLists};
 use crate::refusal::LISTS_DIFFER;
 use crate::refusal::MANY_ARRIVALS;
 use crate::refusal::NUMBER_OUTSIDE;
@@ -48,7 +48,7 @@ pub fn judge_one(k: u64, reference: u64, number: u64, time: u64) -> u32
 // The arrivals of two lists in turn.
 fn judge_lists(k: u64, numbers: &[u32], times: &[u64]) -> u32
     requires { ⌜ length (now times) ≡ length (now numbers) ⌝ }
-    ensures { λ r. ⌜ r ≡ judge k 0 (arrivalsOf (now (numbers .entry)) (now (times .entry))) ⌝ }
+    ensures { λ r. ⌜ r ≡ judge k 0 (arrivalsFrom (now (numbers .entry)) (now (times .entry))) ⌝ }
 {
     let mut reference: u64 = 0;
     let mut i = 0;

@@ -12,7 +12,7 @@ use Rattle.octets.specs.Memory.{part}
 use Rattle.rfc4737.specs.declared.Arrival.{Arrival}
 use Rattle.rfc4737.specs.Times.{backMost}
 use Rattle.sample.specs.Format.{Sample, fileOf, longest}
-use Rattle.sample.specs.Judge.{Fit}
+use Rattle.sample.specs.Judge.{FitSample}
 use Rattle.sample.specs.Decode.{labelCount, sentAt, sentCount, arrivedAt, arrivalCount, arrivalIn, sampleIn, decode, accepted, sampleOf, layoutOf}
 use Rattle.sample.specs.Places.{sizeFound, arrivalFound, arrivalsAt}
 use Rattle.sample.specs.declared.Layout.{Layout}
@@ -76,7 +76,7 @@ module _ (file : List ℕ) (s : Sample) (e : decode file ≡ accepted s) where
 
   module _ (o : Octets file) where
     -- it is fit
-    pub accepted-fit : Fit s
+    pub accepted-fit : FitSample s
     accepted-fit = exact file o s .0 e .0
 
     -- the file is its file

@@ -11,11 +11,11 @@ use Rattle.octets.specs.BigEndian.{beValue}
 use Rattle.octets.specs.Memory.{over, splice}
 use Rattle.octets.proofs.Memory.{splice-next, over-splice}
 use Rattle.rfc4737.specs.Refusals.{inCase, firstOf, outputShort}
-use Rattle.rfc4737.specs.Judge.{numbersOf, timesOf, arrivalsOf}
+use Rattle.rfc4737.specs.Judge.{numbersOf, timesOf, arrivalsFrom}
 use Rattle.sample.specs.Format.{section, sizeOctets, arrivalOctets, itemOctets, itemsIn, fileOf}
-use Rattle.sample.specs.Decode.{labelCount, sentAt, sentCount, arrivedAt, arrivalCount, arrivalIn, sampleIn, refusalIn, Decoded, refused, accepted, decode, sampleOf, layoutOf}
+use Rattle.sample.specs.Decode.{labelCount, sentAt, sentCount, arrivedAt, arrivalCount, arrivalIn, sampleIn, fileRefusal, Decoded, refused, accepted, decode, sampleOf, layoutOf}
 use Rattle.sample.specs.Places.{sizesAt, arrivalsAt}
-use Rattle.sample.specs.Calls.{listsShort, decodeInto, ReadFrom, sampleFrom, refusalFrom, refusalInto, octetsInto, unlessRefused, WrittenTo}
+use Rattle.sample.specs.Calls.{listsShort, decodeInto, ReadFrom, sampleFrom, sampleRefusal, writeRefusal, octetsInto, unlessRefused, WrittenTo}
 use Rattle.sample.specs.declared.Layout.{Layout}
 use Rattle.rfc4737.proofs.Due.{first-due, or-false}
 use Rattle.rfc4737.proofs.Pairs.{arrivals-length}
@@ -27,9 +27,9 @@ use Rattle.sample.proofs.Exact.{section-length, file-length}
 
 module _ (file : List ℕ) (y : Layout) (e : y ≡ layoutOf (decode file)) where
   -- its refusal is the first that is due
-  pub found-refusal : refusalIn file ≡ y .refusal
+  pub found-refusal : fileRefusal file ≡ y .refusal
   unfolding decode
-  found-refusal = sym (ap (λ (x : Layout). x .refusal) e ∙ decided-refusal (refusalIn file) (sampleIn file))
+  found-refusal = sym (ap (λ (x : Layout). x .refusal) e ∙ decided-refusal (fileRefusal file) (sampleIn file))
 
   -- a refusal
   pub found-refused : 0 < y .refusal → decode file ≡ refused (y .refusal)
@@ -67,7 +67,7 @@ module _ (file sizes numbers times : List ℕ) where
       }
 
   -- the first refusal that is due, 8 the last
-  into-refused : (n : ℕ) → 0 < n → firstOf (refusalIn file ∷ inCase (listsShort (layoutOf (decode file)) (length sizes) (length numbers) (length times)) outputShort ∷ []) ≡ n
+  into-refused : (n : ℕ) → 0 < n → firstOf (fileRefusal file ∷ inCase (listsShort (layoutOf (decode file)) (length sizes) (length numbers) (length times)) outputShort ∷ []) ≡ n
       → decodeInto (length sizes) (length numbers) (length times) file ≡ refused n
   unfolding decodeInto
   into-refused zero h e = absurd (omega arith)
@@ -78,11 +78,11 @@ module _ (file sizes numbers times : List ℕ) where
     pub read-refused : 0 < y .refusal → ReadFrom file sizes numbers times y sizes numbers times
     read-refused h =
         let r = found-refusal file y e in
-        let p : 0 < refusalIn file = omega arith in
+        let p : 0 < fileRefusal file = omega arith in
         let s = inCase (listsShort (layoutOf (decode file)) (length sizes) (length numbers) (length times)) outputShort in
         let d = found-refused file y e h in
         subst (λ (x : Layout). ReadFrom file sizes numbers times x sizes numbers times) (sym (e ∙ ap layoutOf d))
-        (refused-read (y .refusal) (into-refused (y .refusal) h (first-due (refusalIn file) (s ∷ []) p ∙ r)))
+        (refused-read (y .refusal) (into-refused (y .refusal) h (first-due (fileRefusal file) (s ∷ []) p ∙ r)))
 
     module _ (z : y .refusal ≡ 0) where
       -- a list is too short
@@ -90,7 +90,7 @@ module _ (file sizes numbers times : List ℕ) where
           → ReadFrom file sizes numbers times (layoutOf (refused outputShort)) sizes numbers times
       read-short t =
           let s : listsShort (layoutOf (decode file)) (length sizes) (length numbers) (length times) ≡ true = rw (← e) t in
-          let r : refusalIn file ≡ 0 = found-refusal file y e ∙ z in
+          let r : fileRefusal file ≡ 0 = found-refusal file y e ∙ z in
           refused-read outputShort (into-refused outputShort (omega arith) (simp (r, s)))
 
       -- no list is too short
@@ -122,7 +122,7 @@ module _ (file sizes numbers times : List ℕ) where
       unfolding decodeInto sampleIn
       read-filled sizes′ numbers′ times′ t p q r =
           let s : listsShort (layoutOf (decode file)) (length sizes) (length numbers) (length times) ≡ false = rw (← e) t in
-          let n : refusalIn file ≡ 0 = found-refusal file y e ∙ z in
+          let n : fileRefusal file ≡ 0 = found-refusal file y e ∙ z in
           let d : decodeInto (length sizes) (length numbers) (length times) file ≡ accepted (sampleIn file) = simp (n, s) in
           let c = found-counts file y e z in
           let k = ap (λ (x : Layout). x .sent) c in
@@ -141,7 +141,7 @@ module _ (file sizes numbers times : List ℕ) where
 
 module _ (label sizes numbers times out : List ℕ) where
   -- a refusal: the lent octets are as they were
-  refused-written : (n : ℕ) → 0 < n → refusalInto (length out) label sizes numbers times ≡ n
+  refused-written : (n : ℕ) → 0 < n → writeRefusal (length out) label sizes numbers times ≡ n
       → WrittenTo label sizes numbers times out (record { refusal = n; length = 0 }) out
   refused-written zero h e = absurd (omega arith)
   refused-written (suc n) h e =
@@ -149,13 +149,13 @@ module _ (label sizes numbers times out : List ℕ) where
       record { refusal = sym e; octets = sym (ap length o); filled = sym (ap (λ (os : List ℕ). over os out) o) }
 
   -- the label or a list is refused
-  pub write-refused : (n : ℕ) → 0 < n → n ≡ refusalFrom label sizes numbers times → WrittenTo label sizes numbers times out (record { refusal = n; length = 0 }) out
-  unfolding refusalInto
+  pub write-refused : (n : ℕ) → 0 < n → n ≡ sampleRefusal label sizes numbers times → WrittenTo label sizes numbers times out (record { refusal = n; length = 0 }) out
+  unfolding writeRefusal
   write-refused n h e =
       refused-written n h
       (rw (← e) (first-due n (inCase (ltb (length out) (length (fileOf (sampleFrom label sizes numbers times)))) outputShort ∷ []) h))
 
-  module _ (e : 0 ≡ refusalFrom label sizes numbers times) (same : length times ≡ length numbers) where
+  module _ (e : 0 ≡ sampleRefusal label sizes numbers times) (same : length times ≡ length numbers) where
     -- the file's length
     octets-long : length (fileOf (sampleFrom label sizes numbers times)) ≡ 2 + length label + 2 + 2 * length sizes + 2 + 12 * length numbers
     octets-long =
@@ -166,7 +166,7 @@ module _ (label sizes numbers times out : List ℕ) where
     -- the lent octets are too few
     pub write-short : length out < 2 + length label + 2 + 2 * length sizes + 2 + 12 * length numbers
         → WrittenTo label sizes numbers times out (record { refusal = outputShort; length = 0 }) out
-    unfolding refusalInto
+    unfolding writeRefusal
     write-short h =
         let l = octets-long in
         let t : ltb (length out) (length (fileOf (sampleFrom label sizes numbers times))) ≡ true = lt-ltb (length out) (length (fileOf (sampleFrom label sizes numbers times))) (omega arith) in
@@ -174,20 +174,20 @@ module _ (label sizes numbers times out : List ℕ) where
 
     -- the file is written
     pub write-filled : (out′ : List ℕ) → 2 + length label + 2 + 2 * length sizes + 2 + 12 * length numbers ≤ length out
-        → out′ ≡ splice (2 + length label + 2 + 2 * length sizes) (section (length numbers) (itemOctets arrivalOctets (arrivalsOf numbers times)))
+        → out′ ≡ splice (2 + length label + 2 + 2 * length sizes) (section (length numbers) (itemOctets arrivalOctets (arrivalsFrom numbers times)))
         (splice (2 + length label) (section (length sizes) (itemOctets sizeOctets sizes)) (splice 0 (section (length label) label) out))
         → WrittenTo label sizes numbers times out (record { refusal = 0; length = 2 + length label + 2 + 2 * length sizes + 2 + 12 * length numbers }) out′
-    unfolding refusalInto fileOf
+    unfolding writeRefusal fileOf
     write-filled out′ h w =
         let l = octets-long in
         let n = arrivals-length numbers times same in
         let t : ltb (length out) (length (fileOf (sampleFrom label sizes numbers times))) ≡ false = le-ltb (length out) (length (fileOf (sampleFrom label sizes numbers times))) (omega arith) in
-        let r : refusalInto (length out) label sizes numbers times ≡ 0 = simp (sym e, t) in
+        let r : writeRefusal (length out) label sizes numbers times ≡ 0 = simp (sym e, t) in
         let o : octetsInto (length out) label sizes numbers times ≡ fileOf (sampleFrom label sizes numbers times) =
         ap (λ (k : ℕ). unlessRefused k (fileOf (sampleFrom label sizes numbers times))) r in
         let a = section (length label) label in
         let b = section (length sizes) (itemOctets sizeOctets sizes) in
-        let c = section (length numbers) (itemOctets arrivalOctets (arrivalsOf numbers times)) in
+        let c = section (length numbers) (itemOctets arrivalOctets (arrivalsFrom numbers times)) in
         let m = section-length (length label) label in
         let k = section-length (length sizes) (itemOctets sizeOctets sizes) in
         let s = octets-many sizeOctets 2 size-long sizes in
@@ -198,7 +198,7 @@ module _ (label sizes numbers times out : List ℕ) where
           octets = sym (ap length o ∙ l);
           filled = w ∙ ap (splice (2 + length label + 2 + 2 * length sizes) c) (splice-next 0 (2 + length label) a b out p zero-le)
               ∙ splice-next 0 (2 + length label + 2 + 2 * length sizes) (a ++ b) c out q zero-le
-              ∙ ap (λ (os : List ℕ). splice 0 os out) (append-assoc a b c ∙ ap (λ (j : ℕ). a ++ (b ++ section j (itemOctets arrivalOctets (arrivalsOf numbers times)))) (sym n))
+              ∙ ap (λ (os : List ℕ). splice 0 os out) (append-assoc a b c ∙ ap (λ (j : ℕ). a ++ (b ++ section j (itemOctets arrivalOctets (arrivalsFrom numbers times)))) (sym n))
               ∙ sym (over-splice (fileOf (sampleFrom label sizes numbers times)) out)
               ∙ sym (ap (λ (os : List ℕ). over os out) o);
         }

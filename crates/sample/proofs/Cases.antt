@@ -8,11 +8,11 @@ use Rattle.rfc4737.specs.Times.{tooEarly, nextReference}
 use Rattle.rfc4737.specs.Judge.{judgeOne, judge}
 use Rattle.sample.specs.Format.{section, arrivalOctets, itemOctets, itemsIn, fileOf}
 use Rattle.sample.specs.Judge.{someUnshown}
-use Rattle.sample.specs.Decode.{countAt, arrivalIn, sectionStage, refusalIn, decode, refusalOf}
+use Rattle.sample.specs.Decode.{countAt, arrivalIn, sectionStage, fileRefusal, decode, decodedRefusal}
 use Rattle.sample.specs.Cases.{table, RefusalsInOrder}
 
-computed : map (λ (c : List ℕ × ℕ). refusalOf (decode (c .0))) table ≡ map (λ (c : List ℕ × ℕ). c .1) table
-unfolding beValue beOctets outside section arrivalOctets itemOctets itemsIn fileOf tooEarly nextReference judgeOne judge someUnshown countAt arrivalIn sectionStage refusalIn decode
+computed : map (λ (c : List ℕ × ℕ). decodedRefusal (decode (c .0))) table ≡ map (λ (c : List ℕ × ℕ). c .1) table
+unfolding beValue beOctets outside section arrivalOctets itemOctets itemsIn fileOf tooEarly nextReference judgeOne judge someUnshown countAt arrivalIn sectionStage fileRefusal decode
 computed = refl
 
 pub in-order : RefusalsInOrder

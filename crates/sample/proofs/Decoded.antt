@@ -13,7 +13,7 @@ use Rattle.rfc4737.specs.Refusals.{outside, endsEarly, octetsFollow, longLabel,
 use Rattle.rfc4737.specs.Judge.{sentMost, arrivalsMost, judgeSent, judgeArrivals, judge}
 use Rattle.sample.specs.Format.{Sample, labelMost}
 use Rattle.sample.specs.Judge.{judgeLabel, someUnshown}
-use Rattle.sample.specs.Decode.{countAt, endOf, labelCount, sentAt, sentCount, arrivedAt, arrivalCount, fileEnd, arrivalIn, labelIn, arrivalsIn, sampleIn, countStage, lengthStage, sectionStage, labelStage, octetsStage, sentStage, arrivedStage, endStage, arrivalsStage, refusalIn, refused, accepted, decided, decode, refusalOf, layoutOf}
+use Rattle.sample.specs.Decode.{countAt, endOf, labelCount, sentAt, sentCount, arrivedAt, arrivalCount, fileEnd, arrivalIn, labelIn, arrivalsIn, sampleIn, countStage, lengthStage, sectionStage, labelStage, octetsStage, sentStage, arrivedStage, endStage, arrivalsStage, fileRefusal, refused, accepted, decided, decode, decodedRefusal, layoutOf}
 use Rattle.rfc4737.proofs.Due.{first-none, first-due, first-one, case-none, between, not-outside}
 use Rattle.sample.proofs.Items.{items-length}
 
@@ -53,9 +53,9 @@ pub record WholeFile (file : List ℕ) : Type 0 where
   pub judged : judge (sentCount file) 0 (arrivalsIn file) ≡ 0
 
 -- each stage refuses nothing
-pub none-stages : (file : List ℕ) → refusalIn file ≡ 0
+pub none-stages : (file : List ℕ) → fileRefusal file ≡ 0
     → (labelStage file ≡ 0) × (octetsStage file ≡ 0) × (sentStage file ≡ 0) × (arrivedStage file ≡ 0) × (endStage file ≡ 0) × (arrivalsStage file ≡ 0)
-unfolding refusalIn
+unfolding fileRefusal
 none-stages file e =
     let a = first-none (labelStage file) (octetsStage file ∷ sentStage file ∷ arrivedStage file ∷ endStage file ∷ arrivalsStage file ∷ []) e in
     let o = first-none (octetsStage file) (sentStage file ∷ arrivedStage file ∷ endStage file ∷ arrivalsStage file ∷ []) (a .1) in
@@ -66,7 +66,7 @@ none-stages file e =
     (a .0, o .0, b .0, c .0, d .0, f .0)
 
 -- nothing is refused: all of that holds
-pub refused-none : (file : List ℕ) → refusalIn file ≡ 0 → WholeFile file
+pub refused-none : (file : List ℕ) → fileRefusal file ≡ 0 → WholeFile file
 refused-none file e =
     let s = none-stages file e in
     let l = stage-none 0 1 judgeLabel file (s .0) in
@@ -88,8 +88,8 @@ refused-none file e =
     }
 
 -- all of that holds: nothing is refused
-pub none-refused : (file : List ℕ) → WholeFile file → refusalIn file ≡ 0
-unfolding refusalIn
+pub none-refused : (file : List ℕ) → WholeFile file → fileRefusal file ≡ 0
+unfolding fileRefusal
 none-refused file w =
     let e = w .ends in
     let p : labelStage file ≡ 0 = none-stage 0 1 judgeLabel file (simp (not-outside 0 labelMost (labelCount file) (omega arith) (w .labelFits))) (omega arith) in
@@ -101,18 +101,18 @@ none-refused file w =
 -- ---- the answer
 
 -- a refusal of an answer is the one that was due
-pub decided-refusal : (r : ℕ) (s : Sample) → refusalOf (decided r s) ≡ r
+pub decided-refusal : (r : ℕ) (s : Sample) → decodedRefusal (decided r s) ≡ r
 decided-refusal zero s = refl
 decided-refusal (suc r) s = refl
 
 -- a refusal that is due
-pub decode-refused : (file : List ℕ) (r : ℕ) → 0 < r → refusalIn file ≡ r → decode file ≡ refused r
+pub decode-refused : (file : List ℕ) (r : ℕ) → 0 < r → fileRefusal file ≡ r → decode file ≡ refused r
 unfolding decode
 decode-refused file zero h e = absurd (omega arith)
 decode-refused file (suc r) h e = rw e
 
 -- no refusal is due
-pub decode-accepted : (file : List ℕ) → refusalIn file ≡ 0 → decode file ≡ accepted (sampleIn file)
+pub decode-accepted : (file : List ℕ) → fileRefusal file ≡ 0 → decode file ≡ accepted (sampleIn file)
 unfolding decode
 decode-accepted file e = rw e
 
@@ -122,9 +122,9 @@ decided-accepted zero s t e = (refl, cc)
 decided-accepted (suc r) s t e = absurd (let z : _≡_ {A = ℕ} 0 1 = cc in omega arith)
 
 -- an accepted file: nothing is refused, and the sample is what its sections hold
-pub accepted-decode : (file : List ℕ) (s : Sample) → decode file ≡ accepted s → (refusalIn file ≡ 0) × (sampleIn file ≡ s)
+pub accepted-decode : (file : List ℕ) (s : Sample) → decode file ≡ accepted s → (fileRefusal file ≡ 0) × (sampleIn file ≡ s)
 unfolding decode
-accepted-decode file s e = decided-accepted (refusalIn file) (sampleIn file) s e
+accepted-decode file s e = decided-accepted (fileRefusal file) (sampleIn file) s e
 
 -- the counts are the lengths of what the sections hold: of the label
 pub label-length : (file : List ℕ) → WholeFile file → length (sampleIn file .label) ≡ labelCount file
@@ -144,7 +144,7 @@ unfolding sampleIn
 arrivals-number file = items-length 12 arrivalIn (arrivalCount file) _
 
 -- the layout of a file of which nothing is refused
-pub layout-accepted : (file : List ℕ) → refusalIn file ≡ 0
+pub layout-accepted : (file : List ℕ) → fileRefusal file ≡ 0
     → layoutOf (decode file) ≡ record { refusal = 0; label = labelCount file; sent = sentCount file; arrivals = arrivalCount file }
 layout-accepted file e =
     let p = label-length file (refused-none file e) in
@@ -159,31 +159,31 @@ module _ (file : List ℕ) (p : labelStage file ≡ 0) where
     module _ (q : sentStage file ≡ 0) where
       module _ (r : arrivedStage file ≡ 0) where
         -- octets follow the last section
-        pub refused-end : (n : ℕ) → 0 < n → endStage file ≡ n → refusalIn file ≡ n
-        unfolding refusalIn
+        pub refused-end : (n : ℕ) → 0 < n → endStage file ≡ n → fileRefusal file ≡ n
+        unfolding fileRefusal
         refused-end n h e = simp (p, o, q, r, e) (first-due n (arrivalsStage file ∷ []) h)
 
         -- an arrival is refused, or nothing is
-        pub refused-arrivals : (n : ℕ) → endStage file ≡ 0 → arrivalsStage file ≡ n → refusalIn file ≡ n
-        unfolding refusalIn
+        pub refused-arrivals : (n : ℕ) → endStage file ≡ 0 → arrivalsStage file ≡ n → fileRefusal file ≡ n
+        unfolding fileRefusal
         refused-arrivals n e f = simp (p, o, q, r, e, f) (first-one n)
 
       -- the section of arrivals is refused
-      pub refused-arrived : (n : ℕ) → 0 < n → arrivedStage file ≡ n → refusalIn file ≡ n
-      unfolding refusalIn
+      pub refused-arrived : (n : ℕ) → 0 < n → arrivedStage file ≡ n → fileRefusal file ≡ n
+      unfolding fileRefusal
       refused-arrived n h e = simp (p, o, q, e) (first-due n (endStage file ∷ arrivalsStage file ∷ []) h)
 
     -- the section of sent packets is refused
-    pub refused-sent : (n : ℕ) → 0 < n → sentStage file ≡ n → refusalIn file ≡ n
-    unfolding refusalIn
+    pub refused-sent : (n : ℕ) → 0 < n → sentStage file ≡ n → fileRefusal file ≡ n
+    unfolding fileRefusal
     refused-sent n h e = simp (p, o, e) (first-due n (arrivedStage file ∷ endStage file ∷ arrivalsStage file ∷ []) h)
 
   -- an octet of the label cannot be shown
-  pub refused-octets : someUnshown (labelIn file) ≡ true → refusalIn file ≡ octetOutside
-  unfolding refusalIn
+  pub refused-octets : someUnshown (labelIn file) ≡ true → fileRefusal file ≡ octetOutside
+  unfolding fileRefusal
   refused-octets o = simp (p, o)
 
 -- the section of the label is refused
-pub refused-label : (file : List ℕ) (n : ℕ) → 0 < n → labelStage file ≡ n → refusalIn file ≡ n
-unfolding refusalIn
+pub refused-label : (file : List ℕ) (n : ℕ) → 0 < n → labelStage file ≡ n → fileRefusal file ≡ n
+unfolding fileRefusal
 refused-label file n h e = simp e (first-due n (octetsStage file ∷ sentStage file ∷ arrivedStage file ∷ endStage file ∷ arrivalsStage file ∷ []) h)

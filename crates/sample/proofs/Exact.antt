@@ -19,9 +19,9 @@ use Rattle.rfc4737.specs.declared.Arrival.{Arrival}
 use Rattle.rfc4737.specs.Refusals.{outside, longLabel, octetOutside, sentOutside, manyArrivals}
 use Rattle.rfc4737.specs.Judge.{sentMost, arrivalsMost, judgeSent, judgeArrivals, judge}
 use Rattle.sample.specs.Format.{Sample, section, sizeOctets, arrivalOctets, itemOctets, itemsIn, fileOf, labelMost}
-use Rattle.sample.specs.Judge.{judgeLabel, someUnshown, judgeOctets, judgeSample, Fit}
+use Rattle.sample.specs.Judge.{judgeLabel, someUnshown, judgeOctets, judgeSample, FitSample}
 use Rattle.sample.specs.Decode.{countAt, endOf, labelCount, sentAt, sentCount, arrivedAt, arrivalCount, arrivalIn, labelIn, sizesIn, arrivalsIn, sampleIn, decode, accepted}
-use Rattle.sample.specs.RoundTrip.{Exact}
+use Rattle.sample.specs.RoundTrip.{ExactFile}
 use Rattle.rfc4737.proofs.Due.{first-none, case-none, between, not-outside}
 use Rattle.sample.proofs.Items.{items-length, items-stand, part-fits, octets-many, read-written, written-read, arrival-long, arrival-read, arrival-back, time-stands, size-long, size-back}
 use Rattle.rfc4737.proofs.Judged.{judged-number}
@@ -144,7 +144,7 @@ module _ (file : List ℕ) (o : Octets file) (w : WholeFile file) where
       ∙ take-all (a + (b + c)) file r)
 
   -- its sample is fit
-  pub sample-fit : Fit (sampleIn file)
+  pub sample-fit : FitSample (sampleIn file)
   unfolding sampleIn
   sample-fit =
       let l = label-length file w in
@@ -224,7 +224,7 @@ file-length s =
     length-append (labelSection s) (sentSection s ++ arrivedSection s) ∙ ap (λ (n : ℕ). length (labelSection s) + n) (length-append (sentSection s) (arrivedSection s))
     ∙ (let g : length (labelSection s) + (length (sentSection s) + length (arrivedSection s)) ≡ 6 + length (s .label) + 2 * length (s .sizes) + 12 * length (s .arrivals) = omega arith in g)
 
-module _ (s : Sample) (f : Fit s) where
+module _ (s : Sample) (f : FitSample s) where
   -- the count of the label
   label-count : labelCount (fileOf s) ≡ length (s .label)
   unfolding fileOf
@@ -318,15 +318,15 @@ module _ (s : Sample) (f : Fit s) where
 
 -- ---- the theorem
 
-pub exact : (file : List ℕ) → Octets file → Exact file
+pub exact : (file : List ℕ) → Octets file → ExactFile file
 exact file o s = (there, back) where
   -- an accepted file is the file of a fit sample
-  there : decode file ≡ accepted s → Fit s × (file ≡ fileOf s)
+  there : decode file ≡ accepted s → FitSample s × (file ≡ fileOf s)
   there e =
       let p = accepted-decode file s e in
       let w = refused-none file (p .0) in
-      (subst Fit (p .1) (sample-fit file o w), file-back file o w ∙ ap fileOf (p .1))
+      (subst FitSample (p .1) (sample-fit file o w), file-back file o w ∙ ap fileOf (p .1))
 
   -- the file of a fit sample is accepted
-  back : Fit s × (file ≡ fileOf s) → decode file ≡ accepted s
+  back : FitSample s × (file ≡ fileOf s) → decode file ≡ accepted s
   back h = ap decode (h .1) ∙ decode-file s (h .0)

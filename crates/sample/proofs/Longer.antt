@@ -19,8 +19,8 @@ use Rattle.rfc4737.specs.Times.{tooEarly, nextReference}
 use Rattle.rfc4737.specs.Refusals.{outside, inCase, octetsFollow, longLabel, octetOutside, sentOutside, manyArrivals}
 use Rattle.rfc4737.specs.Judge.{sentMost, arrivalsMost, timesOf, judgeSent, judgeArrivals, judgeOne, judge}
 use Rattle.sample.specs.Format.{fileOf, labelMost, shownLeast, longest}
-use Rattle.sample.specs.Judge.{judgeLabel, someUnshown, Fit}
-use Rattle.sample.specs.Decode.{countAt, endOf, lengthStage, labelCount, sentAt, sentCount, arrivedAt, arrivalCount, fileEnd, labelIn, sectionStage, labelStage, sentStage, refusalIn, Decoded, decode, refusalOf}
+use Rattle.sample.specs.Judge.{judgeLabel, someUnshown, FitSample}
+use Rattle.sample.specs.Decode.{countAt, endOf, lengthStage, labelCount, sentAt, sentCount, arrivedAt, arrivalCount, fileEnd, labelIn, sectionStage, labelStage, sentStage, fileRefusal, Decoded, decode, decodedRefusal}
 use Rattle.sample.specs.RoundTrip.{filled, among, Lengths}
 use Rattle.rfc4737.proofs.Due.{between, not-outside, first-due}
 use Rattle.sample.proofs.Decoded.{none-stage, decode-refused, refused-label, refused-octets, refused-sent, refused-arrived, refused-end}
@@ -44,7 +44,7 @@ stage-passed at width least most r file e h =
 
 module _ (f : List ℕ) (h : longest < length f) where
   -- a long label
-  three : outside 0 labelMost (labelCount f) ≡ true → refusalIn f ≡ longLabel
+  three : outside 0 labelMost (labelCount f) ≡ true → fileRefusal f ≡ longLabel
   three t = refused-label f longLabel (omega arith) (stage-judged 0 1 judgeLabel f longLabel (omega arith) (omega arith) (ap (λ (b : Bool). inCase b longLabel) t))
 
   module _ (a : outside 0 labelMost (labelCount f) ≡ false) where
@@ -55,12 +55,12 @@ module _ (f : List ℕ) (h : longest < length f) where
         (p .1, stage-passed 0 1 0 labelMost longLabel f a (omega arith))
 
     -- a label octet that cannot be shown
-    thirteen : someUnshown (labelIn f) ≡ true → refusalIn f ≡ octetOutside
+    thirteen : someUnshown (labelIn f) ≡ true → fileRefusal f ≡ octetOutside
     thirteen t = refused-octets f (label-passed .1) t
 
     module _ (o : someUnshown (labelIn f) ≡ false) where
       -- a wrong K
-      four : outside 1 sentMost (sentCount f) ≡ true → refusalIn f ≡ sentOutside
+      four : outside 1 sentMost (sentCount f) ≡ true → fileRefusal f ≡ sentOutside
       four t =
           let p = label-passed in
           refused-sent f (p .1) o sentOutside (omega arith)
@@ -75,7 +75,7 @@ module _ (f : List ℕ) (h : longest < length f) where
             (q .1, stage-passed (sentAt f) 2 1 sentMost sentOutside f b (omega arith))
 
         -- too many arrivals
-        five : outside 0 arrivalsMost (arrivalCount f) ≡ true → refusalIn f ≡ manyArrivals
+        five : outside 0 arrivalsMost (arrivalCount f) ≡ true → fileRefusal f ≡ manyArrivals
         five t =
             let p = label-passed in
             let q = sent-passed in
@@ -83,7 +83,7 @@ module _ (f : List ℕ) (h : longest < length f) where
             (stage-judged (arrivedAt f) 12 judgeArrivals f manyArrivals (omega arith) (omega arith) (ap (λ (c : Bool). inCase c manyArrivals) t))
 
         -- octets that follow
-        two : outside 0 arrivalsMost (arrivalCount f) ≡ false → refusalIn f ≡ octetsFollow
+        two : outside 0 arrivalsMost (arrivalCount f) ≡ false → fileRefusal f ≡ octetsFollow
         two t =
             let p = label-passed in
             let q = sent-passed in
@@ -115,8 +115,8 @@ record Refused (file : List ℕ) : Type 0 where
   pub with : ℕ
   pub due : 0 < with
   pub one : among with longerRefusals ≡ true
-  pub whole : refusalIn file ≡ with
-  pub start : refusalIn (begin file) ≡ with
+  pub whole : fileRefusal file ≡ with
+  pub start : fileRefusal (begin file) ≡ with
 
 longer-refused : (file : List ℕ) → longest < length file → Refused file
 longer-refused f h = first (outside 0 labelMost (labelCount f)) refl where
@@ -192,7 +192,7 @@ again-judged k zero h = refl
 again-judged k (suc n) h = rw (not-outside 1 k 1 (omega arith) h, again-judged k n h)
 
 -- up to the limits it is fit
-filled-fit : (label sent arrivals : ℕ) → label ≤ labelMost → 1 ≤ sent → sent ≤ sentMost → arrivals ≤ arrivalsMost → Fit (filled label sent arrivals)
+filled-fit : (label sent arrivals : ℕ) → label ≤ labelMost → 1 ≤ sent → sent ≤ sentMost → arrivals ≤ arrivalsMost → FitSample (filled label sent arrivals)
 unfolding filled
 filled-fit label sent arrivals l p s a =
     let n = length-replicate {A = ℕ} label shownLeast in
@@ -224,8 +224,8 @@ lengths file o =
       begun = λ h. same (longer-refused file h);
     }
   where
-    one-of : Refused file → among (refusalOf (decode file)) longerRefusals ≡ true
-    one-of r = ap (λ (d : Decoded). among (refusalOf d) longerRefusals) (decode-refused file (r .with) (r .due) (r .whole)) ∙ r .one
+    one-of : Refused file → among (decodedRefusal (decode file)) longerRefusals ≡ true
+    one-of r = ap (λ (d : Decoded). among (decodedRefusal d) longerRefusals) (decode-refused file (r .with) (r .due) (r .whole)) ∙ r .one
 
     same : Refused file → decode file ≡ decode (begin file)
     same r = decode-refused file (r .with) (r .due) (r .whole) ∙ sym (decode-refused (begin file) (r .with) (r .due) (r .start))

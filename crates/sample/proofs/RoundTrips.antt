@@ -12,11 +12,11 @@ use Rattle.octets.specs.Memory.{over}
 use Rattle.octets.proofs.Memory.{over-read}
 use Rattle.rfc4737.specs.declared.Arrival.{Arrival}
 use Rattle.rfc4737.specs.Refusals.{outside, inCase, firstOf, longLabel, octetOutside, outputShort}
-use Rattle.rfc4737.specs.Judge.{arrivalsMost, numbersOf, timesOf, arrivalsOf, judge, refusalOfLists}
+use Rattle.rfc4737.specs.Judge.{arrivalsMost, numbersOf, timesOf, arrivalsFrom, judge, refusalOfLists}
 use Rattle.sample.specs.Format.{Sample, fileOf, labelMost}
-use Rattle.sample.specs.Judge.{judgeLabel, someUnshown, judgeOctets, judgeSample, Fit}
-use Rattle.sample.specs.Decode.{refusalIn, sampleIn, decided, decode, accepted, sampleOf, refusalOf, layoutOf}
-use Rattle.sample.specs.Calls.{listsShort, decodeInto, sampleFrom, refusalFrom, refusalInto, octetsInto, unlessRefused, WrittenTo}
+use Rattle.sample.specs.Judge.{judgeLabel, someUnshown, judgeOctets, judgeSample, FitSample}
+use Rattle.sample.specs.Decode.{fileRefusal, sampleIn, decided, decode, accepted, sampleOf, decodedRefusal, layoutOf}
+use Rattle.sample.specs.Calls.{listsShort, decodeInto, sampleFrom, sampleRefusal, writeRefusal, octetsInto, unlessRefused, WrittenTo}
 use Rattle.sample.specs.RoundTrip.{WrittenAgain, ReadAgain}
 use Rattle.sample.specs.declared.Layout.{Layout}
 use Rattle.sample.specs.declared.Written.{Written}
@@ -29,12 +29,12 @@ use Rattle.sample.proofs.Exact.{limits, sample-fit, file-back, decode-f
 -- ---- the reader
 
 -- nothing is refused where lists are filled: nothing of the file is
-into-none : (a b c : ℕ) (file : List ℕ) → refusalOf (decodeInto a b c file) ≡ 0 → (refusalIn file ≡ 0) × (decodeInto a b c file ≡ accepted (sampleIn file))
+into-none : (a b c : ℕ) (file : List ℕ) → decodedRefusal (decodeInto a b c file) ≡ 0 → (fileRefusal file ≡ 0) × (decodeInto a b c file ≡ accepted (sampleIn file))
 unfolding decodeInto
 into-none a b c file e =
-    let r = firstOf (refusalIn file ∷ inCase (listsShort (layoutOf (decode file)) a b c) outputShort ∷ []) in
+    let r = firstOf (fileRefusal file ∷ inCase (listsShort (layoutOf (decode file)) a b c) outputShort ∷ []) in
     let z : r ≡ 0 = sym (decided-refusal r (sampleIn file)) ∙ e in
-    (first-none (refusalIn file) (inCase (listsShort (layoutOf (decode file)) a b c) outputShort ∷ []) z .0, ap (λ (n : ℕ). decided n (sampleIn file)) z)
+    (first-none (fileRefusal file) (inCase (listsShort (layoutOf (decode file)) a b c) outputShort ∷ []) z .0, ap (λ (n : ℕ). decided n (sampleIn file)) z)
 
 -- the lists are long enough for a sample
 pub into-room : (a b c : ℕ) (file : List ℕ) (s : Sample) → decode file ≡ accepted s → length (s .sizes) ≤ a → length (s .arrivals) ≤ b → length (s .arrivals) ≤ c
@@ -47,9 +47,9 @@ into-room a b c file s e p q r =
 -- ---- the writer
 
 -- of a label and lists nothing is refused: the label has at most 64 octets, which can be shown, and K and the lists are fit
-pub label-fit : (label sizes numbers times : List ℕ) → refusalFrom label sizes numbers times ≡ 0
+pub label-fit : (label sizes numbers times : List ℕ) → sampleRefusal label sizes numbers times ≡ 0
     → (length label ≤ labelMost) × (someUnshown label ≡ false) × ListsFit (length sizes) numbers times
-unfolding refusalFrom
+unfolding sampleRefusal
 label-fit label sizes numbers times e =
     let r = refusalOfLists (length sizes) numbers times in
     let p = first-none (judgeLabel (length label)) (judgeOctets label ∷ r ∷ []) e in
@@ -58,7 +58,7 @@ label-fit label sizes numbers times e =
     (l .1, case-none (someUnshown label) octetOutside (omega arith) (q .0), lists-fit (length sizes) numbers times (first-none r [] (q .1) .0))
 
 -- nothing of their sample is refused
-pub from-none : (label sizes numbers times : List ℕ) → refusalFrom label sizes numbers times ≡ 0 → judgeSample (sampleFrom label sizes numbers times) ≡ 0
+pub from-none : (label sizes numbers times : List ℕ) → sampleRefusal label sizes numbers times ≡ 0 → judgeSample (sampleFrom label sizes numbers times) ≡ 0
 unfolding judgeSample
 from-none label sizes numbers times e =
     let f = label-fit label sizes numbers times e in
@@ -68,27 +68,27 @@ from-none label sizes numbers times e =
     simp (p, f .1, f .2 .sent, n, q, f .2 .judged)
 
 -- nothing of a sample is refused: nothing of its lists is
-pub none-from : (s : Sample) → judgeSample s ≡ 0 → refusalFrom (s .label) (s .sizes) (numbersOf (s .arrivals)) (timesOf (s .arrivals)) ≡ 0
-unfolding refusalFrom
+pub none-from : (s : Sample) → judgeSample s ≡ 0 → sampleRefusal (s .label) (s .sizes) (numbersOf (s .arrivals)) (timesOf (s .arrivals)) ≡ 0
+unfolding sampleRefusal
 none-from s e =
     let l = limits s e in
     let n = length-map (s .arrivals) (λ (a : Arrival). a .number) in
     let t = length-map (s .arrivals) (λ (a : Arrival). a .time) in
     let p = not-outside 0 labelMost (length (s .label)) (omega arith) (l .labelFits) in
-    let j : judge (length (s .sizes)) 0 (arrivalsOf (numbersOf (s .arrivals)) (timesOf (s .arrivals))) ≡ 0 = rw (arrivals-back (s .arrivals)) (l .judged) in
+    let j : judge (length (s .sizes)) 0 (arrivalsFrom (numbersOf (s .arrivals)) (timesOf (s .arrivals))) ≡ 0 = rw (arrivals-back (s .arrivals)) (l .judged) in
     simp (p, l .shown, fit-lists (length (s .sizes)) (numbersOf (s .arrivals)) (timesOf (s .arrivals)) (l .sentSome) (l .sentFits) (rw n (l .arrivalsFit)) (t ∙ sym n) j)
 
 -- nothing is refused where there is room
-pub written-into : (room : ℕ) (label sizes numbers times : List ℕ) → refusalFrom label sizes numbers times ≡ 0
-    → length (fileOf (sampleFrom label sizes numbers times)) ≤ room → refusalInto room label sizes numbers times ≡ 0
-unfolding refusalInto
+pub written-into : (room : ℕ) (label sizes numbers times : List ℕ) → sampleRefusal label sizes numbers times ≡ 0
+    → length (fileOf (sampleFrom label sizes numbers times)) ≤ room → writeRefusal room label sizes numbers times ≡ 0
+unfolding writeRefusal
 written-into room label sizes numbers times e h = simp (e, le-ltb room (length (fileOf (sampleFrom label sizes numbers times))) h)
 
 -- nothing is refused: nothing of the lists is
-into-written : (room : ℕ) (label sizes numbers times : List ℕ) → refusalInto room label sizes numbers times ≡ 0 → refusalFrom label sizes numbers times ≡ 0
-unfolding refusalInto
+into-written : (room : ℕ) (label sizes numbers times : List ℕ) → writeRefusal room label sizes numbers times ≡ 0 → sampleRefusal label sizes numbers times ≡ 0
+unfolding writeRefusal
 into-written room label sizes numbers times e =
-    first-none (refusalFrom label sizes numbers times) (inCase (ltb room (length (fileOf (sampleFrom label sizes numbers times)))) outputShort ∷ []) e .0
+    first-none (sampleRefusal label sizes numbers times) (inCase (ltb room (length (fileOf (sampleFrom label sizes numbers times)))) outputShort ∷ []) e .0
 
 -- the octets of a sample, from its lists, where there is room
 written-sample : (s : Sample) → judgeSample s ≡ 0 → (out out′ : List ℕ) (written : Written) → length (fileOf s) ≤ length out
@@ -139,7 +139,7 @@ read-again label sizes numbers times fs ft out out′ sizes₀ numbers₀ times�
     let os : octetsInto (length out) label sizes numbers times ≡ fileOf s = ap (λ (k : ℕ). unlessRefused k (fileOf s)) r in
     let file : take (written .length) out′ ≡ fileOf s =
     ap₂ take (w .octets ∙ ap length os) (w .filled ∙ ap (λ (l : List ℕ). over l out) os) ∙ over-read (fileOf s) out in
-    let fit : Fit s = record { judged = from-none label sizes numbers times e; sizes = fs; times = rw (times-back numbers times q) ft } in
+    let fit : FitSample s = record { judged = from-none label sizes numbers times e; sizes = fs; times = rw (times-back numbers times q) ft } in
     let d : decode (take (written .length) out′) ≡ accepted s = ap decode file ∙ decode-file s fit in
     let i = into-room (length sizes₀) (length numbers₀) (length times₀) (take (written .length) out′) s d ps (omega arith) (omega arith) in
     record {

@@ -12,7 +12,7 @@ use Rattle.octets.specs.Memory.{splice, put}
 use Rattle.octets.proofs.BigEndian.{octets-length}
 use Rattle.octets.proofs.Memory.{splice-nil, splice-length, splice-next, taken, put-room, put-next, put-lent}
 use Rattle.rfc4737.specs.declared.Arrival.{Arrival}
-use Rattle.rfc4737.specs.Judge.{arrivalsOf}
+use Rattle.rfc4737.specs.Judge.{arrivalsFrom}
 use Rattle.sample.specs.Format.{itemOctets, section, arrivalOctets}
 use Rattle.rfc4737.proofs.Pairs.{arrivals-getD}
 use Rattle.sample.proofs.Items.{octets-snoc, octets-many}
@@ -75,7 +75,7 @@ section-done at n os old room e f =
 
 -- an arrival, of a list of numbers and a list of times, put into twelve octets: its number, then its time
 pub arrival-put : (ns ts : List ℕ) (i : ℕ) (z : Arrival) (old : List ℕ) {d d′ : List ℕ} → length ts ≡ length ns → i < length ns → 12 ≤ length old
-    → d ≡ put 0 (beOctets 4 (getD ns i 0)) old → d′ ≡ put 4 (beOctets 8 (getD ts i 0)) d → d′ ≡ put 0 (arrivalOctets (getD (arrivalsOf ns ts) i z)) old
+    → d ≡ put 0 (beOctets 4 (getD ns i 0)) old → d′ ≡ put 4 (beOctets 8 (getD ts i 0)) d → d′ ≡ put 0 (arrivalOctets (getD (arrivalsFrom ns ts) i z)) old
 unfolding arrivalOctets
 arrival-put ns ts i z old l h room e f =
     let number : List ℕ = beOctets 4 (getD ns i 0) in

@@ -7,10 +7,10 @@ use lib.Dec.{ltb}
 use lib.ListN.{length}
 use Rattle.octets.specs.Memory.{over}
 use Rattle.rfc4737.specs.Refusals.{inCase, firstOf, outputShort}
-use Rattle.rfc4737.specs.Judge.{numbersOf, timesOf, arrivalsOf, refusalOfLists}
+use Rattle.rfc4737.specs.Judge.{numbersOf, timesOf, arrivalsFrom, refusalOfLists}
 use Rattle.sample.specs.Format.{Sample, fileOf}
 use Rattle.sample.specs.Judge.{judgeLabel, judgeOctets}
-use Rattle.sample.specs.Decode.{Decoded, refused, accepted, refusalIn, sampleIn, decided, decode, sampleOf, layoutOf}
+use Rattle.sample.specs.Decode.{Decoded, refused, accepted, fileRefusal, sampleIn, decided, decode, sampleOf, layoutOf}
 use Rattle.sample.specs.declared.Layout.{Layout}
 use Rattle.sample.specs.declared.Written.{Written}
 
@@ -30,7 +30,7 @@ listsShort found sizes numbers times = ltb sizes (found .sent) || (ltb numbers (
 -- what a file decodes to where lists of so many places are filled: 8 comes last
 unfoldable pub decodeInto : ℕ → ℕ → ℕ → List ℕ → Decoded
 decodeInto sizes numbers times file =
-    decided (firstOf (refusalIn file ∷ inCase (listsShort (layoutOf (decode file)) sizes numbers times) outputShort ∷ [])) (sampleIn file)
+    decided (firstOf (fileRefusal file ∷ inCase (listsShort (layoutOf (decode file)) sizes numbers times) outputShort ∷ [])) (sampleIn file)
 
 -- the reader's answer, and the three lists after it: the sample's values from their start, all else as it was
 pub record ReadFrom (file sizes numbers times : List ℕ) (answer : Layout) (sizes′ numbers′ times′ : List ℕ) : Type 0 where
@@ -43,17 +43,17 @@ pub record ReadFrom (file sizes numbers times : List ℕ) (answer : Layout) (siz
 
 -- the sample of a label and lists
 abbrev pub sampleFrom : List ℕ → List ℕ → List ℕ → List ℕ → Sample
-sampleFrom label sizes numbers times = record { label = label; sizes = sizes; arrivals = arrivalsOf numbers times }
+sampleFrom label sizes numbers times = record { label = label; sizes = sizes; arrivals = arrivalsFrom numbers times }
 
 -- the first refusal that is due of a label and lists: 3, 13, then those of K, the number of sizes, and the lists
-unfoldable pub refusalFrom : List ℕ → List ℕ → List ℕ → List ℕ → ℕ
-refusalFrom label sizes numbers times = firstOf (judgeLabel (length label) ∷ judgeOctets label ∷ refusalOfLists (length sizes) numbers times ∷ [])
+unfoldable pub sampleRefusal : List ℕ → List ℕ → List ℕ → List ℕ → ℕ
+sampleRefusal label sizes numbers times = firstOf (judgeLabel (length label) ∷ judgeOctets label ∷ refusalOfLists (length sizes) numbers times ∷ [])
 
 -- the same where so many octets can be written: 8 comes last
-unfoldable pub refusalInto : ℕ → List ℕ → List ℕ → List ℕ → List ℕ → ℕ
-refusalInto room label sizes numbers times =
+unfoldable pub writeRefusal : ℕ → List ℕ → List ℕ → List ℕ → List ℕ → ℕ
+writeRefusal room label sizes numbers times =
     firstOf
-    (refusalFrom label sizes numbers times
+    (sampleRefusal label sizes numbers times
     ∷ inCase (ltb room (length (fileOf (sampleFrom label sizes numbers times)))) outputShort
     ∷ [])
 
@@ -65,10 +65,10 @@ unlessRefused (suc r) os = []
 -- the octets that are written where there is room for so many: those of the sample's file, or none with a refusal
 abbrev pub octetsInto : ℕ → List ℕ → List ℕ → List ℕ → List ℕ → List ℕ
 octetsInto room label sizes numbers times =
-    unlessRefused (refusalInto room label sizes numbers times) (fileOf (sampleFrom label sizes numbers times))
+    unlessRefused (writeRefusal room label sizes numbers times) (fileOf (sampleFrom label sizes numbers times))
 
 -- the writer's answer, and the lent octets after it: those of the file from their start, all else as it was
 pub record WrittenTo (label sizes numbers times out : List ℕ) (answer : Written) (out′ : List ℕ) : Type 0 where
-  pub refusal : answer .refusal ≡ refusalInto (length out) label sizes numbers times
+  pub refusal : answer .refusal ≡ writeRefusal (length out) label sizes numbers times
   pub octets : answer .length ≡ length (octetsInto (length out) label sizes numbers times)
   pub filled : out′ ≡ over (octetsInto (length out) label sizes numbers times) out

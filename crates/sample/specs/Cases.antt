@@ -3,7 +3,7 @@ use Prim.Native.Nat.{ℕ}
 use mathlib.Core.List.{List, [], _∷_, _++_, map}
 use mathlib.Core.Path.{_≡_}
 use Rattle.sample.specs.Format.{fileOf}
-use Rattle.sample.specs.Decode.{decode, refusalOf}
+use Rattle.sample.specs.Decode.{decode, decodedRefusal}
 
 -- a file of two sent packets with two arrivals, by their numbers and times
 abbrev pub twoArrivals : ℕ → ℕ → ℕ → ℕ → List ℕ
@@ -43,4 +43,4 @@ table =
 
 -- each is refused as it is due
 pub record RefusalsInOrder : Type 0 where
-  pub due : map (λ (c : List ℕ × ℕ). refusalOf (decode (c .0))) table ≡ map (λ (c : List ℕ × ℕ). c .1) table
+  pub due : map (λ (c : List ℕ × ℕ). decodedRefusal (decode (c .0))) table ≡ map (λ (c : List ℕ × ℕ). c .1) table

@@ -109,8 +109,8 @@ abbrev pub arrivalsStage : List ℕ → ℕ
 arrivalsStage file = judge (sentCount file) 0 (arrivalsIn file)
 
 -- the first refusal that is due of a file, by the stages in their order; 0 if none is
-unfoldable pub refusalIn : List ℕ → ℕ
-refusalIn file = firstOf (labelStage file ∷ octetsStage file ∷ sentStage file ∷ arrivedStage file ∷ endStage file ∷ arrivalsStage file ∷ [])
+unfoldable pub fileRefusal : List ℕ → ℕ
+fileRefusal file = firstOf (labelStage file ∷ octetsStage file ∷ sentStage file ∷ arrivedStage file ∷ endStage file ∷ arrivalsStage file ∷ [])
 
 -- ---- the answer
 
@@ -126,7 +126,7 @@ decided (suc r) s = refused (suc r)
 
 -- what a file decodes to
 unfoldable pub decode : List ℕ → Decoded
-decode file = decided (refusalIn file) (sampleIn file)
+decode file = decided (fileRefusal file) (sampleIn file)
 
 -- the sample of an answer; a refusal has the empty one
 abbrev pub sampleOf : Decoded → Sample
@@ -134,15 +134,15 @@ sampleOf (refused r) = record { label = []; sizes = []; arrivals = [] }
 sampleOf (accepted s) = s
 
 -- the refusal of an answer; a sample has none
-abbrev pub refusalOf : Decoded → ℕ
-refusalOf (refused r) = r
-refusalOf (accepted s) = 0
+abbrev pub decodedRefusal : Decoded → ℕ
+decodedRefusal (refused r) = r
+decodedRefusal (accepted s) = 0
 
 -- the answer in numbers: the refusal, the octets of the label, K and A; all but the refusal are 0 with a refusal
 abbrev pub layoutOf : Decoded → Layout
 layoutOf d =
     record {
-      refusal = refusalOf d;
+      refusal = decodedRefusal d;
       label = length (sampleOf d .label);
       sent = length (sampleOf d .sizes);
       arrivals = length (sampleOf d .arrivals);

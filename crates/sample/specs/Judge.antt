@@ -38,7 +38,7 @@ judgeSample s =
     ∷ [])
 
 -- a fit sample: nothing of it is refused, and every value that is not judged fits its field
-pub record Fit (s : Sample) : Type 0 where
+pub record FitSample (s : Sample) : Type 0 where
   pub judged : judgeSample s ≡ 0
   pub sizes : Below (2 ^ 16) (s .sizes)
   pub times : Below (2 ^ 64) (timesOf (s .arrivals))

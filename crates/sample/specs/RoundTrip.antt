@@ -11,15 +11,15 @@ use Rattle.octets.specs.Memory.{over}
 use Rattle.rfc4737.specs.Refusals.{octetsFollow, longLabel, octetOutside, sentOutside, manyArrivals}
 use Rattle.rfc4737.specs.Judge.{sentMost, arrivalsMost}
 use Rattle.sample.specs.Format.{Sample, fileOf, labelMost, shownLeast, longest}
-use Rattle.sample.specs.Judge.{Fit}
-use Rattle.sample.specs.Decode.{decode, accepted, sampleOf, refusalOf}
+use Rattle.sample.specs.Judge.{FitSample}
+use Rattle.sample.specs.Decode.{decode, accepted, sampleOf, decodedRefusal}
 use Rattle.sample.specs.Calls.{ReadFrom, WrittenTo}
 use Rattle.sample.specs.declared.Layout.{Layout}
 use Rattle.sample.specs.declared.Written.{Written}
 
 -- decoding accepts exactly the octets of fit samples
-abbrev pub Exact : List ℕ → Type 0
-Exact file = (s : Sample) → (decode file ≡ accepted s) ↔ (Fit s × (file ≡ fileOf s))
+abbrev pub ExactFile : List ℕ → Type 0
+ExactFile file = (s : Sample) → (decode file ≡ accepted s) ↔ (FitSample s × (file ≡ fileOf s))
 
 -- a sample of so many label octets, sent packets and arrivals: every octet is a space, every size and time is 0, every arrival is of
 -- packet 1
@@ -40,7 +40,7 @@ pub record Lengths (file : List ℕ) : Type 0 where
   pub reached : decode (fileOf (filled labelMost sentMost arrivalsMost)) ≡ accepted (filled labelMost sentMost arrivalsMost)
   pub reachedBy : length (fileOf (filled labelMost sentMost arrivalsMost)) ≡ longest
   -- a longer file is refused with 2, 3, 13, 4 or 5
-  pub longer : longest < length file → among (refusalOf (decode file)) (octetsFollow ∷ longLabel ∷ octetOutside ∷ sentOutside ∷ manyArrivals ∷ []) ≡ true
+  pub longer : longest < length file → among (decodedRefusal (decode file)) (octetsFollow ∷ longLabel ∷ octetOutside ∷ sentOutside ∷ manyArrivals ∷ []) ≡ true
   -- and decoded as its first octets are, one more than the longest sample has
   pub begun : longest < length file → decode file ≡ decode (take (longest + 1) file)
 

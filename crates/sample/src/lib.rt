@@ -4,9 +4,9 @@ ghost use Prim.Native.Nat.{_+_};
 ghost use Rattle.sample.specs.Format.{longest};
 ghost use Rattle.sample.specs.Decode.{arrivalIn, decode, refused, sampleOf, layoutOf};
 ghost use Rattle.sample.specs.Places.{sizesAt, arrivalsAt, sizeFound, arrivalFound};
-ghost use Rattle.sample.specs.Calls.{labelPlace, ReadFrom, WrittenTo, refusalFrom, listsShort};
+ghost use Rattle.sample.specs.Calls.{labelPlace, ReadFrom, WrittenTo, sampleRefusal, listsShort};
 ghost use Rattle.sample.specs.Cases.{RefusalsInOrder};
-ghost use Rattle.sample.specs.RoundTrip.{Exact, Lengths, WrittenAgain, ReadAgain};
+ghost use Rattle.sample.specs.RoundTrip.{ExactFile, Lengths, WrittenAgain, ReadAgain};
 
 mod fill;
 mod judge;
@@ -73,7 +73,7 @@ fn refused_with(refusal: u32) -> Layout
 // turn.
 pub fn check(file: &[u8]) -> Layout
     ensures { λ r. ⌜ r ≡ layoutOf (decode (now (file .entry))) ⌝ }
-    ensures exact { λ _. ⌜ Exact (now (file .entry)) ⌝ }
+    ensures exact { λ _. ⌜ ExactFile (now (file .entry)) ⌝ }
     ensures lengths { λ _. do ⌜ ((← ⟦LONGEST⟧ .entry) ≡ longest) × Lengths (now (file .entry)) ⌝ }
     ensures order { λ _. ⌜ RefusalsInOrder ⌝ }
 {
@@ -174,7 +174,7 @@ pub fn read(file: &[u8], sizes: &mut [u16], numbers: &mut [u32], times: &mut [u6
 
 // The first refusal that is due of a label and lists, 0 if none is.
 fn refusal_from(label: &[u8], sizes: &[u16], numbers: &[u32], times: &[u64]) -> u32
-    ensures { λ r. ⌜ r ≡ refusalFrom (now (label .entry)) (now (sizes .entry)) (now (numbers .entry)) (now (times .entry)) ⌝ }
+    ensures { λ r. ⌜ r ≡ sampleRefusal (now (label .entry)) (now (sizes .entry)) (now (numbers .entry)) (now (times .entry)) ⌝ }
 {
     if outside(0, LABEL_MOST, label.len() as u64) {
         return LONG_LABEL;

@@ -3,7 +3,7 @@ ghost use mathlib.Core.Path.{_≡_};
 ghost use Prim.Native.Nat.{_+_, _*_, _≤_, _<_};
 ghost use lib.ListN.{length};
 ghost use Rattle.octets.specs.Memory.{splice};
-ghost use Rattle.rfc4737.specs.Judge.{arrivalsOf};
+ghost use Rattle.rfc4737.specs.Judge.{arrivalsFrom};
 ghost use Rattle.sample.specs.Format.{section, sizeOctets, arrivalOctets, itemOctets};
 ghost use Rattle.sample.specs.Private.Readings.{countReading, placeReading, sectionReading, refusalOfSection};
 use rfc4737::judge::outside;
@@ -104,7 +104,7 @@ pub(crate) fn write_sizes(sizes: &[u16], out: &mut [u8], at: usize)
 // Writes the section of arrivals from a place on.
 pub(crate) fn write_arrivals(numbers: &[u32], times: &[u64], out: &mut [u8], at: usize)
     requires { ⌜ (length (now times) ≡ length (now numbers)) × (at + 2 + 12 * length (now numbers) ≤ length (now out)) ⌝ }
-    ensures { λ _. ⌜ now (out .exit) ≡ splice at (section (length (now (numbers .entry))) (itemOctets arrivalOctets (arrivalsOf (now (numbers .entry)) (now (times .entry))))) (now (out .entry)) ⌝ }
+    ensures { λ _. ⌜ now (out .exit) ≡ splice at (section (length (now (numbers .entry))) (itemOctets arrivalOctets (arrivalsFrom (now (numbers .entry)) (now (times .entry))))) (now (out .entry)) ⌝ }
 {
     octets::put_number(out, at, 2, numbers.len() as u64);
     let mut i = 0;

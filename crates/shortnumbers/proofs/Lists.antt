@@ -9,19 +9,19 @@ use lib.ListN.{length, getD, take}
 use Rattle.octets.specs.Below.{Below}
 use Rattle.octets.specs.Memory.{over}
 use Rattle.rfc4737.specs.declared.Arrival.{Arrival}
-use Rattle.rfc4737.specs.Judge.{arrivalsOf, refusalOfLists}
+use Rattle.rfc4737.specs.Judge.{arrivalsFrom, refusalOfLists}
 use Rattle.rfc4737.specs.Refusals.{inCase, outputShort}
 use Rattle.rfc4737.proofs.Arrivals.{fold-take}
 use Rattle.rfc4737.proofs.Due.{first-due}
 use Rattle.rfc4737.proofs.Pairs.{arrivals-getD, times-back}
 use Rattle.sample.specs.Format.{Sample}
-use Rattle.sample.specs.Judge.{Fit}
+use Rattle.sample.specs.Judge.{FitSample}
 use Rattle.sample.specs.Calls.{sampleFrom}
 use Rattle.sample.proofs.Exact.{decode-file}
 use Rattle.sample.proofs.RoundTrips.{label-fit, from-none}
 use Rattle.shortnumbers.specs.Number.{rangeOf, shortOf, Near, found}
 use Rattle.shortnumbers.specs.InTurn.{greatestOf}
-use Rattle.shortnumbers.specs.Lists.{numbersFound, refusalInto, Filled, TrueInLists, Demand2Reads, EveryList}
+use Rattle.shortnumbers.specs.Lists.{numbersFound, fillRefusal, FilledTo, TrueInLists, Demand2Reads, EveryList}
 use Rattle.shortnumbers.proofs.Numbers.{Even, even-width, only, exact}
 use Rattle.shortnumbers.proofs.InTurn.{turn-length, turn-at, turn-true}
 
@@ -52,7 +52,7 @@ module _ (r : ℕ) (shorts : List ℕ) (g i n : ℕ) (lt : i < length shorts) (s
 
   -- with its time it is the arrival at i
   pub arrival-here : (times : List ℕ) → length times ≡ length shorts
-      → record { number = n; time = getD times i 0 } ≡ getD (arrivalsOf (numbersFound r shorts) times) i none
+      → record { number = n; time = getD times i 0 } ≡ getD (arrivalsFrom (numbersFound r shorts) times) i none
   arrival-here times same =
       let len = found-length r shorts in
       ap (λ (x : ℕ). record { number = x; time = getD times i 0 }) found-here
@@ -62,8 +62,8 @@ module _ (r : ℕ) (shorts : List ℕ) (g i n : ℕ) (lt : i < length shorts) (s
 
 module _ (r k : ℕ) (shorts times numbers : List ℕ) where
   -- something of K and the lists is refused
-  pub filled-refused : (refusal : ℕ) → refusal ≡ refusalOfLists k (numbersFound r shorts) times → (refusal ≡ 0 → ⊥) → Filled r k shorts times numbers refusal numbers
-  unfolding refusalInto
+  pub filled-refused : (refusal : ℕ) → refusal ≡ refusalOfLists k (numbersFound r shorts) times → (refusal ≡ 0 → ⊥) → FilledTo r k shorts times numbers refusal numbers
+  unfolding fillRefusal
   filled-refused zero e n = absurd (n refl)
   filled-refused (suc x) e n =
       record {
@@ -72,14 +72,14 @@ module _ (r k : ℕ) (shorts times numbers : List ℕ) where
       }
 
   -- the list is too short
-  pub filled-short : refusalOfLists k (numbersFound r shorts) times ≡ 0 → length numbers < length shorts → Filled r k shorts times numbers outputShort numbers
-  unfolding refusalInto
+  pub filled-short : refusalOfLists k (numbersFound r shorts) times ≡ 0 → length numbers < length shorts → FilledTo r k shorts times numbers outputShort numbers
+  unfolding fillRefusal
   filled-short e h = record { refusal = rw (e, lt-ltb (length numbers) (length shorts) h); filled = refl }
 
   -- the list is filled
   pub filled-whole : (numbers′ : List ℕ) → refusalOfLists k (numbersFound r shorts) times ≡ 0 → length shorts ≤ length numbers
-      → numbers′ ≡ over (numbersFound r shorts) numbers → Filled r k shorts times numbers 0 numbers′
-  unfolding refusalInto
+      → numbers′ ≡ over (numbersFound r shorts) numbers → FilledTo r k shorts times numbers 0 numbers′
+  unfolding fillRefusal
   filled-whole numbers′ e h f = record { refusal = rw (e, le-ltb (length numbers) (length shorts) h); filled = f }
 
 -- ---- what the contracts carry
@@ -96,7 +96,7 @@ demand2-reads r shorts times label sizes bs bt e =
     let numbers : List ℕ = numbersFound r shorts in
     let s : Sample = sampleFrom label sizes numbers times in
     let f = label-fit label sizes numbers times e in
-    let fit : Fit s =
+    let fit : FitSample s =
     record {
       judged = from-none label sizes numbers times e;
       sizes = bs;

@@ -6,7 +6,7 @@ use mathlib.Core.Bool.{Bool, true, false, cond}
 use mathlib.Core.Path.{_≡_, refl, sym, ap, _∙_}
 use borrow.Author.Tests.{lt-ltb, ltb-true}
 use lib.Dec.{ltb}
-use Rattle.shortnumbers.specs.Number.{rangeOf, shortOf, Near, FullNumber, found, Exact}
+use Rattle.shortnumbers.specs.Number.{rangeOf, shortOf, Near, FullNumber, found, ExactNumber}
 
 -- a range: twice a number that is not 0
 pub record Even (r : ℕ) : Type 0 where
@@ -86,7 +86,7 @@ module _ (r : ℕ) (range : Even r) where
       go true e p = within-full g x (ltb-true x r e) p
       go false e p = absurd (omega arith)
 
-  pub exact : Exact r
+  pub exact : ExactNumber r
   exact = record { full = full; only = only }
 
   -- at most half the range above the greatest

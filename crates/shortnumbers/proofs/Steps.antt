@@ -20,8 +20,8 @@ use Rattle.receiver.specs.declared.Outcome.{Outcome}
 use Rattle.receiver.specs.declared.Stepped.{Stepped}
 use Rattle.receiver.specs.Limits.{packets}
 use Rattle.receiver.specs.Fit.{streamFit, fit}
-use Rattle.receiver.specs.Said.{refused}
-use Rattle.receiver.specs.Step.{freshOf, refusalOf, outcomeOf, stepWith, stepOf}
+use Rattle.receiver.specs.Outcomes.{refusedOutcome}
+use Rattle.receiver.specs.Step.{freshOf, stepRefusal, outcomeOf, stepWith, stepOf}
 use Rattle.receiver.specs.Account.{accountOf}
 use Rattle.receiver.specs.Demand3.{stateAfter, outcomeAfter, receiverOutcomes}
 use Rattle.receiver.specs.Private.Facts.{StreamFit}
@@ -39,8 +39,8 @@ unfit : (s : Receiver) → packets + 1 < s .stream .next → fit s ≡ false
 unfolding fit
 unfit s h = rw (sym (stream-false (s .stream) (λ (f : StreamFit (s .stream)). omega (arith, f .next-high, f .sent-high))))
 
-unfit-step : (s : Receiver) (n t : ℕ) → fit s ≡ false → stepOf s n t ≡ record { outcome = refused stateUnfit; state = s }
-unfolding stepWith outcomeOf refusalOf
+unfit-step : (s : Receiver) (n t : ℕ) → fit s ≡ false → stepOf s n t ≡ record { outcome = refusedOutcome stateUnfit; state = s }
+unfolding stepWith outcomeOf stepRefusal
 unfit-step s n t e = rw e
 
 -- any number is refused alike

@@ -10,8 +10,8 @@ use Rattle.rfc4737.specs.Judge.{refusalOfLists}
 use Rattle.rfc4737.specs.Refusals.{inCase, firstOf, outputShort}
 use Rattle.sample.specs.Format.{fileOf}
 use Rattle.sample.specs.Decode.{decode, accepted}
-use Rattle.sample.specs.Calls.{sampleFrom, refusalFrom, unlessRefused}
-use Rattle.shortnumbers.specs.Number.{rangeOf, shortOf, Near, found, Exact}
+use Rattle.sample.specs.Calls.{sampleFrom, sampleRefusal, unlessRefused}
+use Rattle.shortnumbers.specs.Number.{rangeOf, shortOf, Near, found, ExactNumber}
 use Rattle.shortnumbers.specs.InTurn.{greatestOf, inTurn, EachKeeps}
 
 -- the numbers found of a list of short ones
@@ -19,16 +19,16 @@ abbrev pub numbersFound : ℕ → List ℕ → List ℕ
 numbersFound r shorts = inTurn greatestOf (found r) [] shorts
 
 -- the first refusal that is due where a list of so many places is filled: those of K, the numbers found and the times, then 8
-unfoldable pub refusalInto : (r k room : ℕ) (shorts times : List ℕ) → ℕ
-refusalInto r k room shorts times =
+unfoldable pub fillRefusal : (r k room : ℕ) (shorts times : List ℕ) → ℕ
+fillRefusal r k room shorts times =
     firstOf
     (refusalOfLists k (numbersFound r shorts) times
     ∷ inCase (ltb room (length shorts)) outputShort
     ∷ [])
 
 -- the answer, and the lent list after it: the numbers found from its start, all else as it was
-pub record Filled (r k : ℕ) (shorts times numbers : List ℕ) (answer : ℕ) (numbers′ : List ℕ) : Type 0 where
-  pub refusal : answer ≡ refusalInto r k (length numbers) shorts times
+pub record FilledTo (r k : ℕ) (shorts times numbers : List ℕ) (answer : ℕ) (numbers′ : List ℕ) : Type 0 where
+  pub refusal : answer ≡ fillRefusal r k (length numbers) shorts times
   pub filled : numbers′ ≡ over (unlessRefused answer (numbersFound r shorts)) numbers
 
 -- ---- what is carried, over a range
@@ -42,12 +42,12 @@ TrueInLists r = (numbers : List ℕ) → EachKeeps greatestOf (Near r) numbers �
 abbrev pub Demand2Reads : ℕ → Type 0
 Demand2Reads r =
     (shorts times label sizes : List ℕ) → Below (2 ^ 16) sizes → Below (2 ^ 64) times
-    → refusalFrom label sizes (numbersFound r shorts) times ≡ 0
+    → sampleRefusal label sizes (numbersFound r shorts) times ≡ 0
     → decode (fileOf (sampleFrom label sizes (numbersFound r shorts) times)) ≡ accepted (sampleFrom label sizes (numbersFound r shorts) times)
 
 -- all of it, once over the width
 pub record ListsOfWidth (w : ℕ) : Type 0 where
-  pub exact : Exact (rangeOf w)
+  pub exact : ExactNumber (rangeOf w)
   pub finds : TrueInLists (rangeOf w)
   pub demand2 : Demand2Reads (rangeOf w)
 

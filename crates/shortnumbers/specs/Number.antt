@@ -29,7 +29,7 @@ unfoldable pub found : (r g x : ℕ) → ℕ
 found r g x = cond (ltb x r) (g + (x + (r / 2 + (r - g % r))) % r - r / 2) 0
 
 -- the number found is the full number, and the only one, over a range
-pub record Exact (r : ℕ) : Type 0 where
+pub record ExactNumber (r : ℕ) : Type 0 where
   -- wherever it is a packet's number, it is the full number
   pub full : (g x : ℕ) → 1 ≤ found r g x → FullNumber r g x (found r g x)
   -- any full number is the one found

@@ -13,7 +13,7 @@ use Rattle.receiver.specs.Limits.{packets}
 use Rattle.receiver.specs.Step.{freshOf, stepOf}
 use Rattle.receiver.specs.Account.{accountOf}
 use Rattle.receiver.specs.Demand3.{stateAfter, receiverOutcomes, Demand3}
-use Rattle.shortnumbers.specs.Number.{rangeOf, shortOf, Near, found, Exact}
+use Rattle.shortnumbers.specs.Number.{rangeOf, shortOf, Near, found, ExactNumber}
 use Rattle.shortnumbers.specs.InTurn.{greatestOf, inTurn, EachKeeps}
 
 -- the greatest full number accepted, as a receiver has it: NextExp less 1
@@ -70,7 +70,7 @@ TrueByReceiver r k =
 
 -- all of it, once over the width
 pub record StepsOfWidth (w : ℕ) : Type 0 where
-  pub exact : Exact (rangeOf w)
+  pub exact : ExactNumber (rangeOf w)
   pub finds : (k : ℕ) → 1 ≤ k → k ≤ packets → TrueByReceiver (rangeOf w) k
   pub demand3 : (k : ℕ) → 1 ≤ k → k ≤ packets → (shorts : List Arrival) → Demand3Reads (rangeOf w) k shorts
 

@@ -4,9 +4,9 @@ ghost use mathlib.Core.Path.{_≡_};
 ghost use Prim.Native.Nat.{_+_, _-_, _/_, _≤_, max};
 ghost use lib.ListN.{length};
 ghost use Rattle.octets.specs.Memory.{over};
-ghost use Rattle.rfc4737.specs.Judge.{arrivalsOf, judge, refusalOfLists};
+ghost use Rattle.rfc4737.specs.Judge.{arrivalsFrom, judge, refusalOfLists};
 ghost use Rattle.shortnumbers.specs.Number.{rangeOf, found};
-ghost use Rattle.shortnumbers.specs.Lists.{numbersFound, Filled, EveryList};
+ghost use Rattle.shortnumbers.specs.Lists.{numbersFound, FilledTo, EveryList};
 ghost use Rattle.shortnumbers.specs.Steps.{shortStep, EveryStep};
 ghost use Rattle.shortnumbers.specs.Cases.{FoundAsGiven};
 ghost use Rattle.shortnumbers.specs.Private.Ranges.{Narrow};
@@ -65,7 +65,7 @@ fn full_number(range: u32, greatest: u32, short: u16) -> u32
 // The arrivals with the numbers found, in turn.
 fn judge_found(range: u32, k: u64, shorts: &[u16], times: &[u64]) -> u32
     requires { ⌜ Narrow range × (length (now shorts) ≤ 4096) × (length (now times) ≡ length (now shorts)) ⌝ }
-    ensures { λ r. ⌜ r ≡ judge k 0 (arrivalsOf (numbersFound range (now (shorts .entry))) (now (times .entry))) ⌝ }
+    ensures { λ r. ⌜ r ≡ judge k 0 (arrivalsFrom (numbersFound range (now (shorts .entry))) (now (times .entry))) ⌝ }
 {
     let mut greatest: u32 = 0;
     let mut reference: u64 = 0;
@@ -119,7 +119,7 @@ fn fill(range: u32, shorts: &[u16], numbers: &mut [u32])
 // The list call over a range: all arrivals are judged, then the numbers are filled in.
 fn full_numbers(range: u32, k: u32, shorts: &[u16], times: &[u64], numbers: &mut [u32]) -> u32
     requires { ⌜ Narrow range ⌝ }
-    ensures { λ r. ⌜ Filled range k (now (shorts .entry)) (now (times .entry)) (now (numbers .entry)) r (now (numbers .exit)) ⌝ }
+    ensures { λ r. ⌜ FilledTo range k (now (shorts .entry)) (now (times .entry)) (now (numbers .entry)) r (now (numbers .exit)) ⌝ }
 {
     let refusal = refusal_of_found(range, k as u64, shorts, times);
     if refusal != 0 {
@@ -134,7 +134,7 @@ fn full_numbers(range: u32, k: u32, shorts: &[u16], times: &[u64], numbers: &mut
 
 // The full numbers of short ones of 8 bits, of K sent packets, from the start of a lent list. With a refusal it stays as it was.
 pub fn full_numbers_8(k: u32, shorts: &[u16], times: &[u64], numbers: &mut [u32]) -> u32
-    ensures { λ r. ⌜ Filled (rangeOf 8) k (now (shorts .entry)) (now (times .entry)) (now (numbers .entry)) r (now (numbers .exit)) ⌝ }
+    ensures { λ r. ⌜ FilledTo (rangeOf 8) k (now (shorts .entry)) (now (times .entry)) (now (numbers .entry)) r (now (numbers .exit)) ⌝ }
     ensures everywidth { λ _. ⌜ EveryList ⌝ }
     ensures cases { λ _. ⌜ FoundAsGiven ⌝ }
 {
@@ -143,7 +143,7 @@ pub fn full_numbers_8(k: u32, shorts: &[u16], times: &[u64], numbers: &mut [u32]
 
 // The full numbers of short ones of 10 bits.
 pub fn full_numbers_10(k: u32, shorts: &[u16], times: &[u64], numbers: &mut [u32]) -> u32
-    ensures { λ r. ⌜ Filled (rangeOf 10) k (now (shorts .entry)) (now (times .entry)) (now (numbers .entry)) r (now (numbers .exit)) ⌝ }
+    ensures { λ r. ⌜ FilledTo (rangeOf 10) k (now (shorts .entry)) (now (times .entry)) (now (numbers .entry)) r (now (numbers .exit)) ⌝ }
     ensures everywidth { λ _. ⌜ EveryList ⌝ }
     ensures cases { λ _. ⌜ FoundAsGiven ⌝ }
 {

@@ -1,7 +1,7 @@
 // What the cases are written with: words, numbers, lists, and what a receiver says, on standard output.
 use libc::STDOUT_FILENO;
-use receiver::Noted;
 use receiver::Outcome;
+use receiver::ReceiverAnswer;
 
 // Writes a word.
 pub(crate) fn write_word(word: &[u8]) {
@@ -33,18 +33,18 @@ pub(crate) fn write_list(name: &[u8], refusal: u32, numbers: &[u32]) {
 }
 
 // Writes what a receiver notes of an arrival.
-fn write_noted(noted: Noted) {
+fn write_noted(noted: ReceiverAnswer) {
     match noted {
-        Noted::Duplicate => {
+        ReceiverAnswer::Duplicate => {
             write_word(b"duplicate");
         }
-        Noted::InOrder(jump) => {
+        ReceiverAnswer::InOrder(jump) => {
             write_number(b"in order, jump ", jump as u64);
         }
-        Noted::Exact(l) => {
+        ReceiverAnswer::Exact(l) => {
             write_number(b"reordered, extent ", l.extent as u64);
         }
-        Noted::Beyond(l) => {
+        ReceiverAnswer::Beyond(l) => {
             write_number(b"beyond the window, extent ", l.extent as u64);
         }
     }

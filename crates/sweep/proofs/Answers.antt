@@ -14,14 +14,14 @@ use Rattle.rfc4737.specs.declared.Answer.{Answer}
 use Rattle.rfc4737.specs.Answer.{answers}
 use Rattle.rfc4737.proofs.Folds.{length-answers}
 use Rattle.sample.specs.declared.Layout.{Layout}
-use Rattle.sample.specs.Decode.{Decoded, refused, accepted, sampleOf, refusalOf, layoutOf}
-use Rattle.metrics.specs.Sample.{sizeOf, arrivalsOf, answersOf}
+use Rattle.sample.specs.Decode.{Decoded, refused, accepted, sampleOf, decodedRefusal, layoutOf}
+use Rattle.metrics.specs.Sample.{sizeOf, sampleArrivals, answersOf}
 use Rattle.metrics.specs.Private.Sample.{Laid}
 use Rattle.metrics.specs.Figures.{recordAnswer, atRecord}
-use Rattle.metrics.proofs.Asked.{asked-within}
+use Rattle.metrics.proofs.RecordsAsked.{asked-within}
 use Rattle.sweep.specs.Figures.{figuresOf}
-use Rattle.sweep.specs.Swept.{places, Lent, lent, shortOf, short, decodedInto, SweptTo, figuresAt, EnginesAgree}
-use Rattle.sweep.specs.Private.Passes.{Ready, FilledWith}
+use Rattle.sweep.specs.Swept.{places, Lent, lent, lentShort, short, decodedInto, SweptTo, figuresAt, EnginesAgree}
+use Rattle.sweep.specs.Private.PassInvariant.{Ready, FilledWith}
 
 -- with its own refusal
 pub swept-refused : (d : Decoded) (y : Layout) → y ≡ layoutOf d → (y .refusal ≡ 0 → ⊥) → (old : Lent) → SweptTo d old y old × EnginesAgree d y old
@@ -35,21 +35,21 @@ swept-refused (accepted s) y e n old = absurd (n (ap (λ (y : Layout). y .refusa
 
 module _ (d : Decoded) (y : Layout) (e : y ≡ layoutOf d) (none : y .refusal ≡ 0) (old : Lent) where
   -- none of its own
-  own : refusalOf d ≡ 0
+  own : decodedRefusal d ≡ 0
   own = sym (ap (λ (y : Layout). y .refusal) e) ∙ none
 
   -- too short by the counts of the layout
-  short-is : (b : Bool) → b ≡ shortOf (y .arrivals) (length (old .table)) (length (old .flags)) (length (old .positions)) (length (old .extents)) (length (old .lates))
+  short-is : (b : Bool) → b ≡ lentShort (y .arrivals) (length (old .table)) (length (old .flags)) (length (old .positions)) (length (old .extents)) (length (old .lates))
       → short d old ≡ b
   short-is b h = sym (h ∙ rw e)
 
-  into-short : true ≡ shortOf (y .arrivals) (length (old .table)) (length (old .flags)) (length (old .positions)) (length (old .extents)) (length (old .lates))
+  into-short : true ≡ lentShort (y .arrivals) (length (old .table)) (length (old .flags)) (length (old .positions)) (length (old .extents)) (length (old .lates))
       → decodedInto d old ≡ refused 8
   unfolding decodedInto
   into-short h = rw (own, short-is true h)
 
   -- by 8
-  pub swept-short : true ≡ shortOf (y .arrivals) (length (old .table)) (length (old .flags)) (length (old .positions)) (length (old .extents)) (length (old .lates))
+  pub swept-short : true ≡ lentShort (y .arrivals) (length (old .table)) (length (old .flags)) (length (old .positions)) (length (old .extents)) (length (old .lates))
       → (r : Layout) → r ≡ layoutOf (refused 8) → SweptTo d old r old × EnginesAgree d r old
   unfolding answers Rattle.rfc4737.specs.Arrivals.each Rattle.rfc4737.specs.Arrivals.eachAfter
   swept-short h r q =
@@ -59,7 +59,7 @@ module _ (d : Decoded) (y : Layout) (e : y ≡ layoutOf d) (none : y .refusal �
       )
 
   -- no list is short
-  module _ (h : false ≡ shortOf (y .arrivals) (length (old .table)) (length (old .flags)) (length (old .positions)) (length (old .extents)) (length (old .lates))) where
+  module _ (h : false ≡ lentShort (y .arrivals) (length (old .table)) (length (old .flags)) (length (old .positions)) (length (old .extents)) (length (old .lates))) where
     -- then the sample is swept
     into : decodedInto d old ≡ accepted (sampleOf d)
     unfolding decodedInto
@@ -74,7 +74,7 @@ module _ (d : Decoded) (y : Layout) (e : y ≡ layoutOf d) (none : y .refusal �
       pub lates : y .arrivals ≤ length (old .lates)
 
     pub wide : Wide
-    unfolding shortOf
+    unfolding lentShort
     wide =
         go (ltb (length (old .table)) places) refl (ltb (length (old .flags)) (y .arrivals)) refl (ltb (length (old .positions)) (y .arrivals)) refl
         (ltb (length (old .extents)) (y .arrivals)) refl (ltb (length (old .lates)) (y .arrivals)) refl h
@@ -123,10 +123,10 @@ module _ (d : Decoded) (y : Layout) (e : y ≡ layoutOf d) (none : y .refusal �
         at-list : (g : Answer → ℕ) → g (Answer.InOrder (record { position = 0; jump = 0 })) ≡ 0 → (l l′ : List ℕ) → l′ ≡ over (map g (answersOf d)) l
             → (asked : ℕ) → recordAnswer d asked .refusal ≡ 0 → atRecord 0 l′ asked ≡ g (recordAnswer d asked .answer)
         unfolding recordAnswer atRecord
-        at-list g z l l′ q zero i = absurd (omega (arith, asked-within d 1 (length (arrivalsOf d)) zero i))
+        at-list g z l l′ q zero i = absurd (omega (arith, asked-within d 1 (length (sampleArrivals d)) zero i))
         at-list g z l l′ q (suc i) inside =
-            let k = asked-within d 1 (length (arrivalsOf d)) (suc i) inside in
-            let n : i < length (map g (answersOf d)) = omega (arith, k, length-map (answersOf d) g, length-answers (sizeOf d) (arrivalsOf d)) in
+            let k = asked-within d 1 (length (sampleArrivals d)) (suc i) inside in
+            let n : i < length (map g (answersOf d)) = omega (arith, k, length-map (answersOf d) g, length-answers (sizeOf d) (sampleArrivals d)) in
             ap (λ (m : List ℕ). getD m i 0) q
             ∙ List·getD-append (map g (answersOf d)) (drop (length (map g (answersOf d))) l) 0 i n
             ∙ ap (λ (m : ℕ). getD (map g (answersOf d)) i m) (sym z)
@@ -147,7 +147,7 @@ module _ (d : Decoded) (y : Layout) (e : y ≡ layoutOf d) (none : y .refusal �
           record { at = λ z asked h. at asked h },
         )
           where
-            layout-is : (d : Decoded) → refusalOf d ≡ 0 → layoutOf d ≡ layoutOf (accepted (sampleOf d))
+            layout-is : (d : Decoded) → decodedRefusal d ≡ 0 → layoutOf d ≡ layoutOf (accepted (sampleOf d))
             layout-is (refused r) q = rw q
             layout-is (accepted s) q = refl
 

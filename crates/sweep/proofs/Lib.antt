@@ -1,5 +1,5 @@
 -- Laws of the sweep. Assumes nothing.
 pub mod Marks
 pub mod Records
-pub mod Passes
+pub mod PassInvariant
 pub mod Answers

@@ -21,7 +21,7 @@ use Rattle.rfc4737.proofs.Jumps.{nextAfter-below, reordered-discontinuity}
 use Rattle.rfc4737.proofs.Skipped.{SkippedAt, discontinuity-skipped}
 use Rattle.metrics.proofs.Follow.{filled-none, filled-more, discontinuity-stays, discontinuity-none, discontinuity-new, recorded-copy}
 use Rattle.metrics.proofs.Records.{record-some, has-at}
-use Rattle.metrics.proofs.Seen.{has-below}
+use Rattle.metrics.proofs.CountsBySeen.{has-below}
 use Rattle.metrics.specs.Private.Sample.{noArrival}
 use Rattle.sweep.specs.Figures.{figuresOf, positionsOf}
 use Rattle.sweep.specs.Private.Table.{arrivedMark, recordOf, markOf, Skipping}

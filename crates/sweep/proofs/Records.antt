@@ -21,7 +21,7 @@ use Rattle.rfc4737.proofs.Arrivals.{firsts-more, with-duplicate, has-firsts, le
 use Rattle.rfc4737.proofs.Folds.{next-more, next-positive, answer-duplicate, answer-first, first-in-order, first-reordered}
 use Rattle.sample.specs.declared.Layout.{Layout}
 use Rattle.sample.specs.Decode.{Decoded}
-use Rattle.metrics.specs.Sample.{sizeOf, arrivalsOf}
+use Rattle.metrics.specs.Sample.{sizeOf, sampleArrivals}
 use Rattle.metrics.specs.Private.Sample.{noArrival, arrivalAt, before, answerAt, Has}
 use Rattle.metrics.proofs.Follow.{before-more, before-length}
 use Rattle.metrics.proofs.Records.{record-some, first-at}
@@ -29,7 +29,7 @@ use Rattle.sweep.specs.declared.table.State.{State}
 use Rattle.sweep.specs.Figures.{figuresOf}
 use Rattle.sweep.specs.Swept.{places}
 use Rattle.sweep.specs.Private.Table.{arrivedMark, markOf, Holds, Skipping}
-use Rattle.sweep.specs.Private.Passes.{Positioned}
+use Rattle.sweep.specs.Private.PassInvariant.{Positioned}
 use Rattle.sweep.proofs.Marks.{mark-arrived, mark-copy, mark-more, one-more, mark-ahead, Behind, behind, position-at, skipping-at}
 
 -- of record i + 1: its number, what stands at its packet in the table, and the state after the arrivals before it
@@ -98,7 +98,7 @@ module _ (d : Decoded) (y : Layout) (i number mark : ℕ) (state : State) (k : K
   -- at which its time stands in the file
   jump-time : (h : mark ≤ 4096) (late : number < state .next) → arrivalAt d (mark - 1) .time ≡ at-jump h late .place .time
   jump-time h late =
-      sym (ap (λ (a : Arrival). a .time) (getD-take i (arrivalsOf d) (mark - 1) noArrival (omega (arith, jump-inside h late))))
+      sym (ap (λ (a : Arrival). a .time) (getD-take i (sampleArrivals d) (mark - 1) noArrival (omega (arith, jump-inside h late))))
       ∙ ap (λ (m : ℕ). getD (before d i) (m - 1) noArrival .time) (mark-at h late)
       ∙ ap (λ (a : Arrival). a .time) (first-at noArrival (before d i) (at-jump h late .place .position - 1) (place-inside h late))
       ∙ ap (λ (a : Arrival). a .time) (at-jump h late .stands)

@@ -1,3 +1,3 @@
 -- What private functions say to each other: no public contract reaches these definitions. Assumes nothing.
 pub mod Table
-pub mod Passes
+pub mod PassInvariant

@@ -8,8 +8,8 @@ use lib.ListN.{length, replicate}
 use Rattle.octets.specs.Memory.{over}
 use Rattle.rfc4737.specs.Refusals.{inCase, firstOf, outputShort}
 use Rattle.sample.specs.declared.Layout.{Layout}
-use Rattle.sample.specs.Decode.{Decoded, refused, accepted, decided, sampleOf, refusalOf, layoutOf}
-use Rattle.metrics.specs.Sample.{arrivalsOf, answersOf}
+use Rattle.sample.specs.Decode.{Decoded, refused, accepted, decided, sampleOf, decodedRefusal, layoutOf}
+use Rattle.metrics.specs.Sample.{sampleArrivals, answersOf}
 use Rattle.metrics.specs.Figures.{atRecord, recordAnswer}
 use Rattle.sweep.specs.declared.Figures.{Figures}
 use Rattle.sweep.specs.Figures.{figuresOf, flagsOf, positionsOf, extentsOf, latesOf}
@@ -33,21 +33,21 @@ lent table flags positions extents lates =
     record { table = table; flags = flags; positions = positions; extents = extents; lates = lates }
 
 -- whether a table or one of four lists, of so many places, is too short for so many arrivals
-unfoldable pub shortOf : ℕ → ℕ → ℕ → ℕ → ℕ → ℕ → Bool
-shortOf arrivals table flags positions extents lates =
+unfoldable pub lentShort : ℕ → ℕ → ℕ → ℕ → ℕ → ℕ → Bool
+lentShort arrivals table flags positions extents lates =
     ltb table places || (ltb flags arrivals || (ltb positions arrivals || (ltb extents arrivals || ltb lates arrivals)))
 
 -- whether what is lent is too short for a sample
 abbrev pub short : Decoded → Lent → Bool
 short d old =
-    shortOf (length (arrivalsOf d)) (length (old .table)) (length (old .flags)) (length (old .positions)) (length (old .extents))
+    lentShort (length (sampleArrivals d)) (length (old .table)) (length (old .flags)) (length (old .positions)) (length (old .extents))
     (length (old .lates))
 
 -- ---- the call
 
 -- a decoded file where this is lent: 8 comes after the sample's own refusals
 unfoldable pub decodedInto : Decoded → Lent → Decoded
-decodedInto d old = decided (firstOf (refusalOf d ∷ inCase (short d old) outputShort ∷ [])) (sampleOf d)
+decodedInto d old = decided (firstOf (decodedRefusal d ∷ inCase (short d old) outputShort ∷ [])) (sampleOf d)
 
 -- what the table's first numbers are set to: zeros, or nothing is set with a refusal
 abbrev pub cleared : Decoded → List ℕ

@@ -2,7 +2,7 @@
 // lists with the flag, position, extent and late time of every record. The whole is linear in arrivals and packets.
 ghost use mathlib.Core.Path.{_≡_};
 ghost use Rattle.sample.specs.Decode.{decode, refused, layoutOf};
-ghost use Rattle.sweep.specs.Swept.{shortOf, lent, SweptTo, EnginesAgree};
+ghost use Rattle.sweep.specs.Swept.{lentShort, lent, SweptTo, EnginesAgree};
 
 mod pass;
 mod table;
@@ -44,7 +44,7 @@ fn too_short(
     extents: usize,
     lates: usize,
 ) -> bool
-    ensures { λ r. ⌜ r ≡ shortOf arrivals table flags positions extents lates ⌝ }
+    ensures { λ r. ⌜ r ≡ lentShort arrivals table flags positions extents lates ⌝ }
 {
     let count = arrivals as usize;
     if table < PLACES {

@@ -7,7 +7,7 @@ ghost use Rattle.metrics.specs.Private.Sample.{Has, arrivalAt, before, answerAt
 ghost use Rattle.sweep.specs.Figures.{figuresOf};
 ghost use Rattle.sweep.specs.Swept.{places, lent};
 ghost use Rattle.sweep.specs.Private.Table.{Holds};
-ghost use Rattle.sweep.specs.Private.Passes.{Ready, Room, Positioned, Put, FilledWith};
+ghost use Rattle.sweep.specs.Private.PassInvariant.{Ready, Room, Positioned, Put, FilledWith};
 use crate::Figures;
 use crate::table::ARRIVED;
 use crate::table::State;

@@ -13,22 +13,22 @@ use Rattle.octets.specs.Below.{Below}
 use Rattle.octets.proofs.Below.{below-nil, below-cons}
 use Rattle.octets.proofs.Memory.{over-read}
 use Rattle.rfc4737.specs.declared.Arrival.{Arrival}
-use Rattle.rfc4737.specs.Judge.{sentMost, arrivalsMost, numbersOf, timesOf, arrivalsOf, judgeOne, judge, judgeSent, judgeArrivals, refusalOfLists}
+use Rattle.rfc4737.specs.Judge.{sentMost, arrivalsMost, numbersOf, timesOf, arrivalsFrom, judgeOne, judge, judgeSent, judgeArrivals, refusalOfLists}
 use Rattle.rfc4737.specs.Refusals.{outside, inCase, manyArrivals, sentOutside, outputShort}
 use Rattle.rfc4737.specs.Times.{nextReference}
 use Rattle.rfc4737.proofs.Due.{first-none, first-next, first-one, case-none, not-outside, between}
 use Rattle.rfc4737.proofs.Judged.{fit-lists}
 use Rattle.rfc4737.proofs.Pairs.{arrivals-back}
 use Rattle.sample.specs.Format.{Sample, fileOf}
-use Rattle.sample.specs.Judge.{judgeLabel, someUnshown, judgeSample, Fit}
+use Rattle.sample.specs.Judge.{judgeLabel, someUnshown, judgeSample, FitSample}
 use Rattle.sample.specs.Decode.{decode, accepted}
-use Rattle.sample.specs.Calls.{refusalFrom, refusalInto, octetsInto, unlessRefused, WrittenTo}
+use Rattle.sample.specs.Calls.{sampleRefusal, writeRefusal, octetsInto, unlessRefused, WrittenTo}
 use Rattle.sample.specs.declared.Written.{Written}
 use Rattle.sample.proofs.Exact.{decode-file}
 use Rattle.sample.proofs.RoundTrips.{none-from}
 use Rattle.textlog.specs.Form.{Log, none, after}
-use Rattle.textlog.specs.Decode.{Decoded, malformed, arrived, decodeLine, lines, arrivalOr0, arrivalsOfLines, arrivalsIn, judgeLine, judgeLines, judgeLog}
-use Rattle.textlog.specs.RoundTrip.{sampleFrom, Writable, FitSample}
+use Rattle.textlog.specs.Decode.{DecodedLine, malformed, arrived, decodeLine, lines, arrivalOr0, arrivalsOfLines, arrivalsIn, judgeLine, judgeLines, judgeLog}
+use Rattle.textlog.specs.RoundTrip.{sampleOfLog, Writable, ImportedIsFit}
 use Rattle.textlog.specs.declared.Imported.{Imported}
 use Rattle.textlog.proofs.Lines.{decoded, joined, lines-joined}
 use Rattle.textlog.proofs.Judging.{unless-split, judge-first}
@@ -66,7 +66,7 @@ unfolding judge joined arrivalsOfLines
 one-line k count reference l ls a d j y r =
     let n : count + 1 + length ls ≡ count + suc (length ls) = omega arith in
     let f = decoded l a d in
-    let same : arrivalsOfLines (l ∷ ls) ≡ a ∷ arrivalsOfLines ls = ap (λ (x : Decoded). arrivalOr0 x ∷ arrivalsOfLines ls) d in
+    let same : arrivalsOfLines (l ∷ ls) ≡ a ∷ arrivalsOfLines ls = ap (λ (x : DecodedLine). arrivalOr0 x ∷ arrivalsOfLines ls) d in
     let fits : Below (2 ^ 64) (timesOf (a ∷ arrivalsOfLines ls)) =
     below-cons (2 ^ 64) (a .time) (timesOf (arrivalsOfLines ls)) (omega (arith, f .time)) (r .times) in
     record {
@@ -88,7 +88,7 @@ accepted-lines k count reference [] h e = no-lines k count reference h
 accepted-lines k count reference (l ∷ ls) h e =
     go (decodeLine l) refl (accepted-lines k (count + 1) (nextReference reference (arrivalOr0 (decodeLine l) .time)) ls)
   where
-    go : (d : Decoded) → decodeLine l ≡ d
+    go : (d : DecodedLine) → decodeLine l ≡ d
         → (count + 1 ≤ arrivalsMost → judgeLines k (count + 1) (nextReference reference (arrivalOr0 d .time)) ls .refusal ≡ 0
         → Lines k (count + 1) (nextReference reference (arrivalOr0 d .time)) ls)
         → Lines k count reference (l ∷ ls)
@@ -142,7 +142,7 @@ module _ (k : ℕ) (log : List ℕ) (e : judgeLog k log .refusal ≡ 0) where
       (ap (judge k 0) (arrivals-back (arrivalsIn log)) ∙ a .inTurn .judged)
 
   -- with so many payload sizes of one size, they are a fit sample
-  pub fit-sample : (size : ℕ) → size < 2 ^ 16 → Fit (sampleFrom k size log)
+  pub fit-sample : (size : ℕ) → size < 2 ^ 16 → FitSample (sampleOfLog k size log)
   unfolding judgeSample someUnshown
   fit-sample size h =
       let a = accepted-log k log e in
@@ -161,17 +161,17 @@ module _ (k : ℕ) (log : List ℕ) (e : judgeLog k log .refusal ≡ 0) where
 
 -- ---- a fit sample as the sample's writer writes it
 
-module _ (s : Sample) (fit : Fit s) where
+module _ (s : Sample) (fit : FitSample s) where
   -- from its lists, it is the sample
-  same : fileOf (record { label = s .label; sizes = s .sizes; arrivals = arrivalsOf (numbersOf (s .arrivals)) (timesOf (s .arrivals)) }) ≡ fileOf s
+  same : fileOf (record { label = s .label; sizes = s .sizes; arrivals = arrivalsFrom (numbersOf (s .arrivals)) (timesOf (s .arrivals)) }) ≡ fileOf s
   same = ap (λ (l : List Arrival). fileOf (record { label = s .label; sizes = s .sizes; arrivals = l })) (arrivals-back (s .arrivals))
 
   -- 8 alone is due
-  short-alone : (room : ℕ) → refusalInto room (s .label) (s .sizes) (numbersOf (s .arrivals)) (timesOf (s .arrivals)) ≡ inCase (ltb room (length (fileOf s))) outputShort
-  unfolding refusalInto
+  short-alone : (room : ℕ) → writeRefusal room (s .label) (s .sizes) (numbersOf (s .arrivals)) (timesOf (s .arrivals)) ≡ inCase (ltb room (length (fileOf s))) outputShort
+  unfolding writeRefusal
   short-alone room =
-      let short : ℕ = inCase (ltb room (length (fileOf (record { label = s .label; sizes = s .sizes; arrivals = arrivalsOf (numbersOf (s .arrivals)) (timesOf (s .arrivals)) })))) outputShort in
-      first-next (refusalFrom (s .label) (s .sizes) (numbersOf (s .arrivals)) (timesOf (s .arrivals))) (short ∷ []) (none-from s (fit .judged))
+      let short : ℕ = inCase (ltb room (length (fileOf (record { label = s .label; sizes = s .sizes; arrivals = arrivalsFrom (numbersOf (s .arrivals)) (timesOf (s .arrivals)) })))) outputShort in
+      first-next (sampleRefusal (s .label) (s .sizes) (numbersOf (s .arrivals)) (timesOf (s .arrivals))) (short ∷ []) (none-from s (fit .judged))
       ∙ first-one short
       ∙ ap (λ (x : List ℕ). inCase (ltb room (length x)) outputShort) same
 
@@ -184,7 +184,7 @@ module _ (s : Sample) (fit : Fit s) where
       written-decodes out out′ written w z =
           let i = sym (w .refusal) ∙ z in
           let o : octetsInto (length out) (s .label) (s .sizes) (numbersOf (s .arrivals)) (timesOf (s .arrivals)) ≡ fileOf s =
-          ap (λ (r : ℕ). unlessRefused r (fileOf (record { label = s .label; sizes = s .sizes; arrivals = arrivalsOf (numbersOf (s .arrivals)) (timesOf (s .arrivals)) }))) i ∙ same in
+          ap (λ (r : ℕ). unlessRefused r (fileOf (record { label = s .label; sizes = s .sizes; arrivals = arrivalsFrom (numbersOf (s .arrivals)) (timesOf (s .arrivals)) }))) i ∙ same in
           let t : take (written .length) out′ ≡ fileOf s =
           ap (λ (n : ℕ). take n out′) (w .octets ∙ ap length o)
           ∙ ap (take (length (fileOf s))) (w .filled ∙ ap (λ (x : List ℕ). over x out) o)
@@ -192,5 +192,5 @@ module _ (s : Sample) (fit : Fit s) where
           ap decode t ∙ decode-file s fit
 
 -- the arrivals of a log that is not refused are such a sample
-pub fit-log : (k : ℕ) (log : List ℕ) → FitSample k log
-fit-log k log size h e = fit-writable (sampleFrom k size log) (fit-sample k log e size h)
+pub fit-log : (k : ℕ) (log : List ℕ) → ImportedIsFit k log
+fit-log k log size h e = fit-writable (sampleOfLog k size log) (fit-sample k log e size h)

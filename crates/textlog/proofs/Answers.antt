@@ -8,14 +8,14 @@ use borrow.Author.Tests.{ltb-false, lt-ltb, le-ltb}
 use lib.Dec.{ltb}
 use lib.ListN.{length}
 use Rattle.octets.specs.Memory.{over}
-use Rattle.rfc4737.specs.Judge.{arrivalsMost, numbersOf, timesOf, arrivalsOf, refusalOfLists}
+use Rattle.rfc4737.specs.Judge.{arrivalsMost, numbersOf, timesOf, arrivalsFrom, refusalOfLists}
 use Rattle.rfc4737.specs.Refusals.{inCase, outputShort}
 use Rattle.rfc4737.proofs.Due.{or-false}
 use Rattle.sample.specs.Calls.{unlessRefused}
 use Rattle.sample.specs.declared.Written.{Written}
 use Rattle.textlog.specs.Form.{logOf}
 use Rattle.textlog.specs.Decode.{lines, arrivalsIn, unless, judgeLog}
-use Rattle.textlog.specs.Calls.{listsShort, shortLast, importAnswer, arrivalsUnless, ImportedFrom, refusalInto, WrittenTo}
+use Rattle.textlog.specs.Calls.{listsShort, shortLast, importAnswer, arrivalsUnless, ImportedFrom, writeRefusal, WrittenTo}
 use Rattle.textlog.specs.Private.Filling.{Fillable}
 use Rattle.textlog.specs.declared.Imported.{Imported}
 use Rattle.textlog.proofs.Accepted.{accepted-log}
@@ -99,36 +99,36 @@ import-room k numbers times log n t = go (judgeLog k log .refusal) refl
 
 module _ (k : ℕ) (numbers times out : List ℕ) where
   -- by its refusal
-  by-refusal : (r : ℕ) {y : Written} {out′ : List ℕ} → refusalInto k (length out) numbers times ≡ r
-      → y ≡ record { refusal = r; length = length (unlessRefused r (logOf (arrivalsOf numbers times))) }
-      → out′ ≡ over (unlessRefused r (logOf (arrivalsOf numbers times))) out
+  by-refusal : (r : ℕ) {y : Written} {out′ : List ℕ} → writeRefusal k (length out) numbers times ≡ r
+      → y ≡ record { refusal = r; length = length (unlessRefused r (logOf (arrivalsFrom numbers times))) }
+      → out′ ≡ over (unlessRefused r (logOf (arrivalsFrom numbers times))) out
       → WrittenTo k numbers times out y out′
   by-refusal r e f g =
       record {
         refusal = ap (λ (x : Written). x .refusal) f ∙ sym e;
-        octets = ap (λ (x : Written). x .length) f ∙ ap (λ (x : ℕ). length (unlessRefused x (logOf (arrivalsOf numbers times)))) (sym e);
-        filled = g ∙ ap (λ (x : ℕ). over (unlessRefused x (logOf (arrivalsOf numbers times))) out) (sym e);
+        octets = ap (λ (x : Written). x .length) f ∙ ap (λ (x : ℕ). length (unlessRefused x (logOf (arrivalsFrom numbers times)))) (sym e);
+        filled = g ∙ ap (λ (x : ℕ). over (unlessRefused x (logOf (arrivalsFrom numbers times))) out) (sym e);
       }
 
   -- the lists are refused
   pub write-refused : (n : ℕ) → (n ≡ 0 → ⊥) → n ≡ refusalOfLists k numbers times
       → WrittenTo k numbers times out (record { refusal = n; length = 0 }) out
-  unfolding refusalInto
+  unfolding writeRefusal
   write-refused zero z e = absurd (z refl)
   write-refused (suc n) z e = by-refusal (suc n) (rw (← e)) refl refl
 
   module _ (z : refusalOfLists k numbers times ≡ 0) where
     -- there is no room
-    pub write-short : length out < length (logOf (arrivalsOf numbers times))
+    pub write-short : length out < length (logOf (arrivalsFrom numbers times))
         → WrittenTo k numbers times out (record { refusal = outputShort; length = 0 }) out
-    unfolding refusalInto
-    write-short h = by-refusal outputShort (rw (z, lt-ltb (length out) (length (logOf (arrivalsOf numbers times))) h)) refl refl
+    unfolding writeRefusal
+    write-short h = by-refusal outputShort (rw (z, lt-ltb (length out) (length (logOf (arrivalsFrom numbers times))) h)) refl refl
 
     -- the log is written
-    pub write-filled : (n : ℕ) {out′ : List ℕ} → n ≡ length (logOf (arrivalsOf numbers times))
-        → length (logOf (arrivalsOf numbers times)) ≤ length out → out′ ≡ over (logOf (arrivalsOf numbers times)) out
+    pub write-filled : (n : ℕ) {out′ : List ℕ} → n ≡ length (logOf (arrivalsFrom numbers times))
+        → length (logOf (arrivalsFrom numbers times)) ≤ length out → out′ ≡ over (logOf (arrivalsFrom numbers times)) out
         → WrittenTo k numbers times out (record { refusal = 0; length = n }) out′
-    unfolding refusalInto
+    unfolding writeRefusal
     write-filled n e h f =
-        by-refusal 0 (rw (z, le-ltb (length out) (length (logOf (arrivalsOf numbers times))) h))
+        by-refusal 0 (rw (z, le-ltb (length out) (length (logOf (arrivalsFrom numbers times))) h))
         (ap (λ (x : ℕ). record { refusal = 0; length = x }) e) f

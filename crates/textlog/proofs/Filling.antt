@@ -10,7 +10,7 @@ use Rattle.octets.specs.Memory.{over}
 use Rattle.octets.proofs.Memory.{fill-length, fill-done}
 use Rattle.rfc4737.specs.declared.Arrival.{Arrival}
 use Rattle.rfc4737.specs.Judge.{numbersOf, timesOf}
-use Rattle.textlog.specs.Decode.{lineIn, Decoded, decodeLine, lines, arrivalOr0, arrivalsOfLines, arrivalsIn}
+use Rattle.textlog.specs.Decode.{lineIn, DecodedLine, decodeLine, lines, arrivalOr0, arrivalsOfLines, arrivalsIn}
 use Rattle.textlog.specs.Private.Filling.{Fillable}
 use Rattle.textlog.specs.declared.reading.Found.the-variants.{Read, Malformed}
 use Rattle.textlog.proofs.Lines.{line-read, line-unread}
@@ -42,9 +42,9 @@ unfolding arrivalsOfLines
 lines-drop i ls = drop-map (λ (l : List ℕ). arrivalOr0 (decodeLine l)) i ls
 
 -- the first of them
-lines-first : (l : List ℕ) (ls : List (List ℕ)) (d : Decoded) → decodeLine l ≡ d → arrivalsOfLines (l ∷ ls) ≡ arrivalOr0 d ∷ arrivalsOfLines ls
+lines-first : (l : List ℕ) (ls : List (List ℕ)) (d : DecodedLine) → decodeLine l ≡ d → arrivalsOfLines (l ∷ ls) ≡ arrivalOr0 d ∷ arrivalsOfLines ls
 unfolding arrivalsOfLines
-lines-first l ls d g = ap (λ (x : Decoded). arrivalOr0 x ∷ arrivalsOfLines ls) g
+lines-first l ls d g = ap (λ (x : DecodedLine). arrivalOr0 x ∷ arrivalsOfLines ls) g
 
 -- ---- the loop
 

@@ -10,7 +10,7 @@ use Rattle.rfc4737.specs.Judge.{arrivalsMost, judgeOne}
 use Rattle.rfc4737.specs.Refusals.{manyArrivals, lineMalformed}
 use Rattle.rfc4737.specs.Times.{nextReference}
 use Rattle.rfc4737.proofs.Due.{first-one}
-use Rattle.textlog.specs.Decode.{lineIn, Decoded, malformed, arrived, decodeLine, lines, arrivalOr0, judgeLine, unless, judgeLines}
+use Rattle.textlog.specs.Decode.{lineIn, DecodedLine, malformed, arrived, decodeLine, lines, arrivalOr0, judgeLine, unless, judgeLines}
 use Rattle.textlog.specs.declared.Imported.{Imported}
 use Rattle.textlog.specs.declared.reading.Found.the-variants.{Read, Malformed}
 use Rattle.textlog.proofs.Lines.{line-read, line-unread}
@@ -36,12 +36,12 @@ unless-split (suc r) line y e = absurd (omega arith)
 
 module _ (k count reference : ℕ) (l : List ℕ) (ls : List (List ℕ)) where
   -- by what it decodes to
-  pub judge-first : (d : Decoded) → decodeLine l ≡ d
+  pub judge-first : (d : DecodedLine) → decodeLine l ≡ d
       → judgeLines k count reference (l ∷ ls)
       ≡ unless (judgeLine k count reference d) (count + 1) (judgeLines k (count + 1) (nextReference reference (arrivalOr0 d .time)) ls)
   unfolding judgeLines
   judge-first d g =
-      ap (λ (x : Decoded). unless (judgeLine k count reference x) (count + 1) (judgeLines k (count + 1) (nextReference reference (arrivalOr0 x .time)) ls)) g
+      ap (λ (x : DecodedLine). unless (judgeLine k count reference x) (count + 1) (judgeLines k (count + 1) (nextReference reference (arrivalOr0 x .time)) ls)) g
 
   -- an arrival among the first 4,096: its own refusal is that of its line
   pub few-one : (a : Arrival) → count < arrivalsMost → judgeLine k count reference (arrived a) ≡ judgeOne k reference a

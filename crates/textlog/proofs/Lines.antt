@@ -12,7 +12,7 @@ use lib.ListN.{length, getD, drop, length-append}
 use lib.Seq.{append-snoc, drop-at, drop-drop, drop-cons}
 use Rattle.rfc4737.specs.declared.Arrival.{Arrival}
 use Rattle.textlog.specs.Form.{semicolon, lineFeed, numberMost, Digits, one, more, byComma, byPoint, Time, whole, parted, Line, line, LineFits}
-use Rattle.textlog.specs.Decode.{lineIn, Decoded, malformed, arrived, readWhole, decodeLine, inFront, withOctet, lines}
+use Rattle.textlog.specs.Decode.{lineIn, DecodedLine, malformed, arrived, readWhole, decodeLine, inFront, withOctet, lines}
 use Rattle.textlog.specs.RoundTrip.{ExactLine}
 use Rattle.textlog.specs.declared.reading.Found.{Found}
 use Rattle.textlog.specs.declared.reading.Found.the-variants.{Read, Malformed}
@@ -190,7 +190,7 @@ line-unread log at h e =
     go (f .text) (f .rest) (lines (f .rest)) w (ap lines (drop-cons log at 0 h) ∙ f .lead) (decodeLine (f .text)) refl
   where
     go : (text rest : List ℕ) (others : List (List ℕ)) → drop at log ≡ text ++ rest → lines (drop at log) ≡ text ∷ others
-        → (d : Decoded) → decodeLine text ≡ d → Bad log at
+        → (d : DecodedLine) → decodeLine text ≡ d → Bad log at
     go text rest others w l malformed g = record { text = text; others = others; lead = l; gives = g }
     go text rest others w l (arrived a) g =
         let f = decoded text a g in

@@ -14,7 +14,7 @@ use Rattle.octets.proofs.Memory.{over-read}
 use Rattle.decimal.specs.Decimal.{decimalOf, decimalValue}
 use Rattle.decimal.proofs.Laws.{by-tens, one-digit, more-digits, reads-back}
 use Rattle.rfc4737.specs.declared.Arrival.{Arrival}
-use Rattle.rfc4737.specs.Judge.{arrivalsMost, numbersOf, timesOf, arrivalsOf, judge, refusalOfLists}
+use Rattle.rfc4737.specs.Judge.{arrivalsMost, numbersOf, timesOf, arrivalsFrom, judge, refusalOfLists}
 use Rattle.rfc4737.specs.Refusals.{inCase, outputShort}
 use Rattle.rfc4737.specs.Times.{nextReference}
 use Rattle.rfc4737.proofs.Due.{first-none}
@@ -23,8 +23,8 @@ use Rattle.rfc4737.proofs.Pairs.{arrivals-length, numbers-back, times-back, arr
 use Rattle.sample.specs.Format.{itemOctets}
 use Rattle.sample.specs.Calls.{unlessRefused}
 use Rattle.textlog.specs.Form.{semicolon, comma, lineFeed, numberMost, Digits, one, more, byComma, thousandths, threeDigits, Time, parted, Line, line, Log, none, after, lineOf, logOf}
-use Rattle.textlog.specs.Decode.{Decoded, lines, arrivalOr0, arrivalsOfLines, arrivalsIn, unless, judgeLines, judgeLog}
-use Rattle.textlog.specs.Calls.{listsShort, shortLast, importAnswer, arrivalsUnless, refusalInto, octetsInto}
+use Rattle.textlog.specs.Decode.{DecodedLine, lines, arrivalOr0, arrivalsOfLines, arrivalsIn, unless, judgeLines, judgeLog}
+use Rattle.textlog.specs.Calls.{listsShort, shortLast, importAnswer, arrivalsUnless, writeRefusal, octetsInto}
 use Rattle.textlog.specs.RoundTrip.{ExactLog, ReadAgain}
 use Rattle.textlog.specs.declared.Imported.{Imported}
 use Rattle.textlog.proofs.Lines.{decodes, line-first}
@@ -39,7 +39,7 @@ unfolding lines arrivalsOfLines
 form-arrivals none = refl
 form-arrivals (after {l} {log} {a} {rest} f g) =
     ap arrivalsOfLines (line-first (f .form) log)
-    ∙ ap (λ (d : Decoded). arrivalOr0 d ∷ arrivalsIn log) (decodes l a f)
+    ∙ ap (λ (d : DecodedLine). arrivalOr0 d ∷ arrivalsIn log) (decodes l a f)
     ∙ ap (λ (y : List Arrival). a ∷ y) (form-arrivals g)
 
 -- where no arrival is refused, no line is
@@ -144,25 +144,25 @@ import-accepted k log numbers times n e h m =
     ∙ (rw (le-ltb (length numbers) n h, le-ltb (length times) n m))
 
 pub read-again : (k : ℕ) (numbers times : List ℕ) → Below (2 ^ 64) times → ReadAgain k numbers times
-unfolding refusalInto
+unfolding writeRefusal
 read-again k numbers times b out out′ numbers₀ times₀ numbers′ times′ written read w z rn rt r =
-    let i : refusalInto k (length out) numbers times ≡ 0 = sym (w .refusal) ∙ z in
-    let f = lists-fit k numbers times (first-none (refusalOfLists k numbers times) (inCase (ltb (length out) (length (logOf (arrivalsOf numbers times)))) outputShort ∷ []) i .0) in
-    let o : octetsInto k (length out) numbers times ≡ logOf (arrivalsOf numbers times) = ap (λ (x : ℕ). unlessRefused x (logOf (arrivalsOf numbers times))) i in
-    let t : take (written .length) out′ ≡ logOf (arrivalsOf numbers times) =
+    let i : writeRefusal k (length out) numbers times ≡ 0 = sym (w .refusal) ∙ z in
+    let f = lists-fit k numbers times (first-none (refusalOfLists k numbers times) (inCase (ltb (length out) (length (logOf (arrivalsFrom numbers times)))) outputShort ∷ []) i .0) in
+    let o : octetsInto k (length out) numbers times ≡ logOf (arrivalsFrom numbers times) = ap (λ (x : ℕ). unlessRefused x (logOf (arrivalsFrom numbers times))) i in
+    let t : take (written .length) out′ ≡ logOf (arrivalsFrom numbers times) =
     ap (λ (n : ℕ). take n out′) (w .octets ∙ ap length o)
-    ∙ ap (take (length (logOf (arrivalsOf numbers times)))) (w .filled ∙ ap (λ (x : List ℕ). over x out) o)
-    ∙ over-read (logOf (arrivalsOf numbers times)) out in
-    let g = log-form k 0 (arrivalsOf numbers times) (omega (arith, f .most)) (f .judged) (rw (times-back numbers times (f .same)) b) in
-    let fn : ListsFit k (numbersOf (arrivalsOf numbers times)) (timesOf (arrivalsOf numbers times)) = rw (numbers-back numbers times (f .same), times-back numbers times (f .same)) f in
+    ∙ ap (take (length (logOf (arrivalsFrom numbers times)))) (w .filled ∙ ap (λ (x : List ℕ). over x out) o)
+    ∙ over-read (logOf (arrivalsFrom numbers times)) out in
+    let g = log-form k 0 (arrivalsFrom numbers times) (omega (arith, f .most)) (f .judged) (rw (times-back numbers times (f .same)) b) in
+    let fn : ListsFit k (numbersOf (arrivalsFrom numbers times)) (timesOf (arrivalsFrom numbers times)) = rw (numbers-back numbers times (f .same), times-back numbers times (f .same)) f in
     let l = arrivals-length numbers times (f .same) in
     let j = form-read k g (f .judged) fn in
     let y : read ≡ record { refusal = 0; arrivals = length numbers; line = 0 } =
     r .answered
     ∙ ap (importAnswer k (length numbers₀) (length times₀)) t
-    ∙ import-accepted k (logOf (arrivalsOf numbers times)) numbers₀ times₀ (length (arrivalsOf numbers times)) j (omega arith) (omega (arith, f .same))
+    ∙ import-accepted k (logOf (arrivalsFrom numbers times)) numbers₀ times₀ (length (arrivalsFrom numbers times)) j (omega arith) (omega (arith, f .same))
     ∙ ap (λ (n : ℕ). record { refusal = 0; arrivals = n; line = 0 }) l in
-    let a : arrivalsUnless (read .refusal) (arrivalsIn (take (written .length) out′)) ≡ arrivalsOf numbers times =
+    let a : arrivalsUnless (read .refusal) (arrivalsIn (take (written .length) out′)) ≡ arrivalsFrom numbers times =
     ap (λ (x : Imported). arrivalsUnless (x .refusal) (arrivalsIn (take (written .length) out′))) y
     ∙ ap arrivalsIn t
     ∙ form-arrivals g in (

@@ -9,7 +9,7 @@ use Rattle.octets.specs.Memory.{put}
 use Rattle.octets.proofs.Memory.{put-next}
 use Rattle.decimal.specs.Decimal.{decimalOf}
 use Rattle.rfc4737.specs.declared.Arrival.{Arrival}
-use Rattle.rfc4737.specs.Judge.{arrivalsOf}
+use Rattle.rfc4737.specs.Judge.{arrivalsFrom}
 use Rattle.rfc4737.proofs.Pairs.{arrivals-getD, arrivals-length}
 use Rattle.sample.proofs.Items.{octets-append, octets-snoc}
 use Rattle.textlog.specs.Form.{lineOf, logOf}
@@ -41,25 +41,25 @@ put-parts at first third x y z old {o₁} {o₂} {o₃} room f t p q r s =
 
 module _ (numbers times : List ℕ) (same : length times ≡ length numbers) (i : ℕ) where
   -- at most the whole
-  pub log-part : length (logOf (take i (arrivalsOf numbers times))) ≤ length (logOf (arrivalsOf numbers times))
+  pub log-part : length (logOf (take i (arrivalsFrom numbers times))) ≤ length (logOf (arrivalsFrom numbers times))
   log-part =
-      let l = arrivalsOf numbers times in
-      let e : logOf (arrivalsOf numbers times) ≡ logOf (take i (arrivalsOf numbers times)) ++ logOf (drop i (arrivalsOf numbers times)) =
-      ap logOf (sym (take-append-drop i (arrivalsOf numbers times))) ∙ octets-append lineOf (take i (arrivalsOf numbers times)) (drop i (arrivalsOf numbers times)) in
-      omega (arith, ap length e, length-append (logOf (take i (arrivalsOf numbers times))) (logOf (drop i (arrivalsOf numbers times))))
+      let l = arrivalsFrom numbers times in
+      let e : logOf (arrivalsFrom numbers times) ≡ logOf (take i (arrivalsFrom numbers times)) ++ logOf (drop i (arrivalsFrom numbers times)) =
+      ap logOf (sym (take-append-drop i (arrivalsFrom numbers times))) ∙ octets-append lineOf (take i (arrivalsFrom numbers times)) (drop i (arrivalsFrom numbers times)) in
+      omega (arith, ap length e, length-append (logOf (take i (arrivalsFrom numbers times))) (logOf (drop i (arrivalsFrom numbers times))))
 
   -- one line more
   pub log-next : i < length numbers
-      → logOf (take (i + 1) (arrivalsOf numbers times)) ≡ logOf (take i (arrivalsOf numbers times)) ++ lineOf (record { number = getD numbers i 0; time = getD times i 0 })
+      → logOf (take (i + 1) (arrivalsFrom numbers times)) ≡ logOf (take i (arrivalsFrom numbers times)) ++ lineOf (record { number = getD numbers i 0; time = getD times i 0 })
   log-next h =
-      octets-snoc lineOf (arrivalsOf numbers times) i (record { number = 0; time = 0 }) (omega (arith, arrivals-length numbers times same))
-      ∙ ap (λ (a : Arrival). logOf (take i (arrivalsOf numbers times)) ++ lineOf a) (sym (arrivals-getD numbers times i (record { number = 0; time = 0 }) same h))
+      octets-snoc lineOf (arrivalsFrom numbers times) i (record { number = 0; time = 0 }) (omega (arith, arrivals-length numbers times same))
+      ∙ ap (λ (a : Arrival). logOf (take i (arrivalsFrom numbers times)) ++ lineOf a) (sym (arrivals-getD numbers times i (record { number = 0; time = 0 }) same h))
 
   -- its length
   pub long-next : i < length numbers
-      → length (logOf (take (i + 1) (arrivalsOf numbers times))) ≡ length (logOf (take i (arrivalsOf numbers times))) + length (lineOf (record { number = getD numbers i 0; time = getD times i 0 }))
-  long-next h = ap length (log-next h) ∙ length-append (logOf (take i (arrivalsOf numbers times))) (lineOf (record { number = getD numbers i 0; time = getD times i 0 }))
+      → length (logOf (take (i + 1) (arrivalsFrom numbers times))) ≡ length (logOf (take i (arrivalsFrom numbers times))) + length (lineOf (record { number = getD numbers i 0; time = getD times i 0 }))
+  long-next h = ap length (log-next h) ∙ length-append (logOf (take i (arrivalsFrom numbers times))) (lineOf (record { number = getD numbers i 0; time = getD times i 0 }))
 
   -- at the end
-  pub log-all : length numbers ≤ i → logOf (take i (arrivalsOf numbers times)) ≡ logOf (arrivalsOf numbers times)
-  log-all h = ap logOf (take-all i (arrivalsOf numbers times) (omega (arith, arrivals-length numbers times same)))
+  pub log-all : length numbers ≤ i → logOf (take i (arrivalsFrom numbers times)) ≡ logOf (arrivalsFrom numbers times)
+  log-all h = ap logOf (take-all i (arrivalsFrom numbers times) (omega (arith, arrivals-length numbers times same)))

@@ -7,7 +7,7 @@ use lib.Dec.{ltb}
 use lib.ListN.{length}
 use Rattle.octets.specs.Memory.{over}
 use Rattle.rfc4737.specs.declared.Arrival.{Arrival}
-use Rattle.rfc4737.specs.Judge.{numbersOf, timesOf, arrivalsOf, refusalOfLists}
+use Rattle.rfc4737.specs.Judge.{numbersOf, timesOf, arrivalsFrom, refusalOfLists}
 use Rattle.rfc4737.specs.Refusals.{inCase, firstOf, outputShort}
 use Rattle.sample.specs.Calls.{unlessRefused}
 use Rattle.sample.specs.declared.Written.{Written}
@@ -44,19 +44,19 @@ pub record ImportedFrom (k : ℕ) (log numbers times : List ℕ) (answer : Impor
 -- ---- the writer
 
 -- the first refusal that is due of K and lists, where so many octets can be written: 8 comes last
-unfoldable pub refusalInto : (k room : ℕ) (numbers times : List ℕ) → ℕ
-refusalInto k room numbers times =
+unfoldable pub writeRefusal : (k room : ℕ) (numbers times : List ℕ) → ℕ
+writeRefusal k room numbers times =
     firstOf
     (refusalOfLists k numbers times
-    ∷ inCase (ltb room (length (logOf (arrivalsOf numbers times)))) outputShort
+    ∷ inCase (ltb room (length (logOf (arrivalsFrom numbers times)))) outputShort
     ∷ [])
 
 -- the octets that are written where there is room for so many: those of the log, or none with a refusal
 abbrev pub octetsInto : (k room : ℕ) (numbers times : List ℕ) → List ℕ
-octetsInto k room numbers times = unlessRefused (refusalInto k room numbers times) (logOf (arrivalsOf numbers times))
+octetsInto k room numbers times = unlessRefused (writeRefusal k room numbers times) (logOf (arrivalsFrom numbers times))
 
 -- the writer's answer, and the lent octets after it: those of the log from their start, all else as it was
 pub record WrittenTo (k : ℕ) (numbers times out : List ℕ) (answer : Written) (out′ : List ℕ) : Type 0 where
-  pub refusal : answer .refusal ≡ refusalInto k (length out) numbers times
+  pub refusal : answer .refusal ≡ writeRefusal k (length out) numbers times
   pub octets : answer .length ≡ length (octetsInto k (length out) numbers times)
   pub filled : out′ ≡ over (octetsInto k (length out) numbers times) out

@@ -3,11 +3,11 @@ use Prim.Native.Nat.{ℕ}
 use mathlib.Core.List.{List, [], _∷_, map}
 use mathlib.Core.Path.{_≡_}
 use Rattle.textlog.specs.Form.{logOf}
-use Rattle.textlog.specs.Decode.{Decoded, malformed, arrived, decodeLine, judgeLog}
+use Rattle.textlog.specs.Decode.{DecodedLine, malformed, arrived, decodeLine, judgeLog}
 use Rattle.textlog.specs.declared.Imported.{Imported}
 
 -- lines, each with what it decodes to
-abbrev pub lineTable : List (List ℕ × Decoded)
+abbrev pub lineTable : List (List ℕ × DecodedLine)
 lineTable =
     -- `1;4,5` and `1;4.5` are 4,500 microseconds, `1;45` is 45,000
     (49 ∷ 59 ∷ 52 ∷ 44 ∷ 53 ∷ 10 ∷ [], arrived (record { number = 1; time = 4500 }))
@@ -39,7 +39,7 @@ logTable =
 
 -- each line decodes, and each log is answered, as its table says
 pub record ReadAsGiven : Type 0 where
-  pub decoded : map (λ (c : List ℕ × Decoded). decodeLine (c .0)) lineTable ≡ map (λ (c : List ℕ × Decoded). c .1) lineTable
+  pub decoded : map (λ (c : List ℕ × DecodedLine). decodeLine (c .0)) lineTable ≡ map (λ (c : List ℕ × DecodedLine). c .1) lineTable
   pub judged : map (λ (c : List ℕ × Imported). judgeLog 2 (c .0)) logTable ≡ map (λ (c : List ℕ × Imported). c .1) logTable
 
 -- packet 1 at 4,500 and packet 20 at 7 microseconds are written `1;4,500` and `20;0,007`

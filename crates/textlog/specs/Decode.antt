@@ -56,17 +56,17 @@ lineIn at t =
     Malformed))
 
 -- what a line decodes to: an arrival, if it is read to its end
-pub data Decoded : Type 0 where
-  malformed : Decoded
-  arrived : Arrival → Decoded
+pub data DecodedLine : Type 0 where
+  malformed : DecodedLine
+  arrived : Arrival → DecodedLine
 
 -- what is found, if it ends where a line of this length does
-abbrev pub readWhole : (length : ℕ) → Found → Decoded
+abbrev pub readWhole : (length : ℕ) → Found → DecodedLine
 readWhole length (Read number time end) = cond (eqb end length) (arrived (record { number = number; time = time })) malformed
 readWhole length Malformed = malformed
 
 -- a line by itself
-unfoldable pub decodeLine : List ℕ → Decoded
+unfoldable pub decodeLine : List ℕ → DecodedLine
 decodeLine l = readWhole (length l) (lineIn 0 l)
 
 -- ---- the lines of a log, each with the line feed that ends it; what follows the last line feed is a line without one
@@ -89,7 +89,7 @@ lines (o ∷ t) = withOctet (eqb o lineFeed) o (lines t)
 -- ---- the arrivals
 
 -- the arrival of a line; a malformed line, which is refused, has an arrival of zeros
-abbrev pub arrivalOr0 : Decoded → Arrival
+abbrev pub arrivalOr0 : DecodedLine → Arrival
 arrivalOr0 malformed = record { number = 0; time = 0 }
 arrivalOr0 (arrived a) = a
 
@@ -104,7 +104,7 @@ arrivalsIn log = arrivalsOfLines (lines log)
 -- ---- what is refused
 
 -- one line, with so many lines before it: 14, 5 if it is line 4,097, 6, 7
-abbrev pub judgeLine : (k count reference : ℕ) → Decoded → ℕ
+abbrev pub judgeLine : (k count reference : ℕ) → DecodedLine → ℕ
 judgeLine k count reference malformed = lineMalformed
 judgeLine k count reference (arrived a) =
     firstOf (inCase (leb arrivalsMost count) manyArrivals ∷ judgeOne k reference a ∷ [])

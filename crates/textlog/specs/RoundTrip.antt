@@ -11,7 +11,7 @@ use Rattle.rfc4737.specs.declared.Arrival.{Arrival}
 use Rattle.rfc4737.specs.Judge.{numbersOf, timesOf, refusalOfLists}
 use Rattle.rfc4737.specs.Refusals.{inCase, outputShort}
 use Rattle.sample.specs.Format.{Sample, fileOf}
-use Rattle.sample.specs.Judge.{Fit}
+use Rattle.sample.specs.Judge.{FitSample}
 use Rattle.sample.specs.Decode.{decode, accepted}
 use Rattle.sample.specs.Calls.{WrittenTo as SampleWritten}
 use Rattle.sample.specs.declared.Written.{Written}
@@ -31,12 +31,12 @@ ExactLog k log =
     → ((judgeLog k log .refusal ≡ 0) × (arrivalsIn log ≡ l)) ↔ (Log log l × (refusalOfLists k (numbersOf l) (timesOf l) ≡ 0))
 
 -- the sample of a log: no label, K payload sizes of one size, and the arrivals
-abbrev pub sampleFrom : (k size : ℕ) (log : List ℕ) → Sample
-sampleFrom k size log = record { label = []; sizes = replicate k size; arrivals = arrivalsIn log }
+abbrev pub sampleOfLog : (k size : ℕ) (log : List ℕ) → Sample
+sampleOfLog k size log = record { label = []; sizes = replicate k size; arrivals = arrivalsIn log }
 
 -- a sample that the sample's writer refuses with nothing but 8, and whose written file decodes to it
 pub record Writable (s : Sample) : Type 0 where
-  pub fit : Fit s
+  pub fit : FitSample s
   pub refusal : (out out′ : List ℕ) (written : Written)
       → SampleWritten (s .label) (s .sizes) (numbersOf (s .arrivals)) (timesOf (s .arrivals)) out written out′
       → written .refusal ≡ inCase (ltb (length out) (length (fileOf s))) outputShort
@@ -45,8 +45,8 @@ pub record Writable (s : Sample) : Type 0 where
       → written .refusal ≡ 0 → decode (take (written .length) out′) ≡ accepted s
 
 -- the arrivals of a log that is not refused, with K payload sizes of any one size, are such a sample
-abbrev pub FitSample : ℕ → List ℕ → Type 0
-FitSample k log = (size : ℕ) → size < 2 ^ 16 → judgeLog k log .refusal ≡ 0 → Writable (sampleFrom k size log)
+abbrev pub ImportedIsFit : ℕ → List ℕ → Type 0
+ImportedIsFit k log = (size : ℕ) → size < 2 ^ 16 → judgeLog k log .refusal ≡ 0 → Writable (sampleOfLog k size log)
 
 -- arrivals that are written and imported again, into lists that are long enough, are the same arrivals
 abbrev pub ReadAgain : (k : ℕ) (numbers times : List ℕ) → Type 0

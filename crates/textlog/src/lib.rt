@@ -4,7 +4,7 @@ ghost use Rattle.octets.specs.Memory.{over};
 ghost use Rattle.rfc4737.specs.Judge.{numbersOf, timesOf};
 ghost use Rattle.textlog.specs.Decode.{lines, judgeLines, judgeLog, arrivalsIn};
 ghost use Rattle.textlog.specs.Calls.{listsShort, ImportedFrom, WrittenTo};
-ghost use Rattle.textlog.specs.RoundTrip.{ExactLine, ExactLog, FitSample, ReadAgain};
+ghost use Rattle.textlog.specs.RoundTrip.{ExactLine, ExactLog, ImportedIsFit, ReadAgain};
 ghost use Rattle.textlog.specs.Cases.{ReadAsGiven, WrittenAsGiven};
 ghost use Rattle.textlog.specs.Private.Filling.{Fillable};
 
@@ -120,7 +120,7 @@ fn too_short(arrivals: u32, numbers: usize, times: usize) -> bool
 pub fn import(log: &[u8], k: u32, numbers: &mut [u32], times: &mut [u64]) -> Imported
     ensures { λ r. ⌜ ImportedFrom k (now (log .entry)) (now (numbers .entry)) (now (times .entry)) r (now (numbers .exit)) (now (times .exit)) ⌝ }
     ensures exact { λ _. ⌜ ExactLine × ExactLog k (now (log .entry)) ⌝ }
-    ensures fit { λ _. ⌜ FitSample k (now (log .entry)) ⌝ }
+    ensures fit { λ _. ⌜ ImportedIsFit k (now (log .entry)) ⌝ }
     ensures cases { λ _. ⌜ ReadAsGiven ⌝ }
 {
     let found = judge_log(log, k);

@@ -3,7 +3,7 @@ ghost use mathlib.Core.Path.{_≡_};
 ghost use Prim.Native.Nat.{_+_, _≤_};
 ghost use lib.ListN.{length};
 ghost use Rattle.octets.specs.Memory.{over, put};
-ghost use Rattle.rfc4737.specs.Judge.{arrivalsOf};
+ghost use Rattle.rfc4737.specs.Judge.{arrivalsFrom};
 ghost use Rattle.textlog.specs.Form.{lineOf, logOf};
 
 // The octets of a line.
@@ -16,7 +16,7 @@ fn line_length(number: u32, time: u64) -> usize
 // The octets of the log of two lists.
 pub(crate) fn log_length(numbers: &[u32], times: &[u64]) -> usize
     requires { ⌜ (length (now times) ≡ length (now numbers)) × (length (now numbers) ≤ 4096) ⌝ }
-    ensures { λ r. ⌜ (r ≡ length (logOf (arrivalsOf (now (numbers .entry)) (now (times .entry))))) × (r ≤ 188416) ⌝ }
+    ensures { λ r. ⌜ (r ≡ length (logOf (arrivalsFrom (now (numbers .entry)) (now (times .entry))))) × (r ≤ 188416) ⌝ }
 {
     let mut total = 0;
     let mut i = 0;
@@ -60,8 +60,8 @@ fn put_line(out: &mut [u8], at: usize, number: u32, time: u64) -> usize
 
 // Writes the log of two lists from the start of `out`.
 pub(crate) fn put_lines(numbers: &[u32], times: &[u64], out: &mut [u8])
-    requires { ⌜ (length (now times) ≡ length (now numbers)) × (length (logOf (arrivalsOf (now numbers) (now times))) ≤ length (now out)) ⌝ }
-    ensures { λ _. ⌜ now (out .exit) ≡ over (logOf (arrivalsOf (now (numbers .entry)) (now (times .entry)))) (now (out .entry)) ⌝ }
+    requires { ⌜ (length (now times) ≡ length (now numbers)) × (length (logOf (arrivalsFrom (now numbers) (now times))) ≤ length (now out)) ⌝ }
+    ensures { λ _. ⌜ now (out .exit) ≡ over (logOf (arrivalsFrom (now (numbers .entry)) (now (times .entry)))) (now (out .entry)) ⌝ }
 {
     let mut at = 0;
     let mut i = 0;

@@ -4,7 +4,7 @@ use native.Mathlib.Omega.{arith}
 use mathlib.Core.Path.{_≡_, refl, sym, ap, _∙_}
 use mathlib.Core.List.{List, [], _∷_}
 use Rattle.rfc4737.proofs.Due.{first-due, first-next, first-one}
-use Rattle.sample.specs.Decode.{Decoded, sampleOf, refusalOf}
+use Rattle.sample.specs.Decode.{Decoded, sampleOf, decodedRefusal}
 use Rattle.sample.specs.Calls.{labelPlace}
 use Rattle.worse.specs.declared.Comparison.{Comparison}
 use Rattle.worse.specs.declared.Link.{Link}
@@ -15,14 +15,14 @@ module _ (a b : Decoded) where
   -- ---- the refusal
 
   -- the first sample's
-  pub first-refused : (r : ℕ) → r ≡ refusalOf a → 0 < r → refusalOfBoth a b ≡ r
+  pub first-refused : (r : ℕ) → r ≡ decodedRefusal a → 0 < r → refusalOfBoth a b ≡ r
   unfolding refusalOfBoth
-  first-refused r e h = rw (sym e) (first-due r (refusalOf b ∷ []) h)
+  first-refused r e h = rw (sym e) (first-due r (decodedRefusal b ∷ []) h)
 
   -- the second's where the first has none, 0 among them
-  pub second-refusal : refusalOf a ≡ 0 → (r : ℕ) → r ≡ refusalOf b → refusalOfBoth a b ≡ r
+  pub second-refusal : decodedRefusal a ≡ 0 → (r : ℕ) → r ≡ decodedRefusal b → refusalOfBoth a b ≡ r
   unfolding refusalOfBoth
-  second-refusal z r e = first-next (refusalOf a) (refusalOf b ∷ []) z ∙ first-one (refusalOf b) ∙ sym e
+  second-refusal z r e = first-next (decodedRefusal a) (decodedRefusal b ∷ []) z ∙ first-one (decodedRefusal b) ∙ sym e
 
   -- that of a comparison
   pub refusal-found : (x : Comparison) → x ≡ comparisonOf a b → refusalOfBoth a b ≡ x .refusal

@@ -6,7 +6,7 @@ use mathlib.Core.List.{List, [], _∷_}
 use lib.Dec.{ltb, eqb}
 use Rattle.rfc4737.specs.declared.Counts.{Counts}
 use Rattle.rfc4737.specs.Refusals.{firstOf}
-use Rattle.sample.specs.Decode.{Decoded, sampleOf, refusalOf}
+use Rattle.sample.specs.Decode.{Decoded, sampleOf, decodedRefusal}
 use Rattle.sample.specs.Calls.{labelPlace}
 use Rattle.metrics.specs.Figures.{sampleCounts}
 use Rattle.worse.specs.declared.Comparison.{Comparison}
@@ -32,7 +32,7 @@ ratioIn d = reorderedRatio (sampleCounts d .counts)
 
 -- the refusal: the first sample's, then the second's
 unfoldable pub refusalOfBoth : Decoded → Decoded → ℕ
-refusalOfBoth a b = firstOf (refusalOf a ∷ refusalOf b ∷ [])
+refusalOfBoth a b = firstOf (decodedRefusal a ∷ decodedRefusal b ∷ [])
 
 -- the sample with the greater reordered ratio; equal ratios give the first
 unfoldable pub worseOf : Decoded → Decoded → Link

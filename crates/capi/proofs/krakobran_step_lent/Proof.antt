@@ -40,7 +40,7 @@ use Rattle.receiver.specs.declared.Outcome.{Outcome}
 use Rattle.receiver.specs.Lent.{AsStep}
 use Rattle.receiver.proofs.Returned.{returned}
 use Rattle.capi.specs.declared.noted.SaidAnswer.{SaidAnswer}
-use Rattle.capi.specs.Noted.{saidAnswer}
+use Rattle.capi.specs.ReceiverFigures.{saidAnswer}
 use Rattle.receiver.proofs.Receiver as R
 use Rattle.receiver.proofs.Outcome as S
 use Rattle.receiver.proofs.Outcome.Laws as S′

@@ -3,7 +3,7 @@ use denote.Ref.{now}
 use borrow.Author.Needs.{needs}
 use Rattle.sample.specs.Decode.{decode}
 use Rattle.metrics.specs.Private.Sample.{Laid}
-use Rattle.metrics.proofs.Places.{laid}
+use Rattle.metrics.proofs.FoundInFile.{laid}
 use Rattle.disorder.specs.Sample.{sampleDisorder}
 use Rattle.disorder.proofs.Disorder.{offsets-count-pairs, wrong-least}
 use Rattle.disorder.proofs.Disordered.{sums-offsets}

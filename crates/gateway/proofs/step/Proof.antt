@@ -41,7 +41,7 @@ use denote.Exit.{yes}
 use Rattle.receiver.specs.declared.Receiver.{Receiver}
 use Rattle.receiver.specs.declared.Stepped.{Stepped}
 use Rattle.receiver.specs.Step.{stepOf}
-use Rattle.receiver.proofs.Steps.{refused-equal}
+use Rattle.receiver.proofs.StepCases.{refused-equal}
 use Rattle.receiver.specs.declared.Outcome.{Outcome}
 use Rattle.receiver.proofs.Receiver as R
 use Rattle.receiver.proofs.Receiver.Laws as R′

@@ -7,7 +7,7 @@ use Rattle.octets.specs.Memory.{splice}
 
 -- the octets xs, of which there are at most so many, were written in `old` from a place on, all else is as it was, and
 -- `next` is the place after them
-pub record Written (at most next : ℕ) (xs old new : List ℕ) : Type 0 where
+pub record PartWritten (at most next : ℕ) (xs old new : List ℕ) : Type 0 where
   pub place : next ≡ at + length xs
   pub within : length xs ≤ most
   pub memory : new ≡ splice at xs old

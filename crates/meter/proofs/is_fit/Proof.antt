@@ -6,7 +6,7 @@ use native.Mathlib.Omega.{arith}
 use borrow.Author.Needs.{needs}
 use borrow.Author.Tests.{not-true, not-false}
 use Rattle.meter.specs.Streams.{one, two, mostKept, receiverOf}
-use Rattle.meter.specs.Step.{streamFit}
+use Rattle.meter.specs.Step.{fitOnMeter}
 use Rattle.meter.proofs.Meters.{stream-few, unfit-first, unfit-second, fit-together, second-known, fit-known}
 use Rattle.meter.proofs.is_fit.Statement.{statement}
 use Rattle.meter.proofs.is_fit.Tie as tie
@@ -39,18 +39,18 @@ returns-2 c =
 add-result : tie.Need-add-result
 add-result c =
     let s = c .before .before .before .before .before .before in
-    let a : streamFit (receiverOf one (s .before .before .before .before .before .before .args .m)) ≡ true = fit-known _ _ _ _ (s .before .before .receiver-of .ensures) (s .before .stream-fit .ensures) (not-false _ (s .if1 .left)) in
+    let a : fitOnMeter (receiverOf one (s .before .before .before .before .before .before .args .m)) ≡ true = fit-known _ _ _ _ (s .before .before .receiver-of .ensures) (s .before .stream-fit .ensures) (not-false _ (s .if1 .left)) in
     let d = c .before .before in
-    let b : streamFit (receiverOf two (s .before .before .before .before .before .before .args .m)) ≡ true =
+    let b : fitOnMeter (receiverOf two (s .before .before .before .before .before .before .args .m)) ≡ true =
     fit-known _ _ _ _ (second-known (s .before .before .before .before .before .before .args .m) _ _ (d .before .before .receiver-of2 .ensures) (d .before .before .before .turned .ensures)) (d .before .stream-fit2 .ensures) (not-false _ (d .if2 .left)) in
     record { fits = omega (arith, stream-few _ a, stream-few _ b) }
 
 returns-3 : tie.Need-returns-3
 returns-3 c =
     let s = c .before .before .before .before .before .before in
-    let a : streamFit (receiverOf one (s .before .before .before .before .before .before .args .m)) ≡ true = fit-known _ _ _ _ (s .before .before .receiver-of .ensures) (s .before .stream-fit .ensures) (not-false _ (s .if1 .left)) in
+    let a : fitOnMeter (receiverOf one (s .before .before .before .before .before .before .args .m)) ≡ true = fit-known _ _ _ _ (s .before .before .receiver-of .ensures) (s .before .stream-fit .ensures) (not-false _ (s .if1 .left)) in
     let d = c .before .before in
-    let b : streamFit (receiverOf two (s .before .before .before .before .before .before .args .m)) ≡ true =
+    let b : fitOnMeter (receiverOf two (s .before .before .before .before .before .before .args .m)) ≡ true =
     fit-known _ _ _ _ (second-known (s .before .before .before .before .before .before .args .m) _ _ (d .before .before .receiver-of2 .ensures) (d .before .before .before .turned .ensures)) (d .before .stream-fit2 .ensures) (not-false _ (d .if2 .left)) in
     fit-together _ a b
 

@@ -1,19 +1,19 @@
 -- `meter::stream_fit` meets its contract. Assumes nothing.
 use borrow.Author.Needs.{needs}
 use borrow.Author.Tests.{le-leb, lt-leb}
-use Rattle.meter.specs.Step.{streamFit}
+use Rattle.meter.specs.Step.{fitOnMeter}
 use Rattle.meter.proofs.stream_fit.Statement.{statement}
 use Rattle.meter.proofs.stream_fit.Tie as tie
 
 returns : tie.Need-returns
-unfolding streamFit
+unfolding fitOnMeter
 returns c = simp (lt-leb _ _ (c .if1 .taken))
 
 is-fit-requires : tie.Need-is-fit-requires
 is-fit-requires c κs = search needs
 
 returns-2 : tie.Need-returns-2
-unfolding streamFit
+unfolding fitOnMeter
 returns-2 c = simp (le-leb _ _ (c .before .if1 .left), c .is-fit .ensures)
 
 pub stream-fit-spec : {M : Type 1} → statement M

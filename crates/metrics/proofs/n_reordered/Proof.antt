@@ -2,7 +2,7 @@
 use mathlib.Core.Path.{ap}
 use Rattle.metrics.specs.Private.Steps.{partsOf}
 use Rattle.metrics.specs.declared.figures.Parts.{Parts}
-use Rattle.metrics.proofs.Asked.{laid-refusal, degree-answered-refused, degree-answered}
+use Rattle.metrics.proofs.RecordsAsked.{laid-refusal, degree-answered-refused, degree-answered}
 use borrow.Author.Needs.{needs}
 use Rattle.metrics.proofs.n_reordered.Statement.{statement}
 use Rattle.metrics.proofs.n_reordered.Tie as tie

@@ -9,7 +9,7 @@ use Rattle.listing.specs.Lines.{recordLinesFrom, endLine}
 use Rattle.sample.specs.Decode.{Decoded}
 use Rattle.metrics.specs.Agreement.{common}
 use Rattle.metrics.specs.Report.{sampleText}
-use Rattle.metrics.specs.Sample.{arrivalsOf, answersOf}
+use Rattle.metrics.specs.Sample.{sampleArrivals, answersOf}
 use Rattle.metrics.specs.declared.compare.Part.{Part}
 
 -- how many octets of a line stand at a text's start, and whether all of them do
@@ -25,7 +25,7 @@ pub record LeftOf (total text : List ℕ) (at : ℕ) (rest : List ℕ) : Type 0 
 
 -- what is left of a listing after record i
 abbrev pub textFrom : Decoded → ℕ → List ℕ
-textFrom d i = recordLinesFrom (i + 1) (drop i (arrivalsOf d)) (drop i (answersOf d)) ++ endLine (counts (answersOf d))
+textFrom d i = recordLinesFrom (i + 1) (drop i (sampleArrivals d)) (drop i (answersOf d)) ++ endLine (counts (answersOf d))
 
 -- record i is behind: so many octets of the text agree, and the rest is left
 abbrev pub LeftAt : Decoded → List ℕ → ℕ → ℕ → Type 0

@@ -8,7 +8,7 @@ use Rattle.rfc4737.specs.declared.Answer.{Answer}
 use Rattle.rfc4737.specs.Answer.{answerTo}
 use Rattle.sample.specs.declared.Layout.{Layout}
 use Rattle.sample.specs.Decode.{Decoded, layoutOf}
-use Rattle.metrics.specs.Sample.{sizeOf, arrivalsOf}
+use Rattle.metrics.specs.Sample.{sizeOf, sampleArrivals}
 
 -- what stands where there is no arrival
 abbrev pub noArrival : Arrival
@@ -16,11 +16,11 @@ noArrival = record { number = 0; time = 0 }
 
 -- the arrival of record i + 1
 abbrev pub arrivalAt : Decoded → ℕ → Arrival
-arrivalAt d i = getD (arrivalsOf d) i noArrival
+arrivalAt d i = getD (sampleArrivals d) i noArrival
 
 -- the arrivals before it
 abbrev pub before : Decoded → ℕ → List Arrival
-before d i = take i (arrivalsOf d)
+before d i = take i (sampleArrivals d)
 
 -- its answer
 abbrev pub answerAt : Decoded → ℕ → Answer

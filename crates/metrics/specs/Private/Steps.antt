@@ -38,7 +38,7 @@ noCounts =
     }
 
 -- counts of fewer than 4,096 arrivals
-pub record Small (c : Counts) : Type 0 where
+pub record FewCounted (c : Counts) : Type 0 where
   pub arrived : c .arrived < 4096
   pub reordered : c .reordered < 4096
   pub duplicates : c .duplicates < 4096
@@ -133,7 +133,7 @@ placeBy count (Class.InOrder jump) = count + 1
 placeBy count (Class.Reordered at) = count + 1
 
 -- a table has at each position the discoverer of the discontinuity there, 0 where there is none
-pub record Marked (l : List Answer) (found : List ℕ) : Type 0 where
+pub record DiscoverersAt (l : List Answer) (found : List ℕ) : Type 0 where
   pub places : length found ≡ 4097
   pub at : (p : ℕ) → 1 ≤ p → p ≤ 4096 → getD found p 0 ≡ orZero (discoverer p l)
   pub positive : (p q : ℕ) → discoverer p l ≡ some q → 1 ≤ q

@@ -80,7 +80,7 @@ pub record Noting (numbers records skipped : List ℕ) (state : State) (i number
 
 -- record i + 1, of a packet of this number, is noted: the tables and the state are those after one arrival more, and links stay links
 -- if it is linked by its largest n where it is reordered
-pub record Noted (i number largest : ℕ) (numbers records skipped : List ℕ) (state : State) (numbers′ records′ skipped′ : List ℕ) (state′ : State) : Type 0 where
+pub record ReceiverAnswer (i number largest : ℕ) (numbers records skipped : List ℕ) (state : State) (numbers′ records′ skipped′ : List ℕ) (state′ : State) : Type 0 where
   pub follows : (l : List Arrival) (a : Arrival) → length l ≡ i → a .number ≡ number → Follows l numbers records skipped state
       → Follows (l ++ (a ∷ [])) numbers′ records′ skipped′ state′
   pub linked : (l : List Arrival) (a : Arrival) → length l ≡ i → a .number ≡ number → Follows l numbers records skipped state

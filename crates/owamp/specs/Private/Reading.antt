@@ -8,7 +8,7 @@ use lib.ListN.{getD}
 use Rattle.rfc4737.specs.declared.Arrival.{Arrival}
 use Rattle.sample.specs.Decode.{decode, layoutOf}
 use Rattle.sample.specs.declared.Layout.{Layout}
-use Rattle.owamp.specs.Record.{arrived}
+use Rattle.owamp.specs.Record.{isArrival}
 use Rattle.owamp.specs.Judge.{judgeNumber}
 
 -- what stands where there is no record
@@ -21,7 +21,7 @@ oneIfArrived t = cond (eqb t 0) 0 1
 
 -- one record by 6; nothing of a lost one is judged
 unfoldable pub judgeRecord : ℕ → Arrival → ℕ
-judgeRecord k a = cond (arrived a) (judgeNumber k a) 0
+judgeRecord k a = cond (isArrival a) (judgeNumber k a) 0
 
 -- the place of a time among the first n of some times: those from there on are later, and the one before it is not
 pub record Place (t : ℕ) (ts : List ℕ) (n at : ℕ) : Type 0 where
@@ -30,6 +30,6 @@ pub record Place (t : ℕ) (ts : List ℕ) (n at : ℕ) : Type 0 where
   pub notLater : (k : ℕ) → k + 1 ≡ at → getD ts k 0 ≤ t
 
 -- the layout of an accepted file
-pub record Found (file : List ℕ) (found : Layout) : Type 0 where
+pub record AcceptedLayout (file : List ℕ) (found : Layout) : Type 0 where
   pub layout : found ≡ layoutOf (decode file)
   pub accepted : found .refusal ≡ 0

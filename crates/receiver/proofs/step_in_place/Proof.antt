@@ -52,7 +52,7 @@ use Rattle.receiver.specs.declared.Stepped.{Stepped}
 use Rattle.receiver.specs.declared.advance.Advanced.{Advanced}
 use Rattle.receiver.specs.Step.{stepOf}
 use Rattle.receiver.specs.Private.Parts.{Full, whole, steppedOf}
-use Rattle.receiver.proofs.Steps.{refused-equal}
+use Rattle.receiver.proofs.StepCases.{refused-equal}
 use Rattle.receiver.proofs.FieldLent.{cells-out, cells-in, map-same, lends-field, field-back, unraw}
 use Rattle.receiver.proofs.Returned.{returned-with}
 use Rattle.receiver.proofs.Receiver as R

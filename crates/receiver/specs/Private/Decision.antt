@@ -18,7 +18,7 @@ pub record Unrefused (r : Receiver) (number : ℕ) : Type 0 where
   pub number-high : number ≤ r .stream .sent
 
 -- the place of the first of some numbers that is above s; their count if none is
-pub record Found (numbers : List ℕ) (kept s place : ℕ) : Type 0 where
+pub record FirstAbove (numbers : List ℕ) (kept s place : ℕ) : Type 0 where
   pub place-high : place ≤ kept
   pub before : (k : ℕ) → k < place → ltb s (getD numbers k 0) ≡ false
   pub above : place < kept → s < getD numbers place 0
@@ -29,8 +29,8 @@ pub record After (positions : List ℕ) (place position : ℕ) : Type 0 where
   pub position-high : getD positions place 0 ≤ position
 
 -- whether a time is at most the greatest
-abbrev pub upTo : ℕ → ℕ → Bool
-upTo greatest time = leb time greatest
+abbrev pub notAfter : ℕ → ℕ → Bool
+notAfter greatest time = leb time greatest
 
 -- whether each of the first n of some values passes a test
 unfoldable pub firstPass : (ℕ → Bool) → List ℕ → ℕ → Bool
@@ -38,7 +38,7 @@ firstPass t l zero = true
 firstPass t l (suc n) = firstPass t l n && t (getD l n 0)
 
 -- numbers so small that none overflows under one arrival more
-pub record Small (s : Stream) : Type 0 where
+pub record NoOverflow (s : Stream) : Type 0 where
   pub arrived-high : s .arrived ≤ packets
   pub inorder-high : s .inorder ≤ packets
   pub current-high : s .runs .current ≤ packets

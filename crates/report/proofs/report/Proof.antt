@@ -5,7 +5,7 @@ use native.Mathlib.Omega.{arith}
 use borrow.Author.Needs.{needs}
 use denote.Ref.{now}
 use Rattle.listing.proofs.Lengths.{refused-octets}
-use Rattle.sample.specs.Decode.{decode, refusalOf}
+use Rattle.sample.specs.Decode.{decode, decodedRefusal}
 use Rattle.sample.specs.declared.Layout.{Layout}
 use Rattle.sample.proofs.Accepted.{found-sample}
 use Rattle.report.proofs.Laws.{text-refused, text-accepted, listed-text}
@@ -13,7 +13,7 @@ use Rattle.report.proofs.report.Statement.{statement}
 use Rattle.report.proofs.report.Tie as tie
 
 -- the input's own refusal
-own : (c : tie.After-check) → c .check .result .refusal ≡ refusalOf (decode (now (c .before .before .before .args .input)))
+own : (c : tie.After-check) → c .check .result .refusal ≡ decodedRefusal (decode (now (c .before .before .before .args .input)))
 own c = ap (λ (y : Layout). y .refusal) (c .check .ensures .0)
 
 check-requires : tie.Need-check-requires

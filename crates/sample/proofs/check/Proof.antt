@@ -16,8 +16,8 @@ use Rattle.rfc4737.specs.Refusals.{inCase, octetsFollow, longLabel, octetOutsid
 use Rattle.rfc4737.specs.Judge.{sentMost, arrivalsMost, judgeSent, judgeArrivals, judge}
 use Rattle.sample.specs.Format.{itemsIn, labelMost, longest}
 use Rattle.sample.specs.Judge.{judgeLabel, someUnshown}
-use Rattle.sample.specs.Decode.{labelCount, sentAt, sentCount, arrivedAt, arrivalCount, fileEnd, arrivalIn, labelIn, labelStage, sentStage, arrivedStage, endStage, refusalIn, refused, decode, layoutOf}
-use Rattle.sample.specs.RoundTrip.{Exact, Lengths}
+use Rattle.sample.specs.Decode.{labelCount, sentAt, sentCount, arrivedAt, arrivalCount, fileEnd, arrivalIn, labelIn, labelStage, sentStage, arrivedStage, endStage, fileRefusal, refused, decode, layoutOf}
+use Rattle.sample.specs.RoundTrip.{ExactFile, Lengths}
 use Rattle.sample.specs.Cases.{RefusalsInOrder}
 use Rattle.sample.specs.Private.Readings.{refusalOfSection, sectionReading}
 use Rattle.sample.specs.declared.Layout.{Layout}
@@ -30,11 +30,11 @@ use Rattle.sample.proofs.check.Statement.{statement}
 use Rattle.sample.proofs.check.Tie as tie
 
 -- the answer with a refusal that is due
-answer : (f : List ℕ) (n : ℕ) → 0 < n → refusalIn f ≡ n → {r : ℕ} {y : Layout} → y ≡ layoutOf (refused r) → r ≡ n → y ≡ layoutOf (decode f)
+answer : (f : List ℕ) (n : ℕ) → 0 < n → fileRefusal f ≡ n → {r : ℕ} {y : Layout} → y ≡ layoutOf (refused r) → r ≡ n → y ≡ layoutOf (decode f)
 answer f n h e p q = p ∙ ap (λ (k : ℕ). layoutOf (refused k)) q ∙ ap layoutOf (sym (decode-refused f n h e))
 
 -- what is promised beside it, at each `return`
-promised : (f : List ℕ) → Octets f → Exact f × (((longest ≡ longest) × Lengths f) × RefusalsInOrder)
+promised : (f : List ℕ) → Octets f → ExactFile f × (((longest ≡ longest) × Lengths f) × RefusalsInOrder)
 promised f o = (exact f o, ((refl, lengths f o), in-order))
 
 -- after the label: nothing of its section is refused, and its count and its end are those of the file
@@ -92,7 +92,7 @@ sections-within c =
     omega arith
 
 -- after the arrivals are judged: theirs is the first refusal, if any
-judged : (c : tie.After-judge-file) → refusalIn (now (c .before .before .before .before .before .before .before .before .before .before .before .before .before .before .before .before .before .before .args .file)) ≡ c .judge-file .result
+judged : (c : tie.After-judge-file) → fileRefusal (now (c .before .before .before .before .before .before .before .before .before .before .before .before .before .before .before .before .before .before .args .file)) ≡ c .judge-file .result
 judged c =
     let b = c .before .before in
     let k = b .before .before .before .before in

@@ -9,7 +9,7 @@ use mir.Syntax.{w16, w64}
 use denote.Ref.{now}
 use Rattle.octets.specs.Memory.{splice}
 use Rattle.octets.proofs.Below.{below-fits}
-use Rattle.rfc4737.specs.Judge.{arrivalsOf}
+use Rattle.rfc4737.specs.Judge.{arrivalsFrom}
 use Rattle.rfc4737.proofs.Judged.{ListsFit}
 use Rattle.sample.specs.Format.{labelMost, section, sizeOctets, arrivalOctets, itemOctets}
 use Rattle.sample.specs.Judge.{someUnshown}
@@ -115,7 +115,7 @@ returns-3 c =
       write-filled (now (a .label)) (now (a .sizes)) (now (a .numbers)) (now (a .times)) (now (a .out)) (sym (e .before .if1 .left) ∙ e .before .before .refusal-from .ensures) (limited (e .before) .2 .same)
           (c .before .before .write-arrivals .last .1 .1 .0) (e .if2 .left)
           (c .before .before .write-arrivals .ensures
-          ∙ ap (splice (2 + n + 2 + 2 * m) (section (length (now (a .numbers))) (itemOctets arrivalOctets (arrivalsOf (now (a .numbers)) (now (a .times))))))
+          ∙ ap (splice (2 + n + 2 + 2 * m) (section (length (now (a .numbers))) (itemOctets arrivalOctets (arrivalsFrom (now (a .numbers)) (now (a .times))))))
           (c .before .before .before .before .before .before .write-sizes .ensures
           ∙ ap (splice (2 + n) (section m (itemOctets sizeOctets (now (a .sizes))))) (c .before .before .before .before .before .before .before .before .before .before .write-label .ensures))),
       again k,

@@ -9,7 +9,7 @@ use borrow.Author.Needs.{needs}
 use lib.ListN.{length, getD, drop, take}
 use denote.Ref.{now}
 use Rattle.rfc4737.specs.declared.Arrival.{Arrival}
-use Rattle.rfc4737.specs.Judge.{arrivalsOf, judge}
+use Rattle.rfc4737.specs.Judge.{arrivalsFrom, judge}
 use Rattle.rfc4737.proofs.Pairs.{arrivals-length}
 use Rattle.rfc4737.proofs.Judged.{judge-stop, judge-next, judge-done}
 use Rattle.shortnumbers.specs.InTurn.{greatestOf}
@@ -21,13 +21,13 @@ use Rattle.shortnumbers.proofs.judge_found.Tie as tie
 abbrev Inv-loop : tie.InvT-loop
 Inv-loop range k shorts times greatest₀ reference₀ i₀ greatest reference i =
     (i ≤ length shorts) × (greatest ≤ 512 * i) × (greatest ≡ greatestOf (take i (numbersFound range shorts)))
-    × (judge k 0 (arrivalsOf (numbersFound range shorts) times) ≡ judge k reference (drop i (arrivalsOf (numbersFound range shorts) times)))
+    × (judge k 0 (arrivalsFrom (numbersFound range shorts) times) ≡ judge k reference (drop i (arrivalsFrom (numbersFound range shorts) times)))
 
 abbrev μ-loop : tie.MeasureT-loop
 μ-loop range k shorts times greatest₀ reference₀ i₀ greatest reference i = length shorts - i
 
 -- there are as many arrivals as short numbers
-as-many : (range : ℕ) (shorts times : List ℕ) → length times ≡ length shorts → length (arrivalsOf (numbersFound range shorts) times) ≡ length shorts
+as-many : (range : ℕ) (shorts times : List ℕ) → length times ≡ length shorts → length (arrivalsFrom (numbersFound range shorts) times) ≡ length shorts
 as-many range shorts times same =
     let n = found-length range shorts in
     arrivals-length (numbersFound range shorts) times (same ∙ sym n) ∙ n
@@ -70,7 +70,7 @@ returns c =
     let m = as-many (a .range) (now (a .shorts)) (now (a .times)) (p .2) in
     let here =
     arrival-here (a .range) (now (a .shorts)) (l .loop .greatest) (l .loop .i) (n .result) lt (l .loop .inv .2) (n .ensures .0) (now (a .times)) (p .2) in
-    judge-stop (a .k) (arrivalsOf (numbersFound (a .range) (now (a .shorts))) (now (a .times))) (l .loop .reference) (l .loop .i) none
+    judge-stop (a .k) (arrivalsFrom (numbersFound (a .range) (now (a .shorts))) (now (a .times))) (l .loop .reference) (l .loop .i) none
     (record { number = n .result; time = getD (now (a .times)) (l .loop .i) 0 }) (omega arith) here (l .loop .inv .3)
     (c .before .judge-one .result) (c .before .judge-one .ensures) (c .if1 .taken)
 
@@ -100,10 +100,10 @@ loop-again c =
       omega arith,
       omega (arith, g .ensures, n .ensures .1, l .loop .inv .1),
       greatest-next (a .range) (now (a .shorts)) (l .loop .greatest) (l .loop .i) (n .result) lt (l .loop .inv .2) (n .ensures .0) (g .result) (g .ensures),
-      judge-next (a .k) (arrivalsOf (numbersFound (a .range) (now (a .shorts))) (now (a .times))) (l .loop .reference) (l .loop .i) none
+      judge-next (a .k) (arrivalsFrom (numbersFound (a .range) (now (a .shorts))) (now (a .times))) (l .loop .reference) (l .loop .i) none
           (record { number = n .result; time = getD (now (a .times)) (l .loop .i) 0 }) (omega arith) here (l .loop .inv .3)
           (c .before .before .before .judge-one .result) (c .before .before .before .judge-one .ensures) (c .before .before .if1 .left)
-          ∙ ap (λ (r : ℕ). judge (a .k) r (drop (l .loop .i + 1) (arrivalsOf (numbersFound (a .range) (now (a .shorts))) (now (a .times)))))
+          ∙ ap (λ (r : ℕ). judge (a .k) r (drop (l .loop .i + 1) (arrivalsFrom (numbersFound (a .range) (now (a .shorts))) (now (a .times)))))
           (sym (c .next-reference .ensures)),
     )
 
@@ -113,7 +113,7 @@ returns-2 c =
     let a = l .before .before .before .args in
     let p = l .before .before .before .pre in
     let m = as-many (a .range) (now (a .shorts)) (now (a .times)) (p .2) in
-    judge-done (a .k) (arrivalsOf (numbersFound (a .range) (now (a .shorts))) (now (a .times))) (l .loop .reference) (l .loop .i) (omega arith) (l .loop .inv .3)
+    judge-done (a .k) (arrivalsFrom (numbersFound (a .range) (now (a .shorts))) (now (a .times))) (l .loop .reference) (l .loop .i) (omega arith) (l .loop .inv .3)
 
 pub judge-found-spec : {M : Type 1} → statement M
 judge-found-spec =

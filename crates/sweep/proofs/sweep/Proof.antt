@@ -5,7 +5,7 @@ use mathlib.Core.Path.{sym, _∙_}
 use denote.Ref.{now}
 use Rattle.sample.specs.Decode.{decode}
 use Rattle.metrics.specs.Private.Sample.{Laid}
-use Rattle.metrics.proofs.Places.{laid}
+use Rattle.metrics.proofs.FoundInFile.{laid}
 use Rattle.sweep.specs.Swept.{Lent, lent}
 use Rattle.sweep.proofs.Answers.{swept-refused, swept-short, wide, ready, swept}
 use Rattle.sweep.proofs.sweep.Statement.{statement}

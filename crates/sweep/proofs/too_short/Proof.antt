@@ -1,27 +1,27 @@
 -- `too_short` meets its contract, place by place. Assumes nothing.
 use borrow.Author.Tests.{lt-ltb, le-ltb}
-use Rattle.sweep.specs.Swept.{shortOf}
+use Rattle.sweep.specs.Swept.{lentShort}
 use Rattle.sweep.proofs.too_short.Statement.{statement}
 use Rattle.sweep.proofs.too_short.Tie as tie
 
 returns : tie.Need-returns
-unfolding shortOf
+unfolding lentShort
 returns c = simp (lt-ltb _ _ (c .if1 .taken))
 
 returns-2 : tie.Need-returns-2
-unfolding shortOf
+unfolding lentShort
 returns-2 c = simp (le-ltb _ _ (c .before .if1 .left), lt-ltb _ _ (c .if2 .taken))
 
 returns-3 : tie.Need-returns-3
-unfolding shortOf
+unfolding lentShort
 returns-3 c = simp (le-ltb _ _ (c .before .before .if1 .left), le-ltb _ _ (c .before .if2 .left), lt-ltb _ _ (c .if3 .taken))
 
 returns-4 : tie.Need-returns-4
-unfolding shortOf
+unfolding lentShort
 returns-4 c = simp (le-ltb _ _ (c .before .before .before .if1 .left), le-ltb _ _ (c .before .before .if2 .left), le-ltb _ _ (c .before .if3 .left), lt-ltb _ _ (c .if4 .taken))
 
 returns-5 : tie.Need-returns-5
-unfolding shortOf
+unfolding lentShort
 returns-5 c = simp (le-ltb _ _ (c .before .before .before .if1 .left), le-ltb _ _ (c .before .before .if2 .left), le-ltb _ _ (c .before .if3 .left), le-ltb _ _ (c .if4 .left))
 
 pub too-short-spec : {M : Type 1} → statement M

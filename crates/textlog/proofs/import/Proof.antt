@@ -4,7 +4,7 @@ use mathlib.Core.Path.{sym, _∙_}
 use mathlib.Core.List.{List}
 use borrow.Author.Needs.{needs}
 use denote.Ref.{now}
-use Rattle.textlog.specs.RoundTrip.{ExactLine, ExactLog, FitSample}
+use Rattle.textlog.specs.RoundTrip.{ExactLine, ExactLog, ImportedIsFit}
 use Rattle.textlog.specs.Cases.{ReadAsGiven}
 use Rattle.textlog.proofs.Lines.{exact-line}
 use Rattle.textlog.proofs.RoundTrips.{exact-log}
@@ -15,7 +15,7 @@ use Rattle.textlog.proofs.import.Statement.{statement}
 use Rattle.textlog.proofs.import.Tie as tie
 
 -- the theorems that the contract carries
-carried : (k : ℕ) (log : List ℕ) → (ExactLine × ExactLog k log) × (FitSample k log × ReadAsGiven)
+carried : (k : ℕ) (log : List ℕ) → (ExactLine × ExactLog k log) × (ImportedIsFit k log × ReadAsGiven)
 carried k log = ((exact-line, exact-log k log), (fit-log k log, read-as-given))
 
 judge-log-requires : tie.Need-judge-log-requires

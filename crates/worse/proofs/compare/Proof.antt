@@ -6,7 +6,7 @@ use mathlib.Core.Path.{_≡_, sym, ap, _∙_}
 use mathlib.Core.Bool.{Bool, true, false, cond}
 use mathlib.Core.List.{List}
 use denote.Ref.{now}
-use Rattle.sample.specs.Decode.{decode, refusalOf}
+use Rattle.sample.specs.Decode.{decode, decodedRefusal}
 use Rattle.metrics.specs.declared.SampleCounts.{SampleCounts}
 use Rattle.metrics.specs.Figures.{sampleCounts}
 use Rattle.worse.specs.declared.Fraction.{Fraction}
@@ -23,7 +23,7 @@ refused-with-requires : tie.Need-refused-with-requires
 refused-with-requires c κs = search needs
 
 -- the refusal of a sample's counts is the file's
-counted : (x : SampleCounts) (f : List ℕ) → x ≡ sampleCounts (decode f) → x .refusal ≡ refusalOf (decode f)
+counted : (x : SampleCounts) (f : List ℕ) → x ≡ sampleCounts (decode f) → x .refusal ≡ decodedRefusal (decode f)
 unfolding sampleCounts
 counted x f e = ap (λ (y : SampleCounts). y .refusal) e
 

@@ -11,7 +11,7 @@ use Rattle.rfc4737.proofs.Arrivals.{length-firsts}
 use Rattle.sample.specs.Decode.{decode}
 use Rattle.metrics.specs.Private.Sample.{before, arrivalAt, Has}
 use Rattle.metrics.proofs.Follow.{before-length}
-use Rattle.metrics.proofs.Places.{arrival-known}
+use Rattle.metrics.proofs.FoundInFile.{arrival-known}
 use Rattle.disorder.specs.Private.Pairs.{Paired}
 use Rattle.disorder.proofs.Disordered.{paired-start, Arrived, arrived-start, arrived-next, firsts-seen, disorder-end}
 use Rattle.disorder.proofs.pairs.disorder_of.Statement.{statement}

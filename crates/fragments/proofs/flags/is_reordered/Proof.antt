@@ -1,27 +1,27 @@
 -- `fragments::flags::is_reordered` meets its contract. Assumes nothing.
-use Rattle.fragments.specs.Order.{isReordered}
+use Rattle.fragments.specs.Order.{isReorderedFragment}
 use borrow.Author.Tests.{lt-ltb, le-ltb, le-leb, eq-eqb, ne-eqb}
 use borrow.Author.Needs.{needs}
 use Rattle.fragments.proofs.flags.is_reordered.Statement.{statement}
 use Rattle.fragments.proofs.flags.is_reordered.Tie as tie
 
 returns : tie.Need-returns
-unfolding isReordered
+unfolding isReorderedFragment
 returns c = rw (lt-ltb _ _ (c .if1 .taken))
 
 returns-2 : tie.Need-returns-2
-unfolding isReordered
+unfolding isReorderedFragment
 returns-2 c = rw (le-ltb _ _ (c .before .before .before .if1 .left), lt-ltb _ _ (c .if2 .taken))
 
 returns-3 : tie.Need-returns-3
-unfolding isReordered
+unfolding isReorderedFragment
 returns-3 c = rw (le-ltb _ _ (c .before .before .before .before .before .before .if1 .left), le-ltb _ _ (c .before .before .before .if2 .left), le-leb _ _ (c .before .before .before .before .before .before .if1 .left), ne-eqb _ _ (c .if3 .taken))
 
 cast-result : tie.Need-cast-result
 cast-result c = search needs
 
 returns-4 : tie.Need-returns-4
-unfolding isReordered
+unfolding isReorderedFragment
 returns-4 c = rw (le-ltb _ _ (c .before .before .before .before .before .before .before .before .if1 .left), le-ltb _ _ (c .before .before .before .before .before .if2 .left), le-leb _ _ (c .before .before .before .before .before .before .before .before .if1 .left), eq-eqb _ _ (c .before .before .if3 .left))
 
 pub is-reordered-spec : {M : Type 1} → statement M

@@ -12,7 +12,7 @@ use Rattle.rfc4737.specs.Refusals.{firstOf}
 use Rattle.rfc4737.specs.Times.{greatestTime}
 use Rattle.fragments.specs.declared.Piece.{Piece}
 use Rattle.fragments.specs.Pieces.{piecesOf, arrivalOf}
-use Rattle.fragments.specs.Judge.{judgeAfter, judge}
+use Rattle.fragments.specs.Judge.{judgeAfter, judgePieces}
 use Rattle.fragments.proofs.Laws.{pieces-length}
 use Rattle.fragments.proofs.Judged.{turn-start, turn-stop, turn-next, past-next, turn-done}
 use Rattle.fragments.proofs.judge.judge_all.Statement.{statement}
@@ -22,7 +22,7 @@ abbrev Inv-loop : tie.InvT-loop
 Inv-loop k numbers times lengths mores offsets reference₀ i₀ reference i =
     (i ≤ length numbers)
     × (reference ≡ greatestTime (map arrivalOf (take i (piecesOf numbers times lengths mores offsets))))
-    × (judge k (piecesOf numbers times lengths mores offsets) ≡ firstOf (drop i (each (judgeAfter k) (piecesOf numbers times lengths mores offsets))))
+    × (judgePieces k (piecesOf numbers times lengths mores offsets) ≡ firstOf (drop i (each (judgeAfter k) (piecesOf numbers times lengths mores offsets))))
 
 abbrev μ-loop : tie.MeasureT-loop
 μ-loop k numbers times lengths mores offsets reference₀ i₀ reference i = length numbers - i

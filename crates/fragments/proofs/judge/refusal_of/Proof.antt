@@ -6,7 +6,7 @@ use mathlib.Core.Bool.{_||_}
 use Rattle.fragments.proofs.Accepted.{same-lists}
 use Rattle.fragments.proofs.Judged.{positive}
 use Rattle.rfc4737.proofs.Due.{first-due}
-use Rattle.fragments.specs.Calls.{refusalOf}
+use Rattle.fragments.specs.Calls.{orderRefusal}
 use denote.Ref.{now}
 use lib.ListN.{length}
 use mathlib.Core.Path.{sym, _∙_}
@@ -19,21 +19,21 @@ outside-requires : tie.Need-outside-requires
 outside-requires c κs = search needs
 
 returns : tie.Need-returns
-unfolding refusalOf
+unfolding orderRefusal
 returns c = rw (sym (c .before .outside .ensures) ∙ c .if1 .taken)
 
 outside-requires-2 : tie.Need-outside-requires-2
 outside-requires-2 c κs = search needs
 
 returns-2 : tie.Need-returns-2
-unfolding refusalOf
+unfolding orderRefusal
 returns-2 c = rw (sym (c .before .before .before .outside .ensures) ∙ c .before .before .if1 .left, sym (c .before .outside2 .ensures) ∙ c .if2 .taken)
 
 same-lengths-requires : tie.Need-same-lengths-requires
 same-lengths-requires c κs = search needs
 
 returns-3 : tie.Need-returns-3
-unfolding refusalOf
+unfolding orderRefusal
 returns-3 c = rw (sym (c .before .before .before .before .before .outside .ensures) ∙ c .before .before .before .before .if1 .left, sym (c .before .before .before .outside2 .ensures) ∙ c .before .before .if2 .left, sym (c .before .same-lengths .ensures) ∙ not-true _ (c .if3 .taken))
 
 judge-all-requires : tie.Need-judge-all-requires
@@ -42,19 +42,19 @@ judge-all-requires c κs =
     same-lists (now (a .numbers)) (now (a .times)) (now (a .lengths)) (now (a .mores)) (now (a .offsets)) (sym (c .before .same-lengths .ensures) ∙ not-false _ (c .if3 .left))
 
 returns-4 : tie.Need-returns-4
-unfolding refusalOf
+unfolding orderRefusal
 returns-4 c = rw (sym (c .before .before .before .before .before .before .before .outside .ensures) ∙ c .before .before .before .before .before .before .if1 .left, sym (c .before .before .before .before .before .outside2 .ensures) ∙ c .before .before .before .before .if2 .left, sym (c .before .before .before .same-lengths .ensures) ∙ not-false _ (c .before .before .if3 .left), sym (c .before .judge-all .ensures)) (sym (first-due (c .before .judge-all .result) (inCase (ltb (c .before .before .before .before .before .before .before .before .before .before .before .before .before .args .flagroom) (length (now (c .before .before .before .before .before .before .before .before .before .before .before .before .before .args .numbers))) || ltb (c .before .before .before .before .before .before .before .before .before .before .before .before .before .args .usedroom) (length (now (c .before .before .before .before .before .before .before .before .before .before .before .before .before .args .numbers)))) outputShort ∷ []) (positive (c .before .judge-all .result) (c .if4 .taken))))
 
 returns-5 : tie.Need-returns-5
-unfolding refusalOf
+unfolding orderRefusal
 returns-5 c = rw (sym (c .before .before .before .before .before .before .before .before .outside .ensures) ∙ c .before .before .before .before .before .before .before .if1 .left, sym (c .before .before .before .before .before .before .outside2 .ensures) ∙ c .before .before .before .before .before .if2 .left, sym (c .before .before .before .before .same-lengths .ensures) ∙ not-false _ (c .before .before .before .if3 .left), sym (c .before .before .judge-all .ensures) ∙ c .before .if4 .left, lt-ltb _ _ (c .if5 .taken))
 
 returns-6 : tie.Need-returns-6
-unfolding refusalOf
+unfolding orderRefusal
 returns-6 c = rw (sym (c .before .before .before .before .before .before .before .before .before .outside .ensures) ∙ c .before .before .before .before .before .before .before .before .if1 .left, sym (c .before .before .before .before .before .before .before .outside2 .ensures) ∙ c .before .before .before .before .before .before .if2 .left, sym (c .before .before .before .before .before .same-lengths .ensures) ∙ not-false _ (c .before .before .before .before .if3 .left), sym (c .before .before .before .judge-all .ensures) ∙ c .before .before .if4 .left, le-ltb _ _ (c .before .if5 .left), lt-ltb _ _ (c .if6 .taken))
 
 returns-7 : tie.Need-returns-7
-unfolding refusalOf
+unfolding orderRefusal
 returns-7 c = rw (sym (c .before .before .before .before .before .before .before .before .before .outside .ensures) ∙ c .before .before .before .before .before .before .before .before .if1 .left, sym (c .before .before .before .before .before .before .before .outside2 .ensures) ∙ c .before .before .before .before .before .before .if2 .left, sym (c .before .before .before .before .before .same-lengths .ensures) ∙ not-false _ (c .before .before .before .before .if3 .left), sym (c .before .before .before .judge-all .ensures) ∙ c .before .before .if4 .left, le-ltb _ _ (c .before .if5 .left), le-ltb _ _ (c .if6 .left))
 
 pub refusal-of-spec : {M : Type 1} → statement M

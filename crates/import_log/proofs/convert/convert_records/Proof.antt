@@ -7,7 +7,7 @@ use lib.ListN.{length, take, replicate, length-replicate}
 use lib.Seq.{length-take-le}
 use denote.Ref.{now}
 use Rattle.rfc4737.specs.Judge.{numbersOf, timesOf}
-use Rattle.owamp.specs.Judge.{refusalIn}
+use Rattle.owamp.specs.Judge.{recordsRefusal}
 use Rattle.owamp.specs.Calls.{imported}
 use Rattle.owamp.proofs.Accepted.{accepted-lists}
 use Rattle.import_log.proofs.Sampled.{records-refusal, records-none, records-sent, records-numbers, records-times, convert-refused, convert-written}
@@ -47,7 +47,7 @@ returns : tie.Need-returns
 returns c =
     let a = c .before .before .before .before .before .before .before .before .before .args in
     let i = c .before .before .before .before .import in
-    convert-refused (a .k) (a .size) (refusalIn (a .k) (now (a .records))) 0 (imported (now (a .records))) (now (a .out))
+    convert-refused (a .k) (a .size) (recordsRefusal (a .k) (now (a .records))) 0 (imported (now (a .records))) (now (a .out))
     (i .result .refusal) 0 (records-refusal (a .k) (now (a .records)) _ _ (i .result) _ _ (i .ensures .0) room room) refl (c .if1 .taken)
 
 cast-arrivals : tie.Need-cast-arrivals
@@ -78,7 +78,7 @@ returns-2 c =
     let i = c .before .before .before .before .before .before .before .before .before .before .before .import in
     let w = c .before .before .write-file in
     let z = records-none _ _ _ _ _ _ _ (i .ensures .0) room room (kept .if1 .left) in
-    convert-written (a .k) (a .size) (refusalIn (a .k) (now (a .records))) 0 (imported (now (a .records))) (now (a .out)) (w .result) _
+    convert-written (a .k) (a .size) (recordsRefusal (a .k) (now (a .records))) 0 (imported (now (a .records))) (now (a .out)) (w .result) _
     z refl (accepted-lists (a .k) (now (a .records)) z .lists) (numbers kept .1) (times kept .1) (w .ensures)
 
 pub convert-records-spec : {M : Type 1} → statement M

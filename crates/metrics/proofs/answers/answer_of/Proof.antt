@@ -6,8 +6,8 @@ use denote.Ref.{now}
 use Rattle.sample.specs.Decode.{decode}
 use Rattle.metrics.specs.Figures.{recordRefusal}
 use Rattle.metrics.proofs.Follow.{arrivals-laid}
-use Rattle.metrics.proofs.Passes.{follows-start}
-use Rattle.metrics.proofs.Asked.{laid-record, record-inside, answered-refused, answered}
+use Rattle.metrics.proofs.OneArrivalMore.{follows-start}
+use Rattle.metrics.proofs.RecordsAsked.{laid-record, record-inside, answered-refused, answered}
 use borrow.Author.Needs.{needs}
 use Rattle.metrics.proofs.answers.answer_of.Statement.{statement}
 use Rattle.metrics.proofs.answers.answer_of.Tie as tie

@@ -8,7 +8,7 @@ use Rattle.metrics.specs.Private.Sample.{before, Has}
 use Rattle.metrics.specs.Private.Tables.{Follows}
 use borrow.Author.Needs.{needs}
 use denote.Ref.{now}
-use Rattle.metrics.proofs.Noted.{noting, noted-follows}
+use Rattle.metrics.proofs.NotingArrivals.{noting, noted-follows}
 use Rattle.metrics.proofs.answers.follow.Statement.{statement}
 use Rattle.metrics.proofs.answers.follow.Tie as tie
 

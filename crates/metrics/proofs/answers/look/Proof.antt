@@ -12,7 +12,7 @@ use Rattle.sample.specs.Decode.{decode}
 use Rattle.metrics.specs.Sample.{sizeOf}
 use Rattle.metrics.specs.Private.Sample.{arrivalAt, before}
 use Rattle.metrics.specs.Private.Tables.{Packets, Late, Tells}
-use Rattle.metrics.proofs.Told.{told, packets, late-place, late-alone}
+use Rattle.metrics.proofs.AnswersByClass.{told, packets, late-place, late-alone}
 use Rattle.metrics.proofs.answers.look.Statement.{statement}
 use Rattle.metrics.proofs.answers.look.Tie as tie
 

@@ -1,6 +1,6 @@
 -- `refusal_of` gives the first refusal that is due. Assumes nothing.
 use borrow.Author.Tests.{lt-leb, le-leb}
-use Rattle.metrics.proofs.Asked.{own-first}
+use Rattle.metrics.proofs.RecordsAsked.{own-first}
 use Rattle.metrics.proofs.answers.refusal_of.Statement.{statement}
 use Rattle.metrics.proofs.answers.refusal_of.Tie as tie
 

@@ -17,8 +17,8 @@ use Rattle.metrics.specs.Private.Tables.{classOf}
 use Rattle.metrics.specs.Private.Engine.{Running}
 use Rattle.metrics.specs.Private.Steps.{countsBy}
 use Rattle.metrics.proofs.Running.{running-start}
-use Rattle.metrics.proofs.Passes.{answersTo, answers-start, answers-length, answers-next, counts-none, counts-small, counts-more}
-use Rattle.metrics.proofs.Within.{answers-within}
+use Rattle.metrics.proofs.OneArrivalMore.{answersTo, answers-start, answers-length, answers-next, counts-none, counts-small, counts-more}
+use Rattle.metrics.proofs.DigitBounds.{answers-within}
 use Rattle.metrics.proofs.Left.{part-most, record-left, record-stop, end-left, end-within}
 use Rattle.metrics.proofs.compare.compare_from.Statement.{statement}
 use Rattle.metrics.proofs.compare.compare_from.Tie as tie

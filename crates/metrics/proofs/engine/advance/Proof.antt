@@ -9,8 +9,8 @@ use Rattle.metrics.specs.Sample.{sizeOf}
 use Rattle.metrics.specs.Private.Sample.{arrivalAt, before}
 use Rattle.metrics.specs.Private.Tables.{lateOnly}
 use Rattle.metrics.proofs.Follow.{number-few}
-use Rattle.metrics.proofs.Told.{told, new-told}
-use Rattle.metrics.proofs.Noted.{noting}
+use Rattle.metrics.proofs.AnswersByClass.{told, new-told}
+use Rattle.metrics.proofs.NotingArrivals.{noting}
 use Rattle.metrics.proofs.Running.{running-filling, links-laid, running-next}
 use borrow.Author.Needs.{needs}
 use Rattle.metrics.proofs.engine.advance.Statement.{statement}

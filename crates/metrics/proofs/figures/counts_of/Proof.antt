@@ -9,8 +9,8 @@ use Rattle.sample.specs.Decode.{decode}
 use Rattle.metrics.specs.Private.Sample.{before, Has}
 use Rattle.metrics.specs.Private.Steps.{countsBy}
 use borrow.Author.Needs.{needs}
-use Rattle.metrics.proofs.Passes.{answersTo, answers-start, answers-end, answers-length, counts-none, counts-small}
-use Rattle.metrics.proofs.Seen.{Seen, seen-start, seen-next, counts-seen}
+use Rattle.metrics.proofs.OneArrivalMore.{answersTo, answers-start, answers-end, answers-length, counts-none, counts-small}
+use Rattle.metrics.proofs.CountsBySeen.{Seen, seen-start, seen-next, counts-seen}
 use Rattle.metrics.proofs.figures.counts_of.Statement.{statement}
 use Rattle.metrics.proofs.figures.counts_of.Tie as tie
 

@@ -2,7 +2,7 @@
 use mathlib.Core.Path.{refl}
 use native.Mathlib.Omega.{arith}
 use Rattle.rfc4737.specs.Runs.{ended}
-use Rattle.metrics.proofs.Passes.{square-le}
+use Rattle.metrics.proofs.OneArrivalMore.{square-le}
 use borrow.Author.Needs.{needs}
 use Rattle.metrics.proofs.figures.ended.Statement.{statement}
 use Rattle.metrics.proofs.figures.ended.Tie as tie

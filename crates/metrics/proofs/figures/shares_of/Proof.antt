@@ -15,10 +15,10 @@ use Rattle.metrics.specs.Private.Tables.{Follows, Linked, Tells, lateOnl
 use Rattle.metrics.specs.Private.Steps.{partsOf}
 use borrow.Author.Needs.{needs}
 use Rattle.metrics.proofs.Follow.{count-le}
-use Rattle.metrics.proofs.Noted.{noting, noted-follows}
+use Rattle.metrics.proofs.NotingArrivals.{noting, noted-follows}
 use Rattle.metrics.proofs.Running.{linked-start, links-laid, linked-next}
-use Rattle.metrics.proofs.Told.{told}
-use Rattle.metrics.proofs.Passes.{answersTo, follows-start, answers-start, answers-end, answers-length, parts-none, parts-fewer, parts-next}
+use Rattle.metrics.proofs.AnswersByClass.{told}
+use Rattle.metrics.proofs.OneArrivalMore.{answersTo, follows-start, answers-start, answers-end, answers-length, parts-none, parts-fewer, parts-next}
 use Rattle.metrics.proofs.figures.shares_of.Statement.{statement}
 use Rattle.metrics.proofs.figures.shares_of.Tie as tie
 

@@ -4,7 +4,7 @@ use native.Mathlib.Omega.{arith}
 use denote.Ref.{now}
 use Rattle.sample.specs.Decode.{decode}
 use Rattle.metrics.specs.Figures.{recordRefusal}
-use Rattle.metrics.proofs.Asked.{laid-record, record-laid, gap-answered-refused, gap-copy, place-few, gap-placed}
+use Rattle.metrics.proofs.RecordsAsked.{laid-record, record-laid, gap-answered-refused, gap-copy, place-few, gap-placed}
 use borrow.Author.Needs.{needs}
 use Rattle.metrics.proofs.gaps.gap_of.Statement.{statement}
 use Rattle.metrics.proofs.gaps.gap_of.Tie as tie

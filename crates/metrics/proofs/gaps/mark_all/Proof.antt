@@ -8,18 +8,18 @@ use denote.Ref.{now}
 use Rattle.sample.specs.Decode.{decode}
 use Rattle.metrics.specs.Private.Sample.{before, answerAt, Has}
 use Rattle.metrics.specs.Private.Tables.{Follows, Tells}
-use Rattle.metrics.specs.Private.Steps.{placeIn, Marked}
+use Rattle.metrics.specs.Private.Steps.{placeIn, DiscoverersAt}
 use borrow.Author.Needs.{needs}
 use Rattle.metrics.proofs.Follow.{count-le}
-use Rattle.metrics.proofs.Noted.{noting, noted-follows}
-use Rattle.metrics.proofs.Told.{told, place-told}
-use Rattle.metrics.proofs.Passes.{answersTo, follows-start, answers-end, inside-told, marked-start, marked-next}
+use Rattle.metrics.proofs.NotingArrivals.{noting, noted-follows}
+use Rattle.metrics.proofs.AnswersByClass.{told, place-told}
+use Rattle.metrics.proofs.OneArrivalMore.{answersTo, follows-start, answers-end, inside-told, marked-start, marked-next}
 use Rattle.metrics.proofs.gaps.mark_all.Statement.{statement}
 use Rattle.metrics.proofs.gaps.mark_all.Tie as tie
 
 abbrev Inv-loop : tie.InvT-loop
 Inv-loop file y asked found₀ numbers₀ records₀ skipped₀ state₀ position₀ i₀ found numbers records skipped state position i =
-    (i ≤ y .arrivals) × Follows (before (decode file) i) numbers records skipped state × Marked (answersTo (decode file) i) found
+    (i ≤ y .arrivals) × Follows (before (decode file) i) numbers records skipped state × DiscoverersAt (answersTo (decode file) i) found
     × (asked ≤ i → position ≡ placeIn (answerAt (decode file) (asked - 1)))
 
 abbrev μ-loop : tie.MeasureT-loop

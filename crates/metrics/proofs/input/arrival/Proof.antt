@@ -5,7 +5,7 @@ use mathlib.Core.Path.{ap, _∙_}
 use denote.Ref.{now}
 use Rattle.octets.proofs.Memory.{taken}
 use Rattle.sample.specs.Decode.{arrivalIn}
-use Rattle.metrics.proofs.Places.{arrival-inside, arrival-read}
+use Rattle.metrics.proofs.FoundInFile.{arrival-inside, arrival-read}
 use borrow.Author.Needs.{needs}
 use Rattle.metrics.proofs.input.arrival.Statement.{statement}
 use Rattle.metrics.proofs.input.arrival.Tie as tie

@@ -1,5 +1,5 @@
 -- `layout` gives what the check finds. Assumes nothing.
-use Rattle.metrics.proofs.Places.{laid}
+use Rattle.metrics.proofs.FoundInFile.{laid}
 use borrow.Author.Needs.{needs}
 use Rattle.metrics.proofs.input.layout.Statement.{statement}
 use Rattle.metrics.proofs.input.layout.Tie as tie

@@ -1,6 +1,6 @@
 -- `size` reads what stands in the file. Assumes nothing.
 use mathlib.Core.Path.{_∙_}
-use Rattle.metrics.proofs.Places.{size-stands}
+use Rattle.metrics.proofs.FoundInFile.{size-stands}
 use native.Mathlib.Omega.{arith}
 use borrow.Author.Needs.{needs}
 use Rattle.metrics.proofs.input.size.Statement.{statement}

@@ -2,7 +2,7 @@
 -- Assumes nothing.
 use Prim.Native.Nat.{_≤_}
 use native.Mathlib.Omega.{arith}
-use Rattle.metrics.proofs.Told.{late-place, late-packet, late-record, late-answer}
+use Rattle.metrics.proofs.AnswersByClass.{late-place, late-packet, late-record, late-answer}
 use borrow.Author.Needs.{needs}
 use Rattle.metrics.proofs.look.reordered.Statement.{statement}
 use Rattle.metrics.proofs.look.reordered.Tie as tie

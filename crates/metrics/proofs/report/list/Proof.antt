@@ -20,7 +20,7 @@ use Rattle.metrics.specs.Private.Engine.{Running}
 use Rattle.metrics.specs.Private.Steps.{countsBy}
 use Rattle.metrics.specs.Report.{sampleText}
 use Rattle.metrics.proofs.Running.{running-start}
-use Rattle.metrics.proofs.Passes.{answersTo, answers-start, answers-length, answers-next, counts-none, counts-small, counts-more}
+use Rattle.metrics.proofs.OneArrivalMore.{answersTo, answers-start, answers-length, answers-next, counts-none, counts-small, counts-more}
 use Rattle.metrics.proofs.Listed.{ListedAt, lines-within, sample-within, listing-start, listing-next, listing-end}
 use Rattle.metrics.proofs.report.list.Statement.{statement}
 use Rattle.metrics.proofs.report.list.Tie as tie

@@ -7,7 +7,7 @@ use denote.Ref.{now}
 use lib.ListN.{length}
 use mir.Syntax.{w8}
 use Rattle.octets.proofs.Below.{below-fits}
-use Rattle.sample.specs.Decode.{decode, refusalOf}
+use Rattle.sample.specs.Decode.{decode, decodedRefusal}
 use Rattle.sample.specs.declared.Layout.{Layout}
 use Rattle.metrics.specs.Report.{sampleText}
 use Rattle.metrics.proofs.Listed.{sample-within, refused-own, refused-short, refused-none}
@@ -15,7 +15,7 @@ use Rattle.metrics.proofs.report.refusal_into.Statement.{statement}
 use Rattle.metrics.proofs.report.refusal_into.Tie as tie
 
 -- the file's own refusal
-own : (c : tie.Start) → c .args .y .refusal ≡ refusalOf (decode (now (c .args .file)))
+own : (c : tie.Start) → c .args .y .refusal ≡ decodedRefusal (decode (now (c .args .file)))
 own c = ap (λ (y : Layout). y .refusal) (c .pre .laid)
 
 returns : tie.Need-returns

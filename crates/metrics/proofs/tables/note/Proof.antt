@@ -1,7 +1,7 @@
 -- `note` keeps the tables along with the arrivals: a copy leaves them, a reordered packet adds its number and record and its largest n,
 -- and an in-order one marks the packets that it skips besides. Assumes nothing.
 use native.Mathlib.Omega.{arith}
-use Rattle.metrics.proofs.Noted.{noting-few, noted-copy, noted-reordered, noted-in-order}
+use Rattle.metrics.proofs.NotingArrivals.{noting-few, noted-copy, noted-reordered, noted-in-order}
 use borrow.Author.Needs.{needs}
 use Rattle.metrics.proofs.tables.note.Statement.{statement}
 use Rattle.metrics.proofs.tables.note.Tie as tie

@@ -14,7 +14,7 @@ use Rattle.sample.specs.Decode.{decode}
 use Rattle.metrics.specs.Sample.{sizeOf}
 use Rattle.metrics.specs.Private.Tables.{Numbered}
 use Rattle.metrics.specs.Private.Engine.{Totalled}
-use Rattle.metrics.proofs.Within.{size-most}
+use Rattle.metrics.proofs.DigitBounds.{size-most}
 use Rattle.metrics.proofs.Pairs.{total-small, totalled-more}
 use Rattle.metrics.proofs.totals.fill.Statement.{statement}
 use Rattle.metrics.proofs.totals.fill.Tie as tie

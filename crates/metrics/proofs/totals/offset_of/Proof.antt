@@ -7,7 +7,7 @@ use mir.Syntax.{w8}
 use Rattle.octets.proofs.Below.{below-fits}
 use Rattle.sample.specs.Decode.{decode}
 use Rattle.metrics.specs.Sample.{sizeOf}
-use Rattle.metrics.proofs.Within.{size-most}
+use Rattle.metrics.proofs.DigitBounds.{size-most}
 use Rattle.metrics.proofs.Pairs.{total-sum, offset-summed}
 use borrow.Author.Needs.{needs}
 use Rattle.metrics.proofs.totals.offset_of.Statement.{statement}

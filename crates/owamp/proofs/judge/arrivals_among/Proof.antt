@@ -5,13 +5,13 @@ use Prim.Native.Nat.{_-_, _≤_}
 use mathlib.Core.Path.{_≡_, refl}
 use lib.ListN.{length, take}
 use denote.Ref.{now}
-use Rattle.owamp.specs.Record.{recordCount, recordsIn, passing, arrived}
+use Rattle.owamp.specs.Record.{recordCount, recordsIn, passing, isArrival}
 use Rattle.owamp.proofs.Reading.{count-next, count-done, arrived-at-most}
 use Rattle.owamp.proofs.judge.arrivals_among.Statement.{statement}
 use Rattle.owamp.proofs.judge.arrivals_among.Tie as tie
 
 abbrev Inv-loop : tie.InvT-loop
-Inv-loop records count n₀ i₀ n i = (i ≤ recordCount records) × (n ≤ i) × (n ≡ length (passing arrived (take i (recordsIn records))))
+Inv-loop records count n₀ i₀ n i = (i ≤ recordCount records) × (n ≤ i) × (n ≡ length (passing isArrival (take i (recordsIn records))))
 
 abbrev μ-loop : tie.MeasureT-loop
 μ-loop records count n₀ i₀ n i = recordCount records - i

@@ -7,20 +7,20 @@ use borrow.Author.Tests.{eq-eqb, ne-eqb}
 use mathlib.Core.Bool.{true, false}
 use Rattle.rfc4737.specs.Refusals.{outside}
 use Rattle.owamp.specs.Record.{arrivalsIn}
-use Rattle.owamp.specs.Judge.{refusalIn, judgeNumbers}
+use Rattle.owamp.specs.Judge.{recordsRefusal, judgeNumbers}
 use Rattle.rfc4737.proofs.Due.{first-one}
 use Rattle.owamp.proofs.judge.refusal_in.Statement.{statement}
 use Rattle.owamp.proofs.judge.refusal_in.Tie as tie
 
 returns : tie.Need-returns
-unfolding refusalIn
+unfolding recordsRefusal
 returns c = simp (ne-eqb _ _ (c .if1 .taken))
 
 outside-requires : tie.Need-outside-requires
 outside-requires c κs = search needs
 
 returns-2 : tie.Need-returns-2
-unfolding refusalIn
+unfolding recordsRefusal
 returns-2 c =
     let h = sym (c .before .outside .ensures) ∙ c .if2 .taken in
     simp (eq-eqb _ _ (c .before .before .if1 .left), h)
@@ -29,7 +29,7 @@ outside-requires-2 : tie.Need-outside-requires-2
 outside-requires-2 c κs = search needs
 
 returns-3 : tie.Need-returns-3
-unfolding refusalIn
+unfolding recordsRefusal
 returns-3 c =
     let a = c .before .before .before .before .before .before in
     let h = sym (c .before .before .before .outside .ensures) ∙ c .before .before .if2 .left in
@@ -40,7 +40,7 @@ judge-numbers-requires : tie.Need-judge-numbers-requires
 judge-numbers-requires c κs = search needs
 
 returns-4 : tie.Need-returns-4
-unfolding refusalIn
+unfolding recordsRefusal
 returns-4 c =
     let a = c .before .before .before .before .before .before .before in
     let h = sym (c .before .before .before .before .outside .ensures) ∙ c .before .before .before .if2 .left in

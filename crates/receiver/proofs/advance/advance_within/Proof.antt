@@ -6,9 +6,9 @@ use native.Mathlib.Omega.{arith}
 use borrow.Author.Needs.{needs}
 use Rattle.receiver.specs.declared.Receiver.{Receiver}
 use Rattle.receiver.specs.Private.Parts.{whole}
-use Rattle.receiver.specs.Private.Decision.{Unrefused, Small}
-use Rattle.receiver.proofs.Steps.{said-accepted, step-refused, step-noted}
-use Rattle.receiver.proofs.Written.{duplicate-written, in-order-written, jump-written, late-written}
+use Rattle.receiver.specs.Private.Decision.{Unrefused, NoOverflow}
+use Rattle.receiver.proofs.StepCases.{said-accepted, step-refused, step-noted}
+use Rattle.receiver.proofs.StatesWritten.{duplicate-written, in-order-written, jump-written, late-written}
 use Rattle.receiver.proofs.advance.advance_within.Statement.{statement}
 use Rattle.receiver.proofs.advance.advance_within.Tie as tie
 
@@ -17,7 +17,7 @@ abbrev stateAt : tie.Start → Receiver
 stateAt c = whole (c .args .s) (c .args .marks .now) (c .args .positions .now) (c .args .numbers .now) (c .args .times .now)
 
 -- fit numbers are small
-small-stream : {r : Receiver} {number : ℕ} → Unrefused r number → Small (r .stream)
+small-stream : {r : Receiver} {number : ℕ} → Unrefused r number → NoOverflow (r .stream)
 small-stream a =
     let f = a .stream in
     record {

@@ -4,11 +4,11 @@ use mathlib.Core.List.{[]}
 use native.Mathlib.Omega.{arith}
 use borrow.Author.Needs.{needs}
 use Rattle.receiver.specs.declared.Receiver.{Receiver}
-use Rattle.receiver.specs.Step.{refusalOf}
+use Rattle.receiver.specs.Step.{stepRefusal}
 use Rattle.receiver.specs.Fit.{fit}
 use Rattle.receiver.specs.Private.Parts.{whole}
 use Rattle.receiver.specs.Private.Decision.{Unrefused}
-use Rattle.receiver.proofs.Steps.{accepted-facts, outcome-refused, outcome-duplicate, outcome-in-order, outcome-late}
+use Rattle.receiver.proofs.StepCases.{accepted-facts, outcome-refused, outcome-duplicate, outcome-in-order, outcome-late}
 use Rattle.receiver.proofs.decide.decide.Statement.{statement}
 use Rattle.receiver.proofs.decide.decide.Tie as tie
 
@@ -17,8 +17,8 @@ abbrev stateAt : tie.Start → Receiver
 stateAt c = whole (c .args .s) (c .args .marks .now) (c .args .positions .now) (c .args .numbers .now) (c .args .times .now)
 
 -- past the first test there is no refusal
-no-refusal : (c : tie.Else1) → refusalOf (stateAt (c .before .before)) (c .before .before .args .number) (c .before .before .args .time) ≡ 0
-unfolding refusalOf fit
+no-refusal : (c : tie.Else1) → stepRefusal (stateAt (c .before .before)) (c .before .before .args .number) (c .before .before .args .time) ≡ 0
+unfolding stepRefusal fit
 no-refusal c = sym (c .before .refusal-of .ensures) ∙ c .if1 .left
 
 -- so what an accepted arrival has holds, whatever the marks
@@ -30,7 +30,7 @@ refusal-of-requires : tie.Need-refusal-of-requires
 refusal-of-requires c κs = search needs
 
 returns : tie.Need-returns
-unfolding refusalOf fit
+unfolding stepRefusal fit
 returns c =
     let s = c .before .before in
     outcome-refused (stateAt s) (s .args .number) (s .args .time) _ (c .if1 .taken) (c .before .refusal-of .ensures)

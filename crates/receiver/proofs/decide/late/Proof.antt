@@ -5,7 +5,7 @@ use lib.ListN.{getD}
 use Rattle.receiver.specs.Private.Parts.{placesOf}
 use Rattle.receiver.specs.Kept.{placeAt, Held, heldOf, keptOf}
 use Rattle.receiver.proofs.Search.{search-found, search-none}
-use Rattle.receiver.proofs.Steps.{late-none, late-beyond, late-exact, after-place, oldest-kept}
+use Rattle.receiver.proofs.StepCases.{late-none, late-beyond, late-exact, after-place, oldest-kept}
 use Rattle.receiver.proofs.decide.late.Statement.{statement}
 use Rattle.receiver.proofs.decide.late.Tie as tie
 

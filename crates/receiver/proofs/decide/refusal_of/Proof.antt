@@ -6,7 +6,7 @@ use native.Mathlib.Omega.{arith}
 use borrow.Author.Tests.{not-true, not-false, eq-eqb, ne-eqb, le-leb, lt-leb}
 use borrow.Author.Needs.{needs}
 use Rattle.receiver.specs.Private.Parts.{placesOf}
-use Rattle.receiver.specs.Step.{refusalOf}
+use Rattle.receiver.specs.Step.{stepRefusal}
 use Rattle.receiver.specs.Fit.{streamFit, placesFit, fit}
 use Rattle.receiver.proofs.Fits.{stream-facts}
 use Rattle.receiver.proofs.decide.refusal_of.Statement.{statement}
@@ -25,7 +25,7 @@ stream-fit-requires : tie.Need-stream-fit-requires
 stream-fit-requires c κs = search needs
 
 returns : tie.Need-returns
-unfolding refusalOf fit
+unfolding stepRefusal fit
 returns c = simp (sym (c .before .stream-fit .ensures) ∙ not-true _ (c .if1 .taken))
 
 places-fit-requires : tie.Need-places-fit-requires
@@ -34,7 +34,7 @@ places-fit-requires c κs =
     (h .sent-high, omega (arith, h .arrived-high, h .sent-high))
 
 returns-2 : tie.Need-returns-2
-unfolding refusalOf fit
+unfolding stepRefusal fit
 returns-2 c =
     let f = sym (c .before .before .before .stream-fit .ensures) ∙ not-false _ (c .before .before .if1 .left) in
     let p = sym (c .before .places-fit .ensures) ∙ not-true _ (c .if2 .taken) in
@@ -46,14 +46,14 @@ add-if3 c =
     record { fits = omega (arith, h .accepted-high) }
 
 returns-3 : tie.Need-returns-3
-unfolding refusalOf fit
+unfolding stepRefusal fit
 returns-3 c =
     let f = stream-known (c .before .before) in
     let p = places-known (c .before .before) in
     simp (f, p, eq-eqb _ _ (c .if3 .taken))
 
 returns-4 : tie.Need-returns-4
-unfolding refusalOf fit
+unfolding stepRefusal fit
 returns-4 c =
     let f = stream-known (c .before .before .before) in
     let p = places-known (c .before .before .before) in
@@ -61,7 +61,7 @@ returns-4 c =
     simp (f, p, ne-eqb _ _ (c .before .if3 .left), lt-leb _ _ low)
 
 returns-5 : tie.Need-returns-5
-unfolding refusalOf fit
+unfolding stepRefusal fit
 returns-5 c =
     let f = stream-known (c .before .before .before .before .before) in
     let p = places-known (c .before .before .before .before .before) in
@@ -72,7 +72,7 @@ too-early-requires : tie.Need-too-early-requires
 too-early-requires c κs = search needs
 
 returns-6 : tie.Need-returns-6
-unfolding refusalOf fit
+unfolding stepRefusal fit
 returns-6 c =
     let f = stream-known (c .before .before .before .before .before .before .before) in
     let p = places-known (c .before .before .before .before .before .before .before) in
@@ -80,7 +80,7 @@ returns-6 c =
     simp (f, p, ne-eqb _ _ (c .before .before .before .before .before .if3 .left), le-leb _ _ low, le-leb _ _ (c .before .before .if5 .left), sym (c .before .too-early .ensures) ∙ c .if6 .taken)
 
 returns-7 : tie.Need-returns-7
-unfolding refusalOf fit
+unfolding stepRefusal fit
 returns-7 c =
     let f = stream-known (c .before .before .before .before .before .before .before) in
     let p = places-known (c .before .before .before .before .before .before .before) in

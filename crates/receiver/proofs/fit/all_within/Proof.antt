@@ -5,7 +5,7 @@ use mathlib.Core.Path.{_≡_, refl}
 use borrow.Author.Needs.{needs}
 use Rattle.rfc4737.specs.Refusals.{within}
 use Rattle.receiver.specs.Private.Decision.{firstPass}
-use Rattle.receiver.proofs.Passes.{pass-none, pass-more, pass-done}
+use Rattle.receiver.proofs.FitTests.{pass-none, pass-more, pass-done}
 use Rattle.receiver.proofs.fit.all_within.Statement.{statement}
 use Rattle.receiver.proofs.fit.all_within.Tie as tie
 

@@ -3,14 +3,14 @@
 use Prim.Native.Nat.{_-_, _≤_}
 use mathlib.Core.Path.{_≡_, refl}
 use borrow.Author.Needs.{needs}
-use Rattle.receiver.specs.Private.Decision.{upTo}
+use Rattle.receiver.specs.Private.Decision.{notAfter}
 use Rattle.receiver.specs.Private.Decision.{firstPass}
-use Rattle.receiver.proofs.Passes.{pass-none, pass-more, pass-done}
+use Rattle.receiver.proofs.FitTests.{pass-none, pass-more, pass-done}
 use Rattle.receiver.proofs.fit.none_after.Statement.{statement}
 use Rattle.receiver.proofs.fit.none_after.Tie as tie
 
 abbrev Inv-loop : tie.InvT-loop
-Inv-loop times count greatest fit₀ i₀ fit i = (i ≤ count) × (fit ≡ firstPass (upTo greatest) times i)
+Inv-loop times count greatest fit₀ i₀ fit i = (i ≤ count) × (fit ≡ firstPass (notAfter greatest) times i)
 
 abbrev μ-loop : tie.MeasureT-loop
 μ-loop times count greatest fit₀ i₀ fit i = count - i

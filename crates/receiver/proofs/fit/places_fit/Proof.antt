@@ -5,7 +5,7 @@ use native.Mathlib.Omega.{arith}
 use borrow.Author.Needs.{needs}
 use borrow.Author.Tests.{not-true, not-false}
 use Rattle.receiver.proofs.Fits.{places-false}
-use Rattle.receiver.proofs.Passes.{positions-unfit, numbers-unfit, times-decide}
+use Rattle.receiver.proofs.FitTests.{positions-unfit, numbers-unfit, times-decide}
 use Rattle.receiver.proofs.fit.places_fit.Statement.{statement}
 use Rattle.receiver.proofs.fit.places_fit.Tie as tie
 

@@ -1,6 +1,6 @@
 -- `receiver::numbers::after_in_order` meets its contract, field by field. Assumes nothing.
 use Rattle.receiver.specs.Step.{inOrderStream}
-use Rattle.receiver.proofs.Written.{kept-counted, dropped-known}
+use Rattle.receiver.proofs.StatesWritten.{kept-counted, dropped-known}
 use borrow.Author.Needs.{needs}
 use Rattle.receiver.proofs.numbers.after_in_order.Statement.{statement}
 use Rattle.receiver.proofs.numbers.after_in_order.Tie as tie

@@ -7,7 +7,7 @@ use mathlib.Core.Path.{_≡_, refl, ap, sym, _∙_}
 use lib.ListN.{length, getD, drop}
 use denote.Ref.{now}
 use Rattle.rfc4737.specs.declared.Arrival.{Arrival}
-use Rattle.rfc4737.specs.Judge.{arrivalsOf, judge}
+use Rattle.rfc4737.specs.Judge.{arrivalsFrom, judge}
 use Rattle.rfc4737.proofs.Pairs.{arrivals-length, arrivals-getD}
 use Rattle.rfc4737.proofs.Judged.{judge-stop, judge-next, judge-done}
 use Rattle.rfc4737.proofs.judge.judge_lists.Statement.{statement}
@@ -19,14 +19,14 @@ none = record { number = 0; time = 0 }
 
 abbrev Inv-loop : tie.InvT-loop
 Inv-loop k numbers times reference₀ i₀ reference i =
-    (i ≤ length numbers) × (judge k 0 (arrivalsOf numbers times) ≡ judge k reference (drop i (arrivalsOf numbers times)))
+    (i ≤ length numbers) × (judge k 0 (arrivalsFrom numbers times) ≡ judge k reference (drop i (arrivalsFrom numbers times)))
 
 abbrev μ-loop : tie.MeasureT-loop
 μ-loop k numbers times reference₀ i₀ reference i =
     length numbers - i
 
 -- in a turn there is an arrival at i
-turn : (c : tie.In-loop Inv-loop μ-loop) → c .before .loop .i < length (arrivalsOf (now (c .before .before .before .before .args .numbers)) (now (c .before .before .before .before .args .times)))
+turn : (c : tie.In-loop Inv-loop μ-loop) → c .before .loop .i < length (arrivalsFrom (now (c .before .before .before .before .args .numbers)) (now (c .before .before .before .before .args .times)))
 turn c =
     let a = c .before .before .before .before .args in
     let e = arrivals-length (now (a .numbers)) (now (a .times)) (search needs) in
@@ -59,7 +59,7 @@ returns : tie.Need-returns Inv-loop μ-loop
 returns c =
     let l = c .before .before .before .before .before in
     let a = l .before .before .before .args in
-    judge-stop (a .k) (arrivalsOf (now (a .numbers)) (now (a .times))) (l .loop .reference) (l .loop .i) none
+    judge-stop (a .k) (arrivalsFrom (now (a .numbers)) (now (a .times))) (l .loop .reference) (l .loop .i) none
     (record { number = getD (now (a .numbers)) (l .loop .i) 0; time = getD (now (a .times)) (l .loop .i) 0 })
     (turn (c .before .before .before .before)) (arrivals-getD (now (a .numbers)) (now (a .times)) (l .loop .i) none (search needs) (c .before .before .before .before .loop-test .taken)) (l .loop .inv .1)
     (c .before .judge-one .result) (c .before .judge-one .ensures) (c .if1 .taken)
@@ -78,18 +78,18 @@ loop-again c =
     let l = c .before .before .before .before .before .before in
     let a = l .before .before .before .args in (
       search needs,
-      judge-next (a .k) (arrivalsOf (now (a .numbers)) (now (a .times))) (l .loop .reference) (l .loop .i) none
+      judge-next (a .k) (arrivalsFrom (now (a .numbers)) (now (a .times))) (l .loop .reference) (l .loop .i) none
           (record { number = getD (now (a .numbers)) (l .loop .i) 0; time = getD (now (a .times)) (l .loop .i) 0 })
           (turn (c .before .before .before .before .before)) (arrivals-getD (now (a .numbers)) (now (a .times)) (l .loop .i) none (search needs) (c .before .before .before .before .before .loop-test .taken)) (l .loop .inv .1)
           (c .before .before .judge-one .result) (c .before .before .judge-one .ensures) (c .before .if1 .left)
-          ∙ ap (λ (r : ℕ). judge (a .k) r (drop (l .loop .i + 1) (arrivalsOf (now (a .numbers)) (now (a .times))))) (sym (c .next-reference .ensures)),
+          ∙ ap (λ (r : ℕ). judge (a .k) r (drop (l .loop .i + 1) (arrivalsFrom (now (a .numbers)) (now (a .times))))) (sym (c .next-reference .ensures)),
     )
 
 returns-2 : tie.Need-returns-2 Inv-loop μ-loop
 returns-2 c =
     let a = c .before .before .before .before .args in
     let e = arrivals-length (now (a .numbers)) (now (a .times)) (search needs) in
-    judge-done (a .k) (arrivalsOf (now (a .numbers)) (now (a .times))) (c .before .loop .reference) (c .before .loop .i) (omega arith) (c .before .loop .inv .1)
+    judge-done (a .k) (arrivalsFrom (now (a .numbers)) (now (a .times))) (c .before .loop .reference) (c .before .loop .i) (omega arith) (c .before .loop .inv .1)
 
 pub judge-lists-spec : {M : Type 1} → statement M
 judge-lists-spec =

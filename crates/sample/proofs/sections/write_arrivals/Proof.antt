@@ -10,7 +10,7 @@ use denote.Ref.{now}
 use Rattle.rfc4737.specs.declared.Arrival.{Arrival}
 use Rattle.octets.specs.Memory.{splice}
 use Rattle.octets.proofs.Memory.{taken}
-use Rattle.rfc4737.specs.Judge.{arrivalsOf}
+use Rattle.rfc4737.specs.Judge.{arrivalsFrom}
 use Rattle.sample.specs.Format.{itemOctets, arrivalOctets}
 use Rattle.rfc4737.proofs.Pairs.{arrivals-length}
 use Rattle.sample.proofs.Items.{arrival-long, octets-many}
@@ -24,7 +24,7 @@ none = record { number = 0; time = 0 }
 
 abbrev Inv-loop : tie.InvT-loop
 Inv-loop numbers times out₀ at i₀ out i =
-    (i ≤ length numbers) × (out ≡ splice (at + 2) (itemOctets arrivalOctets (take i (arrivalsOf numbers times))) out₀)
+    (i ≤ length numbers) × (out ≡ splice (at + 2) (itemOctets arrivalOctets (take i (arrivalsFrom numbers times))) out₀)
 
 abbrev μ-loop : tie.MeasureT-loop
 μ-loop numbers times out₀ at i₀ out i =
@@ -33,7 +33,7 @@ abbrev μ-loop : tie.MeasureT-loop
 -- there is room for all arrivals
 room : (c : tie.At-loop Inv-loop μ-loop)
     → c .before .before .before .before .before .before .before .before .args .at + 2
-    + 12 * length (arrivalsOf (now (c .before .before .before .before .before .before .before .before .args .numbers)) (now (c .before .before .before .before .before .before .before .before .args .times)))
+    + 12 * length (arrivalsFrom (now (c .before .before .before .before .before .before .before .before .args .numbers)) (now (c .before .before .before .before .before .before .before .before .args .times)))
     ≤ length (c .before .before .before .put-number .last .0)
 room c =
     let a = c .before .before .before .before .before .before .before .before .args in
@@ -46,7 +46,7 @@ kept : (c : tie.At-loop Inv-loop μ-loop) → length (c .loop .out) ≡ length (
 kept c =
     let a = c .before .before .before .before .before .before .before .before .args in
     let n = arrivals-length (now (a .numbers)) (now (a .times)) (search needs) in
-    write-length arrivalOctets 12 arrival-long (arrivalsOf (now (a .numbers)) (now (a .times))) (a .at + 2) (c .before .before .before .put-number .last .0) (room c) (c .loop .i) (c .loop .inv .1) (omega arith)
+    write-length arrivalOctets 12 arrival-long (arrivalsFrom (now (a .numbers)) (now (a .times))) (a .at + 2) (c .before .before .before .put-number .last .0) (room c) (c .loop .i) (c .loop .inv .1) (omega arith)
 
 put-number-requires : tie.Need-put-number-requires Inv-loop μ-loop
 put-number-requires c κs = search needs
@@ -56,7 +56,7 @@ loop-holds c =
     let a = c .before .before .before .before .before .before .before .args in
     let k = c .before .before .put-number .kept .0 in
     let n = arrivals-length (now (a .numbers)) (now (a .times)) (search needs) in
-    (search needs, write-start arrivalOctets 12 arrival-long (arrivalsOf (now (a .numbers)) (now (a .times))) (a .at + 2) (c .before .before .put-number .last .0) (omega arith))
+    (search needs, write-start arrivalOctets 12 arrival-long (arrivalsFrom (now (a .numbers)) (now (a .times))) (a .at + 2) (c .before .before .put-number .last .0) (omega arith))
 
 add-start : tie.Need-add-start Inv-loop μ-loop
 add-start c = search needs
@@ -120,7 +120,7 @@ loop-again c =
     let lent : List ℕ = taken (a .at + 2 + 12 * l .loop .i) 12 (l .loop .out) in
     let m : length lent ≡ a .at + 2 + 12 * l .loop .i + 12 - (a .at + 2 + 12 * l .loop .i) = c .before .before .before .before .before .before .before .before .before .arrival .given .2 in (
       search needs,
-      write-next arrivalOctets 12 arrival-long (arrivalsOf (now (a .numbers)) (now (a .times))) (a .at + 2) (l .before .before .before .put-number .last .0) (room l) (l .loop .i) (l .loop .inv .1) none (omega arith)
+      write-next arrivalOctets 12 arrival-long (arrivalsFrom (now (a .numbers)) (now (a .times))) (a .at + 2) (l .before .before .before .put-number .last .0) (room l) (l .loop .i) (l .loop .inv .1) none (omega arith)
           (arrival-put (now (a .numbers)) (now (a .times)) (l .loop .i) none lent (search needs) (omega arith) (omega arith)
           (c .before .before .before .before .before .before .put-number2 .ensures .0) (c .before .before .put-number3 .ensures .0)),
     )
@@ -134,9 +134,9 @@ returns c =
     let l = c .before in
     let a = l .before .before .before .before .before .before .before .before .args in
     let k = arrivals-length (now (a .numbers)) (now (a .times)) (search needs) in
-    let n = octets-many arrivalOctets 12 arrival-long (arrivalsOf (now (a .numbers)) (now (a .times))) in
-    section-done (a .at) (length (now (a .numbers))) (itemOctets arrivalOctets (arrivalsOf (now (a .numbers)) (now (a .times)))) (now (a .out)) (omega arith) (l .before .before .before .put-number .ensures .0)
-    (write-done arrivalOctets 12 arrival-long (arrivalsOf (now (a .numbers)) (now (a .times))) (a .at + 2) (l .before .before .before .put-number .last .0) (room l) (l .loop .i) (l .loop .inv .1) (omega arith))
+    let n = octets-many arrivalOctets 12 arrival-long (arrivalsFrom (now (a .numbers)) (now (a .times))) in
+    section-done (a .at) (length (now (a .numbers))) (itemOctets arrivalOctets (arrivalsFrom (now (a .numbers)) (now (a .times)))) (now (a .out)) (omega arith) (l .before .before .before .put-number .ensures .0)
+    (write-done arrivalOctets 12 arrival-long (arrivalsFrom (now (a .numbers)) (now (a .times))) (a .at + 2) (l .before .before .before .put-number .last .0) (room l) (l .loop .i) (l .loop .inv .1) (omega arith))
 
 pub write-arrivals-spec : {M : Type 1} → statement M
 write-arrivals-spec =

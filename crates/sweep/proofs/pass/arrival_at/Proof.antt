@@ -5,7 +5,7 @@ use mathlib.Core.Path.{ap, _∙_}
 use denote.Ref.{now}
 use Rattle.octets.proofs.Memory.{taken}
 use Rattle.sample.specs.Decode.{arrivalIn}
-use Rattle.metrics.proofs.Places.{arrival-inside, arrival-read}
+use Rattle.metrics.proofs.FoundInFile.{arrival-inside, arrival-read}
 use borrow.Author.Needs.{needs}
 use Rattle.sweep.proofs.pass.arrival_at.Statement.{statement}
 use Rattle.sweep.proofs.pass.arrival_at.Tie as tie

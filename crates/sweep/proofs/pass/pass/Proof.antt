@@ -4,7 +4,7 @@ use Prim.Native.Nat.{_-_}
 use native.Mathlib.Omega.{arith}
 use Rattle.sample.specs.Decode.{decode}
 use Rattle.sweep.specs.Swept.{lent}
-use Rattle.sweep.proofs.Passes.{Till, till-start, till-room, till-positioned, till-next, till-end, table-length, flags-length, positions-length, extents-length, lates-length}
+use Rattle.sweep.proofs.PassInvariant.{Till, till-start, till-room, till-positioned, till-next, till-end, table-length, flags-length, positions-length, extents-length, lates-length}
 use Rattle.sweep.proofs.pass.pass.Statement.{statement}
 use Rattle.sweep.proofs.pass.pass.Tie as tie
 

@@ -6,7 +6,7 @@ use mathlib.Core.Path.{_≡_, refl, ap, _∙_}
 use borrow.Author.Needs.{needs}
 use lib.ListN.{length, take}
 use denote.Ref.{now}
-use Rattle.rfc4737.specs.Judge.{arrivalsOf}
+use Rattle.rfc4737.specs.Judge.{arrivalsFrom}
 use Rattle.sample.specs.Format.{itemOctets}
 use Rattle.textlog.specs.Form.{logOf}
 use Rattle.textlog.proofs.Written.{long-next, log-all}
@@ -15,7 +15,7 @@ use Rattle.textlog.proofs.writing.log_length.Tie as tie
 
 abbrev Inv-loop : tie.InvT-loop
 Inv-loop numbers times total₀ i₀ total i =
-    (i ≤ length numbers) × (total ≡ length (logOf (take i (arrivalsOf numbers times)))) × (total ≤ 46 * i)
+    (i ≤ length numbers) × (total ≡ length (logOf (take i (arrivalsFrom numbers times)))) × (total ≤ 46 * i)
 
 abbrev μ-loop : tie.MeasureT-loop
 μ-loop numbers times total₀ i₀ total i = length numbers - i

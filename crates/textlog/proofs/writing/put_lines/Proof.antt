@@ -9,7 +9,7 @@ use lib.ListN.{length, take, getD}
 use denote.Ref.{now}
 use Rattle.octets.specs.Memory.{over, put}
 use Rattle.octets.proofs.Memory.{put-over, over-length}
-use Rattle.rfc4737.specs.Judge.{arrivalsOf}
+use Rattle.rfc4737.specs.Judge.{arrivalsFrom}
 use Rattle.sample.specs.Format.{itemOctets}
 use Rattle.textlog.specs.Form.{lineOf, logOf}
 use Rattle.textlog.proofs.Written.{log-part, log-next, long-next, log-all}
@@ -19,8 +19,8 @@ use Rattle.textlog.proofs.writing.put_lines.Tie as tie
 abbrev Inv-loop : tie.InvT-loop
 Inv-loop numbers times out₀ at₀ i₀ out at i =
     (i ≤ length numbers)
-    × (at ≡ length (logOf (take i (arrivalsOf numbers times))))
-    × (out ≡ over (logOf (take i (arrivalsOf numbers times))) out₀)
+    × (at ≡ length (logOf (take i (arrivalsFrom numbers times))))
+    × (out ≡ over (logOf (take i (arrivalsFrom numbers times))) out₀)
 
 abbrev μ-loop : tie.MeasureT-loop
 μ-loop numbers times out₀ at₀ i₀ out at i = length numbers - i
@@ -44,7 +44,7 @@ kept c =
     let a = c .before .before .before .before .args in
     let p = c .before .before .before .before .pre in
     let m = log-part (now (a .numbers)) (now (a .times)) (p .0) (c .loop .i) in
-    ap length (c .loop .inv .2) ∙ over-length (logOf (take (c .loop .i) (arrivalsOf (now (a .numbers)) (now (a .times))))) (now (a .out)) (omega (arith, p .1))
+    ap length (c .loop .inv .2) ∙ over-length (logOf (take (c .loop .i) (arrivalsFrom (now (a .numbers)) (now (a .times))))) (now (a .out)) (omega (arith, p .1))
 
 loop-holds : tie.Need-loop-holds Inv-loop μ-loop
 unfolding itemOctets
@@ -83,7 +83,7 @@ loop-again c =
     let x = lineOf (record { number = getD (now (a .numbers)) (l .i) 0; time = getD (now (a .times)) (l .i) 0 }) in
     let n = long-next (now (a .numbers)) (now (a .times)) (p .0) (l .i) t in
     let e = log-next (now (a .numbers)) (now (a .times)) (p .0) (l .i) t in
-    let written = logOf (take (l .i) (arrivalsOf (now (a .numbers)) (now (a .times)))) in
+    let written = logOf (take (l .i) (arrivalsFrom (now (a .numbers)) (now (a .times)))) in
     let line = c .before .before .put-line in
     let fits = room (c .before .before .before .before .before .before) in (
       search needs,

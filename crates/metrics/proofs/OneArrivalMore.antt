@@ -24,15 +24,15 @@ use Rattle.rfc4737.proofs.Arrivals.{count-more}
 use Rattle.rfc4737.proofs.Folds.{answers-more, length-answers, arrived-more, runs-more, tally-more, in-order-or-reordered, duplicate-or-first, closed-reordered, current-le, squares-le}
 use Rattle.sample.specs.declared.Layout.{Layout}
 use Rattle.sample.specs.Decode.{Decoded}
-use Rattle.metrics.specs.Sample.{sizeOf, arrivalsOf, answersOf}
+use Rattle.metrics.specs.Sample.{sizeOf, sampleArrivals, answersOf}
 use Rattle.metrics.specs.Private.Sample.{arrivalAt, before, answerAt, Laid, Has}
 use Rattle.metrics.specs.Private.Tables.{Follows, Late, classOf, Tells, lateOnly}
-use Rattle.metrics.specs.Private.Steps.{Inside, Small, noCounts, countsBy, tallyBy, Fewer, noParts, partsBy, partsOf, orZero, Marked, markBy}
+use Rattle.metrics.specs.Private.Steps.{Inside, FewCounted, noCounts, countsBy, tallyBy, Fewer, noParts, partsBy, partsOf, orZero, DiscoverersAt, markBy}
 use Rattle.metrics.specs.declared.look.Class.{Class}
 use Rattle.metrics.specs.declared.figures.Parts.{Parts}
 use Rattle.metrics.specs.declared.tables.State.{State}
 use Rattle.metrics.proofs.Follow.{arrivals-laid, before-more, before-length}
-use Rattle.metrics.proofs.Told.{late-place, late-found}
+use Rattle.metrics.proofs.AnswersByClass.{late-place, late-found}
 
 -- the answers for the records before record i + 1
 abbrev pub answersTo : Decoded → ℕ → List Answer
@@ -65,7 +65,7 @@ answers-start d = refl
 
 -- after all arrivals
 pub answers-end : (d : Decoded) (y : Layout) (i : ℕ) → Laid d y → y .arrivals ≤ i → answersTo d i ≡ answersOf d
-answers-end d y i h g = ap (answers (sizeOf d)) (take-all i (arrivalsOf d) (omega (arith, arrivals-laid d y h)))
+answers-end d y i h g = ap (answers (sizeOf d)) (take-all i (sampleArrivals d) (omega (arith, arrivals-laid d y h)))
 
 -- ---- one arrival more
 
@@ -108,7 +108,7 @@ unfolding counts arrived count runs
 counts-none = refl
 
 -- the counts of fewer than 4,096 answers
-pub counts-small : (l : List Answer) → length l < 4096 → Small (counts l)
+pub counts-small : (l : List Answer) → length l < 4096 → FewCounted (counts l)
 unfolding counts
 counts-small l h =
     let a = in-order-or-reordered l in
@@ -211,7 +211,7 @@ parts-fewer low high l h =
 -- ---- discoverers of discontinuities
 
 -- among no answers
-pub marked-start : (d : Decoded) → Marked (answersTo d 0) (replicate 4097 0)
+pub marked-start : (d : Decoded) → DiscoverersAt (answersTo d 0) (replicate 4097 0)
 unfolding answers each eachAfter discoverer
 marked-start d = record { places = refl; at = λ p low high. zeros 4097 p; positive = λ p q e. absurd (Option·some-ne-none q (sym e)) }
 
@@ -255,7 +255,7 @@ discoverer-same p l a e = discoverer-more p l a ∙ go a e (discoverer p l)
     go (Answer.Reordered f) e o = absurd (true≢false e)
 
 -- a table of discoverers stays under an answer that is no reordered packet's
-marked-same : (l : List Answer) (a : Answer) (found : List ℕ) → isReordered a ≡ false → Marked l found → Marked (l ++ (a ∷ [])) found
+marked-same : (l : List Answer) (a : Answer) (found : List ℕ) → isReordered a ≡ false → DiscoverersAt l found → DiscoverersAt (l ++ (a ∷ [])) found
 marked-same l a found e m =
     record {
       places = m .places;
@@ -264,7 +264,7 @@ marked-same l a found e m =
     }
 
 -- under a reordered packet's answer the discontinuity at `at` has its position, if it had none
-module _ (l : List Answer) (a : Answer) (found : List ℕ) (at position : ℕ) (m : Marked l found) (low : 1 ≤ at) (high : at ≤ 4096) (one : 1 ≤ position)
+module _ (l : List Answer) (a : Answer) (found : List ℕ) (at position : ℕ) (m : DiscoverersAt l found) (low : 1 ≤ at) (high : at ≤ 4096) (one : 1 ≤ position)
     (mine : (p : ℕ) → cond (belongsTo p a) (positionOf a) none ≡ cond (eqb at p) (some position) none) where
   -- the discoverer at each position
   now-found : (p : ℕ) → discoverer p (l ++ (a ∷ [])) ≡ first-of (discoverer p l) (cond (eqb at p) (some position) none)
@@ -311,7 +311,7 @@ module _ (l : List Answer) (a : Answer) (found : List ℕ) (at position : ℕ) (
       go false = m .places
 
   -- so it is a table of the discoverers
-  marked-more : Marked (l ++ (a ∷ [])) (cond (eqb (getD found at 0) 0) (set found at position) found)
+  marked-more : DiscoverersAt (l ++ (a ∷ [])) (cond (eqb (getD found at 0) 0) (set found at position) found)
   marked-more = record { places = places-more; at = at-more; positive = positive-more }
 
 -- the answer of a late record has its discontinuity as its own
@@ -325,7 +325,7 @@ late-mine d i at n h c p =
 
 -- the table of discoverers under record i + 1
 pub marked-next : (d : Decoded) (y : Layout) (i : ℕ) → Has d y i → (n : ℕ) (k : Class) → Tells d i n k → n ≡ length (firsts (before d i)) → n ≤ 4096
-    → Inside n k → (found : List ℕ) → Marked (answersTo d i) found → Marked (answersTo d (i + 1)) (markBy found n k)
+    → Inside n k → (found : List ℕ) → DiscoverersAt (answersTo d i) found → DiscoverersAt (answersTo d (i + 1)) (markBy found n k)
 unfolding markBy
 marked-next d y i h n (Class.Duplicate first) t c few s found m =
     rw (answers-next d y i h) (marked-same (answersTo d i) (answerAt d i) found (ap isReordered t) m)

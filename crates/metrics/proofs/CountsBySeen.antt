@@ -28,7 +28,7 @@ use Rattle.metrics.specs.Private.Tables.{classOf}
 use Rattle.metrics.specs.Private.Steps.{countsBy, kindBy}
 use Rattle.metrics.specs.declared.look.Class.{Class}
 use Rattle.metrics.proofs.Follow.{before-more}
-use Rattle.metrics.proofs.Passes.{answersTo, answers-next, counts-more}
+use Rattle.metrics.proofs.OneArrivalMore.{answersTo, answers-next, counts-more}
 
 -- after some arrivals a table has for each packet whether it has arrived, and NextExp is known
 pub record Seen (earlier : List Arrival) (seen : List Bool) (next : ℕ) : Type 0 where

@@ -14,14 +14,14 @@ use Rattle.rfc4737.specs.Answer.{answers}
 use Rattle.rfc4737.proofs.Folds.{answers-take, length-answers}
 use Rattle.sample.specs.declared.Layout.{Layout}
 use Rattle.sample.specs.Decode.{Decoded}
-use Rattle.metrics.specs.Sample.{sizeOf, arrivalsOf, answersOf}
+use Rattle.metrics.specs.Sample.{sizeOf, sampleArrivals, answersOf}
 use Rattle.metrics.specs.Private.Sample.{noArrival, before, answerAt, Laid}
 use Rattle.metrics.proofs.Follow.{arrivals-laid, before-count, inside-laid}
 use Rattle.sweep.specs.declared.table.State.{State}
 use Rattle.sweep.specs.Figures.{figuresOf, flagsOf, positionsOf, extentsOf, latesOf}
 use Rattle.sweep.specs.Swept.{places, Lent}
 use Rattle.sweep.specs.Private.Table.{Holds}
-use Rattle.sweep.specs.Private.Passes.{Ready, Room, Positioned, Put, FilledWith}
+use Rattle.sweep.specs.Private.PassInvariant.{Ready, Room, Positioned, Put, FilledWith}
 use Rattle.sweep.proofs.Marks.{mark-ahead}
 
 -- the answers of the first i records
@@ -79,13 +79,13 @@ module _ (d : Decoded) (y : Layout) (i : ℕ) (most : i ≤ y .arrivals) (h : La
     where
       more : map f (answersTo d (i + 1)) ≡ map f (answersTo d i) ++ (f (answerAt d i) ∷ [])
       more =
-          ap (map f) (answers-take (sizeOf d) noArrival (arrivalsOf d) i (inside-laid d y i (record { file = h; inside = inside })))
+          ap (map f) (answers-take (sizeOf d) noArrival (sampleArrivals d) i (inside-laid d y i (record { file = h; inside = inside })))
           ∙ map-append f (answersTo d i) (answerAt d i ∷ [])
 
   -- after all
   pub listed-all : y .arrivals ≤ i → (old new : List ℕ) → new ≡ over (map f (answersTo d i)) old → new ≡ over (map f (answersOf d)) old
   listed-all all old new e =
-      e ∙ ap (λ (l : List _). over (map f (answers (sizeOf d) l)) old) (take-all i (arrivalsOf d) (omega (arith, arrivals-laid d y h)))
+      e ∙ ap (λ (l : List _). over (map f (answers (sizeOf d) l)) old) (take-all i (sampleArrivals d) (omega (arith, arrivals-laid d y h)))
 
 module _ (d : Decoded) (y : Layout) (i : ℕ) (old new : Lent) (state : State) (r : Ready d y old) (t : Till d y i old new state) where
   -- the lengths stay

@@ -13,13 +13,13 @@ use types.Run.{OneOf}
 use Rattle.rfc4737.specs.Order.{Placed}
 use Rattle.receiver.specs.declared.Stream.{Stream}
 use Rattle.receiver.specs.declared.Receiver.{Receiver}
-use Rattle.receiver.specs.declared.Noted.{Noted}
-use Rattle.receiver.specs.declared.Noted.the-variants.{Duplicate, InOrder, Exact, Beyond}
+use Rattle.receiver.specs.declared.ReceiverAnswer.{ReceiverAnswer}
+use Rattle.receiver.specs.declared.ReceiverAnswer.the-variants.{Duplicate, InOrder, Exact, Beyond}
 use Rattle.receiver.specs.Marks.{withMark}
 use Rattle.receiver.specs.Kept.{Held, heldOf, pushed, withJump, heldAfter}
 use Rattle.receiver.specs.Step.{placedAt, duplicateStream, inOrderStream, reorderedStream, inOrderState, reorderedState, notedState}
 use Rattle.receiver.specs.Private.Parts.{placesOf, whole}
-use Rattle.receiver.proofs.Noted.{the-type}
+use Rattle.receiver.proofs.ReceiverAnswer.{the-type}
 
 module _ (room : Bool) (h : Held) (size : ℕ) (p : Placed) where
   -- how many jumps are kept after an in-order arrival
@@ -42,7 +42,7 @@ module _ (room : Bool) (h : Held) (size : ℕ) (p : Placed) where
       go true = refl
       go false = refl
 
-module _ (most : ℕ) (s g : Stream) (marks positions numbers times : List ℕ) (number time : ℕ) (v : Noted) where
+module _ (most : ℕ) (s g : Stream) (marks positions numbers times : List ℕ) (number time : ℕ) (v : ReceiverAnswer) where
   -- the receiver before
   abbrev r : Receiver
   r = whole s marks positions numbers times
@@ -78,7 +78,7 @@ module _ (most : ℕ) (s g : Stream) (marks positions numbers times : List ℕ) 
       rw (n, e, m, w .0, w .1 .0, w .1 .1, ne-eqb size 0 z)
 
   -- what is noted of a reordered packet, exact or beyond the window, makes one state
-  late-state : (w : Noted) → OneOf (2 ∷ 3 ∷ []) (tagOf the-type w) → notedState room r number time w ≡ reorderedState r number time
+  late-state : (w : ReceiverAnswer) → OneOf (2 ∷ 3 ∷ []) (tagOf the-type w) → notedState room r number time w ≡ reorderedState r number time
   unfolding notedState
   late-state Duplicate k = absurd (⊎-elim (λ e. omega arith) (λ e. omega arith) k)
   late-state (InOrder size) k = absurd (⊎-elim (λ e. omega arith) (λ e. omega arith) k)

@@ -13,7 +13,7 @@ use Rattle.rfc4737.proofs.Arrivals.{has-firsts, firsts-more, with-duplicate, le
 use Rattle.sample.specs.declared.Layout.{Layout}
 use Rattle.sample.specs.Decode.{Decoded}
 use Rattle.metrics.specs.Private.Sample.{arrivalAt, before, Has}
-use Rattle.metrics.specs.Private.Tables.{Filled, Follows, Linked, Noting, Noted}
+use Rattle.metrics.specs.Private.Tables.{Filled, Follows, Linked, Noting, ReceiverAnswer}
 use Rattle.metrics.specs.declared.tables.State.{State}
 use Rattle.metrics.proofs.Follow.{kept-copy, one-more, kept-reordered, kept-in-order, arrived-recorded, new-recorded, before-more, before-length}
 use Rattle.metrics.proofs.Linked.{linked-reordered, linked-in-order}
@@ -24,7 +24,7 @@ noting-few numbers records skipped state i number n = omega (arith, n .follows .
 
 module _ (i largest : ℕ) (numbers records skipped : List ℕ) (state : State) (few : i < 4096) where
   -- of a copy: all stays
-  pub noted-copy : (number : ℕ) → 1 ≤ number → number ≤ 4096 → (getD records number 0 ≡ 0 → ⊥) → Noted i number largest numbers records skipped state numbers records skipped state
+  pub noted-copy : (number : ℕ) → 1 ≤ number → number ≤ 4096 → (getD records number 0 ≡ 0 → ⊥) → ReceiverAnswer i number largest numbers records skipped state numbers records skipped state
   noted-copy number low high e =
       record {
         follows = λ l a m is f. kept-copy l a numbers records skipped state f (arrived l a is f);
@@ -41,7 +41,7 @@ module _ (i largest : ℕ) (numbers records skipped : List ℕ) (state : State) 
 
     -- of a reordered packet
     pub noted-reordered : number < state .next
-        → Noted i number largest numbers records skipped state (set numbers (state .count) number) (set records number (i + 1)) (set skipped number largest)
+        → ReceiverAnswer i number largest numbers records skipped state (set numbers (state .count) number) (set records number (i + 1)) (set skipped number largest)
         (record { count = state .count + 1; next = state .next })
     noted-reordered late =
         record {
@@ -58,7 +58,7 @@ module _ (i largest : ℕ) (numbers records skipped : List ℕ) (state : State) 
 
     -- of a packet in order
     pub noted-in-order : state .next ≤ number → (skipped′ : List ℕ) → Filled (state .next) number (state .count + 1) skipped skipped′
-        → Noted i number largest numbers records skipped state (set numbers (state .count) number) (set records number (i + 1)) skipped′
+        → ReceiverAnswer i number largest numbers records skipped state (set numbers (state .count) number) (set records number (i + 1)) skipped′
         (record { count = state .count + 1; next = number + 1 })
     noted-in-order ahead skipped′ filled =
         record {
@@ -86,7 +86,7 @@ module _ (d : Decoded) (y : Layout) (i : ℕ) (h : Has d y i) (numbers records s
       }
 
   module _ (largest : ℕ) (numbers′ records′ skipped′ : List ℕ) (state′ : State)
-      (n : Noted i number largest numbers records skipped state numbers′ records′ skipped′ state′) where
+      (n : ReceiverAnswer i number largest numbers records skipped state numbers′ records′ skipped′ state′) where
     -- the tables after it
     pub noted-follows : Follows (before d (i + 1)) numbers′ records′ skipped′ state′
     noted-follows = rw (before-more d y i h) (n .follows (before d i) (arrivalAt d i) (before-length d y i h) (sym is) f)

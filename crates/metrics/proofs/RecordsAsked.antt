@@ -22,11 +22,11 @@ use Rattle.rfc4737.specs.Ratios.{nReordered}
 use Rattle.rfc4737.proofs.Arrivals.{has-firsts, firsts-more, with-duplicate, with-first, length-firsts}
 use Rattle.rfc4737.proofs.Folds.{answer-duplicate, answer-first, arrived-answers, length-answers}
 use Rattle.sample.specs.declared.Layout.{Layout}
-use Rattle.sample.specs.Decode.{Decoded, refused, accepted, refusalOf}
-use Rattle.metrics.specs.Sample.{sizeOf, arrivalsOf, answersOf}
+use Rattle.sample.specs.Decode.{Decoded, refused, accepted, decodedRefusal}
+use Rattle.metrics.specs.Sample.{sizeOf, sampleArrivals, answersOf}
 use Rattle.metrics.specs.Private.Sample.{noArrival, arrivalAt, before, answerAt, Laid, Has}
 use Rattle.metrics.specs.Figures.{atRecord, askedRefusal, recordRefusal, degreeInside, degreeAnswers, recordAnswer, recordGap, degreeCounts}
-use Rattle.metrics.specs.Private.Steps.{placeIn, Marked, gapBy}
+use Rattle.metrics.specs.Private.Steps.{placeIn, DiscoverersAt, gapBy}
 use Rattle.metrics.specs.declared.RecordAnswer.{RecordAnswer}
 use Rattle.metrics.specs.declared.RecordGap.{RecordGap}
 use Rattle.metrics.specs.declared.DegreeCounts.{DegreeCounts}
@@ -57,13 +57,13 @@ within-true low high n e = go (leb low n) refl (leb n high) refl e
 
 -- a call that is not refused asks for a number in its range
 pub asked-within : (d : Decoded) (low high asked : ℕ) → askedRefusal d low high asked ≡ 0 → (low ≤ asked) × (asked ≤ high)
-asked-within d low high asked e = within-true low high asked (asked-inside (refusalOf d) (within low high asked) e .1)
+asked-within d low high asked e = within-true low high asked (asked-inside (decodedRefusal d) (within low high asked) e .1)
 
 -- a call that is refused asks for no record
-asked-outside : (d : Decoded) (asked : ℕ) → (recordRefusal d asked ≡ 0 → ⊥) → 1 ≤ asked → asked ≤ length (arrivalsOf d) → ⊥
+asked-outside : (d : Decoded) (asked : ℕ) → (recordRefusal d asked ≡ 0 → ⊥) → 1 ≤ asked → asked ≤ length (sampleArrivals d) → ⊥
 asked-outside (refused r) asked h low high = omega arith
 asked-outside (accepted s) asked h low high =
-    h (rw (le-leb 1 asked low, le-leb asked (length (arrivalsOf (accepted s))) high))
+    h (rw (le-leb 1 asked low, le-leb asked (length (sampleArrivals (accepted s))) high))
 
 -- where a degree is refused there are no answers
 pub degree-refused : (d : Decoded) (n : ℕ) → (askedRefusal d 1 100 n ≡ 0 → ⊥) → degreeAnswers d n ≡ []
@@ -81,7 +81,7 @@ degree-refused (accepted s) n h = go (degreeInside n) refl
 
 -- where it is not, all
 pub degree-accepted : (d : Decoded) (n : ℕ) → askedRefusal d 1 100 n ≡ 0 → degreeAnswers d n ≡ answersOf d
-degree-accepted d n e = rw (asked-inside (refusalOf d) (degreeInside n) e .1)
+degree-accepted d n e = rw (asked-inside (decodedRefusal d) (degreeInside n) e .1)
 
 -- ---- what stands at a record
 
@@ -111,20 +111,20 @@ each-after-at f a₀ b₀ before (a ∷ l) zero h = rw append-nil
 each-after-at f a₀ b₀ before (a ∷ l) (suc i) h = each-after-at f a₀ b₀ (before ++ (a ∷ [])) l i (omega arith) ∙ rw append-assoc
 
 -- the answer for record i + 1 among all
-pub answer-at : (d : Decoded) (other : Answer) (i : ℕ) → i < length (arrivalsOf d) → getD (answersOf d) i other ≡ answerAt d i
+pub answer-at : (d : Decoded) (other : Answer) (i : ℕ) → i < length (sampleArrivals d) → getD (answersOf d) i other ≡ answerAt d i
 unfolding answers each
-answer-at d other i h = each-after-at (answerTo (sizeOf d)) noArrival other [] (arrivalsOf d) i h
+answer-at d other i h = each-after-at (answerTo (sizeOf d)) noArrival other [] (sampleArrivals d) i h
 
 module _ (d : Decoded) (asked : ℕ) where
   -- a refused call has no answer and no gap
   pub answer-refused : (other : Answer) → (recordRefusal d asked ≡ 0 → ⊥) → atRecord other (answersOf d) asked ≡ other
   answer-refused other h =
-      at-outside other (answersOf d) asked (λ low high. asked-outside d asked h low (omega (arith, length-answers (sizeOf d) (arrivalsOf d))))
+      at-outside other (answersOf d) asked (λ low high. asked-outside d asked h low (omega (arith, length-answers (sizeOf d) (sampleArrivals d))))
 
   -- there is a gap or none for each record
-  gaps-length : length (gaps (answersOf d)) ≡ length (arrivalsOf d)
+  gaps-length : length (gaps (answersOf d)) ≡ length (sampleArrivals d)
   unfolding gaps
-  gaps-length = length-map (answersOf d) _ ∙ length-answers (sizeOf d) (arrivalsOf d)
+  gaps-length = length-map (answersOf d) _ ∙ length-answers (sizeOf d) (sampleArrivals d)
 
   -- and no gap
   pub gap-refused : (recordRefusal d asked ≡ 0 → ⊥) → atRecord Gap.None (gaps (answersOf d)) asked ≡ Gap.None
@@ -132,8 +132,8 @@ module _ (d : Decoded) (asked : ℕ) where
 
   module _ (e : recordRefusal d asked ≡ 0) where
     -- one that is not has those of a record
-    pub record-inside : (1 ≤ asked) × (asked ≤ length (arrivalsOf d))
-    record-inside = asked-within d 1 (length (arrivalsOf d)) asked e
+    pub record-inside : (1 ≤ asked) × (asked ≤ length (sampleArrivals d))
+    record-inside = asked-within d 1 (length (sampleArrivals d)) asked e
 
     -- its answer
     pub answer-known : (other : Answer) → atRecord other (answersOf d) asked ≡ answerAt d (asked - 1)
@@ -199,12 +199,12 @@ module _ (d : Decoded) (y : Layout) (i : ℕ) (h : Has d y i) where
 
   -- every position is at most L
   pub position-le : placeIn (answerAt d i) ≤ arrived (answersOf d)
-  position-le = rw (arrived-answers (sizeOf d) (arrivalsOf d)) (go (has (arrivalAt d i .number) (before d i)) refl)
+  position-le = rw (arrived-answers (sizeOf d) (sampleArrivals d)) (go (has (arrivalAt d i .number) (before d i)) refl)
     where
-      grown : length (firsts (before d (i + 1))) ≤ length (firsts (arrivalsOf d))
-      grown = rw (take-append-drop (i + 1) (arrivalsOf d)) at (firsts-grow (before d (i + 1)) (drop (i + 1) (arrivalsOf d)))
+      grown : length (firsts (before d (i + 1))) ≤ length (firsts (sampleArrivals d))
+      grown = rw (take-append-drop (i + 1) (sampleArrivals d)) at (firsts-grow (before d (i + 1)) (drop (i + 1) (sampleArrivals d)))
 
-      go : (t : Bool) → has (arrivalAt d i .number) (before d i) ≡ t → placeIn (answerAt d i) ≤ length (firsts (arrivalsOf d))
+      go : (t : Bool) → has (arrivalAt d i .number) (before d i) ≡ t → placeIn (answerAt d i) ≤ length (firsts (sampleArrivals d))
       go true e = omega (arith, copy-answer e .0)
       go false e =
           let more : firsts (before d (i + 1)) ≡ firsts (before d i) ++ (arrivalAt d i ∷ []) =
@@ -215,7 +215,7 @@ module _ (d : Decoded) (y : Layout) (i : ℕ) (h : Has d y i) where
   -- and L at most 4,096
   pub arrived-le : arrived (answersOf d) ≤ 4096
   arrived-le =
-      omega (arith, arrived-answers (sizeOf d) (arrivalsOf d), length-firsts (arrivalsOf d), arrivals-laid d y (h .file), h .file .few)
+      omega (arith, arrived-answers (sizeOf d) (sampleArrivals d), length-firsts (sampleArrivals d), arrivals-laid d y (h .file), h .file .few)
 
 -- ---- the calls' answers
 
@@ -298,7 +298,7 @@ module _ (d : Decoded) (y : Layout) (h : Laid d y) (asked r : ℕ) (e : r ≡ re
     place-few = omega (arith, is, position-le d y (asked - 1) inside, arrived-le d y (asked - 1) inside)
 
     -- any other that of its position
-    pub gap-placed : (p ≡ 0 → ⊥) → (found : List ℕ) → Marked (answersOf d) found → (g : Gap) → g ≡ gapBy found p → gap-with r g ≡ recordGap d asked
+    pub gap-placed : (p ≡ 0 → ⊥) → (found : List ℕ) → DiscoverersAt (answersOf d) found → (g : Gap) → g ≡ gapBy found p → gap-with r g ≡ recordGap d asked
     gap-placed s found m g k =
         let low : 1 ≤ p = omega (arith, s) in
         let at : positionOf (answerAt d (asked - 1)) ≡ some p = rw (sym is) at (position-some (answerAt d (asked - 1)) (rw is at low)) in

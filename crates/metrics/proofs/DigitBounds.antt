@@ -22,11 +22,11 @@ use Rattle.rfc4737.proofs.Arrivals.{length-firsts}
 use Rattle.rfc4737.proofs.Jumps.{discontinuity-until}
 use Rattle.rfc4737.proofs.Packets.{all-firsts}
 use Rattle.rfc4737.proofs.Folds.{offset-le, largest-le, in-order-or-reordered, duplicate-or-first, closed-reordered, current-le, squares-le}
-use Rattle.listing.specs.Private.Within.{TimeWithin, AnswerWithin, CountsWithin}
+use Rattle.listing.specs.Private.DigitBounds.{TimeWithin, AnswerWithin, CountsWithin}
 use Rattle.sample.specs.Decode.{Decoded, refused, accepted, decode}
 use Rattle.sample.specs.declared.Layout.{Layout}
 use Rattle.sample.proofs.Accepted.{size-fits, time-fits, times-back}
-use Rattle.metrics.specs.Sample.{sizeOf, arrivalsOf}
+use Rattle.metrics.specs.Sample.{sizeOf, sampleArrivals}
 use Rattle.metrics.specs.Private.Sample.{noArrival, arrivalAt, before, answerAt, Has}
 use Rattle.metrics.proofs.Records.{record-some}
 use Rattle.metrics.proofs.Follow.{inside-laid, before-length}
@@ -96,9 +96,9 @@ time-most file o i = go (decode file) refl
 back-most : (file : List ℕ) (y : Layout) → Octets file → (i : ℕ) → Has (decode file) y i
     → All (λ (b : Arrival). b .time ≤ arrivalAt (decode file) i .time + backMost) (before (decode file) i)
 back-most file y o i h =
-    all-take _ noArrival (arrivalsOf (decode file)) i (λ j k. go (decode file) refl j (omega arith) (inside-laid (decode file) y i h))
+    all-take _ noArrival (sampleArrivals (decode file)) i (λ j k. go (decode file) refl j (omega arith) (inside-laid (decode file) y i h))
   where
-    go : (d : Decoded) → decode file ≡ d → (j : ℕ) → j ≤ i → i < length (arrivalsOf d) → arrivalAt d j .time ≤ arrivalAt d i .time + backMost
+    go : (d : Decoded) → decode file ≡ d → (j : ℕ) → j ≤ i → i < length (sampleArrivals d) → arrivalAt d j .time ≤ arrivalAt d i .time + backMost
     go (refused r) e j p q = omega arith
     go (accepted w) e j p q = times-back file w e o noArrival j i p q
 

@@ -2,8 +2,8 @@
 -- Assumes nothing.
 use Prim.Native.Nat.{ℕ}
 use Rattle.receiver.specs.declared.Lateness.{Lateness}
-use Rattle.receiver.specs.declared.Noted.{Noted}
-use Rattle.receiver.specs.declared.Noted.the-variants.{Duplicate, InOrder, Exact, Beyond}
+use Rattle.receiver.specs.declared.ReceiverAnswer.{ReceiverAnswer}
+use Rattle.receiver.specs.declared.ReceiverAnswer.the-variants.{Duplicate, InOrder, Exact, Beyond}
 use Rattle.receiver.specs.declared.Outcome.{Outcome}
 use Rattle.receiver.specs.declared.Stepped.{Stepped}
 use Rattle.meter.specs.declared.MeterStepped.{MeterStepped}
@@ -20,7 +20,7 @@ lateFigures n l = record { kind = n; jump = 0; extent = l .extent; late = amount
 
 -- what is noted: the number of its case, with the jump size if in order; with extent and the late time's amount if reordered, exact or
 -- beyond the window
-abbrev pub notedFigures : Noted → NotedFigures
+abbrev pub notedFigures : ReceiverAnswer → NotedFigures
 notedFigures Duplicate = record { kind = notedNumber Duplicate; jump = 0; extent = 0; late = 0 }
 notedFigures (InOrder jump) = record { kind = notedNumber (InOrder jump); jump = jump; extent = 0; late = 0 }
 notedFigures (Exact l) = lateFigures (notedNumber (Exact l)) l

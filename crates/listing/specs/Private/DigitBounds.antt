@@ -10,8 +10,8 @@ use Rattle.rfc4737.specs.Times.{backMost}
 
 -- at most four digits, as have K, A and every record, number, position, extent, jump size, largest n and count of a sample:
 -- none is over 4,096
-abbrev pub Small : ℕ → Type 0
-Small n = n < 10 ^ 4
+abbrev pub FourDigits : ℕ → Type 0
+FourDigits n = n < 10 ^ 4
 
 -- a late time: after, it is one of 64 bits, of at most 20 digits; before, it is at most 1,000
 abbrev pub TimeWithin : LateTime → Type 0
@@ -20,23 +20,23 @@ TimeWithin (Before t) = t ≤ backMost
 
 -- the figures of a reordered packet: the byte offset, which is at most 268,365,825, has at most nine digits
 pub record LateWithin (f : ReorderedFigures) : Type 0 where
-  pub position : Small (f .position)
-  pub extent : Small (f .extent)
+  pub position : FourDigits (f .position)
+  pub extent : FourDigits (f .extent)
   pub late : TimeWithin (f .late)
   pub offset : f .offset < 10 ^ 9
-  pub largest : Small (f .largest)
+  pub largest : FourDigits (f .largest)
 
 -- the figures of an answer
 abbrev pub AnswerWithin : Answer → Type 0
-AnswerWithin (Duplicate f) = Small (f .first)
-AnswerWithin (InOrder f) = Small (f .position) × Small (f .jump)
+AnswerWithin (Duplicate f) = FourDigits (f .first)
+AnswerWithin (InOrder f) = FourDigits (f .position) × FourDigits (f .jump)
 AnswerWithin (Reordered f) = LateWithin f
 
 -- the counts of a sample: the sum of squares, which is at most 16,777,216, has at most eight digits
 pub record CountsWithin (c : Counts) : Type 0 where
-  pub arrived : Small (c .arrived)
-  pub reordered : Small (c .reordered)
-  pub duplicates : Small (c .duplicates)
-  pub closed : Small (c .runs .closed)
+  pub arrived : FourDigits (c .arrived)
+  pub reordered : FourDigits (c .reordered)
+  pub duplicates : FourDigits (c .duplicates)
+  pub closed : FourDigits (c .runs .closed)
   pub squares : c .runs .squares < 10 ^ 8
-  pub current : Small (c .runs .current)
+  pub current : FourDigits (c .runs .current)

@@ -21,7 +21,7 @@ use Rattle.rfc4737.proofs.Folds.{answer-duplicate, answer-first, first-in-order
 use Rattle.rfc4737.proofs.Jumps.{reordered-discontinuity}
 use Rattle.sample.specs.declared.Layout.{Layout}
 use Rattle.sample.specs.Decode.{Decoded}
-use Rattle.metrics.specs.Sample.{sizeOf, arrivalsOf}
+use Rattle.metrics.specs.Sample.{sizeOf, sampleArrivals}
 use Rattle.metrics.specs.Private.Sample.{noArrival, arrivalAt, before, answerAt, Laid, Has}
 use Rattle.metrics.specs.Private.Tables.{Numbered, Packets, Recorded, Follows, Late, placeOf, classBy, Tells, lateOnly, NewIfLate}
 use Rattle.metrics.specs.Private.Steps.{placeIn, placeBy}
@@ -130,7 +130,7 @@ module _ (d : Decoded) (y : Layout) (i : ℕ) (h : Laid d y) (most : i ≤ y .ar
   first-stands : arrivalAt d (firstRecord (getD (firsts (before d i)) p noArrival .number) (before d i) - 1) ≡ getD (firsts (before d i)) p noArrival
   first-stands =
       let r = firstRecord (getD (firsts (before d i)) p noArrival .number) (before d i) - 1 in
-      sym (getD-take i (arrivalsOf d) r noArrival (omega (arith, first-record))) ∙ first-at noArrival (before d i) p inside
+      sym (getD-take i (sampleArrivals d) r noArrival (omega (arith, first-record))) ∙ first-at noArrival (before d i) p inside
 
   -- its number is that of a packet
   first-number : (1 ≤ getD (firsts (before d i)) p noArrival .number) × (getD (firsts (before d i)) p noArrival .number ≤ y .sent)

@@ -13,15 +13,15 @@ use Rattle.rfc4737.specs.Times.{tooEarly}
 use Rattle.rfc4737.specs.Refusals.{within, numberOutside, timeBack, stateUnfit, stateFull}
 use Rattle.receiver.specs.declared.Receiver.{Receiver}
 use Rattle.receiver.specs.declared.Lateness.{Lateness}
-use Rattle.receiver.specs.declared.Noted.the-variants.{Duplicate, InOrder, Exact, Beyond}
+use Rattle.receiver.specs.declared.ReceiverAnswer.the-variants.{Duplicate, InOrder, Exact, Beyond}
 use Rattle.receiver.specs.declared.Outcome.{Outcome}
 use Rattle.receiver.specs.declared.Stepped.{Stepped}
 use Rattle.receiver.specs.Limits.{packets}
-use Rattle.receiver.specs.Said.{refused, accepted}
+use Rattle.receiver.specs.Outcomes.{refusedOutcome, acceptedOutcome}
 use Rattle.receiver.specs.Marks.{markAt}
 use Rattle.receiver.specs.Kept.{placeAt, placesFrom, Held, heldOf, keptOf}
 use Rattle.receiver.specs.Fit.{fit, jumpFit}
-use Rattle.receiver.specs.Step.{refusalOf, latenessFrom, reorderedOutcome, lateOutcome, firstOutcome, lookedAt, outcomeOf, notedState, stepWith}
+use Rattle.receiver.specs.Step.{stepRefusal, latenessFrom, reorderedOutcome, lateOutcome, firstOutcome, lookedAt, outcomeOf, notedState, stepWith}
 use Rattle.receiver.specs.Private.Decision.{Unrefused, After}
 use Rattle.receiver.proofs.Fits.{and-true, within-true, stream-facts, places-facts, jump-facts}
 use Rattle.receiver.proofs.Search.{all-at}
@@ -35,20 +35,20 @@ cond-zero false k m h e = (refl, e)
 
 module _ (h : Held) (position number time : ℕ) where
   -- with no greater kept jump
-  pub late-none : firstAbove number (keptOf h) ≡ none → refused stateUnfit ≡ lateOutcome h position number time
+  pub late-none : firstAbove number (keptOf h) ≡ none → refusedOutcome stateUnfit ≡ lateOutcome h position number time
   unfolding reorderedOutcome
   late-none e = rw e
 
   -- beyond the window
   pub late-beyond : (p q : Placed) (l : Lateness) → firstAbove number (keptOf h) ≡ some p → number < h .dropped
       → head? (keptOf h) ≡ some q → l ≡ latenessFrom position time (some q)
-      → accepted (Beyond l) ≡ lateOutcome h position number time
+      → acceptedOutcome (Beyond l) ≡ lateOutcome h position number time
   unfolding reorderedOutcome
   late-beyond p q l e d o k = simp (e, lt-ltb _ _ d, o, k)
 
   -- within it
   pub late-exact : (p : Placed) (l : Lateness) → firstAbove number (keptOf h) ≡ some p → h .dropped ≤ number
-      → l ≡ latenessFrom position time (some p) → accepted (Exact l) ≡ lateOutcome h position number time
+      → l ≡ latenessFrom position time (some p) → acceptedOutcome (Exact l) ≡ lateOutcome h position number time
   unfolding reorderedOutcome
   late-exact p l e d k = simp (e, le-ltb _ _ d, k)
 
@@ -65,8 +65,8 @@ oldest-kept h k = first (h .kept) k
 
 module _ (r : Receiver) (number time : ℕ) where
   -- what holds where an arrival meets no refusal before it is looked at
-  pub accepted-facts : refusalOf r number time ≡ 0 → Unrefused r number
-  unfolding refusalOf fit
+  pub accepted-facts : stepRefusal r number time ≡ 0 → Unrefused r number
+  unfolding stepRefusal fit
   accepted-facts e =
       let s = r .stream in
       let early = cond (tooEarly (s .greatest) time) timeBack 0 in
@@ -95,21 +95,21 @@ module _ (r : Receiver) (number time : ℕ) where
       omega arith
 
   -- refused before it is looked at
-  pub outcome-refused : (x : ℕ) → (x ≡ 0 → ⊥) → x ≡ refusalOf r number time → refused x ≡ outcomeOf r number time
+  pub outcome-refused : (x : ℕ) → (x ≡ 0 → ⊥) → x ≡ stepRefusal r number time → refusedOutcome x ≡ outcomeOf r number time
   unfolding outcomeOf
   outcome-refused x h e =
-      let y : eqb (refusalOf r number time) 0 ≡ false = ap (λ (n : ℕ). eqb n 0) (sym e) ∙ ne-eqb _ _ h in
+      let y : eqb (stepRefusal r number time) 0 ≡ false = ap (λ (n : ℕ). eqb n 0) (sym e) ∙ ne-eqb _ _ h in
       simp (y, e)
 
-  module _ (go : refusalOf r number time ≡ 0) where
+  module _ (go : stepRefusal r number time ≡ 0) where
     -- a duplicate
-    pub outcome-duplicate : markAt (r .marks) number ≡ true → accepted Duplicate ≡ outcomeOf r number time
+    pub outcome-duplicate : markAt (r .marks) number ≡ true → acceptedOutcome Duplicate ≡ outcomeOf r number time
     unfolding outcomeOf lookedAt
     outcome-duplicate m = simp (go, m)
 
     -- in order
     pub outcome-in-order : markAt (r .marks) number ≡ false → r .stream .next ≤ number
-        → accepted (InOrder (number - r .stream .next)) ≡ outcomeOf r number time
+        → acceptedOutcome (InOrder (number - r .stream .next)) ≡ outcomeOf r number time
     unfolding outcomeOf lookedAt firstOutcome
     outcome-in-order m h = simp (go, m, le-leb _ _ h)
 
@@ -124,9 +124,9 @@ module _ (r : Receiver) (number time : ℕ) where
     pub said-accepted : o .refusal ≡ 0 → Unrefused r number
     unfolding outcomeOf
     said-accepted z =
-        accepted-facts (opened (eqb (refusalOf r number time) 0) refl (ap (λ (o : Outcome). o .refusal) (sym e) ∙ z))
+        accepted-facts (opened (eqb (stepRefusal r number time) 0) refl (ap (λ (o : Outcome). o .refusal) (sym e) ∙ z))
       where
-        opened : (t : Bool) → eqb (refusalOf r number time) 0 ≡ t → outcomeOf r number time .refusal ≡ 0 → refusalOf r number time ≡ 0
+        opened : (t : Bool) → eqb (stepRefusal r number time) 0 ≡ t → outcomeOf r number time .refusal ≡ 0 → stepRefusal r number time ≡ 0
         opened true q p = eqb-true _ _ q
         opened false q p = rw q at p
 

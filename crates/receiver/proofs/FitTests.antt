@@ -17,7 +17,7 @@ use Rattle.receiver.specs.Limits.{window}
 use Rattle.receiver.specs.Fit.{every, jumpFit, placesFit}
 use Rattle.receiver.specs.Private.Facts.{JumpFit}
 use Rattle.receiver.specs.Kept.{placeAt, placesFrom, keptOf}
-use Rattle.receiver.specs.Private.Decision.{firstPass, upTo}
+use Rattle.receiver.specs.Private.Decision.{firstPass, notAfter}
 use Rattle.receiver.proofs.Fits.{both, and-true, within-true, jump-facts, jump-passes, places-pass, places-false}
 use Rattle.receiver.proofs.Search.{all-at}
 
@@ -86,7 +86,7 @@ module _ (s : Stream) (places : Places) where
   -- the positions, numbers and times of n fit places pass, each by itself
   pub fit-apart : every (map (jumpFit s) (placesFrom places 0 n)) ≡ true
       → (firstPass (within 1 (s .arrived)) (places .positions) n ≡ true)
-      × ((firstPass (within 1 (s .sent)) (places .numbers) n ≡ true) × (firstPass (upTo (s .greatest)) (places .times) n ≡ true))
+      × ((firstPass (within 1 (s .sent)) (places .numbers) n ≡ true) × (firstPass (notAfter (s .greatest)) (places .times) n ≡ true))
   unfolding placeAt
   fit-apart e = (
     pass-all _ _ n (λ k h. both (le-leb _ _ (each-fit e k h .position-low)) (le-leb _ _ (each-fit e k h .position-high))),
@@ -98,7 +98,7 @@ module _ (s : Stream) (places : Places) where
 
   -- if they do, the places are fit
   pub fit-joined : firstPass (within 1 (s .arrived)) (places .positions) n ≡ true → firstPass (within 1 (s .sent)) (places .numbers) n ≡ true
-      → firstPass (upTo (s .greatest)) (places .times) n ≡ true → every (map (jumpFit s) (placesFrom places 0 n)) ≡ true
+      → firstPass (notAfter (s .greatest)) (places .times) n ≡ true → every (map (jumpFit s) (placesFrom places 0 n)) ≡ true
   unfolding placeAt
   fit-joined a b d =
       all-pass places (jumpFit s) n 0
@@ -122,7 +122,7 @@ module _ (s : Stream) (places : Places) where
 
   -- where all else is fit, the times decide
   pub times-decide : s .kept ≤ window → s .dropped ≤ s .sent → firstPass (within 1 (s .arrived)) (places .positions) n ≡ true
-      → firstPass (within 1 (s .sent)) (places .numbers) n ≡ true → (b : Bool) → b ≡ firstPass (upTo (s .greatest)) (places .times) n
+      → firstPass (within 1 (s .sent)) (places .numbers) n ≡ true → (b : Bool) → b ≡ firstPass (notAfter (s .greatest)) (places .times) n
       → b ≡ placesFit s places
   unfolding keptOf
   times-decide k d a m true e =
