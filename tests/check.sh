@@ -59,12 +59,12 @@ listing() {
     fi
 }
 
-# NAME REFUSAL: the sample of standard input is refused, with the words of README's table, and the listing is not looked at.
+# NAME REFUSAL: the sample of standard input is refused, with the words of the table of docs/CALLS.md, and the listing is not looked at.
 refused() {
     local words
-    words=$(sed -n "s/^| $2 | \(.*\) |\$/\1/p" "$root/README.md" | head -n 1)
+    words=$(sed -n "s/^| $2 | \(.*\) |\$/\1/p" "$root/docs/CALLS.md" | head -n 1)
     cat > "$dir/file"
-    try "$1" 1 "refused $2" "${words:?no words in README.md}" "$dir/file" "$report"
+    try "$1" 1 "refused $2" "${words:?no words in docs/CALLS.md}" "$dir/file" "$report"
 }
 
 # The example, and its listing of 101 octets in seven lines.

@@ -1,7 +1,7 @@
 #!/usr/bin/env bash
 # Runs ./krakobran with each of its words on accepted and refused files, on what is no file and with bad arguments, and compares
 # standard output, standard error and the exit status with what is expected; runs every command of its text as printed; and
-# compares the words of refusals with README's, and the man page with the text. A line for each case; status 1 if one fails.
+# compares the words of refusals with those of docs/CALLS.md, and the man page with the text. A line for each case; status 1 if one fails.
 set -u
 
 root=$(cd -- "$(dirname -- "${BASH_SOURCE[0]}")/.." && pwd) || exit 2
@@ -43,9 +43,9 @@ same() {
     verdict "$1" "$(cmp "$2" "$3" 2>&1 | sed 's/^/, /')"
 }
 
-# The words of a refusal, from README's table.
+# The words of a refusal, from the table of docs/CALLS.md.
 words() {
-    sed -n "s/^| $1 | \(.*\) |\$/\1/p" "$root/README.md" | head -n 1
+    sed -n "s/^| $1 | \(.*\) |\$/\1/p" "$root/docs/CALLS.md" | head -n 1
 }
 
 # Numbers as octets, of two, four and eight.
@@ -78,7 +78,7 @@ damage="this is no sample file: $(words 1)"
 for n in {1..18}; do
     words "$n" > "$dir/expected"
     bash -c '. "$1" && words "$2"' - "$root/tools/common.sh" "$n" > "$dir/out"
-    [ -s "$dir/expected" ] || echo 'no words in README.md' > "$dir/expected"
+    [ -s "$dir/expected" ] || echo 'no words in docs/CALLS.md' > "$dir/expected"
     same "the words of refusal $n" "$dir/out" "$dir/expected"
 done
 "$root/tools/man.sh" < "$root/docs/krakobran.txt" > "$dir/page"

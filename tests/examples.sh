@@ -35,9 +35,9 @@ have() {
     return 1
 }
 
-# The receiver fed the list of feed.c, as README has it.
+# The receiver fed the list of feed.c, as docs/C.md has it.
 fed() {
-    sed -n '/^    1 at 10: /,/^    closed runs /s/^    //p' "$root/README.md"
+    sed -n '/^    1 at 10: /,/^    closed runs /s/^    //p' "$root/docs/C.md"
 }
 
 # The listing of the report's example.

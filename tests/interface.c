@@ -78,6 +78,8 @@ static void no_places(void) {
     passed("NULL: disorder", krakobran_disorder(NULL, 0).refusal == KRAKOBRAN_ENDS_EARLY);
     passed("NULL: worse", krakobran_worse(NULL, 0, NULL, 0).refusal == KRAKOBRAN_ENDS_EARLY);
     passed("NULL: listing, no room", krakobran_listing(empty_file, 8, NULL, 0).refusal == KRAKOBRAN_OUTPUT_SHORT);
+    passed("NULL: check of a listing", krakobran_check_listing(NULL, 0, NULL, 0).refusal == KRAKOBRAN_ENDS_EARLY);
+    passed("NULL: check of an empty listing", krakobran_check_listing(empty_file, 8, NULL, 0).line == 1);
     passed("NULL: sweep, no arrivals",
            krakobran_sweep(empty_file, 8, table, 4096, NULL, 0, NULL, 0, NULL, 0, NULL, 0).refusal == KRAKOBRAN_NONE);
     passed("NULL: sweep, no room",
@@ -159,6 +161,7 @@ static void every_octet(void) {
     SETS(krakobran_ratio, krakobran_degree(file, octets, 1));
     SETS(krakobran_ratio_figures, krakobran_ratios(file, octets));
     SETS(krakobran_disordered, krakobran_disorder(file, octets));
+    SETS(krakobran_listing_checked, krakobran_check_listing(file, octets, out, 100));
     SETS(krakobran_worse_link, krakobran_worse(file, octets, file, octets));
     SETS(krakobran_meter, krakobran_meter_new());
 }
@@ -202,6 +205,7 @@ CALL(ratios, krakobran_ratios(file, octets).refusal)
 CALL(disorder, krakobran_disorder(file, octets).refusal)
 CALL(worse, krakobran_worse(file, octets, file, octets).refusal)
 CALL(listing, krakobran_listing(file, octets, out, sizeof out).refusal)
+CALL(check_listing, krakobran_check_listing(file, octets, out, sizeof out).refusal)
 CALL(sweep, krakobran_sweep(file, octets, table, MOST, cases, MOST, positions, MOST, extents, MOST, lates, MOST).refusal)
 CALL(fragment_order, krakobran_fragment_order(MOST, numbers, MOST, times, MOST, lengths, MOST, mores, MOST, offsets, MOST,
                                               cases, MOST, used, MOST))
@@ -225,8 +229,8 @@ static const struct {
 } calls[] = {
     NAMED(check), NAMED(read), NAMED(label), NAMED(write), NAMED(refusal_of_lists), NAMED(import_text), NAMED(write_text),
     NAMED(import_records), NAMED(write_records), NAMED(answer), NAMED(counts), NAMED(tally), NAMED(gap), NAMED(n_reordered),
-    NAMED(degree), NAMED(ratios), NAMED(disorder), NAMED(worse), NAMED(listing), NAMED(sweep), NAMED(fragment_order),
-    NAMED(full_numbers_8), NAMED(full_numbers_10), NAMED(fresh), NAMED(step), NAMED(step_lent), NAMED(step_8),
+    NAMED(degree), NAMED(ratios), NAMED(disorder), NAMED(worse), NAMED(listing), NAMED(check_listing), NAMED(sweep),
+    NAMED(fragment_order), NAMED(full_numbers_8), NAMED(full_numbers_10), NAMED(fresh), NAMED(step), NAMED(step_lent), NAMED(step_8),
     NAMED(step_10), NAMED(meter_new), NAMED(meter_start), NAMED(meter_start_lent), NAMED(meter_step),
     NAMED(meter_step_lent)};
 

@@ -68,13 +68,13 @@ try() {
     fi
 }
 
-# NAME REFUSAL: the file of standard input is refused, with the words of README's table.
+# NAME REFUSAL: the file of standard input is refused, with the words of the table of docs/CALLS.md.
 refused() {
     local words
-    words=$(sed -n "s/^| $2 | \(.*\) |\$/\1/p" "$root/README.md" | head -n 1)
+    words=$(sed -n "s/^| $2 | \(.*\) |\$/\1/p" "$root/docs/CALLS.md" | head -n 1)
     cat > "$dir/file"
     printf 'refused %d\n' "$2" > "$dir/expected"
-    try "$1" 1 "${words:?no words in README.md}" "$dir/file"
+    try "$1" 1 "${words:?no words in docs/CALLS.md}" "$dir/file"
 }
 
 # The example, embedded and as a file, and the longest sample.

@@ -7,7 +7,7 @@ fail() {
     exit "$1"
 }
 
-# The words of a refusal, as README's table has them.
+# The words of a refusal, as the table of docs/CALLS.md has them.
 words() {
     case $1 in
         1) echo 'the file ends before a count or a section does' ;;
