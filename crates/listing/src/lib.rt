@@ -3,13 +3,13 @@
 // room is known, and the answer is the place after it, which has the name of the field that goes there.
 ghost use mathlib.Core.Path.{_≡_};
 ghost use mathlib.Core.List.{[], _∷_, _++_};
-ghost use Prim.Native.Nat.{_+_, _≤_};
+ghost use Prim.Native.Nat.{_+_, _≤_, _<_};
 ghost use lib.ListN.{length};
 ghost use Rattle.octets.specs.Memory.{put};
 ghost use Rattle.decimal.specs.Decimal.{decimalOf};
 ghost use Rattle.rfc4737.specs.declared.Answer.the-variants.{Duplicate, InOrder, Reordered};
 ghost use Rattle.listing.specs.Lines.{number, sign, lateTime, line, answerFields, headerLine, recordLine, endLine, refusedLine};
-ghost use Rattle.listing.specs.Private.Written.{PartWritten};
+ghost use Rattle.listing.specs.Private.Written.{PartWritten, pair, four};
 use rfc4737::Answer;
 use rfc4737::Counts;
 use rfc4737::DuplicateFigures;
@@ -56,12 +56,76 @@ fn write_digits(out: &mut [u8], at: usize, v: u64, after: u8) -> usize
     end + 1
 }
 
+// Writes a digit.
+fn write_digit(out: &mut [u8], at: usize, v: u32) -> usize
+    requires { ⌜ (at + 1 ≤ length (now out)) × (v < 10) ⌝ }
+    ensures { λ r. ⌜ PartWritten at 1 r ((48 + v) ∷ []) (now (out .entry)) (now (out .exit)) ⌝ }
+{
+    out[at] = (48 + v) as u8;
+    at + 1
+}
+
+// Writes the two digits of a number below 100, the first of which may be 0.
+fn write_pair(out: &mut [u8], at: usize, v: u32) -> usize
+    requires { ⌜ (at + 2 ≤ length (now out)) × (v < 100) ⌝ }
+    ensures { λ r. ⌜ PartWritten at 2 r (pair v) (now (out .entry)) (now (out .exit)) ⌝ }
+{
+    let second = write_digit(out, at, v / 10);
+    write_digit(out, second, v % 10)
+}
+
+// Writes the four digits of a number below 10,000, the first of which may be 0.
+fn write_four(out: &mut [u8], at: usize, v: u32) -> usize
+    requires { ⌜ (at + 4 ≤ length (now out)) × (v < 10000) ⌝ }
+    ensures { λ r. ⌜ PartWritten at 4 r (four v) (now (out .entry)) (now (out .exit)) ⌝ }
+{
+    let half = write_pair(out, at, v / 100);
+    write_pair(out, half, v % 100)
+}
+
+// Writes a number below 10,000.
+fn write_few(out: &mut [u8], at: usize, v: u32) -> usize
+    requires { ⌜ (at + 4 ≤ length (now out)) × (v < 10000) ⌝ }
+    ensures { λ r. ⌜ PartWritten at 4 r (number v) (now (out .entry)) (now (out .exit)) ⌝ }
+{
+    if v < 10 {
+        return write_digit(out, at, v);
+    }
+    if v < 100 {
+        return write_pair(out, at, v);
+    }
+    if v < 1000 {
+        let rest = write_digit(out, at, v / 100);
+        return write_pair(out, rest, v % 100);
+    }
+    write_four(out, at, v)
+}
+
+// Writes a number of 32 bits, four digits at a time.
+fn write_all(out: &mut [u8], at: usize, v: u32) -> usize
+    requires { ⌜ at + 10 ≤ length (now out) ⌝ }
+    ensures { λ r. ⌜ PartWritten at 10 r (number v) (now (out .entry)) (now (out .exit)) ⌝ }
+{
+    if v < 10000 {
+        return write_few(out, at, v);
+    }
+    if v < 100000000 {
+        let low = write_few(out, at, v / 10000);
+        return write_four(out, low, v % 10000);
+    }
+    let middle = write_few(out, at, v / 100000000);
+    let low = write_four(out, middle, v / 10000 % 10000);
+    write_four(out, low, v % 10000)
+}
+
 // Writes a number and the octet after it.
 fn write_number(out: &mut [u8], at: usize, n: u32, after: u8) -> usize
     requires { ⌜ at + 11 ≤ length (now out) ⌝ }
     ensures { λ r. ⌜ PartWritten at 11 r (number n ++ (after ∷ [])) (now (out .entry)) (now (out .exit)) ⌝ }
 {
-    write_digits(out, at, n as u64, after)
+    let end = write_all(out, at, n);
+    out[end] = after;
+    end + 1
 }
 
 // Writes what stands in front of a late time's amount.

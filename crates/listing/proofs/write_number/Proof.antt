@@ -1,19 +1,36 @@
--- `listing::write_number` meets its contract: a number of 32 bits has at most 10 digits. Assumes nothing.
+-- `listing::write_number` meets its contract: the octet follows the digits. Assumes nothing.
+use Prim.Native.Nat.{_≤_}
 use native.Mathlib.Omega.{arith}
+use lib.ListN.{length}
 use borrow.Author.Needs.{needs}
-use Rattle.decimal.proofs.Laws.{at-most}
-use Rattle.listing.proofs.Parts.{weaken}
+use Rattle.listing.proofs.Parts.{one, then}
 use Rattle.listing.proofs.write_number.Statement.{statement}
 use Rattle.listing.proofs.write_number.Tie as tie
 
-write-digits-requires : tie.Need-write-digits-requires
-write-digits-requires c κs = omega (arith, at-most 10 (c .before .before .args .n) (omega arith) (omega arith))
+write-all-requires : tie.Need-write-all-requires
+write-all-requires c κs = search needs
+
+slice-write-out : tie.Need-slice-write-out
+slice-write-out c = search needs
+
+add-result : tie.Need-add-result
+add-result c = search needs
 
 same-length : tie.Need-same-length
 same-length c = search needs
 
 returns : tie.Need-returns
-returns c = weaken 11 (omega (arith, at-most 10 (c .before .before .before .before .before .args .n) (omega arith) (omega arith))) (c .before .before .write-digits .ensures)
+returns c =
+    let s = c .before .before .before .before .before in
+    let h : s .args .at ≤ length (s .args .out .now) = omega arith in
+    then h (c .before .before .write-all .ensures) (one (c .before .before .write-all .result) (s .args .after) (c .before .before .write-all .last .0) (search needs))
 
 pub write-number-spec : {M : Type 1} → statement M
-write-number-spec = tie.close (tie.spec write-digits-requires same-length returns)
+write-number-spec =
+    tie.close
+    (tie.spec
+    write-all-requires
+    slice-write-out
+    add-result
+    same-length
+    returns)

@@ -1,7 +1,7 @@
 -- What the writer of a part of a line leaves. Assumes nothing.
-use Prim.Native.Nat.{ℕ, _+_, _≤_}
+use Prim.Native.Nat.{ℕ, _+_, _≤_, _/_, _%_}
 use mathlib.Core.Path.{_≡_}
-use mathlib.Core.List.{List}
+use mathlib.Core.List.{List, [], _∷_, _++_}
 use lib.ListN.{length}
 use Rattle.octets.specs.Memory.{splice}
 
@@ -11,3 +11,11 @@ pub record PartWritten (at most next : ℕ) (xs old new : List ℕ) : Type 0 whe
   pub place : next ≡ at + length xs
   pub within : length xs ≤ most
   pub memory : new ≡ splice at xs old
+
+-- two digits of a number below 100
+abbrev pub pair : ℕ → List ℕ
+pair v = (48 + v / 10) ∷ (48 + v % 10) ∷ []
+
+-- four digits of a number below 10,000
+abbrev pub four : ℕ → List ℕ
+four v = pair (v / 100) ++ pair (v % 100)

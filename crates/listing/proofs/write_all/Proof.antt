@@ -1,0 +1,78 @@
+-- `listing::write_all` meets its contract: by how many fours of digits the number has. Assumes nothing.
+use Prim.Native.Nat.{_+_, _/_, _≤_}
+use mathlib.Core.Path.{sym}
+use native.Mathlib.Omega.{arith}
+use lib.ListN.{length}
+use borrow.Author.Needs.{needs}
+use Rattle.decimal.specs.Decimal.{decimalOf}
+use Rattle.decimal.proofs.Laws.{at-most}
+use Rattle.listing.proofs.Fours.{more-fours, more-eights}
+use Rattle.listing.proofs.Parts.{named, then}
+use Rattle.listing.proofs.write_all.Statement.{statement}
+use Rattle.listing.proofs.write_all.Tie as tie
+
+write-few-requires : tie.Need-write-few-requires
+write-few-requires c κs = search needs
+
+same-length : tie.Need-same-length
+same-length c = search needs
+
+returns : tie.Need-returns
+returns c = search needs
+
+write-few-requires-2 : tie.Need-write-few-requires-2
+write-few-requires-2 c κs = search needs
+
+write-four-requires : tie.Need-write-four-requires
+write-four-requires c κs = search needs
+
+same-length-2 : tie.Need-same-length-2
+same-length-2 c = search needs
+
+returns-2 : tie.Need-returns-2
+returns-2 c =
+    let s = c .before .before .before .before .before .before .before .before .before .before .before in
+    let v = s .args .v in
+    let h : s .args .at ≤ length (s .args .out .now) = omega arith in
+    named 10 (sym (more-fours v (c .before .before .before .before .before .before .before .before .before .if1 .left))) (at-most 10 v (omega arith) (omega arith))
+    (then h (c .before .before .before .before .before .before .write-few2 .ensures) (c .before .before .write-four .ensures))
+
+write-few-requires-3 : tie.Need-write-few-requires-3
+write-few-requires-3 c κs = search needs
+
+write-four-requires-2 : tie.Need-write-four-requires-2
+write-four-requires-2 c κs = search needs
+
+write-four-requires-3 : tie.Need-write-four-requires-3
+write-four-requires-3 c κs =
+    let v = c .before .before .before .before .before .before .before .before .before .before .before .before .args .v in
+    let few : length (decimalOf (v / 100000000)) ≤ 2 = at-most 2 (v / 100000000) (omega arith) (omega arith) in
+    (omega (arith, few, c .before .before .before .before .before .before .before .write-few3 .ensures .place, c .before .before .before .write-four2 .ensures .place), omega arith)
+
+same-length-3 : tie.Need-same-length-3
+same-length-3 c = search needs
+
+returns-3 : tie.Need-returns-3
+returns-3 c =
+    let s = c .before .before .before .before .before .before .before .before .before .before .before .before .before .before .before in
+    let v = s .args .v in
+    let h : s .args .at ≤ length (s .args .out .now) = omega arith in
+    named 10 (sym (more-eights v (c .before .before .before .before .before .before .before .before .before .before .before .before .if2 .left))) (at-most 10 v (omega arith) (omega arith))
+    (then h (then h (c .before .before .before .before .before .before .before .before .before .before .write-few3 .ensures) (c .before .before .before .before .before .before .write-four2 .ensures)) (c .before .before .write-four3 .ensures))
+
+pub write-all-spec : {M : Type 1} → statement M
+write-all-spec =
+    tie.close
+    (tie.spec
+    write-few-requires
+    same-length
+    returns
+    write-few-requires-2
+    write-four-requires
+    same-length-2
+    returns-2
+    write-few-requires-3
+    write-four-requires-2
+    write-four-requires-3
+    same-length-3
+    returns-3)

@@ -1,0 +1,32 @@
+-- `listing::write_pair` meets its contract: one digit follows the other. Assumes nothing.
+use Prim.Native.Nat.{_≤_}
+use native.Mathlib.Omega.{arith}
+use lib.ListN.{length}
+use borrow.Author.Needs.{needs}
+use Rattle.listing.proofs.Parts.{then}
+use Rattle.listing.proofs.write_pair.Statement.{statement}
+use Rattle.listing.proofs.write_pair.Tie as tie
+
+write-digit-requires : tie.Need-write-digit-requires
+write-digit-requires c κs = search needs
+
+write-digit-requires-2 : tie.Need-write-digit-requires-2
+write-digit-requires-2 c κs = search needs
+
+same-length : tie.Need-same-length
+same-length c = search needs
+
+returns : tie.Need-returns
+returns c =
+    let s = c .before .before .before .before .before .before .before .before .before in
+    let h : s .args .at ≤ length (s .args .out .now) = omega arith in
+    then h (c .before .before .before .before .before .before .write-digit .ensures) (c .before .before .write-digit2 .ensures)
+
+pub write-pair-spec : {M : Type 1} → statement M
+write-pair-spec =
+    tie.close
+    (tie.spec
+    write-digit-requires
+    write-digit-requires-2
+    same-length
+    returns)
