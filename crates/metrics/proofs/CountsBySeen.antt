@@ -23,12 +23,12 @@ use Rattle.rfc4737.proofs.Jumps.{nextAfter-above}
 use Rattle.sample.specs.declared.Layout.{Layout}
 use Rattle.sample.specs.Decode.{Decoded}
 use Rattle.metrics.specs.Sample.{sizeOf}
-use Rattle.metrics.specs.Private.Sample.{arrivalAt, before, answerAt, Has}
+use Rattle.metrics.specs.Private.Sample.{arrivalAt, before, answerAt, answersTo, Has}
 use Rattle.metrics.specs.Private.Tables.{classOf}
 use Rattle.metrics.specs.Private.Steps.{countsBy, kindBy}
 use Rattle.metrics.specs.declared.look.Class.{Class}
 use Rattle.metrics.proofs.Follow.{before-more}
-use Rattle.metrics.proofs.OneArrivalMore.{answersTo, answers-next, counts-more}
+use Rattle.metrics.proofs.OneArrivalMore.{answers-next, counts-more}
 
 -- after some arrivals a table has for each packet whether it has arrived, and NextExp is known
 pub record Seen (earlier : List Arrival) (seen : List Bool) (next : ℕ) : Type 0 where

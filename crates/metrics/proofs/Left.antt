@@ -21,13 +21,12 @@ use Rattle.metrics.specs.Agreement.{common, agreementUnless, sampleAgree
 use Rattle.metrics.specs.Report.{sampleText}
 use Rattle.metrics.specs.Sample.{sizeOf, sampleArrivals, answersOf}
 use Rattle.metrics.specs.Private.Compared.{Agreed, LeftOf, textFrom, LeftAt}
-use Rattle.metrics.specs.Private.Sample.{noArrival, arrivalAt, answerAt, Laid, Has}
+use Rattle.metrics.specs.Private.Sample.{noArrival, arrivalAt, answerAt, Laid}
 use Rattle.metrics.specs.declared.SampleAgreement.{SampleAgreement}
-use Rattle.metrics.specs.declared.compare.Part.{Part}
+use Rattle.metrics.specs.declared.parts.Part.{Part}
 use Rattle.metrics.proofs.RecordsAsked.{answer-at}
 use Rattle.metrics.proofs.Common.{common-le, common-part, common-after, same-common}
 use Rattle.metrics.proofs.Follow.{arrivals-laid}
-use Rattle.metrics.proofs.OneArrivalMore.{answersTo, answers-end}
 use Rattle.metrics.proofs.DigitBounds.{counts-within}
 
 -- ---- a text of lines
@@ -124,34 +123,30 @@ module _ (d : Decoded) (y : Layout) (h : Laid d y) (text : List ℕ) (p : Part) 
   pub header-stop : Agreed header text p → p .whole ≡ false → Agreed (sampleText d) text p
   header-stop a w = rw (zero-add (p .octets)) at (left-stop (sampleText d) text 0 header (textFrom d 0) header-at p a w)
 
-  module _ (i at : ℕ) (l : LeftAt d text i at) where
-    module _ (inside : i < y .arrivals) (number : ℕ) (answer : Answer) (is : number ≡ arrivalAt d i .number) (says : answer ≡ answerAt d i)
-        (a : Agreed (recordLine (i + 1) number answer) (drop at text) p) where
-      -- before the line of record i + 1
-      record-at : LeftOf (sampleText d) text at (recordLine (i + 1) number answer ++ textFrom d (i + 1))
-      record-at = rw (is, says, ← text-next d i (omega (arith, arrivals-laid d y h))) l
+  module _ (i at : ℕ) (l : LeftAt d text i at) (inside : i < y .arrivals) (number : ℕ) (answer : Answer) (is : number ≡ arrivalAt d i .number)
+      (says : answer ≡ answerAt d i) (a : Agreed (recordLine (i + 1) number answer) (drop at text) p) where
+    -- before the line of record i + 1
+    record-at : LeftOf (sampleText d) text at (recordLine (i + 1) number answer ++ textFrom d (i + 1))
+    record-at = rw (is, says, ← text-next d i (omega (arith, arrivals-laid d y h))) l
 
-      -- after it
-      pub record-left : p .whole ≡ true → LeftAt d text (i + 1) (at + p .octets)
-      record-left w = left-line (sampleText d) text at (recordLine (i + 1) number answer) (textFrom d (i + 1)) record-at p a w
+    -- after it
+    pub record-left : p .whole ≡ true → LeftAt d text (i + 1) (at + p .octets)
+    record-left w = left-line (sampleText d) text at (recordLine (i + 1) number answer) (textFrom d (i + 1)) record-at p a w
 
-      -- where it differs
-      pub record-stop : p .whole ≡ false → Agreed (sampleText d) text (record { octets = at + p .octets; whole = p .whole })
-      record-stop w = left-stop (sampleText d) text at (recordLine (i + 1) number answer) (textFrom d (i + 1)) record-at p a w
+    -- where it differs
+    pub record-stop : p .whole ≡ false → Agreed (sampleText d) text (record { octets = at + p .octets; whole = p .whole })
+    record-stop w = left-stop (sampleText d) text at (recordLine (i + 1) number answer) (textFrom d (i + 1)) record-at p a w
 
-    -- after the last line
-    pub end-left : y .arrivals ≤ i → (c : Counts) → c ≡ counts (answersTo d i) → Agreed (endLine c) (drop at text) p
-        → Agreed (sampleText d) text (record { octets = at + p .octets; whole = p .whole })
-    end-left all c e a =
-        let q : c ≡ counts (answersOf d) = e ∙ ap counts (answers-end d y i h all) in
-        let t : LeftOf (sampleText d) text at (endLine c) = rw (q, ← text-end d i (omega (arith, arrivals-laid d y h))) l in
-        left-last (sampleText d) text at (endLine c) t p a
+  -- after the last line
+  pub end-left : (at : ℕ) → LeftAt d text (y .arrivals) at → (c : Counts) → c ≡ counts (answersOf d) → Agreed (endLine c) (drop at text) p
+      → Agreed (sampleText d) text (record { octets = at + p .octets; whole = p .whole })
+  end-left at l c e a =
+      let t : LeftOf (sampleText d) text at (endLine c) = rw (e, ← text-end d (y .arrivals) (omega (arith, arrivals-laid d y h))) l in
+      left-last (sampleText d) text at (endLine c) t p a
 
 -- the counts have few digits
-pub end-within : (d : Decoded) (y : Layout) → Laid d y → (i : ℕ) → y .arrivals ≤ i → (c : Counts) → c ≡ counts (answersTo d i) → CountsWithin c
-end-within d y h i all c e =
-    let q : c ≡ counts (answersOf d) = e ∙ ap counts (answers-end d y i h all) in
-    rw q (counts-within (answersOf d) (omega (arith, h .few, arrivals-laid d y h, length-answers (sizeOf d) (sampleArrivals d))))
+pub end-within : (d : Decoded) (y : Layout) → Laid d y → (c : Counts) → c ≡ counts (answersOf d) → CountsWithin c
+end-within d y h c e = rw e (counts-within (answersOf d) (omega (arith, h .few, arrivals-laid d y h, length-answers (sizeOf d) (sampleArrivals d))))
 
 -- ---- the call
 

@@ -16,4 +16,5 @@ pub mod DigitBounds
 pub mod Listed
 pub mod Common
 mod Left
+mod Passing
 pub mod Moved

@@ -25,10 +25,11 @@ use Rattle.rfc4737.proofs.Folds.{length-answers}
 use Rattle.sample.specs.Decode.{Decoded, decode, sampleOf, decodedRefusal}
 use Rattle.sample.specs.declared.Layout.{Layout}
 use Rattle.metrics.specs.Sample.{sampleArrivals, answersOf, sizeOf}
-use Rattle.metrics.specs.Private.Sample.{arrivalAt, before, answerAt, Laid, Has}
+use Rattle.metrics.specs.Private.Passed.{ListedAt}
+use Rattle.metrics.specs.Private.Sample.{arrivalAt, before, answerAt, answersTo, Laid, Has}
 use Rattle.metrics.specs.Report.{sampleText, listingRefusal, ListedTo}
 use Rattle.metrics.proofs.Follow.{arrivals-laid, before-more, before-length}
-use Rattle.metrics.proofs.OneArrivalMore.{answersTo, answers-start, answers-next, answers-end, answers-length}
+use Rattle.metrics.proofs.OneArrivalMore.{answers-start, answers-next, answers-end, answers-length}
 use Rattle.metrics.proofs.DigitBounds.{answers-within, counts-within}
 
 -- ---- how long it is
@@ -84,9 +85,13 @@ header-le : (k : ℕ) (l : List Arrival) (m : List Answer) (c : Counts) → leng
 unfolding listingOf
 header-le k l m c = simp length-append (omega arith)
 
--- the listing up to record i
-abbrev pub ListedAt : Decoded → Layout → ℕ → ℕ → List ℕ → List ℕ → Type 0
-ListedAt d y i at start out = Listed (y .sent) (y .arrivals) (before d i) (answersTo d i) at start out
+-- after the line of record i + 1
+pub listing-next : (d : Decoded) (y : Layout) (start : List ℕ) {i at n number : ℕ} {answer : Answer} {out newer : List ℕ} → Has d y i
+    → ListedAt d y i at start out → number ≡ arrivalAt d i .number → answer ≡ answerAt d i → n ≡ length (recordLine (i + 1) number answer)
+    → newer ≡ put at (recordLine (i + 1) number answer) out → ListedAt d y (i + 1) (at + n) start newer
+listing-next d y start {i} h s en ea e w =
+    rw (answers-next d y i h, before-more d y i h)
+    (listed-next (y .sent) (y .arrivals) start i (arrivalAt d i) (answerAt d i) (before-length d y i h) s (rw (en, ea) at e) (rw (en, ea) at w))
 
 module _ (d : Decoded) (y : Layout) (laid : Laid d y) (old : List ℕ) {start : List ℕ}
     (first : start ≡ put 0 (headerLine (y .sent) (y .arrivals)) old) where
@@ -111,24 +116,15 @@ module _ (d : Decoded) (y : Layout) (laid : Laid d y) (old : List ℕ) {start : 
       let f = header-over (omega (arith, start-length)) in
       f ∙ sym (over-again header header old (omega arith)) ∙ ap (over header) (sym f)))
 
-  -- after the line of record i + 1
-  pub listing-next : {i at n number : ℕ} {answer : Answer} {out newer : List ℕ} → Has d y i → ListedAt d y i at start out
-      → number ≡ arrivalAt d i .number → answer ≡ answerAt d i → n ≡ length (recordLine (i + 1) number answer)
-      → newer ≡ put at (recordLine (i + 1) number answer) out → ListedAt d y (i + 1) (at + n) start newer
-  listing-next {i} h s en ea e w =
-      rw (answers-next d y i h, before-more d y i h)
-      (listed-next (y .sent) (y .arrivals) start i (arrivalAt d i) (answerAt d i) (before-length d y i h) s (rw (en, ea) at e) (rw (en, ea) at w))
-
   -- after the last line
-  pub listing-end : {i at n : ℕ} {c : Counts} {out newer : List ℕ} → y .arrivals ≤ i → ListedAt d y i at start out
-      → c ≡ counts (answersTo d i) → n ≡ length (endLine c) → newer ≡ put at (endLine c) out
+  pub listing-end : {at n : ℕ} {c : Counts} {out newer : List ℕ} → ListedAt d y (y .arrivals) at start out
+      → c ≡ counts (answersOf d) → n ≡ length (endLine c) → newer ≡ put at (endLine c) out
       → (at + n ≡ length (sampleText d)) × (at + n ≤ length old → newer ≡ over (sampleText d) old)
-  listing-end {i} {at} {n} {c} {out} {newer} h s ec e w =
+  listing-end {at} {n} {c} {out} {newer} s cs e w =
       let many = arrivals-laid d y laid in
-      let l : before d i ≡ sampleArrivals d = take-all i (sampleArrivals d) (omega (arith, many)) in
-      let m : answersTo d i ≡ answersOf d = answers-end d y i laid h in
+      let l : before d (y .arrivals) ≡ sampleArrivals d = take-all (y .arrivals) (sampleArrivals d) (omega (arith, many)) in
+      let m : answersTo d (y .arrivals) ≡ answersOf d = answers-end d y (y .arrivals) laid (omega arith) in
       let all : Listed (y .sent) (length (sampleArrivals d)) (sampleArrivals d) (answersOf d) at start out = rw (m, l, many) at s in
-      let cs : c ≡ counts (answersOf d) = ec ∙ ap counts m in
       let k : y .sent ≡ length (sampleOf d .sizes) = ap (λ (y : Layout). y .sent) (laid .laid) in
       let text : listingOf (y .sent) (sampleArrivals d) (answersOf d) c ≡ sampleText d = ap₂ (λ (k : ℕ) (c : Counts). listingOf k (sampleArrivals d) (answersOf d) c) k cs in
       let r = listed-end (y .sent) start c all e w in

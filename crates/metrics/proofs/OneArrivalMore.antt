@@ -25,7 +25,7 @@ use Rattle.rfc4737.proofs.Folds.{answers-more, length-answers, arrived-more, ru
 use Rattle.sample.specs.declared.Layout.{Layout}
 use Rattle.sample.specs.Decode.{Decoded}
 use Rattle.metrics.specs.Sample.{sizeOf, sampleArrivals, answersOf}
-use Rattle.metrics.specs.Private.Sample.{arrivalAt, before, answerAt, Laid, Has}
+use Rattle.metrics.specs.Private.Sample.{arrivalAt, before, answerAt, answersTo, Laid, Has}
 use Rattle.metrics.specs.Private.Tables.{Follows, Late, classOf, Tells, lateOnly}
 use Rattle.metrics.specs.Private.Steps.{Inside, FewCounted, noCounts, countsBy, tallyBy, Fewer, noParts, partsBy, partsOf, orZero, DiscoverersAt, markBy}
 use Rattle.metrics.specs.declared.look.Class.{Class}
@@ -33,10 +33,6 @@ use Rattle.metrics.specs.declared.figures.Parts.{Parts}
 use Rattle.metrics.specs.declared.tables.State.{State}
 use Rattle.metrics.proofs.Follow.{arrivals-laid, before-more, before-length}
 use Rattle.metrics.proofs.AnswersByClass.{late-place, late-found}
-
--- the answers for the records before record i + 1
-abbrev pub answersTo : Decoded → ℕ → List Answer
-answersTo d i = answers (sizeOf d) (before d i)
 
 -- ---- before any arrival
 

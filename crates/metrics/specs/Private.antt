@@ -4,3 +4,5 @@ pub mod Tables
 pub mod Steps
 pub mod Engine
 pub mod Compared
+pub mod Taken
+pub mod Passed

@@ -10,7 +10,7 @@ use Rattle.sample.specs.Decode.{Decoded}
 use Rattle.metrics.specs.Agreement.{common}
 use Rattle.metrics.specs.Report.{sampleText}
 use Rattle.metrics.specs.Sample.{sampleArrivals, answersOf}
-use Rattle.metrics.specs.declared.compare.Part.{Part}
+use Rattle.metrics.specs.declared.parts.Part.{Part}
 
 -- how many octets of a line stand at a text's start, and whether all of them do
 pub record Agreed (line text : List ℕ) (r : Part) : Type 0 where

@@ -5,7 +5,7 @@ use mathlib.Core.List.{List}
 use lib.ListN.{take, getD}
 use Rattle.rfc4737.specs.declared.Arrival.{Arrival}
 use Rattle.rfc4737.specs.declared.Answer.{Answer}
-use Rattle.rfc4737.specs.Answer.{answerTo}
+use Rattle.rfc4737.specs.Answer.{answerTo, answers}
 use Rattle.sample.specs.declared.Layout.{Layout}
 use Rattle.sample.specs.Decode.{Decoded, layoutOf}
 use Rattle.metrics.specs.Sample.{sizeOf, sampleArrivals}
@@ -25,6 +25,10 @@ before d i = take i (sampleArrivals d)
 -- its answer
 abbrev pub answerAt : Decoded → ℕ → Answer
 answerAt d i = answerTo (sizeOf d) (before d i) (arrivalAt d i)
+
+-- the answers for the records before it
+abbrev pub answersTo : Decoded → ℕ → List Answer
+answersTo d i = answers (sizeOf d) (before d i)
 
 -- the layout of a file: what is known of its sample besides
 pub record Laid (d : Decoded) (y : Layout) : Type 0 where

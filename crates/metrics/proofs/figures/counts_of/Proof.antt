@@ -6,10 +6,10 @@ use native.Mathlib.Omega.{arith}
 use denote.Ref.{now}
 use Rattle.rfc4737.specs.Runs.{counts}
 use Rattle.sample.specs.Decode.{decode}
-use Rattle.metrics.specs.Private.Sample.{before, Has}
+use Rattle.metrics.specs.Private.Sample.{before, answersTo, Has}
 use Rattle.metrics.specs.Private.Steps.{countsBy}
 use borrow.Author.Needs.{needs}
-use Rattle.metrics.proofs.OneArrivalMore.{answersTo, answers-start, answers-end, answers-length, counts-none, counts-small}
+use Rattle.metrics.proofs.OneArrivalMore.{answers-start, answers-end, answers-length, counts-none, counts-small}
 use Rattle.metrics.proofs.CountsBySeen.{Seen, seen-start, seen-next, counts-seen}
 use Rattle.metrics.proofs.figures.counts_of.Statement.{statement}
 use Rattle.metrics.proofs.figures.counts_of.Tie as tie

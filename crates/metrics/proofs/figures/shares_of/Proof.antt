@@ -10,7 +10,7 @@ use Rattle.rfc4737.specs.Runs.{arrived}
 use Rattle.rfc4737.proofs.Folds.{arrived-answers}
 use Rattle.sample.specs.Decode.{decode}
 use Rattle.metrics.specs.Sample.{sizeOf}
-use Rattle.metrics.specs.Private.Sample.{before, Has}
+use Rattle.metrics.specs.Private.Sample.{before, answersTo, Has}
 use Rattle.metrics.specs.Private.Tables.{Follows, Linked, Tells, lateOnly}
 use Rattle.metrics.specs.Private.Steps.{partsOf}
 use borrow.Author.Needs.{needs}
@@ -18,7 +18,7 @@ use Rattle.metrics.proofs.Follow.{count-le}
 use Rattle.metrics.proofs.NotingArrivals.{noting, noted-follows}
 use Rattle.metrics.proofs.Running.{linked-start, links-laid, linked-next}
 use Rattle.metrics.proofs.AnswersByClass.{told}
-use Rattle.metrics.proofs.OneArrivalMore.{answersTo, follows-start, answers-start, answers-end, answers-length, parts-none, parts-fewer, parts-next}
+use Rattle.metrics.proofs.OneArrivalMore.{follows-start, answers-start, answers-end, answers-length, parts-none, parts-fewer, parts-next}
 use Rattle.metrics.proofs.figures.shares_of.Statement.{statement}
 use Rattle.metrics.proofs.figures.shares_of.Tie as tie
 

@@ -8,13 +8,13 @@ use lib.ListN.{getD}
 use Rattle.rfc4737.specs.Tally.{tally}
 use Rattle.rfc4737.proofs.Folds.{length-tally, tally-le}
 use Rattle.sample.specs.Decode.{decode}
-use Rattle.metrics.specs.Private.Sample.{before, Has}
+use Rattle.metrics.specs.Private.Sample.{before, answersTo, Has}
 use Rattle.metrics.specs.Private.Tables.{Follows, Tells}
 use borrow.Author.Needs.{needs}
 use Rattle.metrics.proofs.Follow.{count-le}
 use Rattle.metrics.proofs.NotingArrivals.{noting, noted-follows}
 use Rattle.metrics.proofs.AnswersByClass.{told}
-use Rattle.metrics.proofs.OneArrivalMore.{answersTo, follows-start, answers-start, answers-end, answers-length, inside-told, tally-none, tally-next}
+use Rattle.metrics.proofs.OneArrivalMore.{follows-start, answers-start, answers-end, answers-length, inside-told, tally-none, tally-next}
 use Rattle.metrics.proofs.figures.tally_of.Statement.{statement}
 use Rattle.metrics.proofs.figures.tally_of.Tie as tie
 

@@ -6,14 +6,14 @@ use Prim.Native.Nat.{_≤_, _<_, _-_}
 use native.Mathlib.Omega.{arith}
 use denote.Ref.{now}
 use Rattle.sample.specs.Decode.{decode}
-use Rattle.metrics.specs.Private.Sample.{before, answerAt, Has}
+use Rattle.metrics.specs.Private.Sample.{before, answerAt, answersTo, Has}
 use Rattle.metrics.specs.Private.Tables.{Follows, Tells}
 use Rattle.metrics.specs.Private.Steps.{placeIn, DiscoverersAt}
 use borrow.Author.Needs.{needs}
 use Rattle.metrics.proofs.Follow.{count-le}
 use Rattle.metrics.proofs.NotingArrivals.{noting, noted-follows}
 use Rattle.metrics.proofs.AnswersByClass.{told, place-told}
-use Rattle.metrics.proofs.OneArrivalMore.{answersTo, follows-start, answers-end, inside-told, marked-start, marked-next}
+use Rattle.metrics.proofs.OneArrivalMore.{follows-start, answers-end, inside-told, marked-start, marked-next}
 use Rattle.metrics.proofs.gaps.mark_all.Statement.{statement}
 use Rattle.metrics.proofs.gaps.mark_all.Tie as tie
 

@@ -7,8 +7,8 @@ use mathlib.Core.Path.{_≡_, sym, _∙_}
 use lib.ListN.{length, drop}
 use Rattle.metrics.specs.Agreement.{common}
 use Rattle.metrics.proofs.Common.{common-step, common-stop, common-end, common-cut}
-use Rattle.metrics.proofs.compare.common.Statement.{statement}
-use Rattle.metrics.proofs.compare.common.Tie as tie
+use Rattle.metrics.proofs.parts.common.Statement.{statement}
+use Rattle.metrics.proofs.parts.common.Tie as tie
 
 abbrev Inv-loop : tie.InvT-loop
 Inv-loop one other i₀ i = (i ≤ length one) × (common one other ≡ i + common (drop i one) (drop i other))

@@ -1,8 +1,8 @@
 -- `counted_by` goes by the answer's kind. Assumes nothing.
 use borrow.Author.Needs.{needs}
 use Rattle.metrics.specs.Private.Steps.{countsBy}
-use Rattle.metrics.proofs.report.counted_by.Statement.{statement}
-use Rattle.metrics.proofs.report.counted_by.Tie as tie
+use Rattle.metrics.proofs.pass.counted_by.Statement.{statement}
+use Rattle.metrics.proofs.pass.counted_by.Tie as tie
 
 enum-told : tie.Need-enum-told
 enum-told c = search needs

@@ -5,8 +5,8 @@ use denote.Ref.{now}
 use lib.ListN.{drop}
 use Rattle.metrics.specs.Agreement.{common}
 use Rattle.metrics.proofs.Common.{rest-part}
-use Rattle.metrics.proofs.compare.part_of.Statement.{statement}
-use Rattle.metrics.proofs.compare.part_of.Tie as tie
+use Rattle.metrics.proofs.parts.part_of.Statement.{statement}
+use Rattle.metrics.proofs.parts.part_of.Tie as tie
 
 sub-common : tie.Need-sub-common
 sub-common c = search needs

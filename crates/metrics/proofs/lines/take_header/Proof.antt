@@ -1,0 +1,29 @@
+-- `take_header` meets its contract: its line is put, and then held. Assumes nothing.
+use Prim.Native.Nat.{_≤_}
+use native.Mathlib.Omega.{arith}
+use borrow.Author.Needs.{needs}
+use lib.ListN.{length}
+use Rattle.listing.specs.Lines.{headerLine}
+use Rattle.listing.proofs.Lengths.{header-octets}
+use Rattle.metrics.proofs.Passing.{line-ready, line-taken, same-start}
+use Rattle.metrics.proofs.lines.take_header.Statement.{statement}
+use Rattle.metrics.proofs.lines.take_header.Tie as tie
+
+-- the line has room in a buffer of one line
+few : (c : tie.Start) → length (headerLine (c .args .k) (c .args .a)) ≤ 93
+few c = omega (arith, header-octets _ _ (c .pre .1) (c .pre .2))
+
+put-header-requires : tie.Need-put-header-requires
+put-header-requires c κs = search needs
+
+held-requires : tie.Need-held-requires
+held-requires c κs = line-ready _ _ _ 0 (c .before .before .before .put-header .ensures .0) (few (c .before .before .before .before .before .before .before)) (c .before .before .before .before .before .before .before .pre .0) (same-start (c .before .before .before .before .before .before .before .args .comparing)) (c .before .before .before .put-header .ensures .1)
+
+same-length : tie.Need-same-length
+same-length c = search needs
+
+returns : tie.Need-returns
+returns c = line-taken _ _ _ 0 (c .before .before .before .before .put-header .ensures .0) (few (c .before .before .before .before .before .before .before .before)) (c .before .before .before .before .before .before .before .before .pre .0) (same-start (c .before .before .before .before .before .before .before .before .args .comparing)) (c .before .before .before .before .put-header .ensures .1) (c .held .ensures)
+
+pub take-header-spec : {M : Type 1} → statement M
+take-header-spec = tie.close (tie.spec put-header-requires held-requires same-length returns)

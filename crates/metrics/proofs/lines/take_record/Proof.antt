@@ -1,0 +1,33 @@
+-- `take_record` meets its contract: its line is put, and then held. Assumes nothing.
+use Prim.Native.Nat.{_≤_}
+use native.Mathlib.Omega.{arith}
+use borrow.Author.Needs.{needs}
+use lib.ListN.{length}
+use Rattle.listing.specs.Lines.{recordLine}
+use Rattle.listing.proofs.Lengths.{record-octets}
+use Rattle.metrics.proofs.Passing.{line-ready, line-taken}
+use Rattle.metrics.proofs.lines.take_record.Statement.{statement}
+use Rattle.metrics.proofs.lines.take_record.Tie as tie
+
+-- the line has room in a buffer of one line
+few : (c : tie.Start) → length (recordLine (c .args .«record») (c .args .number) (c .args .answer)) ≤ 93
+few c = omega (arith, record-octets (c .args .«record») (c .args .number) (c .args .answer) (c .pre .1) (c .pre .2) (c .pre .3))
+
+put-place-requires : tie.Need-put-place-requires
+put-place-requires c κs = search needs
+
+put-record-requires : tie.Need-put-record-requires
+put-record-requires c κs = search needs
+
+held-requires : tie.Need-held-requires
+held-requires c κs = line-ready _ _ _ _ (c .before .before .before .put-record .ensures .0) (few (c .before .before .before .before .before .before .before .before)) (c .before .before .before .before .before .before .before .before .pre .0) (c .before .before .before .before .put-place .ensures) (c .before .before .before .put-record .ensures .1)
+
+same-length : tie.Need-same-length
+same-length c = search needs
+
+returns : tie.Need-returns
+returns c = line-taken _ _ _ _ (c .before .before .before .before .put-record .ensures .0) (few (c .before .before .before .before .before .before .before .before .before)) (c .before .before .before .before .before .before .before .before .before .pre .0) (c .before .before .before .before .before .put-place .ensures) (c .before .before .before .before .put-record .ensures .1) (c .held .ensures)
+
+pub take-record-spec : {M : Type 1} → statement M
+take-record-spec =
+    tie.close (tie.spec put-place-requires put-record-requires held-requires same-length returns)

@@ -1,0 +1,156 @@
+-- `take_records` goes over the records. The loop's invariant: the engine knows the arrivals before i, the counts are those of their answers, and
+-- their lines are written or agree with the text. The measure is what is left of the arrivals. Assumes nothing.
+use Prim.Native.Nat.{_+_, _-_, _^_, _≤_, _<_}
+use mathlib.Core.Path.{_≡_, sym, ap, ap₂, _∙_}
+use native.Mathlib.Omega.{arith}
+use borrow.Author.Needs.{needs}
+use borrow.Author.Tests.{not-true, not-false}
+use denote.Ref.{now}
+use mir.Syntax.{w8}
+use Rattle.octets.proofs.Below.{below-fits}
+use Rattle.rfc4737.specs.declared.Arrival.{Arrival}
+use Rattle.rfc4737.specs.Runs.{counts}
+use Rattle.sample.specs.Decode.{decode}
+use Rattle.metrics.specs.Private.Engine.{Running}
+use Rattle.metrics.specs.Private.Passed.{PassedTo}
+use Rattle.metrics.specs.Private.Sample.{answersTo, Has}
+use Rattle.metrics.specs.Private.Steps.{countsBy}
+use Rattle.metrics.specs.Private.Tables.{classOf}
+use Rattle.metrics.proofs.DigitBounds.{answers-within}
+use Rattle.metrics.proofs.OneArrivalMore.{answers-start, answers-length, answers-next, counts-none, counts-small, counts-more}
+use Rattle.metrics.proofs.Passing.{passed-next, passed-stop, passed-all, place-fits}
+use Rattle.metrics.proofs.Running.{running-start}
+use Rattle.metrics.proofs.pass.take_records.Statement.{statement}
+use Rattle.metrics.proofs.pass.take_records.Tie as tie
+
+abbrev Inv-loop : tie.InvT-loop
+Inv-loop file y out₀ text comparing start numbers₀ records₀ skipped₀ tree₀ engine₀ counts₀ at₀ i₀ out numbers records skipped tree engine known at i =
+    (i ≤ y .arrivals) × Running (decode file) i numbers records skipped tree engine × (known ≡ counts (answersTo (decode file) i))
+    × PassedTo (decode file) y text comparing i at out₀ out
+
+abbrev μ-loop : tie.MeasureT-loop
+μ-loop file y out₀ text comparing start numbers₀ records₀ skipped₀ tree₀ engine₀ counts₀ at₀ i₀ out numbers records skipped tree engine known at i =
+    y .arrivals - i
+
+-- record i + 1 is there
+here : (c : tie.Then1 Inv-loop μ-loop) → Has (decode (now (c .before .before .before .before .before .before .before .before .args .file))) (c .before .before .before .before .before .before .before .before .args .y) (c .before .before .loop .i)
+here c = record { file = c .before .before .before .before .before .before .before .before .pre .0; inside = c .if1 .taken }
+
+-- it is one of few
+few : (c : tie.Then1 Inv-loop μ-loop) → c .before .before .loop .i < 4096
+few c = omega (arith, c .if1 .taken, c .before .before .before .before .before .before .before .before .pre .0 .few)
+
+-- the place after its line
+fits : (c : tie.After-struct-known2 Inv-loop μ-loop) → c .before .before .before .before .before .before .before .before .before .before .before .before .before .before .loop .at + c .before .before .before .take-record .result .octets < 2 ^ 64
+fits c =
+    let a = c .before .before .before .before .before .before .before .before .before .before .before .before .before .before .before .before .before .before .before .before .args in
+    place-fits (now (a .file)) (below-fits w8 (now (a .file)) (c .before .before .before .before .before .before .before .before .before .before .before .before .before .before .before .before .before .before .before .shared-slice-known .given)) (a .y) (now (a .text)) (c .before .before .before .before .before .before .before .before .before .before .before .before .before .before .before .before .before .before .before .before .good .1 .1 .1 .0 .0) (a .comparing)
+    (here (c .before .before .before .before .before .before .before .before .before .before .before .before)) (c .before .before .before .before .before .before .before .before .before .before .before .before .before .before .loop .inv .3) (ap (λ (b : Arrival). b .number) (c .before .before .before .before .before .before .before .before .before .before .before .arrival .ensures .0)) (c .before .before .before .before .before .before .advance .ensures .0) (c .before .before .before .take-record .ensures)
+
+fresh-engine-requires : tie.Need-fresh-engine-requires Inv-loop μ-loop
+fresh-engine-requires c κs = search needs
+
+no-counts-requires : tie.Need-no-counts-requires Inv-loop μ-loop
+no-counts-requires c κs = search needs
+
+loop-holds : tie.Need-loop-holds Inv-loop μ-loop
+loop-holds c =
+    let d = decode (now (c .before .before .before .before .before .args .file)) in (
+      omega arith,
+      rw (c .before .fresh-engine .ensures) (running-start d),
+      c .no-counts .ensures ∙ sym (ap counts (answers-start d) ∙ counts-none),
+      c .before .before .before .before .before .pre .2,
+    )
+
+arrival-requires : tie.Need-arrival-requires Inv-loop μ-loop
+arrival-requires c κs = here c
+
+slice-aggregate-advance : tie.Need-slice-aggregate-advance Inv-loop μ-loop
+slice-aggregate-advance c = search needs
+
+advance-requires : tie.Need-advance-requires Inv-loop μ-loop
+advance-requires c κs = (here (c .before .before .before .before .before), c .before .before .before .before .arrival .ensures .0, c .before .before .before .before .before .before .before .loop .inv .1)
+
+add-take-record : tie.Need-add-take-record Inv-loop μ-loop
+add-take-record c = omega (arith, few (c .before .before .before .before .before .before .before .before))
+
+take-record-requires : tie.Need-take-record-requires Inv-loop μ-loop
+take-record-requires c κs =
+    let file = now (c .before .before .before .before .before .before .before .before .before .before .before .before .before .before .before .before .args .file) in
+    let l = c .before .before .before .before .before .before .before .before .before .before .loop in (
+      record { room = λ e. omega (arith, c .before .before .before .before .before .before .before .before .before .before .before .before .before .before .before .before .pre .1 .room e, l .inv .3 .places); inside = λ e. l .inv .3 .compared e .most },
+      omega (arith, few (c .before .before .before .before .before .before .before .before)),
+      omega (arith, c .before .before .before .before .before .before .before .arrival .ensures .1),
+      rw (c .before .before .advance .ensures .0) (answers-within file _ (l .i) (below-fits w8 file (c .before .before .before .before .before .before .before .before .before .before .before .before .before .before .before .shared-slice-known .given)) (here (c .before .before .before .before .before .before .before .before))),
+    )
+
+after-requires : tie.Need-after-requires Inv-loop μ-loop
+after-requires c κs = fits (c .before)
+
+same-length : tie.Need-same-length Inv-loop μ-loop
+same-length c = c .before .before .before .before .before .take-record .ensures .places ∙ c .before .before .before .before .before .before .before .before .before .before .before .before .before .before .before .before .loop .inv .3 .places
+
+returns : tie.Need-returns Inv-loop μ-loop
+returns c =
+    rw (c .after .ensures)
+    (passed-stop _ _ _ _ (here (c .before .before .before .before .before .before .before .before .before .before .before .before .before .before)) (c .before .before .before .before .before .before .before .before .before .before .before .before .before .before .before .before .loop .inv .3) (ap (λ (b : Arrival). b .number) (c .before .before .before .before .before .before .before .before .before .before .before .before .before .arrival .ensures .0)) (c .before .before .before .before .before .before .before .before .advance .ensures .0)
+    (c .before .before .before .before .before .take-record .ensures) _ (not-true _ (c .before .if2 .taken)))
+
+add-at : tie.Need-add-at Inv-loop μ-loop
+add-at c = omega (arith, fits (c .before .before))
+
+counted-by-requires : tie.Need-counted-by-requires Inv-loop μ-loop
+counted-by-requires c κs =
+    let r = c .before .before .before .before .before .before .before .before .before .before .before .before .before .before in
+    rw (c .before .before .before .before .before .before .before .before .before .before .before .before .before .before .before .before .loop .inv .2) (counts-small _ (omega (arith, answers-length _ _ _ (here r), few r)))
+
+add-i : tie.Need-add-i Inv-loop μ-loop
+add-i c = omega (arith, few (c .before .before .before .before .before .before .before .before .before .before .before .before .before .before .before .before))
+
+loop-less : tie.Need-loop-less Inv-loop μ-loop
+loop-less c = omega (arith, here (c .before .before .before .before .before .before .before .before .before .before .before .before .before .before .before .before) .inside)
+
+loop-again : tie.Need-loop-again Inv-loop μ-loop
+loop-again c =
+    let l = c .before .before .before .before .before .before .before .before .before .before .before .before .before .before .before .before .before .before .loop in
+    let h = here (c .before .before .before .before .before .before .before .before .before .before .before .before .before .before .before .before) in
+    let step = c .before .before .before .before .before .before .before .before .before .before .advance .ensures in (
+      omega (arith, h .inside),
+      step .1,
+      c .before .counted-by .ensures ∙ ap₂ countsBy (l .inv .2) (ap classOf (step .0)) ∙ sym (ap counts (answers-next _ _ _ h) ∙ counts-more _ _),
+      passed-next _ _ _ _ h (l .inv .3) (ap (λ (b : Arrival). b .number) (c .before .before .before .before .before .before .before .before .before .before .before .before .before .before .before .arrival .ensures .0)) (step .0) (c .before .before .before .before .before .before .before .take-record .ensures)
+          (not-false _ (c .before .before .before .if2 .left)),
+    )
+
+same-length-2 : tie.Need-same-length-2 Inv-loop μ-loop
+same-length-2 c = c .before .before .loop .inv .3 .places
+
+returns-2 : tie.Need-returns-2 Inv-loop μ-loop
+returns-2 c =
+    let l = c .before .before .loop in
+    passed-all _ _ _ _ (c .before .before .before .before .before .before .before .before .pre .0) (l .inv .0) (c .if1 .left) (l .inv .3) (l .inv .2)
+
+pub take-records-spec : {M : Type 1} → statement M
+take-records-spec =
+    tie.close
+    (tie.spec
+    Inv-loop
+    μ-loop
+    fresh-engine-requires
+    no-counts-requires
+    loop-holds
+    arrival-requires
+    slice-aggregate-advance
+    advance-requires
+    add-take-record
+    take-record-requires
+    after-requires
+    same-length
+    returns
+    add-at
+    counted-by-requires
+    add-i
+    loop-less
+    loop-again
+    same-length-2
+    returns-2)

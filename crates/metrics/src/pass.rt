@@ -1,0 +1,118 @@
+// One pass over a sample, in which each line of its listing is taken: put into lent memory, or compared with a text. The
+// first line that differs ends the pass.
+ghost use mathlib.Core.Path.{_≡_};
+ghost use Rattle.sample.specs.Decode.{decode};
+ghost use Rattle.metrics.specs.Private.Passed.{PassedTo, PassEnded, TextTaken};
+ghost use Rattle.metrics.specs.Private.Sample.{Laid};
+ghost use Rattle.metrics.specs.Private.Steps.{FewCounted, countsBy};
+ghost use Rattle.metrics.specs.Private.Tables.{classOf};
+ghost use Rattle.metrics.specs.Private.Taken.{Ready};
+ghost use Rattle.metrics.specs.Report.{sampleText};
+use crate::engine::advance;
+use crate::engine::fresh_engine;
+use crate::figures::counted;
+use crate::figures::no_counts;
+use crate::input;
+use crate::lines::take_end;
+use crate::lines::take_header;
+use crate::lines::take_record;
+use crate::look::Class;
+use crate::parts::Part;
+use crate::parts::after;
+use crate::tables::FIRSTS;
+use crate::tables::PLACES;
+use crate::totals::PAIRS;
+use rfc4737::Answer;
+use rfc4737::Counts;
+use sample::Layout;
+
+// The counts under one answer more.
+fn counted_by(c: Counts, answer: Answer) -> Counts
+    requires { ⌜ FewCounted c ⌝ }
+    ensures { λ r. ⌜ r ≡ countsBy c (classOf answer) ⌝ }
+{
+    match answer {
+        Answer::Duplicate(_) => counted(c, Class::Duplicate(0)),
+        Answer::InOrder(_) => counted(c, Class::InOrder(0)),
+        Answer::Reordered(_) => counted(c, Class::Reordered(0)),
+    }
+}
+
+// How a pass ended: the place after the last line or, where a line differs from the text, how far the text agrees and that
+// it does no further; and the counts of the answers.
+struct Passed {
+    pub part: Part,
+    pub counts: Counts,
+}
+
+// Takes the lines of the records, from a place on.
+fn take_records(
+    file: &[u8],
+    y: Layout,
+    out: &mut [u8],
+    text: &[u8],
+    comparing: bool,
+    start: usize,
+) -> Passed
+    requires { ⌜ Laid (decode (now file)) y × Ready comparing (now text) start (now out)
+        × PassedTo (decode (now file)) y (now text) comparing 0 start (now out) (now out) ⌝ }
+    ensures { λ r. ⌜ PassEnded (decode (now (file .entry))) y (now (text .entry)) comparing (now (out .entry)) (now (out .exit)) r ⌝ }
+{
+    let mut numbers = [0u16; FIRSTS];
+    let mut records = [0u16; PLACES];
+    let mut skipped = [0u16; PLACES];
+    let mut tree = [0u32; PAIRS];
+    let mut engine = fresh_engine();
+    let mut counts = no_counts();
+    let mut at = start;
+    let mut i: u32 = 0;
+    while i < y.arrivals {
+        let arrival = input::arrival(file, y, i);
+        let step = advance(
+            file,
+            y,
+            i,
+            arrival,
+            &mut numbers,
+            &mut records,
+            &mut skipped,
+            &mut tree,
+            engine,
+        );
+        let answer = step.answer;
+        let part = take_record(out, text, comparing, at, i + 1, arrival.number, answer);
+        if !part.whole {
+            return Passed {
+                part: after(at, part),
+                counts,
+            };
+        }
+        at += part.octets;
+        counts = counted_by(counts, answer);
+        engine = step.engine;
+        i += 1;
+    }
+    let part = Part {
+        octets: at,
+        whole: true,
+    };
+    Passed { part, counts }
+}
+
+// Takes all lines.
+pub(crate) fn pass(file: &[u8], y: Layout, out: &mut [u8], text: &[u8], comparing: bool) -> Part
+    requires { ⌜ Laid (decode (now file)) y × Ready comparing (now text) 0 (now out) ⌝ }
+    ensures { λ r. ⌜ TextTaken comparing (sampleText (decode (now (file .entry)))) (now (text .entry)) (now (out .entry)) (now (out .exit)) r ⌝ }
+{
+    let first = take_header(out, text, comparing, y.sent, y.arrivals);
+    if !first.whole {
+        return first;
+    }
+    let passed = take_records(file, y, out, text, comparing, first.octets);
+    let lines = passed.part;
+    if !lines.whole {
+        return lines;
+    }
+    let last = take_end(out, text, comparing, lines.octets, passed.counts);
+    after(lines.octets, last)
+}
