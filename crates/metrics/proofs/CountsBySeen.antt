@@ -61,7 +61,7 @@ has-below s fs = snoc-ind (λ (fs : List Arrival). has s fs ≡ true → s < nex
         go false q false r w = absurd (true≢false (sym w))
 
 -- so NextExp goes by every arrival alike: a copy leaves it
-next-arrival : (l : List Arrival) (a : Arrival) → nextExp (firsts (l ++ (a ∷ []))) ≡ nextAfter (nextExp (firsts l)) (a .number)
+pub next-arrival : (l : List Arrival) (a : Arrival) → nextExp (firsts (l ++ (a ∷ []))) ≡ nextAfter (nextExp (firsts l)) (a .number)
 unfolding nextAfter
 next-arrival l a = go (has (a .number) (firsts l)) refl
   where

@@ -60,7 +60,7 @@ filled-to from to s value old new h g f =
 -- ---- one arrival more
 
 -- the numbers under one first arrival more, put after those before it
-numbered-more : (fs : List Arrival) (a : Arrival) (numbers : List ℕ) (count : ℕ) → length fs < length numbers → Numbered fs numbers count
+pub numbered-more : (fs : List Arrival) (a : Arrival) (numbers : List ℕ) (count : ℕ) → length fs < length numbers → Numbered fs numbers count
     → Numbered (fs ++ (a ∷ [])) (set numbers count (a .number)) (count + 1)
 numbered-more fs a numbers count room h =
     record { all = rw (length-append fs (a ∷ [])) (ap (λ (n : ℕ). n + 1) (h .all)); at = λ p g. go p g (eqb p (length fs)) refl }

@@ -10,6 +10,7 @@ pub mod Linked
 pub mod NotingArrivals
 pub mod Pairs
 pub mod Running
+pub mod Shares
 pub mod Discovered
 pub mod RecordsAsked
 pub mod DigitBounds

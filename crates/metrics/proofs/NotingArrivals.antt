@@ -16,7 +16,7 @@ use Rattle.metrics.specs.Private.Sample.{arrivalAt, before, Has}
 use Rattle.metrics.specs.Private.Tables.{Filled, Follows, Linked, Noting, ReceiverAnswer}
 use Rattle.metrics.specs.declared.tables.State.{State}
 use Rattle.metrics.proofs.Follow.{kept-copy, one-more, kept-reordered, kept-in-order, arrived-recorded, new-recorded, before-more, before-length}
-use Rattle.metrics.proofs.Linked.{linked-reordered, linked-in-order}
+use Rattle.metrics.proofs.Linked.{linked-set, linked-in-order}
 
 -- where a record can be noted there are fewer first arrivals than places
 pub noting-few : (numbers records skipped : List ℕ) (state : State) (i number : ℕ) → Noting numbers records skipped state i number → state .count < 4096
@@ -49,11 +49,10 @@ module _ (i largest : ℕ) (numbers records skipped : List ℕ) (state : State) 
               rw (← m, ← is)
               (kept-reordered l a numbers records skipped state f (new l a is f) (omega arith) (omega arith) (omega arith) largest (omega arith));
           linked = λ l a m is f lar k.
-              let behind : a .number < nextExp (firsts l) = omega (arith, f .next) in
               let own : largest ≡ largestN (firsts l) (a .number) =
               lar (ap (λ (s : ℕ). has s l) (sym is) ∙ new l a is f) (omega arith) ∙ ap (largestN (firsts l)) (sym is) in
               rw (one-more l a numbers records skipped state f (new l a is f) (omega arith) (omega arith) (omega arith), ← is)
-              (linked-reordered (firsts l) a (has-firsts (a .number) l ∙ new l a is f) skipped k largest behind (omega (arith, f .places)) own);
+              (linked-set 1 (firsts l) a (has-firsts (a .number) l ∙ new l a is f) skipped k largest (omega (arith, f .places)) (omega (arith, own)));
         }
 
     -- of a packet in order
@@ -67,7 +66,7 @@ module _ (i largest : ℕ) (numbers records skipped : List ℕ) (state : State) 
               (kept-in-order l a numbers records skipped state f (new l a is f) (omega arith) (omega arith) (omega arith) (omega arith) skipped′ (rw (← is) at filled));
           linked = λ l a m is f lar k.
               rw (one-more l a numbers records skipped state f (new l a is f) (omega arith) (omega arith) (omega arith))
-              (linked-in-order (firsts l) a (has-firsts (a .number) l ∙ new l a is f) skipped k skipped′ _ (omega (arith, f .next)) (rw (← is, f .next) at filled));
+              (linked-in-order (firsts l) a (has-firsts (a .number) l ∙ new l a is f) skipped skipped′ k _ (omega (arith, f .next)) (rw (← is, f .next) at filled));
         }
 
 module _ (d : Decoded) (y : Layout) (i : ℕ) (h : Has d y i) (numbers records skipped : List ℕ) (state : State)
@@ -93,5 +92,5 @@ module _ (d : Decoded) (y : Layout) (i : ℕ) (h : Has d y i) (numbers records s
 
     -- and the links
     pub noted-linked : (has number (before d i) ≡ false → number < nextExp (firsts (before d i)) → largest ≡ largestN (firsts (before d i)) number)
-        → Linked (firsts (before d i)) skipped → Linked (firsts (before d (i + 1))) skipped′
+        → Linked 1 (firsts (before d i)) skipped → Linked 1 (firsts (before d (i + 1))) skipped′
     noted-linked lar k = rw (before-more d y i h) (n .linked (before d i) (arrivalAt d i) (before-length d y i h) (sym is) f lar k)

@@ -27,9 +27,8 @@ use Rattle.sample.specs.Decode.{Decoded}
 use Rattle.metrics.specs.Sample.{sizeOf, sampleArrivals, answersOf}
 use Rattle.metrics.specs.Private.Sample.{arrivalAt, before, answerAt, answersTo, Laid, Has}
 use Rattle.metrics.specs.Private.Tables.{Follows, Late, classOf, Tells, lateOnly}
-use Rattle.metrics.specs.Private.Steps.{Inside, FewCounted, noCounts, countsBy, tallyBy, Fewer, noParts, partsBy, partsOf, orZero, DiscoverersAt, markBy}
+use Rattle.metrics.specs.Private.Steps.{Inside, FewCounted, noCounts, countsBy, tallyBy, orZero, DiscoverersAt, markBy}
 use Rattle.metrics.specs.declared.look.Class.{Class}
-use Rattle.metrics.specs.declared.figures.Parts.{Parts}
 use Rattle.metrics.specs.declared.tables.State.{State}
 use Rattle.metrics.proofs.Follow.{arrivals-laid, before-more, before-length}
 use Rattle.metrics.proofs.AnswersByClass.{late-place, late-found}
@@ -142,67 +141,6 @@ tally-next d y i h n k t c =
 pub tally-none : tally [] ≡ replicate 101 0
 unfolding tally
 tally-none = refl
-
--- ---- reordered and n-reordered packets
-
--- those of no answers
-pub parts-none : (low high : ℕ) → partsOf low high [] ≡ noParts
-unfolding partsOf nReordered count
-parts-none low high = refl
-
--- those after one answer more
-abbrev partsAfter : ℕ → ℕ → Parts → Answer → Parts
-partsAfter low high p a =
-    record {
-      reordered = cond (isReordered a) (p .reordered + 1) (p .reordered);
-      low = cond (isNReordered low a) (p .low + 1) (p .low);
-      high = cond (isNReordered high a) (p .high + 1) (p .high);
-    }
-
--- those of one answer more
-parts-more : (low high : ℕ) (l : List Answer) (a : Answer) → partsOf low high (l ++ (a ∷ [])) ≡ partsAfter low high (partsOf low high l) a
-unfolding partsOf nReordered
-parts-more low high l a = rw (count-more isReordered l a, count-more (isNReordered low) l a, count-more (isNReordered high) l a)
-
--- their step, by the class
-parts-told : (d : Decoded) (i m : ℕ) (k : Class) → Tells d i m k → (low high largest : ℕ) (p : Parts)
-    → largest ≡ lateOnly (largestN (firsts (before d i)) (arrivalAt d i .number)) k
-    → partsAfter low high p (answerAt d i) ≡ partsBy low high largest p k
-unfolding isNReordered partsBy reorderedAnswer
-parts-told d i m (Class.Duplicate first) e low high largest p is = rw e
-parts-told d i m (Class.InOrder jump) e low high largest p is = rw e
-parts-told d i m (Class.Reordered at) e low high largest p is = rw (e .answer, is)
-
--- those under record i + 1, whose largest n is this if it is reordered
-pub parts-next : (d : Decoded) (y : Layout) (i : ℕ) → Has d y i → (m : ℕ) (k : Class) → Tells d i m k → (low high largest : ℕ)
-    → largest ≡ lateOnly (largestN (firsts (before d i)) (arrivalAt d i .number)) k
-    → partsOf low high (answersTo d (i + 1)) ≡ partsBy low high largest (partsOf low high (answersTo d i)) k
-parts-next d y i h m k t low high largest is =
-    ap (partsOf low high) (answers-next d y i h)
-    ∙ parts-more low high (answersTo d i) (answerAt d i)
-    ∙ parts-told d i m k t low high largest (partsOf low high (answersTo d i)) is
-
--- no more answers pass a test than there are
-count-most : (p : Answer → Bool) (l : List Answer) → count p l ≤ length l
-unfolding count
-count-most p l = snoc-ind (λ (l : List Answer). count p l ≤ length l) more (omega arith) l
-  where
-    go : (b : Bool) (n m : ℕ) → n ≤ m → cond b (n + 1) n ≤ m + 1
-    go true n m h = omega arith
-    go false n m h = omega arith
-
-    more : (l : List Answer) (a : Answer) → count p l ≤ length l → count p (l ++ (a ∷ [])) ≤ length (l ++ (a ∷ []))
-    more l a h = rw (count-more p l a, length-append l (a ∷ [])) (go (p a) (count p l) (length l) h)
-
--- those of fewer than 4,096 answers
-pub parts-fewer : (low high : ℕ) (l : List Answer) → length l < 4096 → Fewer (partsOf low high l)
-unfolding partsOf nReordered
-parts-fewer low high l h =
-    record {
-      reordered = omega (arith, count-most isReordered l);
-      low = omega (arith, count-most (isNReordered low) l);
-      high = omega (arith, count-most (isNReordered high) l);
-    }
 
 -- ---- discoverers of discontinuities
 

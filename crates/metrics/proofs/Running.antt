@@ -14,7 +14,7 @@ use Rattle.sample.specs.declared.Layout.{Layout}
 use Rattle.sample.specs.Decode.{Decoded}
 use Rattle.metrics.specs.Sample.{sizeOf}
 use Rattle.metrics.specs.Private.Sample.{arrivalAt, before, Has}
-use Rattle.metrics.specs.Private.Tables.{Follows, Links, Linked, ReceiverAnswer, classBy, lateOnly}
+use Rattle.metrics.specs.Private.Tables.{Numbered, Follows, Links, Linked, ReceiverAnswer, classBy, lateOnly}
 use Rattle.metrics.specs.Private.Engine.{Totalled, Filling, Running}
 use Rattle.metrics.specs.declared.engine.Engine.{Engine}
 use Rattle.metrics.specs.declared.look.Class.{Class}
@@ -28,14 +28,14 @@ use Rattle.metrics.proofs.NotingArrivals.{noted-follows, noted-linked}
 use Rattle.metrics.proofs.Pairs.{totalled-none}
 
 -- no links yet
-pub linked-start : (d : Decoded) → Linked (firsts (before d 0)) (replicate 4097 0)
+pub linked-start : (more : ℕ) (d : Decoded) → Linked more (firsts (before d 0)) (replicate 4097 0)
 unfolding firsts
-linked-start d = linked-none 4097
+linked-start more d = linked-none more 4097
 
 -- before any record
 pub running-start : (d : Decoded) → Running d 0 (replicate 4096 0) (replicate 4097 0) (replicate 4097 0) (replicate 2049 0)
     (record { noted = record { count = 0; next = 1 }; totals = record { filled = 0; total = 0 } })
-running-start d = record { follows = follows-start d; linked = linked-start d; totalled = totalled-none (sizeOf d) (firsts (before d 0)) }
+running-start d = record { follows = follows-start d; linked = linked-start 1 d; totalled = totalled-none (sizeOf d) (firsts (before d 0)) }
 
 -- a tree of some first arrivals stays one where others come after them
 totalled-grown : (size : ℕ → ℕ) (fs more : List Arrival) (tree : List ℕ) (t : Totals) → Totalled size fs tree t → Totalled size (fs ++ more) tree t
@@ -52,24 +52,25 @@ module _ (d : Decoded) (y : Layout) (i : ℕ) (h : Has d y i) where
       go true e = rw (with-duplicate (firsts (before d i)) (arrivalAt d i) e) k
       go false e = rw (with-first (firsts (before d i)) (arrivalAt d i) e) (totalled-grown (sizeOf d) (firsts (before d i)) (arrivalAt d i ∷ []) tree t k)
 
-  module _ (numbers records skipped : List ℕ) (state : State) (f : Follows (before d i) numbers records skipped state) where
-    -- the links can be gone along
-    pub links-laid : Linked (firsts (before d i)) skipped → (state .count ≤ 4096) × Links numbers skipped (state .count)
-    links-laid l =
-        let k = packets d y i (h .file) numbers (state .count) (f .numbered) (omega (arith, h .inside)) in
-        (k .0, linked-links (firsts (before d i)) numbers skipped (state .count) (f .numbered) (λ p g. omega (arith, k .1 .inside p g, h .file .sentFew)) l)
+  -- links can be gone along
+  pub links-laid : (more : ℕ) (numbers links : List ℕ) (count : ℕ) → Numbered (firsts (before d i)) numbers count → Linked more (firsts (before d i)) links
+      → (count ≤ 4096) × Links more numbers links count
+  links-laid more numbers links count n l =
+      let k = packets d y i (h .file) numbers count n (omega (arith, h .inside)) in
+      (k .0, linked-links more (firsts (before d i)) numbers links count n (λ p g. omega (arith, k .1 .inside p g, h .file .sentFew)) l)
 
+  module _ (numbers records skipped : List ℕ) (state : State) (f : Follows (before d i) numbers records skipped state) where
     module _ (number : ℕ) (is : number ≡ arrivalAt d i .number) (low : 1 ≤ number) (high : number ≤ 4096)
         (k : Class) (e : k ≡ classBy records skipped (state .next) number) (largest : ℕ) (most : largest ≡ lateOnly (largestN (firsts (before d i)) number) k)
         (numbers′ records′ skipped′ : List ℕ) (state′ : State) (n : ReceiverAnswer i number largest numbers records skipped state numbers′ records′ skipped′ state′) where
       -- the links under record i + 1, which is linked by its largest n
-      pub linked-next : Linked (firsts (before d i)) skipped → Linked (firsts (before d (i + 1))) skipped′
+      pub linked-next : Linked 1 (firsts (before d i)) skipped → Linked 1 (firsts (before d (i + 1))) skipped′
       linked-next l =
           noted-linked d y i h numbers records skipped state f number is largest numbers′ records′ skipped′ state′ n
           (λ new behind. late-told d i numbers records skipped state f number is low high k e _ largest most new behind) l
 
       -- all that is known under it
-      pub running-next : (tree′ : List ℕ) (totals′ : Totals) → Linked (firsts (before d i)) skipped → Totalled (sizeOf d) (firsts (before d i)) tree′ totals′
+      pub running-next : (tree′ : List ℕ) (totals′ : Totals) → Linked 1 (firsts (before d i)) skipped → Totalled (sizeOf d) (firsts (before d i)) tree′ totals′
           → Running d (i + 1) numbers′ records′ skipped′ tree′ (record { noted = state′; totals = totals′ })
       running-next tree′ totals′ l t =
           record {

@@ -1,18 +1,21 @@
 // The figures of a whole sample, each in one pass over the arrivals.
 ghost use mathlib.Core.Path.{_≡_};
+ghost use mathlib.Core.List.{List, [], _∷_, _++_};
 ghost use Prim.Native.Nat.{ℕ, _+_, _≤_, _<_};
 ghost use lib.ListN.{length, getD};
+ghost use Rattle.rfc4737.specs.declared.Arrival.{Arrival};
 ghost use Rattle.rfc4737.specs.Order.{nextAfter};
-ghost use Rattle.rfc4737.specs.Runs.{lengthened, ended, arrived, counts};
+ghost use Rattle.rfc4737.specs.Runs.{lengthened, ended, counts};
 ghost use Rattle.rfc4737.specs.Tally.{tallyPlace, tally};
 ghost use Rattle.sample.specs.Decode.{decode};
-ghost use Rattle.metrics.specs.Sample.{answersOf};
+ghost use Rattle.metrics.specs.Sample.{sizeOf, sampleArrivals, answersOf};
 ghost use Rattle.metrics.specs.Private.Sample.{Laid};
-ghost use Rattle.metrics.specs.Private.Steps.{Inside, FewCounted, noCounts, countsBy, kindBy, tallyBy, Fewer, noParts, reachedBy, partsBy, partsOf};
+ghost use Rattle.metrics.specs.Private.Tables.{Links};
+ghost use Rattle.metrics.specs.Private.Steps.{Inside, FewCounted, noCounts, countsBy, kindBy, tallyBy, FewShares, reachedBy, sharesOf, ShareTables};
 use crate::input;
 use crate::look::Class;
 use crate::look::class_of;
-use crate::scan::largest_of;
+use crate::scan::largest_by_links;
 use crate::tables::FIRSTS;
 use crate::tables::PLACES;
 use crate::tables::note;
@@ -194,28 +197,14 @@ pub(crate) fn tally_of(file: &[u8], y: Layout) -> [u32; 101]
     t
 }
 
-// The reordered packets, and the n-reordered ones for a low and for a high n.
-pub(crate) struct Parts {
+// Of the arrivals taken: how many are first arrivals, the reordered packets, the n-reordered ones for a low and for a
+// high n, and NextExp.
+pub(crate) struct Shares {
+    pub whole: u32,
     pub reordered: u32,
     pub low: u32,
     pub high: u32,
-}
-
-// These of a sample, and L.
-pub(crate) struct Shares {
-    pub parts: Parts,
-    pub whole: u32,
-}
-
-// The parts of no arrivals.
-fn no_parts() -> Parts
-    ensures { λ r. ⌜ r ≡ noParts ⌝ }
-{
-    Parts {
-        reordered: 0,
-        low: 0,
-        high: 0,
-    }
+    pub next: u32,
 }
 
 // The n-reordered packets under a reordered one more, of this largest n.
@@ -229,52 +218,71 @@ fn reached(n: u32, most: u32, part: u32) -> u32
     part
 }
 
-// The parts under one arrival more, which has this largest n if it is reordered.
-fn parted(low: u32, high: u32, largest: u32, p: Parts, class: Class) -> Parts
-    requires { ⌜ Fewer p ⌝ }
-    ensures { λ r. ⌜ r ≡ partsBy low high largest p class ⌝ }
+// The shares under one arrival more, of this number. A copy leaves them and the tables; any other packet is linked by its
+// largest n, which is 0 where it is in order.
+fn share(
+    numbers: &mut [u16; FIRSTS],
+    links: &mut [u16; PLACES],
+    low: u32,
+    high: u32,
+    number: u32,
+    t: Shares,
+) -> Shares
+    requires { ⌜ (number ≤ 4096) × FewShares t × (length (now numbers) ≡ 4096) × (length (now links) ≡ 4097)
+        × Links 0 (now numbers) (now links) (t .whole) ⌝ }
+    ensures { λ r. ⌜ ((size : ℕ → ℕ) (l : List Arrival) (a : Arrival) → a .number ≡ number
+        → ShareTables low high size l (now (numbers .entry)) (now (links .entry)) t
+        → ShareTables low high size (l ++ (a ∷ [])) (now (numbers .exit)) (now (links .exit)) r) ⌝ }
 {
-    match class {
-        Class::Duplicate(_) => return p,
-        Class::InOrder(_) => return p,
-        Class::Reordered(_) => Parts {
-            reordered: p.reordered + 1,
-            low: reached(low, largest, p.low),
-            high: reached(high, largest, p.high),
-        },
+    let at = number as usize;
+    if links[at] != 0 {
+        return t;
+    }
+    let count = t.whole;
+    let place = count as usize;
+    if t.next <= number {
+        links[at] = 1;
+        numbers[place] = number as u16;
+        return Shares {
+            whole: count + 1,
+            reordered: t.reordered,
+            low: t.low,
+            high: t.high,
+            next: number + 1,
+        };
+    }
+    let largest = largest_by_links(numbers, links, 0, count, number);
+    links[at] = (largest + 1) as u16;
+    numbers[place] = number as u16;
+    Shares {
+        whole: count + 1,
+        reordered: t.reordered + 1,
+        low: reached(low, largest, t.low),
+        high: reached(high, largest, t.high),
+        next: t.next,
     }
 }
 
-// The shares of a sample: one pass, with the largest n by links.
+// The shares of a sample: one pass, with two tables, the numbers of the first arrivals in order of position and, by
+// packet number, 1 and its largest n (0 where it has not arrived).
 pub(crate) fn shares_of(file: &[u8], y: Layout, low: u32, high: u32) -> Shares
     requires { ⌜ Laid (decode (now file)) y ⌝ }
-    ensures { λ r. ⌜ (r .parts ≡ partsOf low high (answersOf (decode (now (file .entry)))))
-        × (r .whole ≡ arrived (answersOf (decode (now (file .entry))))) ⌝ }
+    ensures { λ r. ⌜ r ≡ sharesOf low high (sizeOf (decode (now (file .entry)))) (sampleArrivals (decode (now (file .entry)))) ⌝ }
 {
     let mut numbers = [0u16; FIRSTS];
-    let mut records = [0u16; PLACES];
-    let mut skipped = [0u16; PLACES];
-    let mut state = start();
-    let mut parts = no_parts();
+    let mut links = [0u16; PLACES];
+    let mut shares = Shares {
+        whole: 0,
+        reordered: 0,
+        low: 0,
+        high: 0,
+        next: 1,
+    };
     let mut i: u32 = 0;
     while i < y.arrivals {
         let number = input::number(file, y, i);
-        let class = class_of(&records, &skipped, state.next, number);
-        let largest = largest_of(&numbers, &skipped, state.count, number, class);
-        parts = parted(low, high, largest, parts, class);
-        state = note(
-            &mut numbers,
-            &mut records,
-            &mut skipped,
-            i,
-            number,
-            largest as u16,
-            state,
-        );
+        shares = share(&mut numbers, &mut links, low, high, number, shares);
         i += 1;
     }
-    Shares {
-        parts,
-        whole: state.count,
-    }
+    shares
 }

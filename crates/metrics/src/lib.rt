@@ -162,10 +162,9 @@ pub fn n_reordered(file: &[u8], n: u32) -> DegreeCounts
         };
     }
     let shares = shares_of(file, y, n, n);
-    let parts = shares.parts;
     DegreeCounts {
         refusal,
-        reordered: parts.low,
+        reordered: shares.low,
         arrived: shares.whole,
     }
 }
@@ -187,10 +186,9 @@ pub fn ratios(file: &[u8]) -> SampleRatios
 {
     let y = layout(file);
     let shares = shares_of(file, y, 1, 3);
-    let parts = shares.parts;
     SampleRatios {
         refusal: y.refusal,
-        ratios: ratios_of(parts.reordered, parts.low, parts.high, shares.whole),
+        ratios: ratios_of(shares.reordered, shares.low, shares.high, shares.whole),
     }
 }
 

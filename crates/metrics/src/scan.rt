@@ -61,9 +61,15 @@ pub(crate) fn largest(numbers: &[u16; FIRSTS], count: u32, s: u32) -> u32
 }
 
 // The same by links: where a number is greater it passes over as many first arrivals before it as that packet's own
-// largest n, since their numbers are greater still.
-fn largest_by_links(numbers: &[u16; FIRSTS], skipped: &[u16; PLACES], count: u32, s: u32) -> u32
-    requires { ⌜ (count ≤ 4096) × Links (now numbers) (now skipped) count ⌝ }
+// largest n, since their numbers are greater still. A link and `more` are 1 and that largest n.
+pub(crate) fn largest_by_links(
+    numbers: &[u16; FIRSTS],
+    links: &[u16; PLACES],
+    more: u32,
+    count: u32,
+    s: u32,
+) -> u32
+    requires { ⌜ (count ≤ 4096) × Links more (now numbers) (now links) count ⌝ }
     ensures { λ r. ⌜ (r ≤ 4096) × ((fs : List Arrival) → Numbered fs (now (numbers .entry)) count → r ≡ largestN fs s) ⌝ }
 {
     let mut p = count;
@@ -74,7 +80,7 @@ fn largest_by_links(numbers: &[u16; FIRSTS], skipped: &[u16; PLACES], count: u32
             return count - p;
         }
         let packet = number as usize;
-        p = p - 1 - wide(skipped[packet]);
+        p = p - more - wide(links[packet]);
     }
     count - p
 }
@@ -88,12 +94,12 @@ pub(crate) fn largest_of(
     s: u32,
     class: Class,
 ) -> u32
-    requires { ⌜ (count ≤ 4096) × Links (now numbers) (now skipped) count ⌝ }
+    requires { ⌜ (count ≤ 4096) × Links 1 (now numbers) (now skipped) count ⌝ }
     ensures { λ r. ⌜ (r ≤ 4096) × ((fs : List Arrival) → Numbered fs (now (numbers .entry)) count → r ≡ lateOnly (largestN fs s) class) ⌝ }
 {
     match class {
         Class::Duplicate(_) => 0,
         Class::InOrder(_) => 0,
-        Class::Reordered(_) => largest_by_links(numbers, skipped, count, s),
+        Class::Reordered(_) => largest_by_links(numbers, skipped, 1, count, s),
     }
 }

@@ -1,7 +1,7 @@
 -- `n_reordered` meets its contract by those of its callees. Assumes nothing.
 use mathlib.Core.Path.{ap}
-use Rattle.metrics.specs.Private.Steps.{partsOf}
-use Rattle.metrics.specs.declared.figures.Parts.{Parts}
+use Rattle.metrics.specs.Private.Steps.{sharesOf}
+use Rattle.metrics.specs.declared.figures.Shares.{Shares}
 use Rattle.metrics.proofs.RecordsAsked.{laid-refusal, degree-answered-refused, degree-answered}
 use borrow.Author.Needs.{needs}
 use Rattle.metrics.proofs.n_reordered.Statement.{statement}
@@ -20,10 +20,10 @@ shares-of-requires : tie.Need-shares-of-requires
 shares-of-requires c κs = search needs
 
 returns-2 : tie.Need-returns-2
-unfolding partsOf
+unfolding sharesOf
 returns-2 c =
-    let s = c .before .shares-of .ensures in
-    degree-answered _ _ _ (laid-refusal _ _ (c .before .before .before .before .layout .ensures) _ 1 100 (c .before .before .before .before .before .before .args .n) (c .before .before .before .refusal-of .ensures)) (c .before .before .if1 .left) _ _ (ap (λ (p : Parts). p .low) (s .0)) (s .1)
+    let s = c .shares-of .ensures in
+    degree-answered _ _ _ (laid-refusal _ _ (c .before .before .before .layout .ensures) _ 1 100 (c .before .before .before .before .before .args .n) (c .before .before .refusal-of .ensures)) (c .before .if1 .left) _ _ (ap (λ (t : Shares). t .low) s) (ap (λ (t : Shares). t .whole) s)
 
 pub n-reordered-spec : {M : Type 1} → statement M
 n-reordered-spec =

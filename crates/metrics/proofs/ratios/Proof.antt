@@ -1,7 +1,7 @@
 -- `ratios` meets its contract by those of its callees. Assumes nothing.
 use Rattle.rfc4737.specs.Ratios.{ratios}
 use Rattle.metrics.specs.Figures.{sampleRatios}
-use Rattle.metrics.specs.Private.Steps.{ratiosBy, partsOf}
+use Rattle.metrics.specs.Private.Steps.{ratiosBy, sharesOf}
 use borrow.Author.Needs.{needs}
 use Rattle.metrics.proofs.ratios.Statement.{statement}
 use Rattle.metrics.proofs.ratios.Tie as tie
@@ -16,10 +16,9 @@ ratios-of-requires : tie.Need-ratios-of-requires
 ratios-of-requires c κs = search needs
 
 returns : tie.Need-returns
-unfolding sampleRatios ratiosBy ratios partsOf
+unfolding sampleRatios ratiosBy ratios sharesOf
 returns c =
-    let s = c .before .before .shares-of .ensures in
-    rw (c .ratios-of .ensures, s .0, s .1, c .before .before .before .layout .ensures .laid)
+    rw (c .ratios-of .ensures, c .before .shares-of .ensures, c .before .before .layout .ensures .laid)
 
 pub ratios-spec : {M : Type 1} → statement M
 ratios-spec =

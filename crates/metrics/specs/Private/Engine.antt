@@ -34,5 +34,5 @@ pub record Filling (d : Decoded) (y : Layout) (numbers tree : List ℕ) (count :
 -- the tables, the tree and what is known beside them after the first i arrivals
 pub record Running (d : Decoded) (i : ℕ) (numbers records skipped tree : List ℕ) (engine : Engine) : Type 0 where
   pub follows : Follows (before d i) numbers records skipped (engine .noted)
-  pub linked : Linked (firsts (before d i)) skipped
+  pub linked : Linked 1 (firsts (before d i)) skipped
   pub totalled : Totalled (sizeOf d) (firsts (before d i)) tree (engine .totals)

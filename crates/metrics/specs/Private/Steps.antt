@@ -1,22 +1,26 @@
 -- Steps of the engine's passes: the figures under one arrival more, by its class. Assumes nothing.
 use mathlib.Core.Path.{_≡_}
-use mathlib.Core.Bool.{Bool, false, cond}
+use mathlib.Core.Bool.{Bool, false, cond, not}
 use mathlib.Core.List.{List}
 use mathlib.Core.Option.{Option, none, some}
 use Prim.Native.Nat.{ℕ, zero, suc, _+_, _-_, _≤_, _<_}
 use lib.Dec.{eqb, leb, ltb}
 use lib.ListN.{length, getD, set}
+use Rattle.rfc4737.specs.declared.Arrival.{Arrival}
 use Rattle.rfc4737.specs.declared.Answer.{Answer}
 use Rattle.rfc4737.specs.declared.Counts.{Counts}
 use Rattle.rfc4737.specs.declared.Gap.{Gap}
 use Rattle.rfc4737.specs.declared.Ratios.{Ratios}
-use Rattle.rfc4737.specs.Arrivals.{count}
-use Rattle.rfc4737.specs.Runs.{isReordered, lengthened, ended}
+use Rattle.rfc4737.specs.Arrivals.{count, has, firsts}
+use Rattle.rfc4737.specs.Order.{nextExp}
+use Rattle.rfc4737.specs.Answer.{answers}
+use Rattle.rfc4737.specs.Runs.{isReordered, arrived, lengthened, ended}
 use Rattle.rfc4737.specs.Tally.{tallyPlace, oneMoreAt}
 use Rattle.rfc4737.specs.Gaps.{discoverer}
 use Rattle.rfc4737.specs.Ratios.{quotient, nReordered}
+use Rattle.metrics.specs.Private.Tables.{Numbered, Linked}
 use Rattle.metrics.specs.declared.look.Class.{Class}
-use Rattle.metrics.specs.declared.figures.Parts.{Parts}
+use Rattle.metrics.specs.declared.figures.Shares.{Shares}
 
 -- a discontinuity that a class names is at one of so many positions
 abbrev pub Inside : ℕ → Class → Type 0
@@ -81,30 +85,35 @@ tallyBy t count (Class.Duplicate first) = t
 tallyBy t count (Class.InOrder jump) = t
 tallyBy t count (Class.Reordered at) = oneMoreAt (tallyPlace (count + 1 - at)) t
 
--- the parts of no arrivals
-abbrev pub noParts : Parts
-noParts = record { reordered = 0; low = 0; high = 0 }
-
--- parts of fewer than 4,096 arrivals
-pub record Fewer (p : Parts) : Type 0 where
-  pub reordered : p .reordered < 4096
-  pub low : p .low < 4096
-  pub high : p .high < 4096
+-- shares of fewer than 4,096 arrivals
+pub record FewShares (t : Shares) : Type 0 where
+  pub whole : t .whole < 4096
+  pub reordered : t .reordered < 4096
+  pub low : t .low < 4096
+  pub high : t .high < 4096
 
 -- the n-reordered packets under a reordered one more, of this largest n
 abbrev pub reachedBy : ℕ → ℕ → ℕ → ℕ
 reachedBy n largest part = cond (leb n largest) (part + 1) part
 
--- the parts for a low and a high n, where the arrival has this largest n if it is reordered
-unfoldable pub partsBy : ℕ → ℕ → ℕ → Parts → Class → Parts
-partsBy low high largest p (Class.Duplicate first) = p
-partsBy low high largest p (Class.InOrder jump) = p
-partsBy low high largest p (Class.Reordered at) =
-    record { reordered = p .reordered + 1; low = reachedBy low largest (p .low); high = reachedBy high largest (p .high) }
+-- the shares of some arrivals, for a low and for a high n
+unfoldable pub sharesOf : ℕ → ℕ → (ℕ → ℕ) → List Arrival → Shares
+sharesOf low high size l =
+    record {
+      whole = arrived (answers size l);
+      reordered = count isReordered (answers size l);
+      low = nReordered low (answers size l);
+      high = nReordered high (answers size l);
+      next = nextExp (firsts l);
+    }
 
--- the parts of some answers: the reordered packets, and the n-reordered ones for a low and for a high n
-unfoldable pub partsOf : ℕ → ℕ → List Answer → Parts
-partsOf low high l = record { reordered = count isReordered l; low = nReordered low l; high = nReordered high l }
+-- the shares of some arrivals, the numbers of the first ones, and by packet 1 and its largest n, 0 where it has not arrived
+pub record ShareTables (low high : ℕ) (size : ℕ → ℕ) (l : List Arrival) (numbers links : List ℕ) (t : Shares) : Type 0 where
+  pub shares : t ≡ sharesOf low high size l
+  pub places : (length numbers ≡ 4096) × (length links ≡ 4097)
+  pub numbered : Numbered (firsts l) numbers (t .whole)
+  pub linked : Linked 0 (firsts l) links
+  pub arrived : (s : ℕ) → s ≤ 4096 → eqb (getD links s 0) 0 ≡ not (has s l)
 
 -- the ratio figures of three counts over L
 unfoldable pub ratiosBy : ℕ → ℕ → ℕ → ℕ → Ratios

@@ -44,11 +44,12 @@ pub record Above (numbers : List ℕ) (s low high : ℕ) : Type 0 where
   pub order : low ≤ high
   pub at : (p : ℕ) → low ≤ p → p < high → s < getD numbers p 0
 
--- a table has, at the packet of each of so many first arrivals, a number of places directly before it that hold greater numbers
-pub record Links (numbers skipped : List ℕ) (count : ℕ) : Type 0 where
+-- a table has, at the packet of each of so many first arrivals, what with `more` is 1 and a number of places directly before it that
+-- hold greater numbers
+pub record Links (more : ℕ) (numbers links : List ℕ) (count : ℕ) : Type 0 where
   pub packet : (p : ℕ) → p < count → getD numbers p 0 ≤ 4096
-  pub inside : (p : ℕ) → p < count → getD skipped (getD numbers p 0) 0 ≤ p
-  pub at : (p : ℕ) → p < count → Above numbers (getD numbers p 0) (p - getD skipped (getD numbers p 0) 0) p
+  pub inside : (p : ℕ) → p < count → (1 ≤ more + getD links (getD numbers p 0) 0) × (more + getD links (getD numbers p 0) 0 ≤ p + 1)
+  pub at : (p : ℕ) → p < count → Above numbers (getD numbers p 0) (p + 1 - more - getD links (getD numbers p 0) 0) p
 
 -- a table has the record of each packet's first arrival, 0 if it has not arrived
 pub record Recorded (earlier : List Arrival) (records : List ℕ) : Type 0 where
@@ -64,10 +65,10 @@ pub record Follows (earlier : List Arrival) (numbers records skipped : List ℕ)
   pub skips : (s : ℕ) → 1 ≤ s → s < nextExp (firsts earlier) → has s earlier ≡ false
       → getD skipped s 0 ≡ placeOf (discontinuity (firsts earlier) s)
 
--- a table has at the packet of each first arrival its own largest n, and 0 at every packet from NextExp on
-pub record Linked (fs : List Arrival) (skipped : List ℕ) : Type 0 where
-  pub at : (p : ℕ) → p < length fs → getD skipped (getD fs p noArrival .number) 0 ≡ largestN (take p fs) (getD fs p noArrival .number)
-  pub ahead : (s : ℕ) → nextExp fs ≤ s → getD skipped s 0 ≡ 0
+-- a table has at the packet of each first arrival what with `more` is 1 and its own largest n, and 0 at every packet from NextExp on
+pub record Linked (more : ℕ) (fs : List Arrival) (links : List ℕ) : Type 0 where
+  pub at : (p : ℕ) → p < length fs → more + getD links (getD fs p noArrival .number) 0 ≡ largestN (take p fs) (getD fs p noArrival .number) + 1
+  pub ahead : (s : ℕ) → nextExp fs ≤ s → getD links s 0 ≡ 0
 
 -- record i + 1, of a packet of this number, can be noted: the tables and the state are those after i arrivals
 pub record Noting (numbers records skipped : List ℕ) (state : State) (i number : ℕ) : Type 0 where
@@ -85,7 +86,7 @@ pub record ReceiverAnswer (i number largest : ℕ) (numbers records skipped : Li
       → Follows (l ++ (a ∷ [])) numbers′ records′ skipped′ state′
   pub linked : (l : List Arrival) (a : Arrival) → length l ≡ i → a .number ≡ number → Follows l numbers records skipped state
       → (has number l ≡ false → number < nextExp (firsts l) → largest ≡ largestN (firsts l) number)
-      → Linked (firsts l) skipped → Linked (firsts (l ++ (a ∷ []))) skipped′
+      → Linked 1 (firsts l) skipped → Linked 1 (firsts (l ++ (a ∷ []))) skipped′
 
 -- record i + 1 is reordered, with its discontinuity at a position
 pub record Late (d : Decoded) (i at : ℕ) : Type 0 where

@@ -28,7 +28,7 @@ offset-of-requires : tie.Need-offset-of-requires
 offset-of-requires c κs = let p = c .before .before .before .before .before .before .before .before .before .pre in (running-filling _ _ _ (p .0) _ _ _ _ _ (p .2), number (c .before .before .before .before .before .before .before .before .before) .1, number (c .before .before .before .before .before .before .before .before .before) .2)
 
 largest-of-requires : tie.Need-largest-of-requires
-largest-of-requires c κs = let p = c .before .before .before .before .before .before .before .before .before .before .before .before .before .before .pre in links-laid _ _ _ (p .0) _ _ _ _ (p .2 .follows) (p .2 .linked)
+largest-of-requires c κs = let p = c .before .before .before .before .before .before .before .before .before .before .before .before .before .before .pre in links-laid _ _ _ (p .0) _ _ _ _ (p .2 .follows .numbered) (p .2 .linked)
 
 answer-by-requires : tie.Need-answer-by-requires
 answer-by-requires c κs =

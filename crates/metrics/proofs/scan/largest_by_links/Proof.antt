@@ -1,33 +1,34 @@
 -- `largest_by_links` goes back along the links. The loop's invariant: the numbers from p to before `count` are above s. The measure is p.
 -- Assumes nothing.
 use mathlib.Core.Path.{refl}
-use Prim.Native.Nat.{_-_, _≤_}
+use Prim.Native.Nat.{_+_, _-_, _≤_}
 use native.Mathlib.Omega.{arith}
+use lib.ListN.{getD}
 use borrow.Author.Needs.{needs}
+use denote.Ref.{now}
 use Rattle.metrics.specs.Private.Tables.{Above}
 use Rattle.metrics.proofs.Reordered.{above-none, largest-back}
 use Rattle.metrics.proofs.Linked.{above-link}
 use Rattle.metrics.proofs.scan.largest_by_links.Statement.{statement}
 use Rattle.metrics.proofs.scan.largest_by_links.Tie as tie
 
--- `largest_by_links` goes back along the links. The loop's invariant: the numbers from p to before `count` are above s. The measure is p.
--- Assumes nothing.
-
 abbrev Inv-loop : tie.InvT-loop
-Inv-loop numbers skipped count s p₀ p = Above numbers s p count
+Inv-loop numbers links more count s p₀ p = Above numbers s p count
 
 abbrev μ-loop : tie.MeasureT-loop
-μ-loop numbers skipped count s p₀ p = p
+μ-loop numbers links more count s p₀ p = p
 
 -- the packet of a place is one of the packets
 packet : (c : tie.Else1 Inv-loop μ-loop) → c .before .wide .result ≤ 4096
 packet c = rw (c .before .wide .ensures) (c .before .before .before .before .before .pre .1 .packet (c .before .before .before .before .loop .p - 1) (omega (arith, c .before .before .before .loop-test .taken, c .before .before .before .before .loop .inv .order)))
 
--- its link leads to a place
-link : (c : tie.After-wide2 Inv-loop μ-loop) → c .wide2 .result ≤ c .before .before .before .before .before .before .loop .p - 1
+-- its link leads to a place before it
+link : (c : tie.Else1 Inv-loop μ-loop) → (1 ≤ c .before .before .before .before .before .args .more + getD (now (c .before .before .before .before .before .args .links)) (c .before .wide .result) 0)
+    × (c .before .before .before .before .before .args .more + getD (now (c .before .before .before .before .before .args .links)) (c .before .wide .result) 0 ≤ c .before .before .before .before .loop .p)
 link c =
-    rw (c .wide2 .ensures, c .before .before .before .wide .ensures)
-    (c .before .before .before .before .before .before .before .pre .1 .inside (c .before .before .before .before .before .before .loop .p - 1) (omega (arith, c .before .before .before .before .before .loop-test .taken, c .before .before .before .before .before .before .loop .inv .order)))
+    let e = c .before .before .before .before .before .pre .1 .inside (c .before .before .before .before .loop .p - 1) (omega (arith, c .before .before .before .loop-test .taken, c .before .before .before .before .loop .inv .order)) in
+    let k = rw (← c .before .wide .ensures) at e in
+    (k .0, omega (arith, k .1, c .before .before .before .loop-test .taken))
 
 loop-holds : tie.Need-loop-holds Inv-loop μ-loop
 loop-holds c = above-none _ _ refl
@@ -59,7 +60,7 @@ cast-packet : tie.Need-cast-packet Inv-loop μ-loop
 cast-packet c = omega arith
 
 sub-p : tie.Need-sub-p Inv-loop μ-loop
-sub-p c = omega arith
+sub-p c = omega (arith, link c)
 
 mul-wide-2 : tie.Need-mul-wide-2 Inv-loop μ-loop
 mul-wide-2 c = omega (arith, packet c)
@@ -71,14 +72,14 @@ wide-requires-2 : tie.Need-wide-requires-2 Inv-loop μ-loop
 wide-requires-2 c κs = search needs
 
 sub-p-2 : tie.Need-sub-p-2 Inv-loop μ-loop
-sub-p-2 c = omega (arith, link c)
+sub-p-2 c = omega (arith, link (c .before .before), c .wide2 .ensures)
 
 loop-less : tie.Need-loop-less Inv-loop μ-loop
-loop-less c = omega (arith, c .before .before .before .before .before .loop-test .taken)
+loop-less c = omega (arith, link (c .before .before), c .wide2 .ensures, c .before .before .before .before .before .loop-test .taken)
 
 loop-again : tie.Need-loop-again Inv-loop μ-loop
 loop-again c =
-    above-link _ _ _ _ _ _ _ (c .before .before .before .before .before .before .before .pre .1) (omega arith) (c .before .before .if1 .left) (c .before .before .before .wide .ensures) (c .wide2 .ensures) (c .before .before .before .before .before .before .loop .inv)
+    above-link _ _ _ _ _ _ _ _ (c .before .before .before .before .before .before .before .pre .1) (omega arith) (c .before .before .if1 .left) (c .before .before .before .wide .ensures) (c .wide2 .ensures) (c .before .before .before .before .before .before .loop .inv)
 
 sub-result-2 : tie.Need-sub-result-2 Inv-loop μ-loop
 sub-result-2 c = omega (arith, c .before .loop .inv .order)
