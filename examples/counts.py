@@ -5,13 +5,13 @@ import sys
 
 
 class Counted(ctypes.Structure):
-    """krakobran_counted, with the members of its krakobran_runs."""
+    """krakobran_sample_counts, with the members of its krakobran_runs."""
 
     _fields_ = [(name, ctypes.c_uint32) for name in "refusal arrived reordered duplicates inorder closed squares current".split()]
 
 
 class Written(ctypes.Structure):
-    """krakobran_written."""
+    """krakobran_write_answer."""
 
     _fields_ = [("refusal", ctypes.c_uint32), ("length", ctypes.c_uint32)]
 

@@ -7,7 +7,7 @@
 #include "krakobran.h"
 
 /* Prints what is noted of an arrival. */
-static void print_noted(krakobran_noted noted) {
+static void print_noted(krakobran_receiver_figures noted) {
     switch (noted.kind) {
     case KRAKOBRAN_IN_ORDER:
         printf("in order, jump size %" PRIu32 "\n", noted.jump);
@@ -36,7 +36,7 @@ static void print_noted(krakobran_noted noted) {
 
 /* Feeds one arrival and prints its answer; a refused one changes nothing. */
 static void feed(krakobran_receiver *receiver, uint32_t number, uint64_t time) {
-    krakobran_said said = krakobran_step_lent(receiver, number, time);
+    krakobran_outcome_figures said = krakobran_step_lent(receiver, number, time);
     printf("%" PRIu32 " at %" PRIu64 ": ", number, time);
     if (said.refusal != KRAKOBRAN_NONE)
         printf("refused %" PRIu32 "\n", said.refusal);
@@ -48,7 +48,7 @@ int main(int argc, char **argv) {
     static const uint32_t numbers[] = {1, 2, 4, 6, 3, 3, 5, 9};
     static const uint64_t times[] = {10, 20, 40, 50, 70, 80, 45, 90};
     uint32_t sent = argc > 1 ? (uint32_t)strtoul(argv[1], NULL, 10) : 6;
-    krakobran_started started = krakobran_fresh(sent);
+    krakobran_fresh_answer started = krakobran_fresh(sent);
     if (started.refusal != KRAKOBRAN_NONE) {
         fprintf(stderr, "refused %" PRIu32 "\n", started.refusal);
         return 1;

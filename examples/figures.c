@@ -11,10 +11,10 @@ static uint8_t listing[KRAKOBRAN_LISTING_OCTETS];
 
 /* Prints the figures of an accepted file. */
 static void print_figures(size_t octets) {
-    krakobran_part label = krakobran_label(file, octets);
-    krakobran_counted counts = krakobran_counts(file, octets);
-    krakobran_ratio_figures ratios = krakobran_ratios(file, octets);
-    krakobran_written written = krakobran_listing(file, octets, listing, sizeof listing);
+    krakobran_label_part label = krakobran_label(file, octets);
+    krakobran_sample_counts counts = krakobran_counts(file, octets);
+    krakobran_ratios_figures ratios = krakobran_ratios(file, octets);
+    krakobran_write_answer written = krakobran_listing(file, octets, listing, sizeof listing);
     printf("label \"%.*s\"\n", (int)label.length, (const char *)file + label.start);
     printf("L %" PRIu32 ", reordered %" PRIu32 ", duplicates %" PRIu32 ", in order %" PRIu32 "\n", counts.arrived,
            counts.reordered, counts.duplicates, counts.inorder);

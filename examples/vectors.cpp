@@ -10,7 +10,7 @@
 static std::vector<uint8_t> sample(const std::string &label, const std::vector<uint16_t> &sizes,
                                    const std::vector<uint32_t> &numbers, const std::vector<uint64_t> &times) {
     std::vector<uint8_t> file(KRAKOBRAN_FILE_OCTETS);
-    krakobran_written written =
+    krakobran_write_answer written =
         krakobran_write(reinterpret_cast<const uint8_t *>(label.data()), label.size(), sizes.data(), sizes.size(),
                         numbers.data(), numbers.size(), times.data(), times.size(), file.data(), file.size());
     std::printf("refused %u, %u octets\n", unsigned(written.refusal), unsigned(written.length));
@@ -22,7 +22,7 @@ int main() {
     std::vector<uint8_t> none = sample("", {100, 100, 100}, {}, {});
     std::vector<uint8_t> three = sample("cellar", {100, 100, 100}, {2, 3, 1}, {10, 20, 30});
     for (const std::vector<uint8_t> &file : {none, three}) {
-        krakobran_counted counts = krakobran_counts(file.data(), file.size());
+        krakobran_sample_counts counts = krakobran_counts(file.data(), file.size());
         std::printf("L %u, reordered %u\n", unsigned(counts.arrived), unsigned(counts.reordered));
     }
     std::vector<uint8_t> empty;

@@ -135,15 +135,15 @@ KRAKOBRAN_SIZE(krakobran_layout, 16);
 typedef struct {
     uint32_t start;
     uint32_t length;
-} krakobran_part;
-KRAKOBRAN_SIZE(krakobran_part, 8);
+} krakobran_label_part;
+KRAKOBRAN_SIZE(krakobran_label_part, 8);
 
 /* What was written: its octets; 0 with a refusal. */
 typedef struct {
     uint32_t refusal;
     uint32_t length;
-} krakobran_written;
-KRAKOBRAN_SIZE(krakobran_written, 8);
+} krakobran_write_answer;
+KRAKOBRAN_SIZE(krakobran_write_answer, 8);
 
 /* Checks a sample file. Refusals, as the file is read: 1, 3, 1 and 13 of the label; 1, 4 and 1 of the sent packets;
  * 1, 5 and 1 of the arrivals; 2; then the arrivals in turn, each by 6 and by 7. */
@@ -155,11 +155,11 @@ krakobran_layout krakobran_read(const uint8_t *file, size_t octets, uint16_t *si
                                 uint32_t *numbers, size_t number_places, uint64_t *times, size_t time_places);
 
 /* The label of a sample file, as a part of the file. It has no refusal: start is 0 where the file's is due. */
-krakobran_part krakobran_label(const uint8_t *file, size_t octets);
+krakobran_label_part krakobran_label(const uint8_t *file, size_t octets);
 
 /* Writes the sample file of a label and lists from the start of out. Refusals: 3; 13; 4, by the list of sizes; 5,
  * by the list of numbers; 12 if that of times has another length; the arrivals in turn, each by 6 and by 7; 8. */
-krakobran_written krakobran_write(const uint8_t *label, size_t label_octets, const uint16_t *sizes, size_t sent,
+krakobran_write_answer krakobran_write(const uint8_t *label, size_t label_octets, const uint16_t *sizes, size_t sent,
                                   const uint32_t *numbers, size_t number_count, const uint64_t *times,
                                   size_t time_count, uint8_t *out, size_t room);
 
@@ -176,19 +176,19 @@ typedef struct {
     uint32_t refusal;
     uint32_t arrivals;
     uint32_t line;
-} krakobran_imported;
-KRAKOBRAN_SIZE(krakobran_imported, 12);
+} krakobran_log_import;
+KRAKOBRAN_SIZE(krakobran_log_import, 12);
 
 /* Imports the text log of K sent packets into lists of sequence numbers and arrival times in microseconds, from
  * their start. Each line is a number, a semicolon, milliseconds with at most three decimals after a comma or a
  * point, and a line feed. Lists of KRAKOBRAN_ARRIVALS_MOST places suffice for any log. Refusals: 4; the lines in
  * turn, each by 14, by 5 if it is line 4,097, by 6 and by 7; 8. */
-krakobran_imported krakobran_import_text(const uint8_t *log, size_t octets, uint32_t sent, uint32_t *numbers,
+krakobran_log_import krakobran_import_text(const uint8_t *log, size_t octets, uint32_t sent, uint32_t *numbers,
                                          size_t number_places, uint64_t *times, size_t time_places);
 
 /* Writes the text log of arrivals of K sent packets from the start of out: three decimals after a comma. Refusals:
  * those of krakobran_refusal_of_lists; 8. */
-krakobran_written krakobran_write_text(uint32_t sent, const uint32_t *numbers, size_t number_count,
+krakobran_write_answer krakobran_write_text(uint32_t sent, const uint32_t *numbers, size_t number_count,
                                        const uint64_t *times, size_t time_count, uint8_t *out, size_t room);
 
 /* ---- OWAMP packet records */
@@ -197,19 +197,19 @@ krakobran_written krakobran_write_text(uint32_t sent, const uint32_t *numbers, s
 typedef struct {
     uint32_t refusal;
     uint32_t arrivals;
-} krakobran_records;
-KRAKOBRAN_SIZE(krakobran_records, 8);
+} krakobran_records_import;
+KRAKOBRAN_SIZE(krakobran_records_import, 8);
 
 /* Imports the OWAMP packet records (RFC 4656, section 3.9, 25 octets each) of K sent packets into lists of sequence
  * numbers and arrival times in microseconds, from their start and in the order of the receive times; lost packets
  * are left out. Lists of KRAKOBRAN_ARRIVALS_MOST places suffice for any records. Refusals: 15; 4; 5, by the records
  * that are not lost; 6, in the order of the records; 8. */
-krakobran_records krakobran_import_records(const uint8_t *records, size_t octets, uint32_t sent, uint32_t *numbers,
+krakobran_records_import krakobran_import_records(const uint8_t *records, size_t octets, uint32_t sent, uint32_t *numbers,
                                            size_t number_places, uint64_t *times, size_t time_places);
 
 /* Writes the records of a sample file's arrivals from the start of out, KRAKOBRAN_RECORD_OCTETS for each. A time is
  * written one second later, its fraction rounded down; the send time is 0. Refusals: the file's; 18; 8. */
-krakobran_written krakobran_write_records(const uint8_t *file, size_t octets, uint8_t *out, size_t room);
+krakobran_write_answer krakobran_write_records(const uint8_t *file, size_t octets, uint8_t *out, size_t room);
 
 /* ---- figures of a sample file
  *
@@ -228,8 +228,8 @@ typedef struct {
     uint32_t offset;
     uint32_t largest;
     uint64_t late;
-} krakobran_record;
-KRAKOBRAN_SIZE(krakobran_record, 40);
+} krakobran_answer_figures;
+KRAKOBRAN_SIZE(krakobran_answer_figures, 40);
 
 /* The runs of in-order packets: closed ones, the sum of the squares of their lengths, and the open one's length. */
 typedef struct {
@@ -247,15 +247,15 @@ typedef struct {
     uint32_t duplicates;
     uint32_t inorder;
     krakobran_runs runs;
-} krakobran_counted;
-KRAKOBRAN_SIZE(krakobran_counted, 32);
+} krakobran_sample_counts;
+KRAKOBRAN_SIZE(krakobran_sample_counts, 32);
 
 /* How many extents are e, at place e from 1 to 100, and at place 0 how many are greater; 0 with a refusal. */
 typedef struct {
     uint32_t refusal;
     uint32_t places[KRAKOBRAN_TALLY_PLACES];
-} krakobran_tallied;
-KRAKOBRAN_SIZE(krakobran_tallied, 408);
+} krakobran_sample_tally;
+KRAKOBRAN_SIZE(krakobran_sample_tally, 408);
 
 /* Whether a record has a gap (1) or none (0), and the gap in positions; 0 and 0 with a refusal. A discontinuity is
  * discovered by the first reordered arrival that has it as its own. It has a gap exactly if its neighbour before in
@@ -264,8 +264,8 @@ typedef struct {
     uint32_t refusal;
     uint32_t known;
     uint32_t positions;
-} krakobran_gapped;
-KRAKOBRAN_SIZE(krakobran_gapped, 12);
+} krakobran_gap_figures;
+KRAKOBRAN_SIZE(krakobran_gap_figures, 12);
 
 /* The two counts of a degree of n-reordering: n-reordered packets, and first arrivals (L); 0 with a refusal. */
 typedef struct {
@@ -280,18 +280,18 @@ typedef struct {
     uint32_t refusal;
     uint32_t known;
     uint64_t bits;
-} krakobran_ratio;
-KRAKOBRAN_SIZE(krakobran_ratio, 16);
+} krakobran_degree_figures;
+KRAKOBRAN_SIZE(krakobran_degree_figures, 16);
 
-/* The reordered ratio and the degrees of n-reordering for n = 1 and n = 3, as `krakobran_ratio` has one. */
+/* The reordered ratio and the degrees of n-reordering for n = 1 and n = 3, as `krakobran_degree_figures` has one. */
 typedef struct {
     uint32_t refusal;
     uint32_t known;
     uint64_t reordered;
     uint64_t degree1;
     uint64_t degree3;
-} krakobran_ratio_figures;
-KRAKOBRAN_SIZE(krakobran_ratio_figures, 32);
+} krakobran_ratios_figures;
+KRAKOBRAN_SIZE(krakobran_ratios_figures, 32);
 
 /* The double of these bits. */
 static inline double krakobran_double(uint64_t bits) {
@@ -301,36 +301,36 @@ static inline double krakobran_double(uint64_t bits) {
 }
 
 /* The answer for a record, counted from 1 over all arrivals. 9 for a record outside 1 to A. */
-krakobran_record krakobran_answer(const uint8_t *file, size_t octets, uint32_t record);
+krakobran_answer_figures krakobran_answer(const uint8_t *file, size_t octets, uint32_t record);
 
 /* The counts of a sample. */
-krakobran_counted krakobran_counts(const uint8_t *file, size_t octets);
+krakobran_sample_counts krakobran_counts(const uint8_t *file, size_t octets);
 
 /* The extent tally of a sample. */
-krakobran_tallied krakobran_tally(const uint8_t *file, size_t octets);
+krakobran_sample_tally krakobran_tally(const uint8_t *file, size_t octets);
 
 /* The gap of a record. 9 as for an answer. */
-krakobran_gapped krakobran_gap(const uint8_t *file, size_t octets, uint32_t record);
+krakobran_gap_figures krakobran_gap(const uint8_t *file, size_t octets, uint32_t record);
 
 /* How many packets are n-reordered, and of how many, n from 1 to 100; else 9. */
 krakobran_degree_counts krakobran_n_reordered(const uint8_t *file, size_t octets, uint32_t n);
 
 /* The degree of n-reordering, n from 1 to 100, else 9: the one count over the other. */
-krakobran_ratio krakobran_degree(const uint8_t *file, size_t octets, uint32_t n);
+krakobran_degree_figures krakobran_degree(const uint8_t *file, size_t octets, uint32_t n);
 
 /* The ratio figures of a sample. */
-krakobran_ratio_figures krakobran_ratios(const uint8_t *file, size_t octets);
+krakobran_ratios_figures krakobran_ratios(const uint8_t *file, size_t octets);
 
 /* The total of disorder; 0 with a refusal. */
 typedef struct {
     uint32_t refusal;
     uint32_t total;
-} krakobran_disordered;
-KRAKOBRAN_SIZE(krakobran_disordered, 8);
+} krakobran_sample_disorder;
+KRAKOBRAN_SIZE(krakobran_sample_disorder, 8);
 
 /* The total of disorder of a sample: how many pairs of its first arrivals came in the wrong order. It is the least
  * number of exchanges of neighbouring first arrivals that puts them in rising order. */
-krakobran_disordered krakobran_disorder(const uint8_t *file, size_t octets);
+krakobran_sample_disorder krakobran_disorder(const uint8_t *file, size_t octets);
 
 /* What is found of two samples: which is the worse one, 1 for the first and 2 for the second, and where its label
  * begins in it and its octets; 1, 0 and 0 with a refusal. */
@@ -349,7 +349,7 @@ krakobran_worse_link krakobran_worse(const uint8_t *first, size_t first_octets, 
 
 /* Writes the report of a sample from the start of out. Any report fits into KRAKOBRAN_LISTING_OCTETS places.
  * Refusals: the file's; 8 if this one does not fit. */
-krakobran_written krakobran_listing(const uint8_t *file, size_t octets, uint8_t *out, size_t room);
+krakobran_write_answer krakobran_listing(const uint8_t *file, size_t octets, uint8_t *out, size_t room);
 
 /* What is found of a listing: whether it agrees (1 or 0), and the number of its first wrong line, from 1; 0 where it agrees.
  * Both are 0 with a refusal. */
@@ -357,12 +357,12 @@ typedef struct {
     uint32_t refusal;
     uint32_t agrees;
     uint32_t line;
-} krakobran_listing_checked;
-KRAKOBRAN_SIZE(krakobran_listing_checked, 12);
+} krakobran_verdict_figures;
+KRAKOBRAN_SIZE(krakobran_verdict_figures, 12);
 
 /* Checks a listing: it agrees exactly if it is the report of the sample. A missing or extra line is wrong at its place,
  * and so is a last line without its line feed. Refusals: the file's, before the listing is looked at. */
-krakobran_listing_checked krakobran_check_listing(const uint8_t *file, size_t octets, const uint8_t *listing,
+krakobran_verdict_figures krakobran_check_listing(const uint8_t *file, size_t octets, const uint8_t *listing,
                                                   size_t listing_octets);
 
 /* One sweep over a sample: fills four lists from their start with the case of every record, its position, extent
@@ -427,8 +427,8 @@ KRAKOBRAN_SIZE(krakobran_receiver, 1328);
 typedef struct {
     uint32_t refusal;
     krakobran_receiver state;
-} krakobran_started;
-KRAKOBRAN_SIZE(krakobran_started, 1336);
+} krakobran_fresh_answer;
+KRAKOBRAN_SIZE(krakobran_fresh_answer, 1336);
 
 /* What a receiver notes of an arrival: the case; the jump size if in order; extent and the amount of the late time if
  * reordered, exact ones or, beyond the window, those of the oldest kept jump: the true extent is greater, and of the
@@ -438,33 +438,33 @@ typedef struct {
     uint32_t jump;
     uint32_t extent;
     uint64_t late;
-} krakobran_noted;
-KRAKOBRAN_SIZE(krakobran_noted, 24);
+} krakobran_receiver_figures;
+KRAKOBRAN_SIZE(krakobran_receiver_figures, 24);
 
 /* The answer of a step by value: what is noted, and the state after it. */
 typedef struct {
     uint32_t refusal;
-    krakobran_noted noted;
+    krakobran_receiver_figures noted;
     krakobran_receiver state;
-} krakobran_stepped;
-KRAKOBRAN_SIZE(krakobran_stepped, 1360);
+} krakobran_step_figures;
+KRAKOBRAN_SIZE(krakobran_step_figures, 1360);
 
 /* The answer of a step by reference. */
 typedef struct {
     uint32_t refusal;
-    krakobran_noted noted;
-} krakobran_said;
-KRAKOBRAN_SIZE(krakobran_said, 32);
+    krakobran_receiver_figures noted;
+} krakobran_outcome_figures;
+KRAKOBRAN_SIZE(krakobran_outcome_figures, 32);
 
 /* A fresh receiver for sent packets. Refusals: 4. */
-krakobran_started krakobran_fresh(uint32_t sent);
+krakobran_fresh_answer krakobran_fresh(uint32_t sent);
 
 /* The answer to an arrival, and the state after it. Refusals: 10 for an unfit state; 11; 6; 7; 10 for a reordered
  * packet with no greater kept jump. A state that came from krakobran_fresh and steps is never unfit. */
-krakobran_stepped krakobran_step(krakobran_receiver state, uint32_t number, uint64_t time);
+krakobran_step_figures krakobran_step(krakobran_receiver state, uint32_t number, uint64_t time);
 
 /* The same, with the new state left in the lent receiver: it is written where it stands, and nothing is copied. */
-krakobran_said krakobran_step_lent(krakobran_receiver *state, uint32_t number, uint64_t time);
+krakobran_outcome_figures krakobran_step_lent(krakobran_receiver *state, uint32_t number, uint64_t time);
 
 /* ---- short sequence numbers
  *
@@ -481,8 +481,8 @@ uint32_t krakobran_full_numbers_10(uint32_t sent, const uint16_t *shorts, size_t
 
 /* krakobran_step with the number found of a short one, the greatest before being the next expected number less 1.
  * Refusals: those of the step, 6 as for a list. */
-krakobran_stepped krakobran_step_8(krakobran_receiver state, uint16_t number, uint64_t time);
-krakobran_stepped krakobran_step_10(krakobran_receiver state, uint16_t number, uint64_t time);
+krakobran_step_figures krakobran_step_8(krakobran_receiver state, uint16_t number, uint64_t time);
+krakobran_step_figures krakobran_step_10(krakobran_receiver state, uint16_t number, uint64_t time);
 
 /* ---- a meter: two streams that share the places of their kept jumps */
 
@@ -508,34 +508,34 @@ KRAKOBRAN_SIZE(krakobran_meter, 1888);
 typedef struct {
     uint32_t refusal;
     krakobran_meter state;
-} krakobran_meter_started;
-KRAKOBRAN_SIZE(krakobran_meter_started, 1896);
+} krakobran_meter_start_answer;
+KRAKOBRAN_SIZE(krakobran_meter_start_answer, 1896);
 
 /* The answer of a step on a stream by value: what is noted, and the meter after it. */
 typedef struct {
     uint32_t refusal;
-    krakobran_noted noted;
+    krakobran_receiver_figures noted;
     krakobran_meter state;
-} krakobran_meter_stepped;
-KRAKOBRAN_SIZE(krakobran_meter_stepped, 1920);
+} krakobran_meter_step_figures;
+KRAKOBRAN_SIZE(krakobran_meter_step_figures, 1920);
 
 /* A new meter: both streams fresh for a single packet, and all places free. */
 krakobran_meter krakobran_meter_new(void);
 
 /* A stream started afresh for sent packets; its places are free then. Refusals in order: 16; 10, which judges both
  * streams, over KRAKOBRAN_MOST_KEPT jumps of one and over KRAKOBRAN_WINDOW in all among it; 4. */
-krakobran_meter_started krakobran_meter_start(krakobran_meter meter, uint32_t stream, uint32_t sent);
+krakobran_meter_start_answer krakobran_meter_start(krakobran_meter meter, uint32_t stream, uint32_t sent);
 
 /* The answer to an arrival on a stream, and the meter after it. Refusals in order: 16; 10 as for a start; then as a
  * receiver's of the stream: 11, 6, 7, and 10 for a reordered packet with no greater kept jump. */
-krakobran_meter_stepped krakobran_meter_step(krakobran_meter meter, uint32_t stream, uint32_t number, uint64_t time);
+krakobran_meter_step_figures krakobran_meter_step(krakobran_meter meter, uint32_t stream, uint32_t number, uint64_t time);
 
 /* The start, with the new state left in the lent meter; gives back the refusal. */
 uint32_t krakobran_meter_start_lent(krakobran_meter *meter, uint32_t stream, uint32_t sent);
 
 /* The step, with the new state left in the lent meter. Unlike a receiver's, it is the step by value, and the state
  * is copied. */
-krakobran_said krakobran_meter_step_lent(krakobran_meter *meter, uint32_t stream, uint32_t number, uint64_t time);
+krakobran_outcome_figures krakobran_meter_step_lent(krakobran_meter *meter, uint32_t stream, uint32_t number, uint64_t time);
 
 #undef KRAKOBRAN_SIZE
 

@@ -51,7 +51,7 @@ static void no_places(void) {
     uint8_t empty_file[8];
     passed("NULL: check", krakobran_check(NULL, 0).refusal == KRAKOBRAN_ENDS_EARLY);
     passed("NULL: label", krakobran_label(NULL, 0).length == 0);
-    krakobran_written written = krakobran_write(NULL, 0, &size, 1, NULL, 0, NULL, 0, empty_file, sizeof empty_file);
+    krakobran_write_answer written = krakobran_write(NULL, 0, &size, 1, NULL, 0, NULL, 0, empty_file, sizeof empty_file);
     passed("NULL: write, no label and no arrivals", written.refusal == KRAKOBRAN_NONE && written.length == 8);
     passed("NULL: write, no sizes",
            krakobran_write(NULL, 0, NULL, 0, NULL, 0, NULL, 0, NULL, 0).refusal == KRAKOBRAN_SENT_OUTSIDE);
@@ -149,19 +149,19 @@ static void fed_meter(uint8_t octet, krakobran_meter *saved) {
 /* The answers that no octets pad. */
 static void every_octet(void) {
     SETS(krakobran_layout, krakobran_check(file, octets));
-    SETS(krakobran_part, krakobran_label(file, octets));
-    SETS(krakobran_written, krakobran_listing(file, octets, out, sizeof out));
-    SETS(krakobran_imported, krakobran_import_text(line, sizeof line - 1, 1, positions, 1, lates, 1));
-    SETS(krakobran_records, krakobran_import_records(owamp, 25, 4096, positions, 1, lates, 1));
-    SETS(krakobran_record, krakobran_answer(file, octets, 2));
-    SETS(krakobran_counted, krakobran_counts(file, octets));
-    SETS(krakobran_tallied, krakobran_tally(file, octets));
-    SETS(krakobran_gapped, krakobran_gap(file, octets, 2));
+    SETS(krakobran_label_part, krakobran_label(file, octets));
+    SETS(krakobran_write_answer, krakobran_listing(file, octets, out, sizeof out));
+    SETS(krakobran_log_import, krakobran_import_text(line, sizeof line - 1, 1, positions, 1, lates, 1));
+    SETS(krakobran_records_import, krakobran_import_records(owamp, 25, 4096, positions, 1, lates, 1));
+    SETS(krakobran_answer_figures, krakobran_answer(file, octets, 2));
+    SETS(krakobran_sample_counts, krakobran_counts(file, octets));
+    SETS(krakobran_sample_tally, krakobran_tally(file, octets));
+    SETS(krakobran_gap_figures, krakobran_gap(file, octets, 2));
     SETS(krakobran_degree_counts, krakobran_n_reordered(file, octets, 1));
-    SETS(krakobran_ratio, krakobran_degree(file, octets, 1));
-    SETS(krakobran_ratio_figures, krakobran_ratios(file, octets));
-    SETS(krakobran_disordered, krakobran_disorder(file, octets));
-    SETS(krakobran_listing_checked, krakobran_check_listing(file, octets, out, 100));
+    SETS(krakobran_degree_figures, krakobran_degree(file, octets, 1));
+    SETS(krakobran_ratios_figures, krakobran_ratios(file, octets));
+    SETS(krakobran_sample_disorder, krakobran_disorder(file, octets));
+    SETS(krakobran_verdict_figures, krakobran_check_listing(file, octets, out, 100));
     SETS(krakobran_worse_link, krakobran_worse(file, octets, file, octets));
     SETS(krakobran_meter, krakobran_meter_new());
 }

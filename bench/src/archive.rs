@@ -493,30 +493,30 @@ pub fn layout() {
     table! {
         "layout" c::Layout: refusal label sent arrivals;
         "worse_link" Worse: refusal link start length;
-        "listing_checked" Checked: refusal agrees line;
-        "disordered" Total: refusal total;
-        "part" c::Part: start length;
-        "written" c::Written: refusal length;
-        "imported" Imported: refusal arrivals line;
-        "records" Records: refusal arrivals;
+        "verdict_figures" Checked: refusal agrees line;
+        "sample_disorder" Total: refusal total;
+        "label_part" c::Part: start length;
+        "write_answer" c::Written: refusal length;
+        "log_import" Imported: refusal arrivals line;
+        "records_import" Records: refusal arrivals;
         "runs" c::Runs: closed squares current;
         "stream" c::Stream: sent arrived duplicates inorder next kept greatest runs dropped;
         "places" c::Places: positions numbers times;
         "receiver" c::State: stream marks places;
-        "started" c::Started: refusal state;
-        "noted" c::Noted: kind jump extent late;
-        "stepped" c::Stepped: refusal noted state;
-        "said" c::Said: refusal noted;
+        "fresh_answer" c::Started: refusal state;
+        "receiver_figures" c::Noted: kind jump extent late;
+        "step_figures" c::Stepped: refusal noted state;
+        "outcome_figures" c::Said: refusal noted;
         "stream_state" c::StreamState: stream marks;
         "meter" c::Meter: first second places;
-        "meter_started" c::MeterStarted: refusal state;
-        "meter_stepped" c::MeterStepped: refusal noted state;
-        "record" c::Answer: refusal kind first position jump extent offset largest late;
-        "counted" c::Counts: refusal arrived reordered duplicates inorder runs;
-        "tallied" c::Tally: refusal places;
-        "gapped" c::Gap: refusal known positions;
+        "meter_start_answer" c::MeterStarted: refusal state;
+        "meter_step_figures" c::MeterStepped: refusal noted state;
+        "answer_figures" c::Answer: refusal kind first position jump extent offset largest late;
+        "sample_counts" c::Counts: refusal arrived reordered duplicates inorder runs;
+        "sample_tally" c::Tally: refusal places;
+        "gap_figures" c::Gap: refusal known positions;
         "degree_counts" c::DegreeCounts: refusal reordered arrived;
-        "ratio" c::Degree: refusal known bits;
-        "ratio_figures" c::Ratios: refusal known reordered degree1 degree3;
+        "degree_figures" c::Degree: refusal known bits;
+        "ratios_figures" c::Ratios: refusal known reordered degree1 degree3;
     }
 }

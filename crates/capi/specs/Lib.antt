@@ -1,6 +1,6 @@
 -- What C is given for each answer. Assumes nothing.
-pub mod Checked
+pub mod Verdicts
 pub mod Figures
 pub mod Label
 pub mod Link
-pub mod ReceiverFigures
+pub mod Outcomes

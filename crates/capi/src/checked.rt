@@ -2,30 +2,30 @@
 ghost use mathlib.Core.Path.{_≡_};
 ghost use Rattle.checker.specs.Verdict.{checked};
 ghost use Rattle.sample.specs.Decode.{decode};
-ghost use Rattle.capi.specs.Checked.{listingChecked};
+ghost use Rattle.capi.specs.Verdicts.{verdictFigures};
 use checker::Verdict;
 use checker::check;
 
 // What is found of a listing: the sample's refusal (0 for none), whether the listing agrees (1 or 0), and the number of its first
 // wrong line, 0 where it agrees or with a refusal.
 #[repr(C)]
-pub struct ListingChecked {
+pub struct VerdictFigures {
     pub refusal: u32,
     pub agrees: u32,
     pub line: u32,
 }
 
 // A verdict beside its refusal.
-fn listing_checked(refusal: u32, verdict: Verdict) -> ListingChecked
-    ensures { λ r. ⌜ r ≡ listingChecked refusal verdict ⌝ }
+fn verdict_figures(refusal: u32, verdict: Verdict) -> VerdictFigures
+    ensures { λ r. ⌜ r ≡ verdictFigures refusal verdict ⌝ }
 {
     match verdict {
-        Verdict::Agrees => ListingChecked {
+        Verdict::Agrees => VerdictFigures {
             refusal,
             agrees: 1,
             line: 0,
         },
-        Verdict::WrongLine(line) => ListingChecked {
+        Verdict::WrongLine(line) => VerdictFigures {
             refusal,
             agrees: 0,
             line,
@@ -35,10 +35,10 @@ fn listing_checked(refusal: u32, verdict: Verdict) -> ListingChecked
 
 // Checks a listing against a sample.
 #[no_mangle]
-pub extern "C" fn krakobran_check_listing(file: &[u8], listing: &[u8]) -> ListingChecked
-    ensures { λ r. ⌜ r ≡ listingChecked (checked (decode (now (file .entry))) (now (listing .entry)) .refusal) (checked (decode (now (file .entry))) (now (listing .entry)) .verdict) ⌝ }
+pub extern "C" fn krakobran_check_listing(file: &[u8], listing: &[u8]) -> VerdictFigures
+    ensures { λ r. ⌜ r ≡ verdictFigures (checked (decode (now (file .entry))) (now (listing .entry)) .refusal) (checked (decode (now (file .entry))) (now (listing .entry)) .verdict) ⌝ }
 {
     let found = check(file, listing);
     let verdict = found.verdict;
-    listing_checked(found.refusal, verdict)
+    verdict_figures(found.refusal, verdict)
 }

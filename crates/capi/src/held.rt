@@ -2,20 +2,20 @@
 
 use receiver::Outcome;
 use receiver::Receiver;
-use receiver::Stepped;
+use receiver::StepAnswer;
 use receiver::step_in_place;
 ghost use mathlib.Core.Path.{_≡_};
 ghost use Rattle.receiver.specs.Step.{stepOf};
 
 // What is said, and the state.
-fn stepped(outcome: Outcome, state: Receiver) -> Stepped
+pub fn stepped(outcome: Outcome, state: Receiver) -> StepAnswer
     ensures { λ r. ⌜ r ≡ record { outcome = outcome; state = state } ⌝ }
 {
-    Stepped { outcome, state }
+    StepAnswer { outcome, state }
 }
 
 // The answer to an arrival, and the state after it.
-pub fn held_step(state: Receiver, number: u32, time: u64) -> Stepped
+pub fn held_step(state: Receiver, number: u32, time: u64) -> StepAnswer
     ensures { λ r. ⌜ r ≡ stepOf state number time ⌝ }
 {
     let mut held = state;

@@ -9,7 +9,7 @@ pub mod held;
 mod label;
 mod link;
 mod meters;
-mod noted;
+mod outcomes;
 mod pieces;
 mod records;
 mod short;
@@ -30,16 +30,15 @@ use label::LabelPart;
 use label::label_part;
 use metrics::DegreeCounts;
 use metrics::SampleCounts;
-use metrics::SampleListing;
 use metrics::SampleTally;
-use noted::SaidAnswer;
-use noted::StepAnswer;
-use noted::said_answer;
-use noted::step_answer;
+use outcomes::OutcomeFigures;
+use outcomes::StepFigures;
+use outcomes::outcome_figures;
+use outcomes::step_figures;
+use receiver::FreshAnswer;
 use receiver::Receiver;
-use receiver::Started;
 use sample::Layout;
-use sample::Written;
+use sample::WriteAnswer;
 ghost use mathlib.Core.Path.{_≡_};
 ghost use Rattle.rfc4737.specs.Judge.{refusalOfLists};
 ghost use Rattle.sample.specs.Decode.{decode, layoutOf};
@@ -49,7 +48,7 @@ ghost use Rattle.metrics.specs.Report.{ListedTo};
 ghost use Rattle.receiver.specs.Step.{freshOf, stepOf};
 ghost use Rattle.capi.specs.Figures.{answerFigures, gapFigures, degreeFigures, ratiosFigures};
 ghost use Rattle.capi.specs.Label.{labelPart};
-ghost use Rattle.capi.specs.ReceiverFigures.{stepAnswer, saidAnswer};
+ghost use Rattle.capi.specs.Outcomes.{stepFigures, outcomeFigures};
 
 // Checks a file: what is found in it.
 #[no_mangle]
@@ -88,7 +87,7 @@ pub extern "C" fn krakobran_write(
     numbers: &[u32],
     times: &[u64],
     out: &mut [u8],
-) -> Written
+) -> WriteAnswer
     ensures { λ r. ⌜ WrittenTo (now (label .entry)) (now (sizes .entry)) (now (numbers .entry)) (now (times .entry)) (now (out .entry)) r (now (out .exit)) ⌝ }
 {
     sample::write(label, sizes, numbers, times, out)
@@ -168,7 +167,7 @@ pub extern "C" fn krakobran_ratios(file: &[u8]) -> RatiosFigures
 
 // Writes the report of a sample.
 #[no_mangle]
-pub extern "C" fn krakobran_listing(file: &[u8], out: &mut [u8]) -> SampleListing
+pub extern "C" fn krakobran_listing(file: &[u8], out: &mut [u8]) -> WriteAnswer
     ensures { λ r. ⌜ ListedTo (decode (now (file .entry))) (now (out .entry)) r (now (out .exit)) ⌝ }
 {
     metrics::listing(file, out)
@@ -176,7 +175,7 @@ pub extern "C" fn krakobran_listing(file: &[u8], out: &mut [u8]) -> SampleListin
 
 // A fresh receiver for so many packets.
 #[no_mangle]
-pub extern "C" fn krakobran_fresh(sent: u32) -> Started
+pub extern "C" fn krakobran_fresh(sent: u32) -> FreshAnswer
     ensures { λ r. ⌜ r ≡ freshOf sent ⌝ }
 {
     Receiver::fresh(sent)
@@ -184,17 +183,21 @@ pub extern "C" fn krakobran_fresh(sent: u32) -> Started
 
 // A step by value: the answer to an arrival, and the state after it.
 #[no_mangle]
-pub extern "C" fn krakobran_step(state: Receiver, number: u32, time: u64) -> StepAnswer
-    ensures { λ r. ⌜ r ≡ stepAnswer (stepOf state number time) ⌝ }
+pub extern "C" fn krakobran_step(state: Receiver, number: u32, time: u64) -> StepFigures
+    ensures { λ r. ⌜ r ≡ stepFigures (stepOf state number time) ⌝ }
 {
-    step_answer(held_step(state, number, time))
+    step_figures(held_step(state, number, time))
 }
 
 // A step by reference: the answer to an arrival; the lent receiver holds the state after it.
 #[no_mangle]
-pub extern "C" fn krakobran_step_lent(state: &mut Receiver, number: u32, time: u64) -> SaidAnswer
-    ensures { λ r. ⌜ (r ≡ saidAnswer (stepOf (now (state .entry)) number time .outcome))
+pub extern "C" fn krakobran_step_lent(
+    state: &mut Receiver,
+    number: u32,
+    time: u64,
+) -> OutcomeFigures
+    ensures { λ r. ⌜ (r ≡ outcomeFigures (stepOf (now (state .entry)) number time .outcome))
         × (now (state .exit) ≡ stepOf (now (state .entry)) number time .state) ⌝ }
 {
-    said_answer(receiver::step_in_place(state, number, time))
+    outcome_figures(receiver::step_in_place(state, number, time))
 }

@@ -1,34 +1,34 @@
 // A meter of two streams for C: by value, and lent by reference.
 
-use crate::noted::NotedFigures;
-use crate::noted::SaidAnswer;
-use crate::noted::noted_figures;
-use crate::noted::said_answer;
+use crate::outcomes::OutcomeFigures;
+use crate::outcomes::ReceiverFigures;
+use crate::outcomes::outcome_figures;
+use crate::outcomes::receiver_figures;
 use meter::Meter;
-use meter::MeterStarted;
-use meter::MeterStepped;
+use meter::MeterStartAnswer;
+use meter::MeterStepAnswer;
 ghost use mathlib.Core.Path.{_≡_};
 ghost use Rattle.meter.specs.Step.{newMeter, meterStart, meterStep};
-ghost use Rattle.capi.specs.ReceiverFigures.{saidAnswer, meterStepAnswer};
+ghost use Rattle.capi.specs.Outcomes.{outcomeFigures, meterStepFigures};
 
 // The answer of a step on a stream: the refusal (0 for none), what is noted, and the meter after it.
 #[repr(C)]
-pub struct MeterStepAnswer {
+pub struct MeterStepFigures {
     pub refusal: u32,
-    pub noted: NotedFigures,
+    pub noted: ReceiverFigures,
     pub state: Meter,
 }
 
 // A step's answer.
-fn meter_step_answer(s: MeterStepped) -> MeterStepAnswer
-    ensures { λ r. ⌜ r ≡ meterStepAnswer s ⌝ }
+fn meter_step_figures(s: MeterStepAnswer) -> MeterStepFigures
+    ensures { λ r. ⌜ r ≡ meterStepFigures s ⌝ }
 {
     let said = s.outcome;
     let noted = said.noted;
     let state = s.state;
-    MeterStepAnswer {
+    MeterStepFigures {
         refusal: said.refusal,
-        noted: noted_figures(noted),
+        noted: receiver_figures(noted),
         state,
     }
 }
@@ -43,7 +43,7 @@ pub extern "C" fn krakobran_meter_new() -> Meter
 
 // A stream of a meter started afresh for k packets, by value.
 #[no_mangle]
-pub extern "C" fn krakobran_meter_start(meter: Meter, stream: u32, k: u32) -> MeterStarted
+pub extern "C" fn krakobran_meter_start(meter: Meter, stream: u32, k: u32) -> MeterStartAnswer
     ensures { λ r. ⌜ r ≡ meterStart meter stream k ⌝ }
 {
     Meter::start(meter, stream, k)
@@ -56,10 +56,10 @@ pub extern "C" fn krakobran_meter_step(
     stream: u32,
     number: u32,
     time: u64,
-) -> MeterStepAnswer
-    ensures { λ r. ⌜ r ≡ meterStepAnswer (meterStep meter stream number time) ⌝ }
+) -> MeterStepFigures
+    ensures { λ r. ⌜ r ≡ meterStepFigures (meterStep meter stream number time) ⌝ }
 {
-    meter_step_answer(Meter::step(meter, stream, number, time))
+    meter_step_figures(Meter::step(meter, stream, number, time))
 }
 
 // A start by reference: the refusal (0 for none); the lent meter holds the start's state afterwards.
@@ -78,9 +78,9 @@ pub extern "C" fn krakobran_meter_step_lent(
     stream: u32,
     number: u32,
     time: u64,
-) -> SaidAnswer
-    ensures { λ r. ⌜ (r ≡ saidAnswer (meterStep (now (meter .entry)) stream number time .outcome))
+) -> OutcomeFigures
+    ensures { λ r. ⌜ (r ≡ outcomeFigures (meterStep (now (meter .entry)) stream number time .outcome))
         × (now (meter .exit) ≡ meterStep (now (meter .entry)) stream number time .state) ⌝ }
 {
-    said_answer(gateway::meters::step(meter, stream, number, time))
+    outcome_figures(gateway::meters::step(meter, stream, number, time))
 }

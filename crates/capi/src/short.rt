@@ -3,9 +3,9 @@ ghost use mathlib.Core.Path.{_≡_};
 ghost use Rattle.shortnumbers.specs.Number.{rangeOf};
 ghost use Rattle.shortnumbers.specs.Lists.{FilledTo};
 ghost use Rattle.shortnumbers.specs.Steps.{shortStep};
-ghost use Rattle.capi.specs.ReceiverFigures.{stepAnswer};
-use crate::noted::StepAnswer;
-use crate::noted::step_answer;
+ghost use Rattle.capi.specs.Outcomes.{stepFigures};
+use crate::outcomes::StepFigures;
+use crate::outcomes::step_figures;
 use receiver::Receiver;
 
 // The full numbers of short ones of 8 bits, of K sent packets.
@@ -36,16 +36,16 @@ pub extern "C" fn krakobran_full_numbers_10(
 
 // The receiver's step with a short number of 8 bits, and the state after it.
 #[no_mangle]
-pub extern "C" fn krakobran_step_8(state: Receiver, short: u16, time: u64) -> StepAnswer
-    ensures { λ r. ⌜ r ≡ stepAnswer (shortStep (rangeOf 8) state short time) ⌝ }
+pub extern "C" fn krakobran_step_8(state: Receiver, short: u16, time: u64) -> StepFigures
+    ensures { λ r. ⌜ r ≡ stepFigures (shortStep (rangeOf 8) state short time) ⌝ }
 {
-    step_answer(shortnumbers::step_8(state, short, time))
+    step_figures(shortnumbers::step_8(state, short, time))
 }
 
 // The receiver's step with a short number of 10 bits, and the state after it.
 #[no_mangle]
-pub extern "C" fn krakobran_step_10(state: Receiver, short: u16, time: u64) -> StepAnswer
-    ensures { λ r. ⌜ r ≡ stepAnswer (shortStep (rangeOf 10) state short time) ⌝ }
+pub extern "C" fn krakobran_step_10(state: Receiver, short: u16, time: u64) -> StepFigures
+    ensures { λ r. ⌜ r ≡ stepFigures (shortStep (rangeOf 10) state short time) ⌝ }
 {
-    step_answer(shortnumbers::step_10(state, short, time))
+    step_figures(shortnumbers::step_10(state, short, time))
 }

@@ -1,7 +1,7 @@
 // Text logs for C.
-ghost use Rattle.textlog.specs.Calls.{ImportedFrom, WrittenTo};
-use sample::Written;
-use textlog::Imported;
+ghost use Rattle.textlog.specs.Calls.{LogImportedFrom, LogWrittenTo};
+use sample::WriteAnswer;
+use textlog::LogImport;
 
 // Imports the text log of K sent packets into lists of numbers and times.
 #[no_mangle]
@@ -10,8 +10,8 @@ pub extern "C" fn krakobran_import_text(
     sent: u32,
     numbers: &mut [u32],
     times: &mut [u64],
-) -> Imported
-    ensures { λ r. ⌜ ImportedFrom sent (now (log .entry)) (now (numbers .entry)) (now (times .entry)) r (now (numbers .exit)) (now (times .exit)) ⌝ }
+) -> LogImport
+    ensures { λ r. ⌜ LogImportedFrom sent (now (log .entry)) (now (numbers .entry)) (now (times .entry)) r (now (numbers .exit)) (now (times .exit)) ⌝ }
 {
     textlog::import(log, sent, numbers, times)
 }
@@ -23,8 +23,8 @@ pub extern "C" fn krakobran_write_text(
     numbers: &[u32],
     times: &[u64],
     out: &mut [u8],
-) -> Written
-    ensures { λ r. ⌜ WrittenTo sent (now (numbers .entry)) (now (times .entry)) (now (out .entry)) r (now (out .exit)) ⌝ }
+) -> WriteAnswer
+    ensures { λ r. ⌜ LogWrittenTo sent (now (numbers .entry)) (now (times .entry)) (now (out .entry)) r (now (out .exit)) ⌝ }
 {
     textlog::write(sent, numbers, times, out)
 }

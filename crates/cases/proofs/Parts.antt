@@ -1,50 +1,43 @@
 -- The parts of a text, found from place to place: an induction over the text gives its first part and the parts after it, and the
 -- loops cite what follows of that at a place. Assumes nothing.
-use Prim.Native.Nat.{ℕ, zero, suc, _+_, _-_, _≤_, _<_}
+use Prim.Native.Nat.{ℕ, suc, _+_, _-_, _≤_, _<_}
 use native.Mathlib.Nat.{add-zero}
 use native.Mathlib.Omega.{arith}
 use mathlib.Core.Bool.{Bool, true, false, cond}
 use mathlib.Core.Path.{_≡_, refl, sym, ap, _∙_}
 use mathlib.Core.List.{List, [], _∷_}
 use lib.Dec.{eqb}
-use lib.ListN.{length, getD, take, drop, length-drop, List·getD-map}
+use lib.ListN.{length, getD, take, drop, length-drop, drop-of-length-le, List·getD-map}
 use lib.Seq.{getD-drop, drop-drop}
 use Rattle.decimal.specs.Decimal.{decimalValue}
 use Rattle.decimal.specs.Reading.{digitCount}
-use Rattle.cases.specs.Text.{onto, partsOf, numberOf, numbersIn}
-use Rattle.cases.specs.Private.Places.{before}
+use Rattle.cases.specs.Text.{onto, cutAt, partNumber, numbersIn}
+use Rattle.cases.specs.Private.Places.{separatorAt}
 
 -- ---- the octets before a separator
 
 -- a separator stands at the start
-before-here : (s : ℕ) (t : List ℕ) → eqb (getD t 0 0) s ≡ true → 0 < length t → before s t ≡ 0
-unfolding before
+before-here : (s : ℕ) (t : List ℕ) → eqb (getD t 0 0) s ≡ true → 0 < length t → separatorAt s t ≡ 0
+unfolding separatorAt
 before-here s [] e h = refl
 before-here s (o ∷ t) e h = rw e
 
 -- another octet does
-before-more : (s : ℕ) (t : List ℕ) → eqb (getD t 0 0) s ≡ false → 0 < length t → before s t ≡ suc (before s (drop 1 t))
-unfolding before
+before-more : (s : ℕ) (t : List ℕ) → eqb (getD t 0 0) s ≡ false → 0 < length t → separatorAt s t ≡ suc (separatorAt s (drop 1 t))
+unfolding separatorAt
 before-more s [] e h = absurd (omega arith)
 before-more s (o ∷ t) e h = rw e
-
--- nothing stands past the end
-drop-past : (n : ℕ) (l : List ℕ) → length l ≤ n → drop n l ≡ []
-drop-past zero [] h = refl
-drop-past zero (x ∷ xs) h = absurd (omega arith)
-drop-past (suc n) [] h = refl
-drop-past (suc n) (x ∷ xs) h = drop-past n xs (omega arith)
 
 -- no separator stands from a place on up to another
 pub record Sought (t : List ℕ) (s from end : ℕ) : Type 0 where
   pub onward : from ≤ end
   pub within : end ≤ length t
-  pub passed : before s (drop from t) ≡ end - from + before s (drop end t)
+  pub passed : separatorAt s (drop from t) ≡ end - from + separatorAt s (drop end t)
 
 pub sought-none : (t : List ℕ) (s from : ℕ) → from ≤ length t → Sought t s from from
 sought-none t s from h = record { onward = omega arith; within = h; passed = omega arith }
 
-module _ (t : List ℕ) (s from end : ℕ) (p : Sought t s from end) where
+module _ {t : List ℕ} {s from end : ℕ} (p : Sought t s from end) where
   -- what stands there
   here : getD (drop end t) 0 0 ≡ getD t end 0
   here = getD-drop end t 0 0 ∙ ap (λ (k : ℕ). getD t k 0) (add-zero end)
@@ -57,98 +50,98 @@ module _ (t : List ℕ) (s from end : ℕ) (p : Sought t s from end) where
   pub sought-more : end < length t → eqb (getD t end 0) s ≡ false → Sought t s from (end + 1)
   sought-more h e =
       let b : from ≤ end = p .onward in
-      let c : before s (drop end t) ≡ suc (before s (drop (end + 1) t)) =
-      before-more s (drop end t) (rw here e) (some h) ∙ ap (λ (l : List ℕ). suc (before s l)) (drop-drop 1 end t) in
+      let c : separatorAt s (drop end t) ≡ suc (separatorAt s (drop (end + 1) t)) =
+      before-more s (drop end t) (rw here e) (some h) ∙ ap (λ (l : List ℕ). suc (separatorAt s l)) (drop-drop 1 end t) in
       record { onward = omega arith; within = omega arith; passed = omega (arith, p .passed) }
 
   -- a separator stands there
-  pub sought-here : end < length t → eqb (getD t end 0) s ≡ true → (end ≡ from + before s (drop from t)) × (end ≤ length t)
+  pub sought-here : end < length t → eqb (getD t end 0) s ≡ true → (end ≡ from + separatorAt s (drop from t)) × (end ≤ length t)
   sought-here h e =
       let b : from ≤ end = p .onward in
-      let z : before s (drop end t) ≡ 0 = before-here s (drop end t) (rw here e) (some h) in
+      let z : separatorAt s (drop end t) ≡ 0 = before-here s (drop end t) (rw here e) (some h) in
       (omega (arith, p .passed), omega arith)
 
   -- the text ends there
-  pub sought-past : length t ≤ end → (end ≡ from + before s (drop from t)) × (end ≤ length t)
-  unfolding before
+  pub sought-past : length t ≤ end → (end ≡ from + separatorAt s (drop from t)) × (end ≤ length t)
+  unfolding separatorAt
   sought-past h =
       let b : from ≤ end = p .onward in
-      let z : before s (drop end t) ≡ 0 = ap (before s) (drop-past end t h) in
+      let z : separatorAt s (drop end t) ≡ 0 = ap (separatorAt s) (drop-of-length-le t h) in
       (omega (arith, p .passed), p .within)
 
 -- ---- the first part, and those after it
 
 -- with one octet more before a text
 split-more : (s o : ℕ) (t : List ℕ) (b : Bool)
-    → (0 < length t → partsOf s t ≡ take (before s t) t ∷ partsOf s (drop (suc (before s t)) t))
-    → onto b o (partsOf s t)
-    ≡ take (cond b 0 (suc (before s t))) (o ∷ t) ∷ partsOf s (drop (suc (cond b 0 (suc (before s t)))) (o ∷ t))
-unfolding onto partsOf before
+    → (0 < length t → cutAt s t ≡ take (separatorAt s t) t ∷ cutAt s (drop (suc (separatorAt s t)) t))
+    → onto b o (cutAt s t)
+    ≡ take (cond b 0 (suc (separatorAt s t))) (o ∷ t) ∷ cutAt s (drop (suc (cond b 0 (suc (separatorAt s t)))) (o ∷ t))
+unfolding onto cutAt separatorAt
 split-more s o t true so = refl
 split-more s o [] false so = refl
 split-more s o (q ∷ t) false so = ap (onto false o) (so (omega arith))
 
 -- a text that is not empty: its first part, and the parts of what stands after the separator
-split : (s : ℕ) (t : List ℕ) → 0 < length t → partsOf s t ≡ take (before s t) t ∷ partsOf s (drop (suc (before s t)) t)
-unfolding partsOf before
+split : (s : ℕ) (t : List ℕ) → 0 < length t → cutAt s t ≡ take (separatorAt s t) t ∷ cutAt s (drop (suc (separatorAt s t)) t)
+unfolding cutAt separatorAt
 split s [] h = absurd (omega arith)
 split s (o ∷ t) h = split-more s o t (eqb o s) (split s t)
 
 -- the first part, which is empty where the text is
-first : (s : ℕ) (t : List ℕ) → getD (partsOf s t) 0 [] ≡ take (before s t) t
-unfolding partsOf before
+first : (s : ℕ) (t : List ℕ) → getD (cutAt s t) 0 [] ≡ take (separatorAt s t) t
+unfolding cutAt separatorAt
 first s [] = refl
 first s (o ∷ t) = ap (λ (ps : List (List ℕ)). getD ps 0 []) (split s (o ∷ t) (omega arith))
 
 -- a later part
-later : (s : ℕ) (t : List ℕ) (n : ℕ) → getD (partsOf s t) (suc n) [] ≡ getD (partsOf s (drop (suc (before s t)) t)) n []
-unfolding partsOf before
+later : (s : ℕ) (t : List ℕ) (n : ℕ) → getD (cutAt s t) (suc n) [] ≡ getD (cutAt s (drop (suc (separatorAt s t)) t)) n []
+unfolding cutAt separatorAt
 later s [] n = refl
 later s (o ∷ t) n = ap (λ (ps : List (List ℕ)). getD ps (suc n) []) (split s (o ∷ t) (omega arith))
 
 -- ---- at a place of a text, where the part from there on ends at another
 
-module _ (t : List ℕ) (s at end : ℕ) (e : end ≡ at + before s (drop at t)) where
+module _ (t : List ℕ) (s at end : ℕ) (e : end ≡ at + separatorAt s (drop at t)) where
   -- what stands after its separator
-  beyond : drop (suc (before s (drop at t))) (drop at t) ≡ drop (end + 1) t
+  beyond : drop (suc (separatorAt s (drop at t))) (drop at t) ≡ drop (end + 1) t
   beyond =
-      let p : at + suc (before s (drop at t)) ≡ end + 1 = omega (arith, e) in
-      drop-drop (suc (before s (drop at t))) at t ∙ ap (λ (k : ℕ). drop k t) p
+      let p : at + suc (separatorAt s (drop at t)) ≡ end + 1 = omega (arith, e) in
+      drop-drop (suc (separatorAt s (drop at t))) at t ∙ ap (λ (k : ℕ). drop k t) p
 
   -- the first part from there on
-  pub part-first : take (end - at) (drop at t) ≡ getD (partsOf s (drop at t)) 0 []
+  pub part-first : take (end - at) (drop at t) ≡ getD (cutAt s (drop at t)) 0 []
   part-first =
-      let p : before s (drop at t) ≡ end - at = omega (arith, e) in
+      let p : separatorAt s (drop at t) ≡ end - at = omega (arith, e) in
       sym (first s (drop at t) ∙ ap (λ (k : ℕ). take k (drop at t)) p)
 
   -- a later one
-  pub part-later : (left : ℕ) → 0 < left → getD (partsOf s (drop at t)) left [] ≡ getD (partsOf s (drop (end + 1) t)) (left - 1) []
+  pub part-later : (left : ℕ) → 0 < left → getD (cutAt s (drop at t)) left [] ≡ getD (cutAt s (drop (end + 1) t)) (left - 1) []
   part-later left h =
       let k : left ≡ suc (left - 1) = omega arith in
-      ap (λ (n : ℕ). getD (partsOf s (drop at t)) n []) k
+      ap (λ (n : ℕ). getD (cutAt s (drop at t)) n []) k
       ∙ later s (drop at t) (left - 1)
-      ∙ ap (λ (l : List ℕ). getD (partsOf s l) (left - 1) []) beyond
+      ∙ ap (λ (l : List ℕ). getD (cutAt s l) (left - 1) []) beyond
 
   -- there is none where the text ends
-  pub part-none : (left : ℕ) → 0 < left → length t ≤ end → getD (partsOf s (drop at t)) left [] ≡ []
-  unfolding partsOf
+  pub part-none : (left : ℕ) → 0 < left → length t ≤ end → getD (cutAt s (drop at t)) left [] ≡ []
+  unfolding cutAt
   part-none left h k =
-      part-later left h ∙ ap (λ (l : List ℕ). getD (partsOf s l) (left - 1) []) (drop-past (end + 1) t (omega arith))
+      part-later left h ∙ ap (λ (l : List ℕ). getD (cutAt s l) (left - 1) []) (drop-of-length-le t {i = end + 1} (omega arith))
 
   -- how many there are
-  pub count-more : at < length t → length (partsOf s (drop at t)) ≡ suc (length (partsOf s (drop (end + 1) t)))
+  pub count-more : at < length t → length (cutAt s (drop at t)) ≡ suc (length (cutAt s (drop (end + 1) t)))
   count-more h =
       let k : 0 < length (drop at t) = simp length-drop (omega arith) in
-      ap length (split s (drop at t) k) ∙ ap (λ (l : List ℕ). suc (length (partsOf s l))) beyond
+      ap length (split s (drop at t) k) ∙ ap (λ (l : List ℕ). suc (length (cutAt s l))) beyond
 
 -- past the end of a text there is none
-pub count-none : (t : List ℕ) (s at : ℕ) → length t ≤ at → length (partsOf s (drop at t)) ≡ 0
-unfolding partsOf
-count-none t s at h = ap (λ (l : List ℕ). length (partsOf s l)) (drop-past at t h)
+pub count-none : (t : List ℕ) (s at : ℕ) → length t ≤ at → length (cutAt s (drop at t)) ≡ 0
+unfolding cutAt
+count-none t s at h = ap (λ (l : List ℕ). length (cutAt s l)) (drop-of-length-le t h)
 
 -- ---- numbers
 
 -- the number of a part is the number at its place; past the last part it is 0
-pub number-found : (t : List ℕ) (n : ℕ) → numberOf (getD (partsOf 32 t) n []) ≡ getD (numbersIn t) n 0
+pub number-found : (t : List ℕ) (n : ℕ) → partNumber (getD (cutAt 32 t) n []) ≡ getD (numbersIn t) n 0
 unfolding digitCount decimalValue
-number-found t n = sym (List·getD-map numberOf (partsOf 32 t) n [])
+number-found t n = sym (List·getD-map partNumber (cutAt 32 t) n [])

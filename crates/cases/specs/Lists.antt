@@ -5,5 +5,5 @@ use lib.ListN.{take}
 use Rattle.cases.specs.Text.{numbersIn}
 
 -- the numbers of a text as far as there are places, each at most the greatest that a place holds
-abbrev pub fitting : ℕ → ℕ → List ℕ → List ℕ
-fitting most places t = take places (map (λ (n : ℕ). min n most) (numbersIn t))
+abbrev pub numbersWithin : ℕ → ℕ → List ℕ → List ℕ
+numbersWithin most places t = take places (map (λ (n : ℕ). min n most) (numbersIn t))

@@ -12,14 +12,14 @@ onto false o [] = (o ∷ []) ∷ []
 onto false o (p ∷ ps) = (o ∷ p) ∷ ps
 
 -- the parts of a text: each ends before a separator, the last one at the text's end; an empty text has none
-unfoldable pub partsOf : ℕ → List ℕ → List (List ℕ)
-partsOf separator [] = []
-partsOf separator (o ∷ t) = onto (eqb o separator) o (partsOf separator t)
+unfoldable pub cutAt : ℕ → List ℕ → List (List ℕ)
+cutAt separator [] = []
+cutAt separator (o ∷ t) = onto (eqb o separator) o (cutAt separator t)
 
 -- the number of the digits that a part begins with, or the greatest of 64 bits where it is greater
-abbrev pub numberOf : List ℕ → ℕ
-numberOf p = min (leadingValue p) wordMost
+abbrev pub partNumber : List ℕ → ℕ
+partNumber p = min (leadingValue p) wordMost
 
 -- the numbers in a text, with one blank after each
 abbrev pub numbersIn : List ℕ → List ℕ
-numbersIn t = map numberOf (partsOf 32 t)
+numbersIn t = map partNumber (cutAt 32 t)

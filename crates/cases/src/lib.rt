@@ -1,4 +1,9 @@
-// Cases as text: what the programs of cases read on standard input. A text is cut into parts at a separator: into lines, a line
-// into fields, a field into numbers.
+// What the programs of cases share. Cases are text on standard input: it is cut into parts at a separator, into lines, a line into
+// fields, a field into numbers. What comes of them is written to standard output.
+pub mod fields;
 pub mod lists;
+pub mod print;
+pub mod same;
+pub mod series;
+pub mod sums;
 pub mod text;

@@ -3,8 +3,8 @@ ghost use mathlib.Core.Path.{_≡_};
 ghost use Prim.Native.Nat.{_+_, _≤_};
 ghost use lib.ListN.{length, getD, drop};
 ghost use mathlib.Core.List.{[]};
-ghost use Rattle.cases.specs.Text.{partsOf, numbersIn};
-ghost use Rattle.cases.specs.Private.Places.{before};
+ghost use Rattle.cases.specs.Text.{cutAt, numbersIn};
+ghost use Rattle.cases.specs.Private.Places.{separatorAt};
 use decimal::reading::number_at;
 
 // What stands between the numbers of a text.
@@ -13,7 +13,7 @@ pub const BLANK: u8 = b' ';
 // The place of the first separator from a place on; the end of the text where none follows.
 fn end_at(text: &[u8], separator: u8, from: usize) -> usize
     requires { ⌜ from ≤ length (now text) ⌝ }
-    ensures { λ r. ⌜ (r ≡ from + before separator (drop from (now (text .entry)))) × (r ≤ length (now (text .entry))) ⌝ }
+    ensures { λ r. ⌜ (r ≡ from + separatorAt separator (drop from (now (text .entry)))) × (r ≤ length (now (text .entry))) ⌝ }
 {
     let mut end = from;
     while end < text.len() {
@@ -27,7 +27,7 @@ fn end_at(text: &[u8], separator: u8, from: usize) -> usize
 
 // How many parts a text has.
 pub fn count(text: &[u8], separator: u8) -> usize
-    ensures { λ r. ⌜ r ≡ length (partsOf separator (now (text .entry))) ⌝ }
+    ensures { λ r. ⌜ r ≡ length (cutAt separator (now (text .entry))) ⌝ }
 {
     let mut n: usize = 0;
     let mut at: usize = 0;
@@ -44,7 +44,7 @@ pub fn count(text: &[u8], separator: u8) -> usize
 
 // Part n of a text, counted from 0; past the last part there is an empty one.
 pub fn part(text: &[u8], separator: u8, n: usize) -> &[u8]
-    ensures { λ r. ⌜ now r ≡ getD (partsOf separator (now (text .entry))) n [] ⌝ }
+    ensures { λ r. ⌜ now r ≡ getD (cutAt separator (now (text .entry))) n [] ⌝ }
 {
     let mut at: usize = 0;
     let mut left = n;

@@ -3,11 +3,12 @@
 // listing over 262,144, so one octet more than these decides of longer files.
 ghost use mathlib.Core.Path.{_≡_};
 ghost use mathlib.Core.List.{List};
-ghost use Prim.Native.Nat.{ℕ};
+ghost use Prim.Native.Nat.{ℕ, _+_};
 ghost use lib.ListN.{take};
+ghost use Rattle.listing.specs.Room.{listingOctets};
 ghost use Rattle.sample.specs.Decode.{decode};
 ghost use Rattle.checker.specs.Verdict.{checked};
-use checker::Checked;
+use checker::SampleVerdict;
 use checker::Verdict;
 use libc::STDOUT_FILENO;
 use listing::LISTING_OCTETS;
@@ -20,8 +21,8 @@ const SAMPLE_ROOM: usize = sample::LONGEST + 1;
 const LISTING_ROOM: usize = LISTING_OCTETS + 1;
 
 // Checks the start of a listing, of which so many octets decide: the answer is that for the whole listing.
-fn check_start(file: &[u8], start: &[u8]) -> Checked
-    ensures { λ r. ⌜ ((whole : List ℕ) → now (start .entry) ≡ take 262145 whole → r ≡ checked (decode (now (file .entry))) whole) ⌝ }
+fn check_start(file: &[u8], start: &[u8]) -> SampleVerdict
+    ensures { λ r. ⌜ ((whole : List ℕ) → now (start .entry) ≡ take (listingOctets + 1) whole → r ≡ checked (decode (now (file .entry))) whole) ⌝ }
 {
     checker::check(file, start)
 }
@@ -44,7 +45,7 @@ fn write_verdict(verdict: Verdict) {
 }
 
 // Writes what was found.
-fn write_checked(found: Checked) {
+fn write_checked(found: SampleVerdict) {
     if found.refusal != NONE {
         write_word(b"refused ");
         io::print_decimal(STDOUT_FILENO, found.refusal as u64);

@@ -1,7 +1,8 @@
--- The checker's answer, from how far the listing agrees. Assumes nothing.
+-- The checker's answer, from what metrics found of a listing: its refusal is the sample's; without one, `same` says yes, and else the octets that agree give
+-- the wrong line (`by-prefix`). Assumes nothing.
 use Prim.Native.Nat.{ℕ, zero, suc, _≤_}
 use mathlib.Core.Path.{_≡_, refl, sym, ap, _∙_}
-use mathlib.Core.Bool.{Bool, true, false}
+use mathlib.Core.Bool.{true, false}
 use mathlib.Core.List.{List}
 use native.Mathlib.Omega.{arith}
 use lib.ListN.{length}
@@ -12,7 +13,7 @@ use Rattle.metrics.specs.Report.{sampleText}
 use Rattle.metrics.specs.declared.SampleAgreement.{SampleAgreement}
 use Rattle.metrics.proofs.Common.{common-le}
 use Rattle.checker.specs.declared.Verdict.{Verdict}
-use Rattle.checker.specs.declared.Checked.{Checked}
+use Rattle.checker.specs.declared.SampleVerdict.{SampleVerdict}
 use Rattle.checker.specs.Verdict.{verdictOn, verdictUnless, checked}
 use Rattle.checker.specs.Private.Feeds.{wrongAfter}
 use Rattle.checker.proofs.Lines.{by-prefix}
@@ -34,7 +35,7 @@ module _ (d : Decoded) (listing : List ℕ) (found : SampleAgreement) (is : foun
   checked-refused n = rw own (go (decodedRefusal d) (λ e. n (own ∙ e)))
     where
       go : (r : ℕ) → (r ≡ 0 → ⊥)
-          → _≡_ {A = Checked} (record { refusal = r; verdict = Verdict.WrongLine 0 }) (record { refusal = r; verdict = verdictUnless r (verdictOn (sampleText d) listing) })
+          → _≡_ {A = SampleVerdict} (record { refusal = r; verdict = Verdict.WrongLine 0 }) (record { refusal = r; verdict = verdictUnless r (verdictOn (sampleText d) listing) })
       go zero n = absurd (n refl)
       go (suc r) n = refl
 

@@ -1,10 +1,11 @@
--- The cases, by computation. Assumes nothing.
+-- Each listing of the table gets its verdict, by computation of the definitions. Assumes nothing.
 use mathlib.Core.Path.{refl}
 use mathlib.Core.List.{flatten}
+use Rattle.octets.specs.Text.{lines}
 use Rattle.metrics.specs.Agreement.{sameText}
-use Rattle.checker.specs.Verdict.{lines, judged, verdictOn}
-use Rattle.checker.specs.Cases.{table, CasesHold}
+use Rattle.checker.specs.Verdict.{judged, verdictOn}
+use Rattle.checker.specs.Cases.{listingCases, ListingCasesHold}
 
-pub cases-hold : CasesHold
-unfolding lines judged verdictOn sameText table flatten
+pub cases-hold : ListingCasesHold
+unfolding lines judged verdictOn sameText listingCases flatten
 cases-hold = refl

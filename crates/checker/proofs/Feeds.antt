@@ -1,4 +1,5 @@
--- The line feeds of a text. Assumes nothing.
+-- The line feeds of a text l: an octet x more at its end adds one if it is a line feed, so the loop over the first i octets counts them; there are at most
+-- as many as octets. Assumes nothing.
 use Prim.Native.Nat.{ℕ, suc, _+_, _≤_, _<_}
 use mathlib.Core.Path.{_≡_, refl}
 use mathlib.Core.Bool.{Bool, true, false, cond}
@@ -8,7 +9,7 @@ use native.Mathlib.Numerals.{add-one}
 use lib.Dec.{eqb}
 use lib.ListN.{length, take, getD, length-take}
 use lib.Seq.{take-suc}
-use Rattle.listing.specs.Words.{lineFeed}
+use Rattle.octets.specs.Text.{lineFeed}
 use Rattle.checker.specs.Private.Feeds.{feeds}
 
 -- those of one octet more

@@ -1,5 +1,5 @@
--- The verdict by lines is that by the longest common prefix: the wrong line is 1 more than its line feeds. Both are shown to be the verdict octet by octet: an
--- octet more in front of the first lines of both changes nothing, unless it is a line feed, and no line is empty. Assumes nothing.
+-- The verdict by lines is that by the longest common prefix: the wrong line is 1 more than its line feeds. Both are shown to be the verdict octet by
+-- octet: an octet more in front of the first lines of both changes nothing, unless it is a line feed, since no line is empty. Assumes nothing.
 use Prim.Native.Nat.{ℕ, zero, suc, _+_, _<_}
 use mathlib.Core.Path.{_≡_, refl, sym, ap, _∙_}
 use mathlib.Core.Bool.{Bool, true, false, cond, _&&_}
@@ -9,46 +9,22 @@ use native.Mathlib.Nat.{add-zero}
 use lib.Dec.{eqb}
 use lib.ListN.{length, take}
 use borrow.Author.Tests.{eqb-true, eq-eqb}
-use Rattle.listing.specs.Words.{lineFeed}
+use Rattle.octets.specs.Text.{lineFeed, inFront, lines}
+use Rattle.octets.proofs.Text.{first-line}
 use Rattle.metrics.specs.Agreement.{common, sameText}
 use Rattle.checker.specs.declared.Verdict.{Verdict}
-use Rattle.checker.specs.Verdict.{inFront, lines, judged, verdictOn}
+use Rattle.checker.specs.Verdict.{judged, verdictOn}
 use Rattle.checker.specs.Private.Feeds.{feeds, wrongAfter}
 
 -- ---- lines, octet by octet
 
--- no line is empty
-abbrev Full : List (List ℕ) → Type 0
-Full [] = Unit
-Full ([] ∷ ls) = ⊥
-Full ((x ∷ l) ∷ ls) = Full ls
-
--- nor with an octet more in front
-full-in-front : (x : ℕ) (ls : List (List ℕ)) → Full ls → Full (inFront x ls)
-full-in-front x [] h = tt
-full-in-front x ([] ∷ ls) h = absurd h
-full-in-front x ((y ∷ l) ∷ ls) h = h
-
--- so of any text
-full-lines : (t : List ℕ) → Full (lines t)
-unfolding lines
-full-lines [] = tt
-full-lines (x ∷ t) = go (full-lines t) (eqb x lineFeed)
-  where
-    go : Full (lines t) → (b : Bool) → Full (cond b ((x ∷ []) ∷ lines t) (inFront x (lines t)))
-    go h true = h
-    go h false = full-in-front x (lines t) h
-
--- one octet more in front of both changes nothing
-judged-in-front : (n x : ℕ) (es ls : List (List ℕ)) → Full es → Full ls → judged n (inFront x es) (inFront x ls) ≡ judged n es ls
-unfolding judged sameText
-judged-in-front n x [] [] h g = rw (eq-eqb x x refl)
-judged-in-front n x [] ([] ∷ ls) h g = absurd g
-judged-in-front n x [] ((y ∷ l) ∷ ls) h g = rw (eq-eqb x x refl)
-judged-in-front n x ([] ∷ es) ls h g = absurd h
-judged-in-front n x ((z ∷ e) ∷ es) [] h g = rw (eq-eqb x x refl)
-judged-in-front n x ((z ∷ e) ∷ es) ([] ∷ ls) h g = absurd g
-judged-in-front n x ((z ∷ e) ∷ es) ((y ∷ l) ∷ ls) h g = rw (eq-eqb x x refl)
+-- an octet more in front of both changes nothing
+judged-in-front : (n x : ℕ) (e t : List ℕ) → judged n (inFront x (lines e)) (inFront x (lines t)) ≡ judged n (lines e) (lines t)
+unfolding lines judged sameText
+judged-in-front n x [] [] = rw (eq-eqb x x refl)
+judged-in-front n x [] (y ∷ t) = rw (first-line y t .lead, eq-eqb x x refl)
+judged-in-front n x (z ∷ e) [] = rw (first-line z e .lead, eq-eqb x x refl)
+judged-in-front n x (z ∷ e) (y ∷ t) = rw (first-line z e .lead, first-line y t .lead, eq-eqb x x refl)
 
 -- the verdict octet by octet, on line n
 unfoldable stepped : ℕ → List ℕ → List ℕ → Verdict
@@ -61,42 +37,19 @@ stepped n (x ∷ e) (y ∷ t) = cond (eqb x y) (stepped (cond (eqb x lineFeed) (
 judged-lines : (n : ℕ) (e t : List ℕ) → judged n (lines e) (lines t) ≡ stepped n e t
 unfolding judged lines stepped sameText
 judged-lines n [] [] = refl
-judged-lines n [] (y ∷ t) = go (eqb y lineFeed) (lines t)
-  where
-    go : (b : Bool) (ls : List (List ℕ)) → judged n [] (cond b ((y ∷ []) ∷ ls) (inFront y ls)) ≡ Verdict.WrongLine n
-    go true ls = refl
-    go false [] = refl
-    go false (l ∷ ls) = refl
-judged-lines n (x ∷ e) [] = go (eqb x lineFeed) (lines e)
-  where
-    go : (b : Bool) (ls : List (List ℕ)) → judged n (cond b ((x ∷ []) ∷ ls) (inFront x ls)) [] ≡ Verdict.WrongLine n
-    go true ls = refl
-    go false [] = refl
-    go false (l ∷ ls) = refl
+judged-lines n [] (y ∷ t) = rw (first-line y t .lead)
+judged-lines n (x ∷ e) [] = rw (first-line x e .lead)
 judged-lines n (x ∷ e) (y ∷ t) = go (λ m. judged-lines m e t) (eqb x y) refl
   where
     both : ((m : ℕ) → judged m (lines e) (lines t) ≡ stepped m e t) → (b : Bool)
         → judged n (cond b ((x ∷ []) ∷ lines e) (inFront x (lines e))) (cond b ((x ∷ []) ∷ lines t) (inFront x (lines t))) ≡ stepped (cond b (n + 1) n) e t
     both h true = rw (eq-eqb x x refl) (h (n + 1))
-    both h false = judged-in-front n x (lines e) (lines t) (full-lines e) (full-lines t) ∙ h n
-
-    apart : eqb x y ≡ false → (b c : Bool) (es ls : List (List ℕ))
-        → judged n (cond b ((x ∷ []) ∷ es) (inFront x es)) (cond c ((y ∷ []) ∷ ls) (inFront y ls)) ≡ Verdict.WrongLine n
-    apart q true true es ls = rw q
-    apart q true false es [] = rw q
-    apart q true false es (l ∷ ls) = rw q
-    apart q false true [] ls = rw q
-    apart q false true (k ∷ es) ls = rw q
-    apart q false false [] [] = rw q
-    apart q false false [] (l ∷ ls) = rw q
-    apart q false false (k ∷ es) [] = rw q
-    apart q false false (k ∷ es) (l ∷ ls) = rw q
+    both h false = judged-in-front n x e t ∙ h n
 
     go : ((m : ℕ) → judged m (lines e) (lines t) ≡ stepped m e t) → (b : Bool) → eqb x y ≡ b
-        → judged n (cond (eqb x lineFeed) ((x ∷ []) ∷ lines e) (inFront x (lines e))) (cond (eqb y lineFeed) ((y ∷ []) ∷ lines t) (inFront y (lines t)))
-        ≡ cond b (stepped (cond (eqb x lineFeed) (n + 1) n) e t) (Verdict.WrongLine n)
+        → judged n (lines (x ∷ e)) (lines (y ∷ t)) ≡ cond b (stepped (cond (eqb x lineFeed) (n + 1) n) e t) (Verdict.WrongLine n)
     go h true q = let s : x ≡ y = eqb-true x y q in rw (← s) (both h (eqb x lineFeed))
-    go h false q = apart q (eqb x lineFeed) (eqb y lineFeed) (lines e) (lines t)
+    go h false q = rw (first-line x e .lead, first-line y t .lead, q)
 
 -- ---- the longest common prefix
 

@@ -1,15 +1,14 @@
 -- Verdicts on listings of the scope's example, worked out by hand. Assumes nothing.
-use Prim.Native.Nat.{ℕ}
 use Prim.Native.String as text
 use mathlib.Core.Path.{_≡_}
 use mathlib.Core.List.{List, [], _∷_, map, flatten}
 use Rattle.listing.specs.Example.{exampleText}
-use Rattle.listing.specs.Words.{ascii}
+use Rattle.octets.specs.Text.{ascii}
 use Rattle.checker.specs.declared.Verdict.{Verdict}
 use Rattle.checker.specs.Verdict.{verdictOn}
 
 -- a listing, in parts of text, and its verdict
-pub record Case : Type 0 where
+pub record ListingCase : Type 0 where
   pub given : List text.String
   pub verdict : Verdict
 
@@ -18,8 +17,8 @@ abbrev middle : text.String
 middle = "1 1 in 1 0\n2 2 in 2 0\n3 4 in 3 1\n4 5 in 4 0\n5 3 late 5 2 30 200 2\n"
 
 -- the right listing, and wrong ones: a line that differs, is missing or is extra, at the first line, in the middle and at the last
-unfoldable pub table : List Case
-table =
+unfoldable pub listingCases : List ListingCase
+listingCases =
     record { given = "sent 5 arrivals 5\n" ∷ middle ∷ "end 5 1 0 1 16 0\n" ∷ []; verdict = Verdict.Agrees }
     ∷ record { given = "sent 5 arrivals 4\n" ∷ middle ∷ "end 5 1 0 1 16 0\n" ∷ []; verdict = Verdict.WrongLine 1 }
     ∷ record { given = middle ∷ "end 5 1 0 1 16 0\n" ∷ []; verdict = Verdict.WrongLine 1 }
@@ -39,5 +38,5 @@ table =
     ∷ []
 
 -- the verdicts on them by the definition
-abbrev pub CasesHold : Type 0
-CasesHold = map (λ (c : Case). verdictOn exampleText (flatten (map ascii (c .given)))) table ≡ map (λ (c : Case). c .verdict) table
+abbrev pub ListingCasesHold : Type 0
+ListingCasesHold = map (λ (c : ListingCase). verdictOn exampleText (flatten (map ascii (c .given)))) listingCases ≡ map (λ (c : ListingCase). c .verdict) listingCases

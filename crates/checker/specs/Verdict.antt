@@ -2,23 +2,12 @@
 use Prim.Native.Nat.{ℕ, zero, suc, _+_}
 use mathlib.Core.Bool.{cond}
 use mathlib.Core.List.{List, [], _∷_}
-use lib.Dec.{eqb}
-use Rattle.listing.specs.Words.{lineFeed}
+use Rattle.octets.specs.Text.{lines}
 use Rattle.sample.specs.Decode.{Decoded, decodedRefusal}
 use Rattle.metrics.specs.Report.{sampleText}
 use Rattle.metrics.specs.Agreement.{sameText}
 use Rattle.checker.specs.declared.Verdict.{Verdict}
-use Rattle.checker.specs.declared.Checked.{Checked}
-
--- lines with an octet more in front of the first of them
-abbrev pub inFront : ℕ → List (List ℕ) → List (List ℕ)
-inFront x [] = (x ∷ []) ∷ []
-inFront x (l ∷ ls) = (x ∷ l) ∷ ls
-
--- the lines of a text, each with the line feed that ends it; what stands after the last line feed is a line without one
-unfoldable pub lines : List ℕ → List (List ℕ)
-lines [] = []
-lines (x ∷ t) = cond (eqb x lineFeed) ((x ∷ []) ∷ lines t) (inFront x (lines t))
+use Rattle.checker.specs.declared.SampleVerdict.{SampleVerdict}
 
 -- the first wrong line of those given, against those that must be given, where the first has the number n: one that differs, is
 -- missing or is extra, at its place
@@ -38,5 +27,5 @@ verdictUnless zero v = v
 verdictUnless (suc r) v = Verdict.WrongLine 0
 
 -- the checker's answer: the sample's refusal, with which the listing is not looked at, and the verdict
-unfoldable pub checked : Decoded → List ℕ → Checked
+unfoldable pub checked : Decoded → List ℕ → SampleVerdict
 checked d listing = record { refusal = decodedRefusal d; verdict = verdictUnless (decodedRefusal d) (verdictOn (sampleText d) listing) }

@@ -5,11 +5,11 @@ ghost use Prim.Native.Nat.{_≤_};
 ghost use lib.Dec.{eqb};
 ghost use lib.ListN.{length};
 ghost use Rattle.listing.specs.Room.{listingOctets};
-ghost use Rattle.listing.specs.Words.{lineFeed};
+ghost use Rattle.octets.specs.Text.{lineFeed};
 ghost use Rattle.sample.specs.Decode.{decode};
 ghost use Rattle.checker.specs.Verdict.{checked};
 ghost use Rattle.checker.specs.Claims.{AgreesExactly, StartDecides};
-ghost use Rattle.checker.specs.Cases.{CasesHold};
+ghost use Rattle.checker.specs.Cases.{ListingCasesHold};
 ghost use Rattle.checker.specs.Private.Feeds.{feeds, wrongAfter};
 use rfc4737::refusal::NONE;
 
@@ -20,7 +20,7 @@ pub enum Verdict {
 }
 
 // The verdict, and the refusal of the sample (0 for none); with a refusal the listing is not looked at, and the line is 0.
-pub struct Checked {
+pub struct SampleVerdict {
     pub refusal: u32,
     pub verdict: Verdict,
 }
@@ -58,27 +58,28 @@ fn wrong_line(listing: &[u8], octets: usize) -> Verdict
 
 // Checks a listing against a sample: yes exactly if it is the one that the sample must give, else the number of its first wrong
 // line. It costs what comparing the two costs, and once more the octets that agree.
-pub fn check(file: &[u8], listing: &[u8]) -> Checked
+pub fn check(file: &[u8], listing: &[u8]) -> SampleVerdict
     ensures { λ r. ⌜ r ≡ checked (decode (now (file .entry))) (now (listing .entry)) ⌝ }
     ensures exactly { λ _. ⌜ AgreesExactly (decode (now (file .entry))) ⌝ }
     ensures start { λ _. ⌜ StartDecides (decode (now (file .entry))) ⌝ }
-    ensures cases { λ _. ⌜ CasesHold ⌝ }
+    ensures cases { λ _. ⌜ ListingCasesHold ⌝ }
 {
     let found = metrics::agreement(file, listing);
     if found.refusal != NONE {
-        return Checked {
+        return SampleVerdict {
             refusal: found.refusal,
             verdict: Verdict::WrongLine(0),
         };
     }
+    let octets = found.octets;
     if found.same {
-        return Checked {
+        return SampleVerdict {
             refusal: NONE,
             verdict: Verdict::Agrees,
         };
     }
-    Checked {
+    SampleVerdict {
         refusal: NONE,
-        verdict: wrong_line(listing, found.octets),
+        verdict: wrong_line(listing, octets),
     }
 }

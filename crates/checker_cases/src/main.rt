@@ -1,44 +1,89 @@
-// Runs cases of the checker on the scope's example, with a line for each. Standard input is the example's sample file, of 76
-// octets, and after it its listing as the scope has it, of 101.
+// Runs cases of the checker on the scope's example, with a line for each. Standard input begins with the example's listing as the scope has
+// it, of 101 octets, whose seven lines begin at the octets 0, 18, 29, 40, 51, 62 and 84. Each line after it has a case's name and the text of
+// its sample; then the place from which on octets of the listing are taken out, how many, and those that stand there instead. The sample
+// has no label; its K stands at octet 2, its A at 14, the time of the record before the last at 56, and the number of the last, which is at
+// 70, at 64.
 mod changes;
-mod edits;
-mod print;
-mod refusals;
 
+use cases::fields::field;
+use cases::fields::number_in_16;
+use cases::lists::fill_8;
+use cases::lists::first_8;
+use cases::print::write_number;
+use cases::print::write_word;
+use cases::text::count;
+use cases::text::part;
+use changes::OCTETS;
 use changes::every_change;
-use edits::first_lines;
-use edits::first_octets;
-use edits::last_lines;
-use edits::middle_lines;
-use edits::octets_from;
-use edits::whole_listings;
+use checker::Verdict;
+use checker::check;
 use libc::STDIN_FILENO;
-use refusals::refusals;
+use sample_text::ROOM;
+use sample_text::put_sample;
+use std::num::wrapping_add_usize;
 
-// The octets of the sample.
-const SAMPLE: usize = 76;
+// How many octets are read at most.
+const MOST: usize = 8192;
 
-// The octets of both.
-const BOTH: usize = 177;
+// The octets from a place on: none where there are no more.
+fn octets_from(s: &[u8], n: usize) -> &[u8] {
+    if s.len() < n {
+        return &s[0..0];
+    }
+    &s[n..]
+}
 
-// Runs all cases on a sample and its listing.
-fn run(sample: &[u8], listing: &[u8]) {
-    whole_listings(sample, listing);
-    first_lines(sample, listing);
-    middle_lines(sample, listing);
-    last_lines(sample, listing);
-    refusals(sample, listing);
-    every_change(sample, listing);
+// Writes what is found of a listing.
+fn write_checked(name: &[u8], sample: &[u8], listing: &[u8]) {
+    let found = check(sample, listing);
+    let verdict = found.verdict;
+    write_word(name);
+    write_number(b": refusal ", found.refusal as u64);
+    match verdict {
+        Verdict::Agrees => write_word(b", agrees"),
+        Verdict::WrongLine(n) => write_number(b", line ", n as u64),
+    }
+    write_word(b"\n");
+}
+
+// Puts the listing with the edit of a line. The answer is how many octets it has.
+fn put_edited(listing: &[u8], line: &[u8], out: &mut [u8]) -> usize {
+    let mut given = [0u8; OCTETS];
+    let n = fill_8(field(line, 4), &mut given);
+    let at = number_in_16(line, 2) as usize;
+    let rest = octets_from(listing, at + number_in_16(line, 3) as usize);
+    let next = wrapping_add_usize(at, n);
+    octets::put_octets(out, 0, first_8(listing, at));
+    octets::put_octets(out, at, first_8(&given, n));
+    octets::put_octets(out, next, rest);
+    wrapping_add_usize(next, rest.len())
+}
+
+// Runs the case of a line.
+fn run(listing: &[u8], line: &[u8]) {
+    let mut file = [0u8; ROOM];
+    let mut text = [0u8; 256];
+    let n = put_sample(field(line, 1), &mut file);
+    let m = put_edited(listing, line, &mut text);
+    write_checked(field(line, 0), first_8(&file, n), first_8(&text, m));
+}
+
+// Runs the cases of all lines, and makes every change of an octet for the sample of the first.
+fn run_all(listing: &[u8], lines: &[u8]) {
+    for i in 0..count(lines, b'\n') {
+        run(listing, part(lines, b'\n', i));
+    }
+    every_change(field(part(lines, b'\n', 0), 1), listing);
 }
 
 // Runs all cases on what was read.
-fn run_both(both: &[u8]) {
-    run(first_octets(both, SAMPLE), octets_from(both, SAMPLE));
+fn run_both(text: &[u8]) {
+    run_all(first_8(text, OCTETS), octets_from(text, OCTETS));
 }
 
-// Reads both, and runs the cases.
+// Runs all cases.
 fn main() {
-    let mut both = [0u8; BOTH];
-    let n = io::read_full(STDIN_FILENO, &mut both);
-    run_both(&both[..n]);
+    let mut text = [0u8; MOST];
+    let n = io::read_full(STDIN_FILENO, &mut text);
+    run_both(first_8(&text, n));
 }

@@ -1,4 +1,5 @@
--- Digits written into memory from the last to the first. Assumes nothing.
+-- Digits written into memory from the last to the first: the last digit of n stored, and then the last k digits of its tens written in front of it, are
+-- the last k + 1 of n (`lowest`). So two digits a turn leave the last i - 2 of n / 100 to be written. Assumes nothing.
 use mathlib.Core.Path.{_≡_, refl, sym, ap, _∙_}
 use mathlib.Core.List.{List, [], _∷_, _++_}
 use Prim.Native.Nat.{ℕ, zero, suc, _+_, _-_, _/_, _%_, _≤_, _<_}

@@ -5,8 +5,7 @@ use Prim.Native.Nat.{ℕ, zero, suc, _+_, _-_, _*_, _/_, _%_, _^_, _≤_, _<_}
 use native.Mathlib.Nat.{add-zero, div-one, div-div-eq-div-mul, pow-succ', one-le-pow}
 use native.Mathlib.Decide.{decLe}
 use native.Mathlib.Omega.{arith}
-use lib.ListN.{length, getD, length-append, List·getD-append}
-use lib.Seq.{getD-at}
+use lib.ListN.{length, length-append}
 use Rattle.decimal.specs.Decimal.{significant, decimalOf, decimalValue}
 
 -- one order or the other
@@ -95,38 +94,9 @@ never-empty =
     by-tens (λ (n : ℕ). 0 < length (decimalOf n)) (λ n h. omega (arith, ap length (one-digit n h)))
     (λ n h some. omega (arith, one-more n h))
 
--- the first digit of a number other than 0 is not `0`
-pub no-leading-zero : (n : ℕ) → 0 < n → getD (decimalOf n) 0 0 ≡ 48 → ⊥
-no-leading-zero = by-tens (λ (n : ℕ). 0 < n → getD (decimalOf n) 0 0 ≡ 48 → ⊥) one more
-  where
-    one : (n : ℕ) → n < 10 → 0 < n → getD (decimalOf n) 0 0 ≡ 48 → ⊥
-    one n h p e = let f : 48 + n ≡ 48 = rw (one-digit n h) at e in omega arith
-
-    more : (n : ℕ) → 10 ≤ n → (0 < n / 10 → getD (decimalOf (n / 10)) 0 0 ≡ 48 → ⊥) → 0 < n → getD (decimalOf n) 0 0 ≡ 48 → ⊥
-    more n h not-so p e =
-        not-so (omega arith) (rw (more-digits n h, List·getD-append (decimalOf (n / 10)) _ 0 0 (never-empty (n / 10))) at e)
-
 -- an ASCII digit
 abbrev pub Digit : ℕ → Type 0
 Digit o = (48 ≤ o) × (o ≤ 57)
-
--- every octet is a digit
-pub all-digits : (n i : ℕ) → i < length (decimalOf n) → Digit (getD (decimalOf n) i 0)
-all-digits = by-tens (λ (n : ℕ). (i : ℕ) → i < length (decimalOf n) → Digit (getD (decimalOf n) i 0)) one more
-  where
-    one : (n : ℕ) → n < 10 → (i : ℕ) → i < length (decimalOf n) → Digit (getD (decimalOf n) i 0)
-    one n h i b =
-        let z : i ≡ 0 = omega (arith, ap length (one-digit n h)) in
-        rw (z, one-digit n h) (omega arith)
-
-    at-end : (n : ℕ) → 10 ≤ n → (i : ℕ) → length (decimalOf (n / 10)) ≡ i → Digit (getD (decimalOf n) i 0)
-    at-end n h i e = rw (more-digits n h, getD-at (decimalOf (n / 10)) _ [] 0 i e) (omega arith)
-
-    more : (n : ℕ) → 10 ≤ n → ((i : ℕ) → i < length (decimalOf (n / 10)) → Digit (getD (decimalOf (n / 10)) i 0))
-        → (i : ℕ) → i < length (decimalOf n) → Digit (getD (decimalOf n) i 0)
-    more n h so i b =
-        split (length (decimalOf (n / 10))) i (λ k. at-end n h i (omega (arith, one-more n h)))
-        (λ k. rw (more-digits n h, List·getD-append (decimalOf (n / 10)) _ 0 i k) (so i k))
 
 -- a number below 10 ^ k has at most k digits, where k is not 0
 pub at-most : (k n : ℕ) → 0 < k → n < 10 ^ k → length (decimalOf n) ≤ k

@@ -1,4 +1,6 @@
--- The total of disorder of a file. Assumes nothing.
+-- The total of disorder of a file: the tree counts the first arrivals by number, so that what it gives up to a number and what lies
+-- above make up all (`lower-sum`); one more keeps this (`paired-more`). fs are the first arrivals, p the pairs so far; and with sizes
+-- of 1 the total is the sum of byte offsets. Assumes nothing.
 use mathlib.Core.Path.{_≡_, refl, sym, ap, _∙_}
 use mathlib.Core.Bool.{Bool, true, false, cond}
 use mathlib.Core.List.{List, [], _∷_, _++_}
@@ -9,6 +11,7 @@ use lib.Seq.{take-all}
 use borrow.Author.Tests.{lt-ltb}
 use Rattle.rfc4737.specs.declared.Arrival.{Arrival}
 use Rattle.rfc4737.specs.Arrivals.{firsts, withArrival, count}
+use Rattle.rfc4737.specs.Judge.{sentMost, arrivalsMost}
 use Rattle.rfc4737.specs.Order.{nextExp}
 use Rattle.rfc4737.specs.Extent.{sizeIn, byteOffset}
 use Rattle.disorder.specs.Disorder.{pairs, wrongPairs}
@@ -21,9 +24,10 @@ use Rattle.sums.proofs.Summed.{summed-none, summed-more, sum-summed}
 use Rattle.sample.specs.declared.Layout.{Layout}
 use Rattle.sample.specs.Decode.{Decoded, sampleOf}
 use Rattle.metrics.specs.Sample.{sizeOf, sampleArrivals}
-use Rattle.metrics.specs.Private.Sample.{noArrival, arrivalAt, before, Laid, Has}
+use Rattle.sample.specs.Places.{noArrival}
+use Rattle.metrics.specs.Private.Sample.{arrivalAt, before, FileLayout, HasRecord}
 use Rattle.disorder.specs.Sample.{disorderOf, SumsOffsets}
-use Rattle.disorder.specs.Private.Pairs.{Paired}
+use Rattle.disorder.specs.Private.Pairs.{PairTree}
 use Rattle.disorder.specs.declared.pairs.Pairs.{Pairs}
 use Rattle.metrics.proofs.CountsBySeen.{Seen, seen-start, seen-next}
 use Rattle.metrics.proofs.Follow.{arrivals-laid, before-more}
@@ -33,7 +37,7 @@ all-at : (P : Arrival → Type 0) (l : List Arrival) → ((i : ℕ) → i < leng
 all-at P l h = rw (take-all (length l) l (omega arith)) at (all-take P noArrival l (length l) h)
 
 -- every arrival's packet has one of the sizes
-sizes-one : (d : Decoded) (y : Layout) → Laid d y → sampleOf d .sizes ≡ replicate (length (sampleOf d .sizes)) 1 → All (SizeOne (sizeOf d)) (sampleArrivals d)
+sizes-one : (d : Decoded) (y : Layout) → FileLayout d y → sampleOf d .sizes ≡ replicate (length (sampleOf d .sizes)) 1 → All (SizeOne (sizeOf d)) (sampleArrivals d)
 unfolding sizeIn
 sizes-one d y h e = all-at (SizeOne (sizeOf d)) (sampleArrivals d) (λ i g. one i (h .numbers i (omega (arith, arrivals-laid d y h))))
   where
@@ -43,31 +47,31 @@ sizes-one d y h e = all-at (SizeOne (sizeOf d)) (sampleArrivals d) (λ i g. one 
         ∙ getD-replicate (length (sampleOf d .sizes)) (arrivalAt d i .number - 1) 1 0 (omega (arith, n, ap (λ (y : Layout). y .sent) (h .laid)))
 
 -- if all its sizes are 1, the total is the sum of the byte offsets
-pub sums-offsets : (d : Decoded) (y : Layout) → Laid d y → SumsOffsets d
+pub sums-offsets : (d : Decoded) (y : Layout) → FileLayout d y → SumsOffsets d
 unfolding disorderOf
 sums-offsets d y h ones = sum-wrong (sizeOf d) (sampleArrivals d) (sizes-one d y h ones)
 
 -- ---- the pairs, one first arrival after the other
 
 -- of none
-pub paired-start : (d : Decoded) → Paired (firsts (before d 0)) (replicate 4097 0) (record { count = 0; wrong = 0 })
+pub paired-start : (d : Decoded) → PairTree (firsts (before d 0)) (replicate (sentMost + 1) 0) (record { count = 0; wrong = 0 })
 unfolding firsts wrongPairs pairs count byteOffset
-paired-start d = record { places = refl; summed = summed-none _ 4097 (λ i. refl); count = refl; whole = refl; wrong = refl; small = omega arith }
+paired-start d = record { places = refl; summed = summed-none _ (sentMost + 1) (λ i. refl); count = refl; whole = refl; wrong = refl; small = omega arith }
 
 -- the sums are small
 ones-few : (fs : List Arrival) (s : ℕ) → byteOffset (λ _. 1) fs s ≤ length fs
 ones-few fs s = omega (arith, offset-le (λ _. 1) 1 (λ _. omega arith) fs s)
 
 -- the tree gives how many have a number up to one, and with those above it all
-pub lower-sum : (fs : List Arrival) (tree : List ℕ) (p : Pairs) → Paired fs tree p → p .count < 4096 → (number : ℕ) → number ≤ 4096
+pub lower-sum : (fs : List Arrival) (tree : List ℕ) (p : Pairs) → PairTree fs tree p → p .count < arrivalsMost → (number : ℕ) → number ≤ sentMost
     → sumTo tree number + byteOffset (λ _. 1) fs number ≡ p .count
 lower-sum fs tree p k few number high =
     sum-summed _ tree (k .summed) number (omega (arith, k .places)) (omega (arith, k .whole)) ∙ sym (k .whole)
 
 -- of one more
-pub paired-more : (fs : List Arrival) (a : Arrival) (tree tree′ : List ℕ) (p : Pairs) → 1 ≤ a .number → a .number ≤ 4096 → p .count < 4096 → Paired fs tree p
+pub paired-more : (fs : List Arrival) (a : Arrival) (tree tree′ : List ℕ) (p : Pairs) → 1 ≤ a .number → a .number ≤ sentMost → p .count < arrivalsMost → PairTree fs tree p
     → Added (a .number) 1 tree tree′
-    → Paired (fs ++ (a ∷ [])) tree′ (record { count = p .count + 1; wrong = p .wrong + (p .count - sumTo tree (a .number)) })
+    → PairTree (fs ++ (a ∷ [])) tree′ (record { count = p .count + 1; wrong = p .wrong + (p .count - sumTo tree (a .number)) })
 paired-more fs a tree tree′ p low high few h added =
     let more = length-append fs (a ∷ []) in
     record {
@@ -82,23 +86,23 @@ paired-more fs a tree tree′ p low high few h added =
     }
 
 -- the table of the packets that have arrived before record i + 1
-abbrev pub Arrived : Decoded → ℕ → List Bool → Type 0
-Arrived d i seen = Seen (before d i) seen (nextExp (firsts (before d i)))
+abbrev pub SeenTable : Decoded → ℕ → List Bool → Type 0
+SeenTable d i seen = Seen (before d i) seen (nextExp (firsts (before d i)))
 
 -- of none
-pub arrived-start : (d : Decoded) → Arrived d 0 (replicate 4097 false)
+pub arrived-start : (d : Decoded) → SeenTable d 0 (replicate (sentMost + 1) false)
 arrived-start d = let s = seen-start d in record { places = s .places; at = s .at; expected = refl }
 
 -- under one arrival more
-pub arrived-next : (d : Decoded) (y : Layout) (i : ℕ) → Has d y i → (seen : List Bool) → Arrived d i seen → (n : ℕ)
-    → n ≡ arrivalAt d i .number → n ≤ 4096 → Arrived d (i + 1) (set seen n true)
+pub arrived-next : (d : Decoded) (y : Layout) (i : ℕ) → HasRecord d y i → (seen : List Bool) → SeenTable d i seen → (n : ℕ)
+    → n ≡ arrivalAt d i .number → n ≤ sentMost → SeenTable d (i + 1) (set seen n true)
 arrived-next d y i h seen f n is high =
     let s = seen-next d y i h seen _ f n is high in
     record { places = s .places; at = s .at; expected = refl }
 
 -- the first arrivals under one arrival more, by the table of those that have arrived
-pub firsts-seen : (d : Decoded) (y : Layout) (i : ℕ) → Has d y i → (seen : List Bool) → Arrived d i seen → (n : ℕ)
-    → n ≡ arrivalAt d i .number → n ≤ 4096
+pub firsts-seen : (d : Decoded) (y : Layout) (i : ℕ) → HasRecord d y i → (seen : List Bool) → SeenTable d i seen → (n : ℕ)
+    → n ≡ arrivalAt d i .number → n ≤ sentMost
     → firsts (before d (i + 1)) ≡ cond (getD seen n false) (firsts (before d i)) (firsts (before d i) ++ (arrivalAt d i ∷ []))
 unfolding withArrival
 firsts-seen d y i h seen f n is high =
@@ -106,7 +110,7 @@ firsts-seen d y i h seen f n is high =
     ∙ rw (f .at n high, ← has-firsts n (before d i), is)
 
 -- all pairs
-pub disorder-end : (d : Decoded) (y : Layout) (i : ℕ) → Laid d y → y .arrivals ≤ i → (tree : List ℕ) (p : Pairs) → Paired (firsts (before d i)) tree p
+pub disorder-end : (d : Decoded) (y : Layout) (i : ℕ) → FileLayout d y → y .arrivals ≤ i → (tree : List ℕ) (p : Pairs) → PairTree (firsts (before d i)) tree p
     → p .wrong ≡ disorderOf d
 unfolding disorderOf
 disorder-end d y i h end tree p k =

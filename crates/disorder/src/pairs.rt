@@ -4,14 +4,16 @@ ghost use mathlib.Core.Bool.{cond};
 ghost use mathlib.Core.List.{List, [], _∷_, _++_};
 ghost use Prim.Native.Nat.{_≤_};
 ghost use Rattle.rfc4737.specs.declared.Arrival.{Arrival};
+ghost use Rattle.rfc4737.specs.Judge.{sentMost};
 ghost use Rattle.sample.specs.Decode.{decode};
-ghost use Rattle.metrics.specs.Private.Sample.{Laid};
+ghost use Rattle.metrics.specs.Private.Sample.{FileLayout};
 ghost use Rattle.disorder.specs.Sample.{disorderOf};
-ghost use Rattle.disorder.specs.Private.Pairs.{Paired, Pairing};
+ghost use Rattle.disorder.specs.Private.Pairs.{PairTree, FewPairs};
+use rfc4737::judge::SENT_MOST;
 use sample::Layout;
 
 // The places: the packet numbers, and 0, which is not used.
-const PLACES: usize = 4097;
+const PLACES: usize = SENT_MOST as usize + 1;
 
 // How many first arrivals there are, and how many pairs of them came in the wrong order.
 pub(crate) struct Pairs {
@@ -28,9 +30,9 @@ fn no_pairs() -> Pairs
 
 // Of one arrival more, whose packet has arrived or not: it is in a wrong pair with each greater number.
 fn paired(counts: &mut [u32], arrived: bool, number: u32, p: Pairs) -> Pairs
-    requires { ⌜ (1 ≤ number) × (number ≤ 4096) × Pairing (now counts) p ⌝ }
-    ensures { λ r. ⌜ ((fs : List Arrival) (a : Arrival) → a .number ≡ number → Paired fs (now (counts .entry)) p
-        → Paired (cond arrived fs (fs ++ (a ∷ []))) (now (counts .exit)) r) ⌝ }
+    requires { ⌜ (1 ≤ number) × (number ≤ sentMost) × FewPairs (now counts) p ⌝ }
+    ensures { λ r. ⌜ ((fs : List Arrival) (a : Arrival) → a .number ≡ number → PairTree fs (now (counts .entry)) p
+        → PairTree (cond arrived fs (fs ++ (a ∷ []))) (now (counts .exit)) r) ⌝ }
 {
     if arrived {
         return p;
@@ -45,7 +47,7 @@ fn paired(counts: &mut [u32], arrived: bool, number: u32, p: Pairs) -> Pairs
 
 // The total of disorder of a sample.
 pub(crate) fn disorder_of(file: &[u8], y: Layout) -> u32
-    requires { ⌜ Laid (decode (now file)) y ⌝ }
+    requires { ⌜ FileLayout (decode (now file)) y ⌝ }
     ensures { λ r. ⌜ r ≡ disorderOf (decode (now (file .entry))) ⌝ }
 {
     let mut counts = [0u32; PLACES];

@@ -6,7 +6,7 @@ mod log;
 use libc::STDIN_FILENO;
 use libc::STDOUT_FILENO;
 use log::put_log;
-use sample::Written;
+use sample::WriteAnswer;
 
 // One octet more than the longest sample has.
 const INPUT_OCTETS: usize = sample::LONGEST + 1;
@@ -33,7 +33,7 @@ fn write_first(out: &[u8], n: usize) {
 }
 
 // Writes a sample's arrivals from the start of `out`.
-fn put_arrivals(kind: Kind, file: &[u8], out: &mut [u8]) -> Written {
+fn put_arrivals(kind: Kind, file: &[u8], out: &mut [u8]) -> WriteAnswer {
     match kind {
         Kind::Log => put_log(file, out),
         Kind::Records => owamp::write(file, out),

@@ -1,7 +1,8 @@
--- What it says that nothing is refused. Assumes nothing.
+-- What it says of K and the lists that nothing is refused: from `orderRefusal ≡ 0` each test of the judge in turn, last the rooms; and
+-- lent memory that stays with a refusal. Assumes nothing.
 use Prim.Native.Nat.{ℕ, zero, suc, _≤_, _<_}
 use native.Mathlib.Omega.{arith}
-use mathlib.Core.Bool.{Bool, true, false, not, _&&_, _||_}
+use mathlib.Core.Bool.{Bool, true, not, _&&_, _||_}
 use mathlib.Core.Path.{_≡_, refl, sym, subst}
 use mathlib.Core.List.{List, [], _∷_}
 use borrow.Author.Tests.{eqb-true, not-false, ltb-false}
@@ -9,20 +10,16 @@ use lib.Dec.{ltb, eqb}
 use lib.ListN.{length}
 use Rattle.octets.specs.Memory.{over}
 use Rattle.rfc4737.specs.Refusals.{outside, inCase, sentOutside, manyArrivals, listsDiffer, outputShort}
-use Rattle.rfc4737.specs.Judge.{judgeSent, judgeArrivals}
-use Rattle.sample.specs.Calls.{unlessRefused}
+use Rattle.rfc4737.specs.Judge.{judgeSent, judgeArrivals, sentMost, arrivalsMost}
+use Rattle.sample.specs.Output.{unlessRefused}
 use Rattle.rfc4737.proofs.Due.{first-none, case-none, between, or-false}
 use Rattle.fragments.specs.Pieces.{piecesOf}
 use Rattle.fragments.specs.Judge.{judgePieces}
 use Rattle.fragments.specs.Calls.{sameLengths, orderRefusal}
 use Rattle.fragments.specs.Private.Engine.{Lists, In, NumbersWithin}
-use Rattle.fragments.proofs.Laws.{pieces-length}
+use Rattle.fragments.proofs.Laws.{both, pieces-length}
 use Rattle.fragments.proofs.Judged.{numbered}
 use Rattle.fragments.proofs.Spans.{pieces-number}
-
-both : (a b : Bool) → (a && b) ≡ true → (a ≡ true) × (b ≡ true)
-both true b e = (refl, e)
-both false b e = absurd (let z : _≡_ {A = ℕ} 0 1 = cc in omega arith)
 
 pub same-lists : (ns ts ls ms os : List ℕ) → sameLengths (length ns) (length ts) (length ls) (length ms) (length os) ≡ true → Lists ns ts ls ms os
 unfolding sameLengths
@@ -38,7 +35,7 @@ same-lists ns ts ls ms os e =
     }
 
 pub record Accepted (k : ℕ) (ns ts ls ms os : List ℕ) (f u : ℕ) : Type 0 where
-  pub sent : k ≤ 4096
+  pub sent : k ≤ sentMost
   pub lists : Lists ns ts ls ms os
   pub inside : In ns
   pub numbers : NumbersWithin k (piecesOf ns ts ls ms os)
@@ -59,8 +56,8 @@ accepted k ns ts ls ms os f u e =
     let c = p2 (b .1) in
     let d = p3 (c .1) in
     let g = p4 (d .1) in
-    let sent = between 1 4096 k (case-none (outside 1 4096 k) sentOutside (omega arith) (a .0)) in
-    let many = between 0 4096 (length ns) (case-none (outside 0 4096 (length ns)) manyArrivals (omega arith) (b .0)) in
+    let sent = between 1 sentMost k (case-none (outside 1 sentMost k) sentOutside (omega arith) (a .0)) in
+    let many = between 0 arrivalsMost (length ns) (case-none (outside 0 arrivalsMost (length ns)) manyArrivals (omega arith) (b .0)) in
     let n = numbered k (piecesOf ns ts ls ms os) (d .0) in
     let rooms = or-false (ltb f (length ns)) (ltb u (length ns)) (case-none short outputShort (omega arith) (g .0)) in
     let len = pieces-length ns ts ls ms os in

@@ -1,9 +1,9 @@
--- The turn that fills the two lists. Assumes nothing.
-use Prim.Native.Nat.{ℕ, zero, suc, _+_, _<_}
-use native.Mathlib.Omega.{arith}
+-- One turn of the loop that fills the two lists, on plain values: l are the arrivals, a the one at i, copy and e what was found of it
+-- and expected before it; what is put at i is what the lists have there. Assumes nothing.
+use Prim.Native.Nat.{ℕ, _+_, _<_}
 use mathlib.Core.Bool.{Bool, true, false, cond, not, _&&_}
 use mathlib.Core.Path.{_≡_, refl, sym, ap, _∙_}
-use mathlib.Core.List.{List, [], _∷_, _++_, append-assoc, append-nil, flatten}
+use mathlib.Core.List.{List, [], _∷_, _++_, flatten}
 use lib.ListN.{length, getD, take}
 use Rattle.rfc4737.specs.Arrivals.{each, eachAfter}
 use Rattle.rfc4737.proofs.Arrivals.{take-more, length-each}

@@ -6,7 +6,6 @@ use mathlib.Core.Path.{_≡_, refl, sym, ap, _∙_}
 use mathlib.Core.List.{List, [], _∷_, _++_, map, append-nil, append-assoc, map-append}
 use lib.ListN.{length, getD, drop, take, drop-of-length-le}
 use lib.Seq.{drop-cons}
-use Rattle.rfc4737.specs.declared.Arrival.{Arrival}
 use Rattle.rfc4737.specs.Arrivals.{each, eachAfter}
 use Rattle.rfc4737.specs.Refusals.{outside, inCase, firstOf, numberOutside, timeBack, fragmentUnfit}
 use Rattle.rfc4737.specs.Times.{tooEarly, nextReference, greatestTime}

@@ -1,7 +1,7 @@
 -- Laws of `some`, and a packet's completeness by its first uncovered octet. Assumes nothing.
 use Prim.Native.Nat.{ℕ, zero, suc, _+_, _≤_, _<_}
 use native.Mathlib.Omega.{arith}
-use mathlib.Core.Bool.{Bool, true, false, not, _&&_, _||_, or-assoc, or-false, or-true}
+use mathlib.Core.Bool.{Bool, true, false, _&&_, _||_, or-assoc, or-false, or-true}
 use mathlib.Core.Path.{_≡_, refl, sym, ap, _∙_}
 use mathlib.Core.List.{List, [], _∷_, _++_}
 use borrow.Author.Tests.{le-leb, leb-true, leb-false, ne-eqb}
@@ -12,6 +12,11 @@ use Rattle.fragments.specs.declared.Piece.{Piece}
 use Rattle.fragments.specs.Pieces.{piecesOf, some, isLast, pieceEnd, copies}
 use Rattle.fragments.specs.Private.Engine.{noPiece, endsBy, Reach}
 use Rattle.fragments.specs.Usable.{hasOctet, everyBelow, covered, complete}
+
+-- both of two tests
+pub both : (a b : Bool) → (a && b) ≡ true → (a ≡ true) × (b ≡ true)
+both true b e = (refl, e)
+both false b e = absurd (let z : _≡_ {A = ℕ} 0 1 = cc in omega arith)
 
 module _ {ℓ} {A : Type ℓ} (p : A → Bool) where
   -- an element that passes

@@ -1,19 +1,19 @@
--- A packet's arrivals stand in a part of the list: a search there is a search of the whole, and a packet's reach grows there.
--- Assumes nothing.
+-- A packet's arrivals stand in a part of the list: a search there is a search of the whole, and a packet's reach grows there. Assumes nothing.
 use Prim.Native.Nat.{ℕ, zero, suc, _+_, _-_, _≤_, _<_}
 use native.Mathlib.Omega.{arith}
-use mathlib.Core.Bool.{Bool, true, false, cond, not, _&&_}
+use mathlib.Core.Bool.{Bool, true, false, cond, _&&_}
 use mathlib.Core.Path.{_≡_, refl, sym, ap, _∙_, subst}
 use mathlib.Core.List.{List}
 use borrow.Author.Tests.{lt-ltb, ltb-true, ltb-false, le-leb, leb-true, eqb-true, eqb-false, eq-eqb}
 use lib.Dec.{leb, ltb, eqb}
 use lib.ListN.{length, getD, take, set, length-set, replicate}
 use lib.Seq.{getD-set-same, getD-set-other, getD-take, length-take-le}
+use Rattle.rfc4737.specs.Judge.{sentMost}
 use Rattle.fragments.specs.declared.Piece.{Piece}
 use Rattle.fragments.specs.Pieces.{piecesOf, some, pieceStart, pieceEnd}
 use Rattle.fragments.specs.Usable.{hasOctet, complete}
-use Rattle.fragments.specs.Private.Engine.{noPiece, Within, Covered, Grown, In, Zero, Lasts, Firsts, Completed, NumbersWithin, SpansFilled}
-use Rattle.fragments.proofs.Laws.{some-at, some-none, octet-of, pieces-length, pieces-getD}
+use Rattle.fragments.specs.Private.Engine.{noPiece, Within, Cover, Growth, In, Zero, Lasts, Firsts, Completeness, NumbersWithin, CompletenessAt}
+use Rattle.fragments.proofs.Laws.{both, some-at, some-none, octet-of, pieces-length, pieces-getD}
 
 -- none of the first j passes a test
 pub record None (p : Piece → Bool) (l : List Piece) (j : ℕ) : Type 0 where
@@ -39,10 +39,6 @@ module _ (p : Piece → Bool) (l : List Piece) where
         go m false q g = only (getD l m noPiece) (λ e. absurd (omega (arith, w .high m g e, ltb-false m j q)))
 
 -- what it means that an arrival has an octet
-both : (a b : Bool) → (a && b) ≡ true → (a ≡ true) × (b ≡ true)
-both true b e = (refl, e)
-both false b e = absurd (let z : _≡_ {A = ℕ} 0 1 = cc in omega arith)
-
 octet-facts : (s o : ℕ) (a : Piece) → hasOctet s o a ≡ true → (a .number ≡ s) × ((pieceStart a ≤ o) × (o < pieceEnd a))
 unfolding hasOctet
 octet-facts s o a e =
@@ -55,20 +51,20 @@ unfolding hasOctet
 octet-has s o a e h g = rw (eq-eqb (a .number) s e, le-leb (pieceStart a) o h, lt-ltb o (pieceEnd a) g)
 
 -- a pass from reach to r, over the first j
-pub record Going (l : List Piece) (s reach r j : ℕ) : Type 0 where
+pub record PartPass (l : List Piece) (s reach r j : ℕ) : Type 0 where
   pub least : reach ≤ r
-  pub covered : Covered l s r
+  pub covered : Cover l s r
   pub stays : r ≡ reach → None (hasOctet s reach) l j
 
 module _ (l : List Piece) (s reach : ℕ) where
-  pub going-start : (from to : ℕ) → Within l s from to → Covered l s reach → Going l s reach reach from
+  pub going-start : (from to : ℕ) → Within l s from to → Cover l s reach → PartPass l s reach reach from
   going-start from to w h =
       record { least = omega arith; covered = h; stays = λ _. none-start (hasOctet s reach) l s from to (λ a n. octet-of s reach a n) w }
 
-  pub going-next : (r j r′ : ℕ) (a : Piece) → Going l s reach r j → j < length l → a ≡ getD l j noPiece
+  pub going-next : (r j r′ : ℕ) (a : Piece) → PartPass l s reach r j → j < length l → a ≡ getD l j noPiece
       → r′ ≡ cond (hasOctet s r a) (pieceEnd a) r
       → r′ < 4294967296
-      → Going l s reach r′ (j + 1)
+      → PartPass l s reach r′ (j + 1)
   going-next r j r′ a g h here e f = go (hasOctet s r a) refl e
     where
       held : (o : ℕ) (t : Bool) → hasOctet s o a ≡ t → hasOctet s o (getD l j noPiece) ≡ t
@@ -81,7 +77,7 @@ module _ (l : List Piece) (s reach : ℕ) where
           let k = octet-facts s r a k in
           some-at (hasOctet s o) l j noPiece h (held o true (octet-has s o a (k .0) (omega arith) (omega arith)))
 
-      go : (t : Bool) → hasOctet s r a ≡ t → r′ ≡ cond t (pieceEnd a) r → Going l s reach r′ (j + 1)
+      go : (t : Bool) → hasOctet s r a ≡ t → r′ ≡ cond t (pieceEnd a) r → PartPass l s reach r′ (j + 1)
       go true q e =
           let k = octet-facts s r a q in
           let low : reach ≤ r = g .least in
@@ -99,7 +95,7 @@ module _ (l : List Piece) (s reach : ℕ) where
             stays = λ (p : r ≡ reach). none-more (hasOctet s reach) l j (g .stays p) (held reach false (subst (λ (o : ℕ). hasOctet s o a ≡ false) p q));
           })
 
-  pub going-done : (from to r j : ℕ) → Within l s from to → to ≤ j → Going l s reach r j → Grown l s reach r
+  pub going-done : (from to r j : ℕ) → Within l s from to → to ≤ j → PartPass l s reach r j → Growth l s reach r
   going-done from to r j w h g =
       record { least = g .least; covered = g .covered; stays = λ (p : r ≡ reach). none-done (hasOctet s reach) l s from to (λ a n. octet-of s reach a n) w j h (g .stays p) }
 
@@ -113,22 +109,26 @@ stored d p q v h P f g = go (eqb q p) refl
     go true e = let k : q ≡ p = eqb-true q p e in rw (k, getD-set-same d p v 0 h) (f k)
     go false e = rw (getD-set-other d p q v 0 (eqb-false q p e)) (g (eqb-false q p e))
 
+-- the number at a place of the list
+pub number-within : (numbers : List ℕ) → In numbers → (i : ℕ) → i < length numbers → (1 ≤ getD numbers i 0) × (getD numbers i 0 ≤ sentMost)
+number-within numbers n i h = (n .low i h, n .high i h)
+
 -- of two places of one list that hold different values, one is not the other
 pub apart : (numbers : List ℕ) (i j : ℕ) → (getD numbers j 0 - 1 ≡ getD numbers i 0 - 1 → ⊥) → j ≡ i → ⊥
 apart numbers i j n e = n (ap (λ (k : ℕ). getD numbers k 0 - 1) e)
 
 pub record LastsTo (numbers d : List ℕ) (i : ℕ) : Type 0 where
-  pub long : length d ≡ 4096
+  pub long : length d ≡ sentMost
   pub most : (p : ℕ) → getD d p 0 ≤ length numbers
   pub high : (j : ℕ) → j < i → j < length numbers → j < getD d (getD numbers j 0 - 1) 0
 
-pub lasts-start : (numbers d : List ℕ) → length d ≡ 4096 → Zero d → LastsTo numbers d 0
+pub lasts-start : (numbers d : List ℕ) → length d ≡ sentMost → Zero d → LastsTo numbers d 0
 lasts-start numbers d e z =
     record { long = e; most = λ (p : ℕ). omega (arith, z p); high = λ (j : ℕ) (h : j < 0) (k : j < length numbers). absurd (omega arith) }
 
 pub lasts-next : (numbers d : List ℕ) (i : ℕ) → In numbers → i < length numbers → LastsTo numbers d i → LastsTo numbers (set d (getD numbers i 0 - 1) (i + 1)) (i + 1)
 lasts-next numbers d i n h g =
-    let b : getD numbers i 0 - 1 < length d = omega (arith, n .low i h, n .high i h, g .long) in
+    let b : getD numbers i 0 - 1 < length d = omega (arith, number-within numbers n i h, g .long) in
     record {
       long = length-set d (getD numbers i 0 - 1) (i + 1) ∙ g .long;
       most = λ (p : ℕ). stored d (getD numbers i 0 - 1) p (i + 1) b (λ (v : ℕ). v ≤ length numbers) (λ _. omega arith) (λ _. g .most p);
@@ -141,15 +141,15 @@ pub lasts-done : (numbers d : List ℕ) (i : ℕ) → length numbers ≤ i → L
 lasts-done numbers d i h g = record { most = g .most; high = λ (j : ℕ) (k : j < length numbers). g .high j (omega arith) k }
 
 pub record FirstsFrom (numbers d : List ℕ) (i : ℕ) : Type 0 where
-  pub long : length d ≡ 4096
+  pub long : length d ≡ sentMost
   pub low : (j : ℕ) → i ≤ j → j < length numbers → getD d (getD numbers j 0 - 1) 0 ≤ j
 
-pub firsts-start : (numbers d : List ℕ) → length d ≡ 4096 → FirstsFrom numbers d (length numbers)
+pub firsts-start : (numbers d : List ℕ) → length d ≡ sentMost → FirstsFrom numbers d (length numbers)
 firsts-start numbers d e = record { long = e; low = λ (j : ℕ) (h : length numbers ≤ j) (k : j < length numbers). absurd (omega arith) }
 
 pub firsts-next : (numbers d : List ℕ) (i : ℕ) → In numbers → i < length numbers → FirstsFrom numbers d (i + 1) → FirstsFrom numbers (set d (getD numbers i 0 - 1) i) i
 firsts-next numbers d i n h g =
-    let b : getD numbers i 0 - 1 < length d = omega (arith, n .low i h, n .high i h, g .long) in
+    let b : getD numbers i 0 - 1 < length d = omega (arith, number-within numbers n i h, g .long) in
     record {
       long = length-set d (getD numbers i 0 - 1) i ∙ g .long;
       low = λ (j : ℕ) (k : i ≤ j) (m : j < length numbers).
@@ -201,7 +201,7 @@ before-within ns ts ls ms os firsts i s b f =
     }
 
 -- one packet more
-pub completed-next : (l : List Piece) (d : List ℕ) (p v : ℕ) → p < length d → Completed p l d → v ≡ cond (complete l (p + 1)) 1 0 → Completed (p + 1) l (set d p v)
+pub completed-next : (l : List Piece) (d : List ℕ) (p v : ℕ) → p < length d → Completeness p l d → v ≡ cond (complete l (p + 1)) 1 0 → Completeness (p + 1) l (set d p v)
 completed-next l d p v h c e =
     record { at = λ (q : ℕ) (k : q < p + 1). stored d p q v h (λ (x : ℕ). x ≡ cond (complete l (q + 1)) 1 0) (λ (r : q ≡ p). rw r e) (λ (r : q ≡ p → ⊥). c .at q (omega arith)) }
 
@@ -212,7 +212,7 @@ zeros (suc n) zero = refl
 zeros (suc n) (suc p) = zeros n p
 
 -- the table holds what is asked of every arrival's packet
-pub filled : (k : ℕ) (l : List Piece) (d : List ℕ) → Completed k l d → NumbersWithin k l → SpansFilled l d
+pub filled : (k : ℕ) (l : List Piece) (d : List ℕ) → Completeness k l d → NumbersWithin k l → CompletenessAt l d
 filled k l d c n =
     record {
       at = λ (j : ℕ) (h : j < length l).

@@ -1,7 +1,7 @@
 -- Where no arrival is a fragment, the flags are those of the base. Assumes nothing.
 use Prim.Native.Nat.{ℕ, _+_}
 use native.Mathlib.Omega.{arith}
-use mathlib.Core.Bool.{Bool, true, false, cond, not, _&&_, _||_, or-false, and-true, and-false}
+use mathlib.Core.Bool.{Bool, true, false, cond, not, or-false, and-true, and-false}
 use mathlib.Core.Path.{_≡_, refl, sym, ap, _∙_}
 use mathlib.Core.List.{List, [], _∷_, _++_, map, foldl, flatten, append-nil, map-append}
 use borrow.Author.Tests.{not-false, leb-true, leb-false, le-ltb, lt-ltb}
@@ -20,27 +20,19 @@ use Rattle.fragments.specs.declared.Expected.{Expected}
 use Rattle.fragments.specs.Pieces.{arrivalOf, some, isLast, isWhole, copies, isCopy, firstAfter, noCopies}
 use Rattle.fragments.specs.Order.{atStart, isReorderedFragment, inOrderAfter, expectedAfter, expected, flagAfter, flags}
 use Rattle.fragments.specs.Whole.{orderFlag, WholeFlags}
-use Rattle.fragments.proofs.Laws.{some-more}
+use Rattle.rfc4737.proofs.Due as due
+use Rattle.fragments.proofs.Laws.{both, some-more}
 
 -- some arrival is a fragment
 abbrev cut : List Piece → Bool
 cut l = some (λ (a : Piece). not (isWhole a)) l
-
--- neither of two holds
-neither : (a b : Bool) → (a || b) ≡ false → (a ≡ false) × (b ≡ false)
-neither true b e = absurd (let z : _≡_ {A = ℕ} 0 1 = cc in omega arith)
-neither false b e = (refl, e)
-
-both : (a b : Bool) → (a && b) ≡ true → (a ≡ true) × (b ≡ true)
-both true b e = (refl, e)
-both false b e = absurd (let z : _≡_ {A = ℕ} 0 1 = cc in omega arith)
 
 -- of whole packets the number alone decides
 copy-whole : (l : List Piece) (a : Piece) → isWhole a ≡ true → cut l ≡ false → isCopy l a ≡ has (a .number) (map arrivalOf l)
 unfolding isCopy some copies has
 copy-whole [] a w c = refl
 copy-whole (b ∷ l) a w c =
-    let n = neither (not (isWhole b)) (cut l) c in
+    let n = due.or-false (not (isWhole b)) (cut l) c in
     rw (w, not-false (isWhole b) (n .0), and-true (eqb (b .number) (a .number)), copy-whole l a w (n .1))
 
 -- ---- under one arrival more
@@ -61,7 +53,7 @@ expected-more l a = ap (foldl expectedAfter atStart) (firsts-more-piece l a) ∙
 -- some arrival is cut, under one arrival more
 uncut : (l : List Piece) (a : Piece) → cut (l ++ (a ∷ [])) ≡ false → (cut l ≡ false) × (isWhole a ≡ true)
 uncut l a c =
-    let n = neither (cut l) (not (isWhole a)) (sym (some-more (λ (a : Piece). not (isWhole a)) l a) ∙ c) in
+    let n = due.or-false (cut l) (not (isWhole a)) (sym (some-more (λ (a : Piece). not (isWhole a)) l a) ∙ c) in
     (n .0, not-false (isWhole a) (n .1))
 
 -- ---- no fragment is under evaluation

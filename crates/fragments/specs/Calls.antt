@@ -8,7 +8,7 @@ use lib.ListN.{length}
 use Rattle.octets.specs.Memory.{over}
 use Rattle.rfc4737.specs.Refusals.{inCase, firstOf, listsDiffer, outputShort}
 use Rattle.rfc4737.specs.Judge.{judgeSent, judgeArrivals}
-use Rattle.sample.specs.Calls.{unlessRefused}
+use Rattle.sample.specs.Output.{unlessRefused}
 use Rattle.fragments.specs.Pieces.{piecesOf}
 use Rattle.fragments.specs.Order.{flags}
 use Rattle.fragments.specs.Usable.{usable}

@@ -24,8 +24,8 @@ abbrev pub wh : ℕ → ℕ → Piece
 wh s length = piece 0 s 0 length
 
 -- arrivals, with their flags and which are usable
-abbrev pub table : List (List Piece × (List ℕ × List ℕ))
-table =
+abbrev pub fragmentCases : List (List Piece × (List ℕ × List ℕ))
+fragmentCases =
     -- whole packets, one late and one copy of another length
     ((wh 1 5 ∷ wh 3 5 ∷ wh 2 5 ∷ wh 3 7 ∷ wh 4 0 ∷ []), ((0 ∷ 0 ∷ 1 ∷ 3 ∷ 0 ∷ []), (1 ∷ 1 ∷ 1 ∷ 0 ∷ 1 ∷ [])))
     -- in order, all there
@@ -58,7 +58,7 @@ refusedTable =
 -- small lists have the flags and the usable arrivals that their cases say, and single arrivals the refusals
 pub record FlaggedAsGiven : Type 0 where
   -- the lists
-  pub marked : map (λ (c : List Piece × (List ℕ × List ℕ)). (flags (c .0), usable (c .0))) table
-      ≡ map (λ (c : List Piece × (List ℕ × List ℕ)). c .1) table
+  pub marked : map (λ (c : List Piece × (List ℕ × List ℕ)). (flags (c .0), usable (c .0))) fragmentCases
+      ≡ map (λ (c : List Piece × (List ℕ × List ℕ)). c .1) fragmentCases
   -- the arrivals, after a greatest time of 2,000, K being 2
   pub refused : map (λ (c : Piece × ℕ). judgePiece 2 2000 (c .0)) refusedTable ≡ map (λ (c : Piece × ℕ). c .1) refusedTable

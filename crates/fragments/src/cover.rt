@@ -3,7 +3,7 @@ ghost use mathlib.Core.Path.{_≡_};
 ghost use mathlib.Core.Bool.{cond};
 ghost use Rattle.fragments.specs.Pieces.{piecesOf, pieceEnd};
 ghost use Rattle.fragments.specs.Usable.{hasOctet, complete};
-ghost use Rattle.fragments.specs.Private.Engine.{Lists, Within, Covered, Reach, Grown, endsBy};
+ghost use Rattle.fragments.specs.Private.Engine.{Lists, Within, Cover, Reach, Growth, endsBy};
 use crate::Piece;
 use crate::arrival::end_of;
 use crate::arrival::piece_at;
@@ -45,8 +45,8 @@ fn pass(
 ) -> u32
     requires { ⌜ Lists (now numbers) (now times) (now lengths) (now mores) (now offsets)
         × Within (piecesOf (now numbers) (now times) (now lengths) (now mores) (now offsets)) s from to
-        × Covered (piecesOf (now numbers) (now times) (now lengths) (now mores) (now offsets)) s reach ⌝ }
-    ensures { λ r. ⌜ Grown (piecesOf (now (numbers .entry)) (now (times .entry)) (now (lengths .entry)) (now (mores .entry)) (now (offsets .entry))) s reach r ⌝ }
+        × Cover (piecesOf (now numbers) (now times) (now lengths) (now mores) (now offsets)) s reach ⌝ }
+    ensures { λ r. ⌜ Growth (piecesOf (now (numbers .entry)) (now (times .entry)) (now (lengths .entry)) (now (mores .entry)) (now (offsets .entry))) s reach r ⌝ }
 {
     let mut r = reach;
     let mut j = from;

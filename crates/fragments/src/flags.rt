@@ -8,7 +8,7 @@ ghost use Rattle.rfc4737.specs.Numbering.{inOrderNumber, reorderedAfterNumber, 
 ghost use Rattle.fragments.specs.Pieces.{piecesOf};
 ghost use Rattle.fragments.specs.Order.{isReorderedFragment, expectedAfter, flags};
 ghost use Rattle.fragments.specs.Usable.{usable};
-ghost use Rattle.fragments.specs.Private.Engine.{Lists, In, Firsts, SpansFilled};
+ghost use Rattle.fragments.specs.Private.Engine.{Lists, In, Firsts, CompletenessAt};
 use crate::Expected;
 use crate::PACKETS;
 use crate::Piece;
@@ -103,7 +103,7 @@ pub(crate) fn fill(
     used: &mut [u8],
 )
     requires { ⌜ Lists (now numbers) (now times) (now lengths) (now mores) (now offsets) × In (now numbers) × Firsts (now numbers) (now firsts)
-        × SpansFilled (piecesOf (now numbers) (now times) (now lengths) (now mores) (now offsets)) (now table)
+        × CompletenessAt (piecesOf (now numbers) (now times) (now lengths) (now mores) (now offsets)) (now table)
         × (length (now numbers) ≤ length (now flagged)) × (length (now numbers) ≤ length (now used)) ⌝ }
     ensures { λ _. ⌜ (now (flagged .exit) ≡ over (flags (piecesOf (now (numbers .entry)) (now (times .entry)) (now (lengths .entry)) (now (mores .entry)) (now (offsets .entry)))) (now (flagged .entry)))
         × (now (used .exit) ≡ over (usable (piecesOf (now (numbers .entry)) (now (times .entry)) (now (lengths .entry)) (now (mores .entry)) (now (offsets .entry)))) (now (used .entry))) ⌝ }

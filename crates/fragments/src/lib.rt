@@ -4,6 +4,7 @@ ghost use mathlib.Core.Path.{_≡_};
 ghost use Prim.Native.Nat.{_≤_};
 ghost use lib.ListN.{length};
 ghost use Rattle.octets.specs.Memory.{over};
+ghost use Rattle.rfc4737.specs.Judge.{sentMost};
 ghost use Rattle.fragments.specs.Pieces.{piecesOf};
 ghost use Rattle.fragments.specs.Order.{flags};
 ghost use Rattle.fragments.specs.Usable.{usable};
@@ -21,12 +22,13 @@ mod tables;
 
 use flags::fill;
 use judge::refusal_of;
+use rfc4737::judge::SENT_MOST;
 use tables::mark_complete;
 use tables::mark_firsts;
 use tables::mark_lasts;
 
 // How many packets there are at most.
-const PACKETS: usize = 4096;
+const PACKETS: usize = SENT_MOST as usize;
 
 // An arrival: number, time, length in octets, more-fragments flag (set if not 0) and fragment offset.
 pub struct Piece {
@@ -55,7 +57,7 @@ fn mark(
     flagged: &mut [u8],
     used: &mut [u8],
 )
-    requires { ⌜ (k ≤ 4096) × Lists (now numbers) (now times) (now lengths) (now mores) (now offsets) × In (now numbers)
+    requires { ⌜ (k ≤ sentMost) × Lists (now numbers) (now times) (now lengths) (now mores) (now offsets) × In (now numbers)
         × NumbersWithin k (piecesOf (now numbers) (now times) (now lengths) (now mores) (now offsets))
         × (length (now numbers) ≤ length (now flagged)) × (length (now numbers) ≤ length (now used)) ⌝ }
     ensures { λ _. ⌜ (now (flagged .exit) ≡ over (flags (piecesOf (now (numbers .entry)) (now (times .entry)) (now (lengths .entry)) (now (mores .entry)) (now (offsets .entry)))) (now (flagged .entry)))

@@ -1,9 +1,9 @@
 // Runs the cases of fragments that stand on standard input, a line for each: how many places are lent for the flags and for the
-// usable arrivals, 6 or 1; the case's name; K; the lists of numbers, times, lengths, more-fragments flags and offsets; and where it
+// usable arrivals, at most 6; the case's name; K; the lists of numbers, times, lengths, more-fragments flags and offsets; and where it
 // is no list that is given, how many numbers there are, each of them 6. A line is written for each case, with both lists after it; they
 // are filled with 9 before.
-mod print;
-
+use cases::fields::field;
+use cases::fields::number_in_32;
 use cases::lists::fill_8;
 use cases::lists::fill_16;
 use cases::lists::fill_32;
@@ -12,23 +12,18 @@ use cases::lists::first_8;
 use cases::lists::first_16;
 use cases::lists::first_32;
 use cases::lists::first_64;
+use cases::lists::least;
+use cases::print::write_8;
+use cases::print::write_number;
+use cases::print::write_word;
 use cases::text::count;
 use cases::text::number;
 use cases::text::part;
 use fragments::order;
 use libc::STDIN_FILENO;
-use print::write_answer;
-
-// What stands between the fields of a line.
-const FIELD: u8 = b'|';
 
 // How many octets of cases are read at most.
 const MOST: usize = 8192;
-
-// A field's first number, as one of 32 bits.
-fn number_in(field: &[u8]) -> u32 {
-    (number(field, 0) % 4_294_967_296) as u32
-}
 
 // How many numbers there are: those of a list, or where it is another count that is given, that.
 fn numbers_for(listed: usize, given: u32) -> usize {
@@ -38,6 +33,15 @@ fn numbers_for(listed: usize, given: u32) -> usize {
     given as usize
 }
 
+// Writes what the call answers, and both lists after it.
+fn write_lists(name: &[u8], refusal: u32, flags: &[u8], usable: &[u8]) {
+    write_word(name);
+    write_number(b": refused ", refusal as u64);
+    write_8(b"; flags", flags);
+    write_8(b"; usable", usable);
+    write_word(b"\n");
+}
+
 // Runs the case of a line with lent lists.
 fn run_into(line: &[u8], flags: &mut [u8], usable: &mut [u8]) {
     let mut numbers = [6u32; 4097];
@@ -45,14 +49,14 @@ fn run_into(line: &[u8], flags: &mut [u8], usable: &mut [u8]) {
     let mut lengths = [0u16; 6];
     let mut mores = [0u8; 6];
     let mut offsets = [0u16; 6];
-    let n = fill_32(part(line, FIELD, 3), &mut numbers);
-    let t = fill_64(part(line, FIELD, 4), &mut times);
-    let l = fill_16(part(line, FIELD, 5), &mut lengths);
-    let m = fill_8(part(line, FIELD, 6), &mut mores);
-    let o = fill_16(part(line, FIELD, 7), &mut offsets);
+    let n = fill_32(field(line, 3), &mut numbers);
+    let t = fill_64(field(line, 4), &mut times);
+    let l = fill_16(field(line, 5), &mut lengths);
+    let m = fill_8(field(line, 6), &mut mores);
+    let o = fill_16(field(line, 7), &mut offsets);
     let refusal = order(
-        number_in(part(line, FIELD, 2)),
-        first_32(&numbers, numbers_for(n, number_in(part(line, FIELD, 8)))),
+        number_in_32(line, 2),
+        first_32(&numbers, numbers_for(n, number_in_32(line, 8))),
         first_64(&times, t),
         first_16(&lengths, l),
         first_8(&mores, m),
@@ -60,30 +64,22 @@ fn run_into(line: &[u8], flags: &mut [u8], usable: &mut [u8]) {
         flags,
         usable,
     );
-    write_answer(part(line, FIELD, 1), refusal, flags, usable);
+    write_lists(field(line, 1), refusal, flags, usable);
 }
 
 // Runs the case of a line.
 fn run(line: &[u8]) {
-    let places = part(line, FIELD, 0);
-    if number(places, 0) == 1 {
-        run_into(line, &mut [9u8; 1], &mut [9u8; 6]);
-        return;
-    }
-    if number(places, 1) == 1 {
-        run_into(line, &mut [9u8; 6], &mut [9u8; 1]);
-        return;
-    }
-    run_into(line, &mut [9u8; 6], &mut [9u8; 6]);
+    let mut flags = [9u8; 6];
+    let mut usable = [9u8; 6];
+    let f = least(number(field(line, 0), 0) as usize, 6);
+    let u = least(number(field(line, 0), 1) as usize, 6);
+    run_into(line, &mut flags[0..f], &mut usable[0..u]);
 }
 
 // Runs the cases of all lines.
 fn run_all(text: &[u8]) {
-    let lines = count(text, b'\n');
-    let mut i: usize = 0;
-    while i < lines {
+    for i in 0..count(text, b'\n') {
         run(part(text, b'\n', i));
-        i += 1;
     }
 }
 

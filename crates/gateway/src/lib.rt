@@ -4,19 +4,19 @@ pub mod meters;
 
 use receiver::Outcome;
 use receiver::Receiver;
-use receiver::Stepped;
+use receiver::StepAnswer;
 ghost use mathlib.Core.Path.{_≡_};
 ghost use Rattle.receiver.specs.Lent.{AsStep};
 
 // The state after a step.
-fn state_of(s: Stepped) -> Receiver
+fn state_of(s: StepAnswer) -> Receiver
     ensures { λ r. ⌜ r ≡ s .state ⌝ }
 {
     s.state
 }
 
 // What a step says.
-fn outcome_of(s: Stepped) -> Outcome
+fn outcome_of(s: StepAnswer) -> Outcome
     ensures { λ r. ⌜ r ≡ s .outcome ⌝ }
 {
     s.outcome

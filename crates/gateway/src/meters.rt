@@ -1,35 +1,35 @@
 // A meter lent by reference: thin calls over its step and its start by value, which leave the new state in it.
 
 use meter::Meter;
-use meter::MeterStarted;
-use meter::MeterStepped;
+use meter::MeterStartAnswer;
+use meter::MeterStepAnswer;
 use receiver::Outcome;
 ghost use mathlib.Core.Path.{_≡_};
 ghost use Rattle.meter.specs.Lent.{AsMeterStep, AsMeterStart};
 
 // The meter after a step.
-fn state_of(s: MeterStepped) -> Meter
+fn state_of(s: MeterStepAnswer) -> Meter
     ensures { λ r. ⌜ r ≡ s .state ⌝ }
 {
     s.state
 }
 
 // What a step says.
-fn outcome_of(s: MeterStepped) -> Outcome
+fn outcome_of(s: MeterStepAnswer) -> Outcome
     ensures { λ r. ⌜ r ≡ s .outcome ⌝ }
 {
     s.outcome
 }
 
 // The meter after a start.
-fn started_of(s: MeterStarted) -> Meter
+fn started_of(s: MeterStartAnswer) -> Meter
     ensures { λ r. ⌜ r ≡ s .state ⌝ }
 {
     s.state
 }
 
 // The refusal of a start.
-fn refusal_of(s: MeterStarted) -> u32
+fn refusal_of(s: MeterStartAnswer) -> u32
     ensures { λ r. ⌜ r ≡ s .refusal ⌝ }
 {
     s.refusal

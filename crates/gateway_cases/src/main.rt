@@ -1,39 +1,28 @@
 // Feeds a list of arrivals to a receiver that is lent by reference, to one that is handed in by value, and to one that is
 // stepped in place. For each arrival it writes what is said of it and what the receiver then holds, of each.
-mod print;
-
-use print::write_answer;
-use print::write_number;
-use print::write_word;
-use receiver::Outcome;
+use cases::print::write_number;
+use cases::print::write_word;
 use receiver::Receiver;
-use receiver::Stepped;
+use receiver::StepAnswer;
+use receiver_text::write_outcome;
 ghost use mathlib.Core.Path.{_≡_};
 ghost use Rattle.receiver.specs.Step.{stepOf};
 
-// The two together.
-fn together(outcome: Outcome, state: Receiver) -> Stepped
-    ensures { λ r. ⌜ r ≡ record { outcome = outcome; state = state } ⌝ }
-{
-    Stepped { outcome, state }
-}
-
 // An arrival fed by reference: the receiver is held in a local, which is lent to the gateway's step.
-fn by_reference(state: Receiver, number: u32, time: u64) -> Stepped
+fn by_reference(state: Receiver, number: u32, time: u64) -> StepAnswer
     ensures { λ r. ⌜ r ≡ stepOf state number time ⌝ }
 {
     let mut held = state;
     let outcome = gateway::step(&mut held, number, time);
-    together(outcome, held)
+    capi::held::stepped(outcome, held)
 }
 
 // Writes a line: by which way, what is said, and some of what the receiver holds.
-fn write_fed(way: &[u8], s: Stepped) {
+fn write_fed(way: &[u8], s: StepAnswer) {
     let outcome = s.outcome;
-    let noted = outcome.noted;
     let stream = s.state.stream;
     write_word(way);
-    write_answer(outcome.refusal, noted);
+    write_outcome(outcome);
     write_number(b"; L ", stream.arrived as u64);
     write_number(b" duplicates ", stream.duplicates as u64);
     write_number(b" in order ", stream.inorder as u64);

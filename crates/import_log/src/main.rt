@@ -8,7 +8,7 @@ mod convert;
 use arguments::Argument;
 use arguments::is_records;
 use arguments::number_in;
-use convert::Converted;
+use convert::Conversion;
 use convert::convert;
 use convert::convert_records;
 use libc::STDIN_FILENO;
@@ -44,7 +44,7 @@ fn write_first(out: &[u8], n: usize) {
 }
 
 // Makes the sample file of a log, or of records.
-fn convert_input(records: bool, input: &[u8], k: u32, size: u16, out: &mut [u8]) -> Converted {
+fn convert_input(records: bool, input: &[u8], k: u32, size: u16, out: &mut [u8]) -> Conversion {
     if records {
         return convert_records(input, k, size, out);
     }

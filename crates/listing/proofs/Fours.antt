@@ -1,4 +1,5 @@
--- A number in decimal by pairs of digits and by fours. Assumes nothing.
+-- A number n in decimal by pairs of digits and by fours: the law of its last digit, taken twice, is that of its last two, and so on to its last four and
+-- eight. Assumes nothing.
 use Prim.Native.Nat.{ℕ, _+_, _/_, _%_, _≤_, _<_}
 use native.Mathlib.Omega.{arith}
 use mathlib.Core.Path.{_≡_, ap, _∙_}

@@ -1,4 +1,5 @@
--- How long the lines are. Assumes nothing.
+-- How long the lines are: the sum of their parts, of which the words have their own lengths and each number at most the digits that its bound allows.
+-- Assumes nothing.
 use Prim.Native.Nat.{ℕ, _^_, _≤_, _<_}
 use native.Mathlib.Omega.{arith}
 use mathlib.Core.Bool.{Bool, true, false, cond}

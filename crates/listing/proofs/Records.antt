@@ -1,4 +1,4 @@
--- The lines of records under one record more. Assumes nothing.
+-- The lines of records l with answers m under one record more, x with y: by induction on both, counted from r. Assumes nothing.
 use Prim.Native.Nat.{ℕ, suc, _+_}
 use native.Mathlib.Nat.{add-zero}
 use native.Mathlib.Omega.{arith}

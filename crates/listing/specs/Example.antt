@@ -2,8 +2,8 @@
 use Prim.Native.Nat.{ℕ}
 use mathlib.Core.Path.{_≡_}
 use mathlib.Core.List.{List, [], _∷_, map, flatten}
+use Rattle.octets.specs.Text.{ascii}
 use Rattle.rfc4737.specs.Cases.{Case, measured, p1}
-use Rattle.listing.specs.Words.{ascii}
 use Rattle.listing.specs.Lines.{listingOf}
 
 -- the text as the scope has it

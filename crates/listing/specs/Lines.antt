@@ -4,6 +4,7 @@ use mathlib.Core.Bool.{cond}
 use mathlib.Core.List.{List, [], _∷_, _++_}
 use lib.Dec.{ltb}
 use lib.ListN.{length}
+use Rattle.octets.specs.Text.{lineFeed}
 use Rattle.decimal.specs.Decimal.{decimalOf}
 use Rattle.rfc4737.specs.declared.Arrival.{Arrival}
 use Rattle.rfc4737.specs.declared.Answer.{Answer}
@@ -12,7 +13,7 @@ use Rattle.rfc4737.specs.declared.LateTime.{LateTime}
 use Rattle.rfc4737.specs.declared.LateTime.the-variants.{After, Before}
 use Rattle.rfc4737.specs.declared.Counts.{Counts}
 use Rattle.rfc4737.specs.Numbering.{amountOf}
-use Rattle.listing.specs.Words.{space, minus, lineFeed, sentWord, arrivalsWord, inWord, lateWord, copyWord, endWord, refusedWord}
+use Rattle.listing.specs.Words.{space, minus, sentWord, arrivalsWord, inWord, lateWord, copyWord, endWord, refusedWord}
 
 -- ---- fields and lines
 

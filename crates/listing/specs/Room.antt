@@ -1,7 +1,8 @@
 -- How many octets suffice for a listing. Assumes nothing.
 use Prim.Native.Nat.{ℕ, _*_}
+use Rattle.rfc4737.specs.Judge.{arrivalsMost}
 
 -- the octets that suffice for any listing: 64 for each of 4,096 records. The longest line of a record has 61; what is left
 -- holds the first line, of at most 24, and the last, of at most 38.
 abbrev pub listingOctets : ℕ
-listingOctets = 64 * 4096
+listingOctets = 64 * arrivalsMost

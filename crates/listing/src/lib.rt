@@ -16,6 +16,7 @@ use rfc4737::DuplicateFigures;
 use rfc4737::InOrderFigures;
 use rfc4737::LateTime;
 use rfc4737::ReorderedFigures;
+use rfc4737::judge::ARRIVALS_MOST;
 use rfc4737::numbering::amount;
 
 // What parts two fields.
@@ -33,7 +34,7 @@ pub const LINE: usize = 93;
 
 // The octets that suffice for any listing: 64 for each of 4,096 records. The longest line of a record has 61; what
 // is left holds the first line, of at most 24, and the last, of at most 38.
-pub const LISTING_OCTETS: usize = 262_144;
+pub const LISTING_OCTETS: usize = 64 * ARRIVALS_MOST as usize;
 
 // Writes a word and the octet after it.
 fn write_word(out: &mut [u8], at: usize, word: &[u8], after: u8) -> usize

@@ -1,27 +1,27 @@
 -- A meter carries an account: each of its streams, seen as a receiver, is the state of its part of the account, and its places
 -- hold its window. Every call keeps it so. Assumes nothing.
-use Prim.Native.Nat.{ℕ, suc, _+_, _-_, _≤_, _<_}
+use Prim.Native.Nat.{ℕ, _+_, _-_, _≤_}
 use mathlib.Core.Path.{_≡_, refl, sym, ap, ap₂, subst, _∙_}
-use mathlib.Core.Bool.{Bool, true, false, not, cond, _&&_}
-use mathlib.Core.List.{List, [], _∷_, _++_, foldl, flatten, append-nil}
-use mathlib.Core.Option.{Option, none, some}
+use mathlib.Core.Bool.{Bool, true}
+use mathlib.Core.List.{List, [], _++_, foldl, flatten}
+use mathlib.Core.Option.{some}
 use native.Mathlib.Omega.{arith}
-use lib.Dec.{ltb, leb, eqb}
 use lib.ListN.{length}
 use borrow.Author.Tests.{le-leb}
 use Rattle.rfc4737.specs.declared.Arrival.{Arrival}
 use Rattle.rfc4737.specs.Arrivals.{firsts, each, eachAfter}
-use Rattle.rfc4737.specs.Order.{Placed, jumps}
+use Rattle.rfc4737.specs.Order.{FirstArrival, jumps}
+use Rattle.rfc4737.specs.Judge.{sentMost}
 use Rattle.receiver.specs.declared.Places.{Places}
 use Rattle.receiver.specs.declared.Receiver.{Receiver}
-use Rattle.receiver.specs.declared.Stepped.{Stepped}
-use Rattle.receiver.specs.Limits.{window, packets}
+use Rattle.receiver.specs.declared.StepAnswer.{StepAnswer}
+use Rattle.receiver.specs.Limits.{window}
 use Rattle.receiver.specs.Fit.{every, fit}
-use Rattle.receiver.specs.Kept.{placeAt, placesFrom, Held, heldOf, keptOf, withJump}
+use Rattle.receiver.specs.Kept.{placesFrom, Held, heldOf, keptOf, withJump}
 use Rattle.receiver.proofs.Window.{lastNumber}
 use Rattle.receiver.specs.Step.{freshStream, madeFor, stepWith}
 use Rattle.receiver.specs.Account.{accountWith, jumpIn, outcomeIn}
-use Rattle.receiver.proofs.Fits.{both, within-true}
+use Rattle.receiver.proofs.Fits.{both}
 use Rattle.receiver.proofs.Accepted.{Sound, sound-none, sound-with}
 use Rattle.receiver.proofs.ReorderedInWindow.{Split}
 use Rattle.receiver.proofs.HeldJumps.{Long, Holds, holds-count, noneHeld}
@@ -30,7 +30,6 @@ use Rattle.receiver.proofs.Fitness.{state-fit}
 use Rattle.receiver.proofs.Agrees.{jumps-with, step-agrees}
 use Rattle.meter.specs.declared.StreamState.{StreamState}
 use Rattle.meter.specs.declared.Meter.{Meter}
-use Rattle.meter.specs.declared.MeterStepped.{MeterStepped}
 use Rattle.meter.specs.Streams.{Side, one, two, other, mostKept, freeBeside, takesPlace, streamOf, receiverOf, streamIn, withStream, withReceiver, keptIn, free}
 use Rattle.meter.specs.Step.{newMeter, fitOnMeter, meterFit, stepOn}
 use Rattle.meter.specs.Account.{Part, freshPart, keptWith, Account, freeIn, withPart}
@@ -44,9 +43,9 @@ heldIn r = heldOf (r .stream) (r .places)
 -- a receiver carries a stream's part of the account
 pub record Carried (h : Part) (r : Receiver) : Type 0 where
   pub low : 1 ≤ h .sent
-  pub high : h .sent ≤ packets
+  pub high : h .sent ≤ sentMost
   pub sound : Sound (h .sent) (h .accepted)
-  pub dropped : List Placed
+  pub dropped : List FirstArrival
   pub split : Split (h .accepted) dropped (h .window)
   pub holds : Holds dropped (h .window) (heldIn r)
   pub state : r ≡ stateWith (h .sent) (h .accepted) (heldIn r)
@@ -188,9 +187,9 @@ module _ (account : Account) (m : Meter) (g : Carries account m) where
         }
     unfolding stepOn
     carries-step =
-        ap₂ (λ (k f : ℕ). let x : Stepped = stepWith (takesPlace k f) (receiverOf s m) (a .number) (a .time) in
+        ap₂ (λ (k f : ℕ). let x : StepAnswer = stepWith (takesPlace k f) (receiverOf s m) (a .number) (a .time) in
         record { outcome = x .outcome; state = withReceiver s (x .state) m }) (carried-kept _ _ (g .streams s)) carries-free
-        ∙ ap (λ (x : Stepped). record { outcome = x .outcome; state = withReceiver s (x .state) m }) (carried-step _ _ (g .streams s) room a)
+        ∙ ap (λ (x : StepAnswer). record { outcome = x .outcome; state = withReceiver s (x .state) m }) (carried-step _ _ (g .streams s) room a)
 
     -- what it keeps
     kept-then : KeptOf (g .streams s .dropped) (h .window) (heldIn (receiverOf s m)) (length (account (other s) .window))
@@ -205,7 +204,7 @@ module _ (account : Account) (m : Meter) (g : Carries account m) where
     split-then : Split (partThen .accepted) (kept-then .dropped) (partThen .window)
     split-then =
         let e : (g .streams s .dropped ++ h .window) ++ jumpIn (h .sent) (h .accepted) a ≡ jumps (firsts (accountWith (h .sent) (h .accepted) a)) =
-        ap (λ (l : List Placed). l ++ jumpIn (h .sent) (h .accepted) a) (g .streams s .split .parts) ∙ sym (jumps-with (h .sent) (h .accepted) a) in
+        ap (λ (l : List FirstArrival). l ++ jumpIn (h .sent) (h .accepted) a) (g .streams s .split .parts) ∙ sym (jumps-with (h .sent) (h .accepted) a) in
         record {
           parts = kept-then .parts ∙ e;
           some = rw e at (kept-then .some);
@@ -284,7 +283,7 @@ carries-after account m g s a =
 -- ---- fresh streams
 
 -- a fresh part is carried by a fresh receiver, whatever its unused places hold
-fresh-carried : (k : ℕ) → 1 ≤ k → k ≤ packets → (p : Places) → Long p → Carried (freshPart k) (withPlaces (madeFor k) p)
+fresh-carried : (k : ℕ) → 1 ≤ k → k ≤ sentMost → (p : Places) → Long p → Carried (freshPart k) (withPlaces (madeFor k) p)
 unfolding firsts jumps flatten each eachAfter keptOf placesFrom lastNumber stateWith madeFor freshStream noneHeld
 fresh-carried k low high p l =
     record {
@@ -309,7 +308,7 @@ new-carries = record { streams = fresh; places = omega arith }
     fresh two = fresh-carried 1 (omega arith) (omega arith) (receiverOf two newMeter .places) (record { positions = refl; numbers = refl; times = refl })
 
 -- a stream that is started afresh
-started-own : (s : Side) (k : ℕ) (m : Meter) → Long (receiverOf s m .places) → 1 ≤ k → k ≤ packets
+started-own : (s : Side) (k : ℕ) (m : Meter) → Long (receiverOf s m .places) → 1 ≤ k → k ≤ sentMost
     → Carried (freshPart k) (receiverOf s (withStream s (streamIn (madeFor k)) m))
 started-own one k m l low high = fresh-carried k low high (receiverOf one m .places) l
 started-own two k m l low high = fresh-carried k low high (receiverOf two m .places) l
@@ -320,7 +319,7 @@ started-other one k m = refl
 started-other two k m = refl
 
 -- after a start the meter carries the account after it
-pub carries-started : (account : Account) (m : Meter) (g : Carries account m) (s : Side) (k : ℕ) → 1 ≤ k → k ≤ packets
+pub carries-started : (account : Account) (m : Meter) (g : Carries account m) (s : Side) (k : ℕ) → 1 ≤ k → k ≤ sentMost
     → Carries (withPart s (freshPart k) account) (withStream s (streamIn (madeFor k)) m)
 carries-started account m g s k low high =
     record {

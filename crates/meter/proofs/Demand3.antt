@@ -1,41 +1,39 @@
 -- Demand 3 holds on a meter: by one induction over the calls the meter carries the account. Assumes nothing.
-use Prim.Native.Nat.{ℕ, suc, _+_, _-_, _≤_, _<_, min}
-use mathlib.Core.Path.{_≡_, refl, sym, ap, ap₂, subst, _∙_}
-use mathlib.Core.Bool.{Bool, true, false, not, cond}
-use mathlib.Core.List.{List, [], _∷_, _++_, foldl}
+use Prim.Native.Nat.{ℕ, _+_, _-_, _≤_, min}
+use mathlib.Core.Path.{_≡_, refl, sym, ap, subst, _∙_}
+use mathlib.Core.Bool.{Bool, true, false, cond}
+use mathlib.Core.List.{List, [], _∷_, _++_}
 use mathlib.Core.Option.{Option, none, some}
 use native.Mathlib.Omega.{arith}
 use lib.Dec.{ltb, eqb}
 use lib.ListN.{length, drop, length-append}
 use lib.Seq.{drop-at}
-use borrow.Author.Tests.{ltb-true, ltb-false, not-false}
+use borrow.Author.Tests.{ltb-true, ltb-false}
 use Rattle.rfc4737.specs.declared.Arrival.{Arrival}
-use Rattle.rfc4737.specs.declared.ReorderedFigures.{ReorderedFigures}
 use Rattle.rfc4737.specs.declared.Answer.the-variants as answer
-use Rattle.rfc4737.specs.Arrivals.{firsts, each, count}
-use Rattle.rfc4737.specs.Order.{Placed, jumps}
+use Rattle.rfc4737.specs.Arrivals.{firsts, count}
+use Rattle.rfc4737.specs.Order.{jumps}
 use Rattle.rfc4737.specs.Runs.{counts, arrived, isDuplicate, isInOrderAnswer}
-use Rattle.rfc4737.specs.Refusals.{within, outside, inCase, sentOutside, stateUnfit}
+use Rattle.rfc4737.specs.Refusals.{outside, inCase, sentOutside, stateUnfit}
+use Rattle.rfc4737.specs.Judge.{sentMost}
 use Rattle.rfc4737.proofs.Lists.{snoc-ind, each-same}
 use Rattle.rfc4737.proofs.Arrivals.{fold-more, count-each}
+use Rattle.rfc4737.proofs.Due.{between}
 use Rattle.rfc4737.proofs.Folds.{in-order-or-reordered}
 use Rattle.receiver.specs.declared.Receiver.{Receiver}
-use Rattle.receiver.specs.declared.Started.{Started}
-use Rattle.receiver.specs.Limits.{packets}
 use Rattle.receiver.specs.Step.{madeFor, freshOf}
-use Rattle.receiver.specs.Account.{accountRefusal, answerIn, answersIn, outcomeIn}
+use Rattle.receiver.specs.Account.{answersIn, outcomeIn}
 use Rattle.receiver.specs.Demand3.{Answered}
-use Rattle.receiver.proofs.Fits.{within-true}
 use Rattle.receiver.proofs.State.{stateWith}
 use Rattle.receiver.proofs.Fitness.{arrived-in, accepted-count}
 use Rattle.receiver.proofs.Demand3.{outcome-fit, late-answered}
 use Rattle.meter.specs.declared.Meter.{Meter}
-use Rattle.meter.specs.declared.MeterStepped.{MeterStepped}
-use Rattle.meter.specs.declared.MeterStarted.{MeterStarted}
+use Rattle.meter.specs.declared.MeterStepAnswer.{MeterStepAnswer}
+use Rattle.meter.specs.declared.MeterStartAnswer.{MeterStartAnswer}
 use Rattle.meter.specs.Streams.{Side, one, two, sideOf, receiverOf, streamIn, withStream, withReceiver}
 use Rattle.meter.specs.Step.{meterStep, notStarted, startOn, meterStart}
-use Rattle.meter.specs.Account.{Call, arrives, starts, numberOf, Reply, said, started, Part, freshPart, partAfter, replyIn, Account, freeIn, withPart, accountAfter, accountOf, accountReply}
-use Rattle.meter.specs.Demand3.{metAfter, replyOf, meterAfter, meterReply, refusalSaid, streamNumbers, Agrees, Demand3}
+use Rattle.meter.specs.Account.{Call, arrives, starts, numberOf, Reply, said, started, Part, freshPart, partAfter, replyIn, Account, withPart, accountAfter, meterAccountOf, accountReply}
+use Rattle.meter.specs.Demand3.{metAfter, replyOf, meterAfter, meterReply, refusalSaid, streamNumbers, Agrees, MeterDemand3}
 use Rattle.meter.proofs.Sides.{stepFor, startFor, accountFor, replyFor}
 use Rattle.meter.proofs.Carries.{Carried, Carries, carries-fit, receiverThen, carries-step, carries-after, new-carries, carries-started}
 
@@ -65,48 +63,48 @@ module _ (account : Account) (m : Meter) (g : Carries account m) where
       → said (stepFor o m (a .number) (a .time) .outcome) ≡ replyFor o account (arrives n a)
   unfolding replyIn
   arrival-reply none n a = refl
-  arrival-reply (some s) n a = ap (λ (x : MeterStepped). said (x .outcome)) (step-agrees s a)
+  arrival-reply (some s) n a = ap (λ (x : MeterStepAnswer). said (x .outcome)) (step-agrees s a)
 
   arrival-carries : (o : Option Side) (n : ℕ) (a : Arrival) → Carries (accountFor o account (arrives n a)) (stepFor o m (a .number) (a .time) .state)
   unfolding partAfter
   arrival-carries none n a = g
   arrival-carries (some s) n a =
-      subst (λ (x : MeterStepped). Carries (accountFor (some s) account (arrives n a)) (x .state)) (sym (step-agrees s a)) (carries-after account m g s a)
+      subst (λ (x : MeterStepAnswer). Carries (accountFor (some s) account (arrives n a)) (x .state)) (sym (step-agrees s a)) (carries-after account m g s a)
 
   -- a start
   start-on : (s : Side) (k : ℕ) → startFor (some s) m k
-      ≡ cond (outside 1 packets k) (notStarted sentOutside m) (record { refusal = 0; state = withStream s (streamIn (madeFor k)) m })
-  unfolding startOn freshOf outside
-  start-on s k = rw (carries-fit account m g) (go (within 1 packets k))
+      ≡ cond (outside 1 sentMost k) (notStarted sentOutside m) (record { refusal = 0; state = withStream s (streamIn (madeFor k)) m })
+  unfolding startOn freshOf
+  start-on s k = rw (carries-fit account m g) (go (outside 1 sentMost k))
     where
       go : (t : Bool)
-          → (let r : Started = cond t (record { refusal = 0; state = madeFor k }) (record { refusal = sentOutside; state = madeFor 1 }) in
-          cond {A = MeterStarted} (eqb (r .refusal) 0) (record { refusal = 0; state = withStream s (streamIn (r .state)) m }) (notStarted (r .refusal) m))
-          ≡ cond (not t) (notStarted sentOutside m) (record { refusal = 0; state = withStream s (streamIn (madeFor k)) m })
+          → cond {A = MeterStartAnswer} (eqb (inCase t sentOutside) 0) (record { refusal = 0; state = withStream s (streamIn (madeFor (cond t 1 k))) m })
+          (notStarted (inCase t sentOutside) m)
+          ≡ cond t (notStarted sentOutside m) (record { refusal = 0; state = withStream s (streamIn (madeFor k)) m })
       go true = refl
       go false = refl
 
   start-reply : (o : Option Side) (n k : ℕ) → started (startFor o m k .refusal) ≡ replyFor o account (starts n k)
   unfolding replyIn
   start-reply none n k = refl
-  start-reply (some s) n k = rw (start-on s k) (go (outside 1 packets k))
+  start-reply (some s) n k = rw (start-on s k) (go (outside 1 sentMost k))
     where
       go : (t : Bool)
-          → started (cond {A = MeterStarted} t (notStarted sentOutside m) (record { refusal = 0; state = withStream s (streamIn (madeFor k)) m }) .refusal)
+          → started (cond {A = MeterStartAnswer} t (notStarted sentOutside m) (record { refusal = 0; state = withStream s (streamIn (madeFor k)) m }) .refusal)
           ≡ started (inCase t sentOutside)
       go true = refl
       go false = refl
 
   start-carries : (o : Option Side) (n k : ℕ) → Carries (accountFor o account (starts n k)) (startFor o m k .state)
-  unfolding partAfter outside
+  unfolding partAfter
   start-carries none n k = g
-  start-carries (some s) n k = rw (start-on s k) (go (outside 1 packets k) refl)
+  start-carries (some s) n k = rw (start-on s k) (go (outside 1 sentMost k) refl)
     where
-      go : (t : Bool) → outside 1 packets k ≡ t
+      go : (t : Bool) → outside 1 sentMost k ≡ t
           → Carries (withPart s (cond t (account s) (freshPart k)) account)
-          (cond {A = MeterStarted} t (notStarted sentOutside m) (record { refusal = 0; state = withStream s (streamIn (madeFor k)) m }) .state)
+          (cond {A = MeterStartAnswer} t (notStarted sentOutside m) (record { refusal = 0; state = withStream s (streamIn (madeFor k)) m }) .state)
       go true e = subst (λ (acc : Account). Carries acc m) (sym (same-part s account)) g
-      go false e = let w = within-true 1 packets k (not-false _ e) in carries-started account m g s k (w .0) (w .1)
+      go false e = let w = between 1 sentMost k e in carries-started account m g s k (w .0) (w .1)
 
   -- any call
   call-reply : (c : Call) → replyOf m c ≡ replyFor (sideOf (numberOf c)) account c
@@ -122,21 +120,21 @@ module _ (account : Account) (m : Meter) (g : Carries account m) where
 -- ---- all calls
 
 -- after any calls the meter carries their account
-pub calls-carry : (calls : List Call) → Carries (accountOf calls) (meterAfter calls)
-unfolding accountOf meterAfter accountAfter
-calls-carry = snoc-ind (λ (calls : List Call). Carries (accountOf calls) (meterAfter calls)) more new-carries
+pub calls-carry : (calls : List Call) → Carries (meterAccountOf calls) (meterAfter calls)
+unfolding meterAccountOf meterAfter accountAfter
+calls-carry = snoc-ind (λ (calls : List Call). Carries (meterAccountOf calls) (meterAfter calls)) more new-carries
   where
-    more : (calls : List Call) (c : Call) → Carries (accountOf calls) (meterAfter calls) → Carries (accountOf (calls ++ (c ∷ []))) (meterAfter (calls ++ (c ∷ [])))
+    more : (calls : List Call) (c : Call) → Carries (meterAccountOf calls) (meterAfter calls) → Carries (meterAccountOf (calls ++ (c ∷ []))) (meterAfter (calls ++ (c ∷ [])))
     more calls c g =
-        let a : accountOf (calls ++ (c ∷ [])) ≡ accountFor (sideOf (numberOf c)) (accountOf calls) c = fold-more _ _ calls c in
+        let a : meterAccountOf (calls ++ (c ∷ [])) ≡ accountFor (sideOf (numberOf c)) (meterAccountOf calls) c = fold-more _ _ calls c in
         let b : meterAfter (calls ++ (c ∷ [])) ≡ metAfter (meterAfter calls) c = fold-more _ _ calls c in
         subst (λ (acc : Account). Carries acc (meterAfter (calls ++ (c ∷ [])))) (sym a)
-        (subst (Carries (accountFor (sideOf (numberOf c)) (accountOf calls) c)) (sym b) (call-carries (accountOf calls) (meterAfter calls) g c))
+        (subst (Carries (accountFor (sideOf (numberOf c)) (meterAccountOf calls) c)) (sym b) (call-carries (meterAccountOf calls) (meterAfter calls) g c))
 
 -- each call is replied to as the account says
 pub reply-agrees : (earlier : List Call) (c : Call) → meterReply earlier c ≡ accountReply earlier c
 unfolding meterReply accountReply
-reply-agrees earlier c = call-reply (accountOf earlier) (meterAfter earlier) (calls-carry earlier) c
+reply-agrees earlier c = call-reply (meterAccountOf earlier) (meterAfter earlier) (calls-carry earlier) c
 
 -- the account never says 10
 never-unfit : (account : Account) (o : Option Side) (c : Call) → eqb (refusalSaid (replyFor o account c)) stateUnfit ≡ false
@@ -144,7 +142,7 @@ unfolding replyIn
 never-unfit account none (arrives n a) = refl
 never-unfit account none (starts n k) = refl
 never-unfit account (some s) (arrives n a) = outcome-fit (account s .window) (account s .sent) (account s .accepted) a
-never-unfit account (some s) (starts n k) = go (outside 1 packets k)
+never-unfit account (some s) (starts n k) = go (outside 1 sentMost k)
   where
     go : (t : Bool) → eqb (inCase t sentOutside) stateUnfit ≡ false
     go true = refl
@@ -153,16 +151,16 @@ never-unfit account (some s) (starts n k) = go (outside 1 packets k)
 -- what is noted of an arrival on a stream
 noted-agrees : (earlier : List Call) (n : ℕ) (a : Arrival) (s : Side) → sideOf n ≡ some s
     → meterStep (meterAfter earlier) n (a .number) (a .time) .outcome .noted
-    ≡ outcomeIn (accountOf earlier s .window) (accountOf earlier s .sent) (accountOf earlier s .accepted) a .noted
+    ≡ outcomeIn (meterAccountOf earlier s .window) (meterAccountOf earlier s .sent) (meterAccountOf earlier s .accepted) a .noted
 unfolding meterStep
 noted-agrees earlier n a s e =
-    rw e (ap (λ (x : MeterStepped). x .outcome .noted) (step-agrees (accountOf earlier) (meterAfter earlier) (calls-carry earlier) s a))
+    rw e (ap (λ (x : MeterStepAnswer). x .outcome .noted) (step-agrees (meterAccountOf earlier) (meterAfter earlier) (calls-carry earlier) s a))
 
 -- what a stream holds after the calls
 kept : (s : Side) (calls : List Call) → Agrees s calls
 unfolding counts stateWith
 kept s calls =
-    let h : Part = accountOf calls s in
+    let h : Part = meterAccountOf calls s in
     let g : Carried h (receiverOf s (meterAfter calls)) = calls-carry calls .streams s in
     let arrived-eq : streamNumbers s calls .arrived ≡ arrived (answersIn (h .accepted)) = ap (λ (r : Receiver). r .stream .arrived) (g .state) ∙ sym (arrived-in (h .accepted)) in
     let duplicates-eq : streamNumbers s calls .duplicates ≡ count isDuplicate (answersIn (h .accepted)) = ap (λ (r : Receiver). r .stream .duplicates) (g .state) in
@@ -195,18 +193,18 @@ kept s calls =
         go false q = let k : d ≤ 0 = ltb-false _ _ q in omega arith
 
 -- demand 3
-pub demand3 : (calls : List Call) → Demand3 calls
+pub demand3 : (calls : List Call) → MeterDemand3 calls
 unfolding accountReply
 demand3 calls =
     record {
       replies = each-same meterReply accountReply reply-agrees calls;
       fit =
           count-each (λ (r : Reply). eqb (refusalSaid r) stateUnfit) meterReply
-          (λ earlier c. rw reply-agrees (never-unfit (accountOf earlier) (sideOf (numberOf c)) c)) calls;
+          (λ earlier c. rw reply-agrees (never-unfit (meterAccountOf earlier) (sideOf (numberOf c)) c)) calls;
       reordered = λ earlier n a later split s e z d q.
-          let g : Carried (accountOf earlier s) (receiverOf s (meterAfter earlier)) = calls-carry earlier .streams s in
-          subst (Answered (accountOf earlier s .window) (accountOf earlier s .accepted) a d) (sym (noted-agrees earlier n a s e))
-          (late-answered (accountOf earlier s .sent) (accountOf earlier s .accepted) (g .dropped) (accountOf earlier s .window) (g .split) a z d q);
+          let g : Carried (meterAccountOf earlier s) (receiverOf s (meterAfter earlier)) = calls-carry earlier .streams s in
+          subst (Answered (meterAccountOf earlier s .window) (meterAccountOf earlier s .accepted) a d) (sym (noted-agrees earlier n a s e))
+          (late-answered (meterAccountOf earlier s .sent) (meterAccountOf earlier s .accepted) (g .dropped) (meterAccountOf earlier s .window) (g .split) a z d q);
       streams = λ s. kept s calls;
       places = calls-carry calls .places;
     }

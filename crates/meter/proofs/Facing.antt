@@ -1,4 +1,5 @@
--- Places seen from the one stream and from the other. Assumes nothing.
+-- Places seen from the one stream and from the other: place k of stream 2 is place 63 - k of stream 1, so what one stream writes among
+-- its own places leaves the other's kept jumps as they were. Assumes nothing.
 use Prim.Native.Nat.{ℕ, suc, _+_, _-_, _≤_, _<_}
 use mathlib.Core.Path.{_≡_, refl, sym, ap, _∙_}
 use mathlib.Core.Bool.{Bool, true, false}
@@ -8,7 +9,7 @@ use lib.Dec.{ltb}
 use lib.ListN.{length, getD, length-reverse, List·getD-append}
 use lib.Seq.{getD-at}
 use borrow.Author.Tests.{ltb-true, ltb-false}
-use Rattle.rfc4737.specs.Order.{Placed}
+use Rattle.rfc4737.specs.Order.{FirstArrival}
 use Rattle.receiver.specs.declared.Places.{Places}
 use Rattle.receiver.specs.declared.Receiver.{Receiver}
 use Rattle.receiver.specs.Limits.{window}
@@ -71,7 +72,7 @@ abbrev pub heldTurned : ℕ → ℕ → Places → Held
 heldTurned kept dropped p = record { kept = kept; dropped = dropped; places = facing two p }
 
 -- the neighbour's places hold what they held, where its kept ones are not written
-pub turned-frame : (i j : Places) (kept dropped n : ℕ) (ds ws : List Placed) → Long i → Long j → n + kept ≤ window
+pub turned-frame : (i j : Places) (kept dropped n : ℕ) (ds ws : List FirstArrival) → Long i → Long j → n + kept ≤ window
     → ((k : ℕ) → n ≤ k → placeAt i k ≡ placeAt j k)
     → Holds ds ws (heldTurned kept dropped j) → Holds ds ws (heldTurned kept dropped i)
 unfolding keptOf placeAt
@@ -99,6 +100,6 @@ turned-frame i j kept dropped n ds ws li lj few frame h =
     same k l =
         let f : placeAt i (window - suc (0 + k)) ≡ placeAt j (window - suc (0 + k)) = frame (window - suc (0 + k)) (omega arith) in
         placed-path _ _
-        (turned (i .positions) (j .positions) k (li .positions) (lj .positions) l (ap (λ (p : Placed). p .position) f))
-        (turned (i .numbers) (j .numbers) k (li .numbers) (lj .numbers) l (ap (λ (p : Placed). p .number) f))
-        (turned (i .times) (j .times) k (li .times) (lj .times) l (ap (λ (p : Placed). p .time) f))
+        (turned (i .positions) (j .positions) k (li .positions) (lj .positions) l (ap (λ (p : FirstArrival). p .position) f))
+        (turned (i .numbers) (j .numbers) k (li .numbers) (lj .numbers) l (ap (λ (p : FirstArrival). p .number) f))
+        (turned (i .times) (j .times) k (li .times) (lj .times) l (ap (λ (p : FirstArrival). p .time) f))

@@ -1,5 +1,6 @@
--- Independence of the streams. Assumes nothing.
-use Prim.Native.Nat.{ℕ, suc}
+-- Independence of the streams: a stream's account hangs on its own calls and on how many places are free at each of them, and its flags
+-- on its own calls alone, both by induction over the calls. Assumes nothing.
+use Prim.Native.Nat.{ℕ}
 use mathlib.Core.Path.{_≡_, refl, sym, ap, ap₂, _∙_}
 use mathlib.Core.Bool.{Bool, true, false, cond}
 use mathlib.Core.List.{List, [], _∷_, _++_, map, map-append, foldl, flatten, append-nil}
@@ -11,23 +12,23 @@ use Rattle.rfc4737.specs.declared.Arrival.{Arrival}
 use Rattle.rfc4737.specs.declared.Answer.{Answer}
 use Rattle.rfc4737.specs.declared.Answer.the-variants as answer
 use Rattle.rfc4737.specs.Arrivals.{firsts, each, eachAfter, count}
-use Rattle.rfc4737.specs.Order.{Placed, jumps}
+use Rattle.rfc4737.specs.Order.{FirstArrival, jumps}
 use Rattle.rfc4737.specs.Runs.{isDuplicate, isInOrderAnswer, runs}
 use Rattle.rfc4737.specs.Refusals.{outside}
+use Rattle.rfc4737.specs.Judge.{sentMost}
 use Rattle.rfc4737.proofs.Lists.{snoc-ind, each-more, flatten-more}
 use Rattle.rfc4737.proofs.Arrivals.{fold-more}
 use Rattle.receiver.specs.declared.Stream.{Stream}
 use Rattle.receiver.specs.declared.Receiver.{Receiver}
 use Rattle.receiver.specs.declared.ReceiverAnswer.the-variants.{Exact, Beyond}
 use Rattle.receiver.specs.declared.Outcome.{Outcome}
-use Rattle.receiver.specs.Limits.{packets}
 use Rattle.receiver.specs.Kept.{Held}
 use Rattle.receiver.specs.Outcomes.{refusedOutcome, acceptedOutcome}
-use Rattle.receiver.specs.Account.{accountRefusal, accountWith, answerIn, answersIn, inWindow, trueFigures, beyondFigures, inForm, jumpIn, outcomeIn}
+use Rattle.receiver.specs.Account.{accountRefusal, accountWith, answerIn, answersIn, inWindow, trueFigures, beyondFigures, inForm, outcomeIn}
 use Rattle.receiver.proofs.State.{stateWith}
 use Rattle.receiver.proofs.Agrees.{jump-cases}
 use Rattle.meter.specs.Streams.{Side, one, two, sideOf, receiverOf}
-use Rattle.meter.specs.Account.{Call, arrives, starts, numberOf, Reply, said, started, Part, freshPart, keptWith, partAfter, replyIn, Account, freeIn, accountAfter, accountOf, accountReply}
+use Rattle.meter.specs.Account.{Call, arrives, starts, numberOf, Reply, said, Part, freshPart, keptWith, partAfter, replyIn, Account, freeIn, accountAfter, meterAccountOf, accountReply}
 use Rattle.meter.specs.Demand3.{meterAfter, meterReply, streamNumbers}
 use Rattle.meter.specs.Independence.{isSide, ofOwn, ownCalls, ownReplies, Flag, flag, flagOf, Alone, freeAt, trace, Independence}
 use Rattle.meter.proofs.Sides.{accountFor, replyFor}
@@ -48,11 +49,11 @@ own-more s f calls c =
 
 -- a stream's part of the account, under one call more
 part-more : (s : Side) (calls : List Call) (c : Call)
-    → accountOf (calls ++ (c ∷ [])) s ≡ cond (isOn s c) (partAfter (freeIn (accountOf calls)) (accountOf calls s) c) (accountOf calls s)
-unfolding accountOf accountAfter
+    → meterAccountOf (calls ++ (c ∷ [])) s ≡ cond (isOn s c) (partAfter (freeIn (meterAccountOf calls)) (meterAccountOf calls s) c) (meterAccountOf calls s)
+unfolding meterAccountOf accountAfter
 part-more s calls c = ap (λ (account : Account). account s) (fold-more _ _ calls c) ∙ go s (sideOf (numberOf c))
   where
-    go : (s : Side) (o : Option Side) → accountFor o (accountOf calls) c s ≡ cond (isSide s o) (partAfter (freeIn (accountOf calls)) (accountOf calls s) c) (accountOf calls s)
+    go : (s : Side) (o : Option Side) → accountFor o (meterAccountOf calls) c s ≡ cond (isSide s o) (partAfter (freeIn (meterAccountOf calls)) (meterAccountOf calls s) c) (meterAccountOf calls s)
     go one none = refl
     go two none = refl
     go one (some one) = refl
@@ -61,11 +62,11 @@ part-more s calls c = ap (λ (account : Account). account s) (fold-more _ _ call
     go two (some two) = refl
 
 -- what is said to a call on a stream
-reply-own : (s : Side) (calls : List Call) (c : Call) → isOn s c ≡ true → meterReply calls c ≡ replyIn (accountOf calls s) c
+reply-own : (s : Side) (calls : List Call) (c : Call) → isOn s c ≡ true → meterReply calls c ≡ replyIn (meterAccountOf calls s) c
 unfolding accountReply
 reply-own s calls c e = reply-agrees calls c ∙ go s (sideOf (numberOf c)) e
   where
-    go : (s : Side) (o : Option Side) → isSide s o ≡ true → replyFor o (accountOf calls) c ≡ replyIn (accountOf calls s) c
+    go : (s : Side) (o : Option Side) → isSide s o ≡ true → replyFor o (meterAccountOf calls) c ≡ replyIn (meterAccountOf calls s) c
     go s none e = absurd (let z : _≡_ {A = ℕ} 0 1 = cc in omega arith)
     go one (some one) e = refl
     go one (some two) e = absurd (let z : _≡_ {A = ℕ} 0 1 = cc in omega arith)
@@ -83,14 +84,14 @@ same-after : (f e : ℕ) (h g : Part) (c : Call) → Same h g → Same (partAfte
 unfolding partAfter
 same-after f e h g (arrives n a) q =
     record { sent = q .sent; accepted = ap₂ (λ (k : ℕ) (l : List Arrival). accountWith k l a) (q .sent) (q .accepted) }
-same-after f e h g (starts n k) q = go (outside 1 packets k)
+same-after f e h g (starts n k) q = go (outside 1 sentMost k)
   where
     go : (t : Bool) → Same (cond t h (freshPart k)) (cond t g (freshPart k))
     go true = q
     go false = record { sent = refl; accepted = refl }
 
 -- the flag of an arrival does not hang on the window
-flag-window : (ws vs : List Placed) (k : ℕ) (account : List Arrival) (a : Arrival)
+flag-window : (ws vs : List FirstArrival) (k : ℕ) (account : List Arrival) (a : Arrival)
     → flagOf (said (outcomeIn ws k account a)) ≡ flagOf (said (outcomeIn vs k account a))
 unfolding outcomeIn inForm
 flag-window ws vs k account a = go (eqb (accountRefusal k account a) 0)
@@ -120,16 +121,16 @@ flag-same h g (arrives n a) q =
 flag-same h g (starts n k) q = refl
 
 -- the account of a stream is that of its own calls
-same-alone : (s : Side) (calls : List Call) → Same (accountOf calls s) (accountOf (ownCalls s calls) s)
+same-alone : (s : Side) (calls : List Call) → Same (meterAccountOf calls s) (meterAccountOf (ownCalls s calls) s)
 unfolding ofOwn each eachAfter flatten
-same-alone s = snoc-ind (λ (calls : List Call). Same (accountOf calls s) (accountOf (ownCalls s calls) s)) more (record { sent = refl; accepted = refl })
+same-alone s = snoc-ind (λ (calls : List Call). Same (meterAccountOf calls s) (meterAccountOf (ownCalls s calls) s)) more (record { sent = refl; accepted = refl })
   where
-    more : (calls : List Call) (c : Call) → Same (accountOf calls s) (accountOf (ownCalls s calls) s)
-        → Same (accountOf (calls ++ (c ∷ [])) s) (accountOf (ownCalls s (calls ++ (c ∷ []))) s)
+    more : (calls : List Call) (c : Call) → Same (meterAccountOf calls s) (meterAccountOf (ownCalls s calls) s)
+        → Same (meterAccountOf (calls ++ (c ∷ [])) s) (meterAccountOf (ownCalls s (calls ++ (c ∷ []))) s)
     more calls c q = rw (part-more s calls c, own-more s (λ (earlier : List Call) (c : Call). c) calls c) (go (isOn s c) refl)
       where
         go : (t : Bool) → isOn s c ≡ t
-            → Same (cond t (partAfter (freeIn (accountOf calls)) (accountOf calls s) c) (accountOf calls s)) (accountOf (ownCalls s calls ++ cond t (c ∷ []) []) s)
+            → Same (cond t (partAfter (freeIn (meterAccountOf calls)) (meterAccountOf calls s) c) (meterAccountOf calls s)) (meterAccountOf (ownCalls s calls ++ cond t (c ∷ []) []) s)
         go true e = rw (part-more s (ownCalls s calls) c, e) (same-after _ _ _ _ c q)
         go false e = rw append-nil q
 
@@ -159,10 +160,10 @@ known-alone {ℓ} : {A : Type ℓ} (f : Stream → A) (of : List Arrival → A)
     → (s : Side) (calls : List Call) → f (streamNumbers s calls) ≡ f (streamNumbers s (ownCalls s calls))
 known-alone f of e s calls = known calls ∙ ap of (same-alone s calls .accepted) ∙ sym (known (ownCalls s calls))
   where
-    known : (l : List Call) → f (streamNumbers s l) ≡ of (accountOf l s .accepted)
+    known : (l : List Call) → f (streamNumbers s l) ≡ of (meterAccountOf l s .accepted)
     known l =
         ap (λ (r : Receiver). f (r .stream)) (calls-carry l .streams s .state)
-        ∙ e (accountOf l s .sent) (accountOf l s .accepted) (heldIn (receiverOf s (meterAfter l)))
+        ∙ e (meterAccountOf l s .sent) (meterAccountOf l s .accepted) (heldIn (receiverOf s (meterAfter l)))
 
 alone : (s : Side) (calls : List Call) → Alone s calls
 unfolding stateWith
@@ -193,26 +194,26 @@ partFrom h t = partAfter (firstNumber (t .1)) h (t .0)
 free-counts : (h : Part) (free : ℕ) (c : Call) → partAfter free h c ≡ partFrom h (c, freeAt h free c)
 unfolding partAfter partFrom firstNumber
 free-counts h free (arrives n a) =
-    ap (λ (ws : List Placed). record { sent = h .sent; accepted = accountWith (h .sent) (h .accepted) a; window = ws })
-    (jump-cases (λ (l : List Placed). foldl (keptWith free) (h .window) l ≡ foldl (keptWith (firstNumber (map (λ (p : Placed). free) l))) (h .window) l)
+    ap (λ (ws : List FirstArrival). record { sent = h .sent; accepted = accountWith (h .sent) (h .accepted) a; window = ws })
+    (jump-cases (λ (l : List FirstArrival). foldl (keptWith free) (h .window) l ≡ foldl (keptWith (firstNumber (map (λ (p : FirstArrival). free) l))) (h .window) l)
     refl (λ p. refl) (h .sent) (h .accepted) a)
 free-counts h free (starts n k) = refl
 
 -- a stream's part is known from its trace
-part-trace : (s : Side) (calls : List Call) → accountOf calls s ≡ foldl partFrom (freshPart 1) (trace s calls)
-unfolding accountOf ofOwn each eachAfter flatten accountAfter
-part-trace s = snoc-ind (λ (calls : List Call). accountOf calls s ≡ foldl partFrom (freshPart 1) (trace s calls)) more refl
+part-trace : (s : Side) (calls : List Call) → meterAccountOf calls s ≡ foldl partFrom (freshPart 1) (trace s calls)
+unfolding meterAccountOf ofOwn each eachAfter flatten accountAfter
+part-trace s = snoc-ind (λ (calls : List Call). meterAccountOf calls s ≡ foldl partFrom (freshPart 1) (trace s calls)) more refl
   where
-    more : (calls : List Call) (c : Call) → accountOf calls s ≡ foldl partFrom (freshPart 1) (trace s calls)
-        → accountOf (calls ++ (c ∷ [])) s ≡ foldl partFrom (freshPart 1) (trace s (calls ++ (c ∷ [])))
-    more calls c q = rw (part-more s calls c, own-more {B = Call × List ℕ} s (λ (earlier : List Call) (c : Call). (c, freeAt (accountOf earlier s) (freeIn (accountOf earlier)) c)) calls c) (go (isOn s c))
+    more : (calls : List Call) (c : Call) → meterAccountOf calls s ≡ foldl partFrom (freshPart 1) (trace s calls)
+        → meterAccountOf (calls ++ (c ∷ [])) s ≡ foldl partFrom (freshPart 1) (trace s (calls ++ (c ∷ [])))
+    more calls c q = rw (part-more s calls c, own-more {B = Call × List ℕ} s (λ (earlier : List Call) (c : Call). (c, freeAt (meterAccountOf earlier s) (freeIn (meterAccountOf earlier)) c)) calls c) (go (isOn s c))
       where
-        go : (t : Bool) → cond t (partAfter (freeIn (accountOf calls)) (accountOf calls s) c) (accountOf calls s)
-            ≡ foldl partFrom (freshPart 1) (trace s calls ++ cond t ((c, freeAt (accountOf calls s) (freeIn (accountOf calls)) c) ∷ []) [])
+        go : (t : Bool) → cond t (partAfter (freeIn (meterAccountOf calls)) (meterAccountOf calls s) c) (meterAccountOf calls s)
+            ≡ foldl partFrom (freshPart 1) (trace s calls ++ cond t ((c, freeAt (meterAccountOf calls s) (freeIn (meterAccountOf calls)) c) ∷ []) [])
         go true =
-            free-counts (accountOf calls s) (freeIn (accountOf calls)) c
-            ∙ ap (λ (h : Part). partFrom h (c, freeAt (accountOf calls s) (freeIn (accountOf calls)) c)) q
-            ∙ sym (fold-more partFrom (freshPart 1) (trace s calls) (c, freeAt (accountOf calls s) (freeIn (accountOf calls)) c))
+            free-counts (meterAccountOf calls s) (freeIn (meterAccountOf calls)) c
+            ∙ ap (λ (h : Part). partFrom h (c, freeAt (meterAccountOf calls s) (freeIn (meterAccountOf calls)) c)) q
+            ∙ sym (fold-more partFrom (freshPart 1) (trace s calls) (c, freeAt (meterAccountOf calls s) (freeIn (meterAccountOf calls)) c))
         go false = rw append-nil q
 
 -- what is said to a stream's calls, from its trace
@@ -225,13 +226,13 @@ replies-trace s = snoc-ind (λ (calls : List Call). ownReplies s calls ≡ repli
   where
     more : (calls : List Call) (c : Call) → ownReplies s calls ≡ repliesFrom (trace s calls)
         → ownReplies s (calls ++ (c ∷ [])) ≡ repliesFrom (trace s (calls ++ (c ∷ [])))
-    more calls c q = rw (own-more s meterReply calls c, own-more {B = Call × List ℕ} s (λ (earlier : List Call) (c : Call). (c, freeAt (accountOf earlier s) (freeIn (accountOf earlier)) c)) calls c) (go (isOn s c) refl)
+    more calls c q = rw (own-more s meterReply calls c, own-more {B = Call × List ℕ} s (λ (earlier : List Call) (c : Call). (c, freeAt (meterAccountOf earlier s) (freeIn (meterAccountOf earlier)) c)) calls c) (go (isOn s c) refl)
       where
         go : (t : Bool) → isOn s c ≡ t → ownReplies s calls ++ cond t (meterReply calls c ∷ []) []
-            ≡ repliesFrom (trace s calls ++ cond t ((c, freeAt (accountOf calls s) (freeIn (accountOf calls)) c) ∷ []) [])
+            ≡ repliesFrom (trace s calls ++ cond t ((c, freeAt (meterAccountOf calls s) (freeIn (meterAccountOf calls)) c) ∷ []) [])
         go true e =
             ap₂ (λ (l : List Reply) (r : Reply). l ++ (r ∷ [])) q (reply-own s calls c e ∙ ap (λ (h : Part). replyIn h c) (part-trace s calls))
-            ∙ sym (each-more (λ (earlier : List (Call × List ℕ)) (t : Call × List ℕ). replyIn (foldl partFrom (freshPart 1) earlier) (t .0)) (trace s calls) (c, freeAt (accountOf calls s) (freeIn (accountOf calls)) c))
+            ∙ sym (each-more (λ (earlier : List (Call × List ℕ)) (t : Call × List ℕ). replyIn (foldl partFrom (freshPart 1) earlier) (t .0)) (trace s calls) (c, freeAt (meterAccountOf calls s) (freeIn (meterAccountOf calls)) c))
         go false e = rw (append-nil, append-nil) q
 
 -- independence

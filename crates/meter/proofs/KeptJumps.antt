@@ -8,13 +8,13 @@ use lib.Dec.{ltb}
 use lib.ListN.{length, drop, length-append}
 use borrow.Author.Tests.{ltb-true, ltb-false}
 use Rattle.rfc4737.specs.declared.Arrival.{Arrival}
-use Rattle.rfc4737.specs.Order.{Placed}
+use Rattle.rfc4737.specs.Order.{FirstArrival}
 use Rattle.receiver.specs.Limits.{window}
 use Rattle.receiver.specs.Kept.{placeAt, Held, withJump}
 use Rattle.receiver.specs.Account.{jumpIn}
 use Rattle.receiver.proofs.Agrees.{jump-cases}
 use Rattle.receiver.proofs.Fits.{and-true}
-use Rattle.receiver.proofs.HeldJumps.{Long, Holds, holds-count, holds-appended, holds-shifted, jump-frame}
+use Rattle.receiver.proofs.HeldJumps.{Holds, holds-count, holds-appended, holds-shifted, jump-frame}
 use Rattle.meter.specs.Streams.{mostKept, freeBeside, takesPlace}
 use Rattle.meter.specs.Account.{keptWith}
 
@@ -41,8 +41,8 @@ takes-none own beside h e = go (ltb own mostKept) refl
 
 -- what is kept of some jumps after new ones: those dropped and those kept are all of them, the places hold them, and no place
 -- after the kept ones is written
-pub record KeptOf (ds ws : List Placed) (j : Held) (beside : ℕ) (new : List Placed) (ws′ : List Placed) (j′ : Held) : Type 0 where
-  pub dropped : List Placed
+pub record KeptOf (ds ws : List FirstArrival) (j : Held) (beside : ℕ) (new : List FirstArrival) (ws′ : List FirstArrival) (j′ : Held) : Type 0 where
+  pub dropped : List FirstArrival
   pub parts : dropped ++ ws′ ≡ (ds ++ ws) ++ new
   pub holds : Holds dropped ws′ j′
   pub most : length ws′ ≤ mostKept
@@ -52,12 +52,12 @@ pub record KeptOf (ds ws : List Placed) (j : Held) (beside : ℕ) (new : List Pl
   pub frame : (k : ℕ) → length ws′ ≤ k → placeAt (j′ .places) k ≡ placeAt (j .places) k
 
 -- as the rule for the shared places keeps them
-abbrev pub AfterJumps : List Placed → List Placed → Held → ℕ → List Placed → Type 0
+abbrev pub AfterJumps : List FirstArrival → List FirstArrival → Held → ℕ → List FirstArrival → Type 0
 AfterJumps ds ws j beside new =
     KeptOf ds ws j beside new (foldl (keptWith (freeBeside (length ws) beside)) ws new)
     (foldl (withJump (takesPlace (length ws) (freeBeside (length ws) beside))) j new)
 
-module _ (ds ws : List Placed) (j : Held) (beside : ℕ)
+module _ (ds ws : List FirstArrival) (j : Held) (beside : ℕ)
     (h : Holds ds ws j)
     (most : length ws ≤ mostKept)
     (low : beside ≤ mostKept)
@@ -79,7 +79,7 @@ module _ (ds ws : List Placed) (j : Held) (beside : ℕ)
       }
 
   -- of one
-  kept-one : (p : Placed) (t : Bool) → takesPlace (length ws) (freeBeside (length ws) beside) ≡ t
+  kept-one : (p : FirstArrival) (t : Bool) → takesPlace (length ws) (freeBeside (length ws) beside) ≡ t
       → KeptOf ds ws j beside (p ∷ []) (cond t ws (drop 1 ws) ++ (p ∷ [])) (withJump t j p)
   unfolding withJump
   kept-one p true e =
@@ -100,7 +100,7 @@ module _ (ds ws : List Placed) (j : Held) (beside : ℕ)
       }
   kept-one p false e = go ws refl
     where
-      go : (vs : List Placed) → ws ≡ vs → KeptOf ds ws j beside (p ∷ []) (drop 1 ws ++ (p ∷ [])) (withJump false j p)
+      go : (vs : List FirstArrival) → ws ≡ vs → KeptOf ds ws j beside (p ∷ []) (drop 1 ws ++ (p ∷ [])) (withJump false j p)
       go [] v =
           let n : 16 ≤ length ws = takes-none (length ws) beside low e in
           let z : length ws ≡ 0 = ap length v in
@@ -111,7 +111,7 @@ module _ (ds ws : List Placed) (j : Held) (beside : ℕ)
           let c : j .kept ≡ length ws = holds-count ds ws j h in
           let l : length (vs ++ (p ∷ [])) ≡ length vs + 1 = length-append vs (p ∷ []) in
           let k : Holds ds (o ∷ vs) j = rw v at h in
-          let r : length (drop 1 ws ++ (p ∷ [])) ≡ length vs + 1 = ap (λ (us : List Placed). length (drop 1 us ++ (p ∷ []))) v ∙ l in
+          let r : length (drop 1 ws ++ (p ∷ [])) ≡ length vs + 1 = ap (λ (us : List FirstArrival). length (drop 1 us ++ (p ∷ []))) v ∙ l in
           record {
             dropped = ds ++ (o ∷ []);
             parts =

@@ -1,39 +1,40 @@
 -- The rule of a meter case by case, as the code meets it, and what a fit meter and a refused call say. Assumes nothing.
 use Prim.Native.Nat.{ℕ, zero, suc, _+_, _-_, _≤_, _<_, min, max}
 use mathlib.Core.Path.{_≡_, refl, sym, ap, _∙_}
-use mathlib.Core.Bool.{Bool, true, false, cond, _&&_}
+use mathlib.Core.Bool.{Bool, true, false, cond, _&&_, true≢false}
 use mathlib.Core.Option.{Option, none, some}
 use native.Mathlib.Omega.{arith}
 use lib.Dec.{leb, ltb, eqb}
-use borrow.Author.Tests.{leb-true, ltb-true, ltb-false, lt-ltb, le-ltb, eq-eqb, ne-eqb}
-use Rattle.rfc4737.specs.Refusals.{stateUnfit, noStream}
+use borrow.Author.Tests.{leb-true, ltb-false, lt-ltb, le-ltb, eq-eqb, ne-eqb}
+use Rattle.rfc4737.specs.Refusals.{outside, stateUnfit, noStream}
+use Rattle.rfc4737.proofs.Due.{between, not-outside}
 use Rattle.receiver.specs.declared.Places.{Places}
 use Rattle.receiver.specs.declared.Receiver.{Receiver}
-use Rattle.receiver.specs.declared.Stepped.{Stepped}
-use Rattle.receiver.specs.declared.Started.{Started}
+use Rattle.receiver.specs.declared.StepAnswer.{StepAnswer}
+use Rattle.receiver.specs.declared.FreshAnswer.{FreshAnswer}
 use Rattle.receiver.specs.Limits.{window}
 use Rattle.receiver.specs.Fit.{every}
 use Rattle.receiver.specs.Step.{freshOf, stepWith, stepWithin}
 use Rattle.receiver.proofs.Fits.{and-true, every-true}
 use Rattle.receiver.proofs.StepCases.{refused-equal}
 use Rattle.meter.specs.declared.Meter.{Meter}
-use Rattle.meter.specs.declared.MeterStepped.{MeterStepped}
-use Rattle.meter.specs.declared.MeterStarted.{MeterStarted}
+use Rattle.meter.specs.declared.MeterStepAnswer.{MeterStepAnswer}
+use Rattle.meter.specs.declared.MeterStartAnswer.{MeterStartAnswer}
 use Rattle.meter.specs.Streams.{Side, one, two, sideOf, other, shared, mostKept, freeBeside, takesPlace, facing, receiverOf, streamIn, withStream, withReceiver, keptIn, free}
 use Rattle.meter.specs.Step.{fitOnMeter, meterFit, notStepped, stepOn, meterStep, notStarted, startOn, meterStart}
 use Rattle.meter.proofs.Sides.{stepFor, startFor}
 use Rattle.meter.proofs.Facing.{put-back}
-use Rattle.meter.proofs.KeptJumps.{takes, takes-none}
+use Rattle.meter.proofs.KeptJumps.{takes}
 
 -- ---- the stream of a number
 
-pub side-zero : (n : ℕ) → n ≡ 0 → sideOf n ≡ none
+-- none has a number outside 1 to 2
+pub side-outside : (n : ℕ) → outside 1 2 n ≡ true → sideOf n ≡ none
 unfolding sideOf
-side-zero n a = rw a
-
-pub side-high : (n : ℕ) → 2 < n → sideOf n ≡ none
-unfolding sideOf
-side-high n a = simp (ne-eqb n 1 (λ e. omega arith), ne-eqb n 2 (λ e. omega arith))
+side-outside n e = simp (ne-eqb n 1 (apart 1 (omega arith) (omega arith)), ne-eqb n 2 (apart 2 (omega arith) (omega arith)))
+  where
+    apart : (m : ℕ) → 1 ≤ m → m ≤ 2 → n ≡ m → ⊥
+    apart m low high d = true≢false (sym e ∙ not-outside 1 2 n (omega arith) (omega arith))
 
 pub side-one : (n : ℕ) → n ≡ 1 → sideOf n ≡ some one
 unfolding sideOf
@@ -43,12 +44,15 @@ pub side-two : (n : ℕ) → n ≡ 2 → sideOf n ≡ some two
 unfolding sideOf
 side-two n a = rw a
 
-pub side-known : (n : ℕ) → (n ≡ 0 → ⊥) → n ≤ 2 → (s : Side) × (sideOf n ≡ some s)
-unfolding sideOf
-side-known zero a h = absurd (a refl)
-side-known (suc zero) a h = (one, refl)
-side-known (suc (suc zero)) a h = (two, refl)
-side-known (suc (suc (suc n))) a h = absurd (omega arith)
+-- any other is one's
+pub side-known : (n : ℕ) → outside 1 2 n ≡ false → (s : Side) × (sideOf n ≡ some s)
+side-known n e = go n (between 1 2 n e .0) (between 1 2 n e .1)
+  where
+    go : (n : ℕ) → 1 ≤ n → n ≤ 2 → (s : Side) × (sideOf n ≡ some s)
+    go zero a h = absurd (omega arith)
+    go (suc zero) a h = (one, side-one 1 refl)
+    go (suc (suc zero)) a h = (two, side-two 2 refl)
+    go (suc (suc (suc n))) a h = absurd (omega arith)
 
 -- ---- fit meters
 
@@ -122,12 +126,12 @@ free-beside two m =
     ap (λ (n : ℕ). shared - n) e
 
 -- the receiver's step, keeping at most so many jumps, is the step on a stream of a fit meter
-pub step-kept : (s : Side) (m : Meter) (number time most : ℕ) (r : Receiver) (x : Stepped)
+pub step-kept : (s : Side) (m : Meter) (number time most : ℕ) (r : Receiver) (x : StepAnswer)
     → meterFit m ≡ true
     → most ≡ min mostKept (shared - keptIn (other s) m)
     → r ≡ receiverOf s m
     → x ≡ stepWithin most r number time
-    → _≡_ {A = MeterStepped} (record { outcome = x .outcome; state = withReceiver s (x .state) m }) (stepOn s m number time)
+    → _≡_ {A = MeterStepAnswer} (record { outcome = x .outcome; state = withReceiver s (x .state) m }) (stepOn s m number time)
 unfolding stepOn
 step-kept s m number time most r x fit e is known =
     let room : ltb (keptIn s m) (max 1 (min (min mostKept (shared - keptIn (other s) m)) window)) ≡ takesPlace (keptIn s m) (free m) =
@@ -137,7 +141,7 @@ step-kept s m number time most r x fit e is known =
     ∙ ap (λ (q : Receiver). stepWithin most q number time) is
     ∙ ap (λ (n : ℕ). stepWithin n (receiverOf s m) number time) e
     ∙ ap (λ (t : Bool). stepWith t (receiverOf s m) number time) room in
-    ap (λ (y : Stepped). record { outcome = y .outcome; state = withReceiver s (y .state) m }) done
+    ap (λ (y : StepAnswer). record { outcome = y .outcome; state = withReceiver s (y .state) m }) done
 
 -- ---- the cases of a step
 
@@ -180,14 +184,14 @@ module _ (m : Meter) (n k : ℕ) where
   unfolding meterStart
   start-unfit s e f = rw (e, f)
 
-  module _ (s : Side) (e : sideOf n ≡ some s) (f : meterFit m ≡ true) (r : Started) (fresh : r ≡ freshOf k) where
+  module _ (s : Side) (e : sideOf n ≡ some s) (f : meterFit m ≡ true) (r : FreshAnswer) (fresh : r ≡ freshOf k) where
     -- a fresh receiver for K is refused
     pub start-outside : (r .refusal ≡ 0 → ⊥) → notStarted (r .refusal) m ≡ meterStart m n k
     unfolding meterStart startOn
     start-outside h = rw (e, f, ← fresh, ne-eqb (r .refusal) 0 h)
 
     -- or not
-    pub start-done : r .refusal ≡ 0 → _≡_ {A = MeterStarted} (record { refusal = 0; state = withStream s (streamIn (r .state)) m }) (meterStart m n k)
+    pub start-done : r .refusal ≡ 0 → _≡_ {A = MeterStartAnswer} (record { refusal = 0; state = withStream s (streamIn (r .state)) m }) (meterStart m n k)
     unfolding meterStart startOn
     start-done h = rw (e, f, ← fresh, h)
 
@@ -196,9 +200,9 @@ module _ (m : Meter) (n k : ℕ) where
   unfolding meterStart startOn
   start-refused = go (sideOf n)
     where
-      fresh : (s : Side) (r : Started) (t : Bool)
-          → (cond {A = MeterStarted} t (record { refusal = 0; state = withStream s (streamIn (r .state)) m }) (notStarted (r .refusal) m) .refusal ≡ 0 → ⊥)
-          → cond {A = MeterStarted} t (record { refusal = 0; state = withStream s (streamIn (r .state)) m }) (notStarted (r .refusal) m) .state ≡ m
+      fresh : (s : Side) (r : FreshAnswer) (t : Bool)
+          → (cond {A = MeterStartAnswer} t (record { refusal = 0; state = withStream s (streamIn (r .state)) m }) (notStarted (r .refusal) m) .refusal ≡ 0 → ⊥)
+          → cond {A = MeterStartAnswer} t (record { refusal = 0; state = withStream s (streamIn (r .state)) m }) (notStarted (r .refusal) m) .state ≡ m
       fresh s r true h = absurd (h refl)
       fresh s r false h = refl
 

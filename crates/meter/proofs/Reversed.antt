@@ -1,4 +1,5 @@
--- A list that is filled from the other end of another. Assumes nothing.
+-- A loop that fills a list `out` from the other end of a list l: up to i it holds the reverse of l, and so at the end all of it.
+-- Assumes nothing.
 use Prim.Native.Nat.{ℕ, suc, _+_, _-_, _≤_, _<_}
 use mathlib.Core.Path.{_≡_, refl, sym, ap, _∙_}
 use mathlib.Core.Bool.{Bool, true, false}

@@ -4,19 +4,19 @@ use mathlib.Core.Bool.{cond}
 use mathlib.Core.Option.{Option}
 use Rattle.rfc4737.specs.Refusals.{stateUnfit, noStream}
 use Rattle.meter.specs.declared.Meter.{Meter}
-use Rattle.meter.specs.declared.MeterStepped.{MeterStepped}
-use Rattle.meter.specs.declared.MeterStarted.{MeterStarted}
+use Rattle.meter.specs.declared.MeterStepAnswer.{MeterStepAnswer}
+use Rattle.meter.specs.declared.MeterStartAnswer.{MeterStartAnswer}
 use Rattle.meter.specs.Streams.{Side, onStream}
 use Rattle.meter.specs.Step.{meterFit, notStepped, stepOn, notStarted, startOn}
 use Rattle.meter.specs.Account.{Call, Reply, partAfter, replyIn, noReply, Account, freeIn, withPart}
 
 -- the step
-abbrev pub stepFor : Option Side → Meter → ℕ → ℕ → MeterStepped
+abbrev pub stepFor : Option Side → Meter → ℕ → ℕ → MeterStepAnswer
 stepFor o m number time =
     onStream o (notStepped noStream m) (λ (s : Side). cond (meterFit m) (stepOn s m number time) (notStepped stateUnfit m))
 
 -- the start
-abbrev pub startFor : Option Side → Meter → ℕ → MeterStarted
+abbrev pub startFor : Option Side → Meter → ℕ → MeterStartAnswer
 startFor o m k =
     onStream o (notStarted noStream m) (λ (s : Side). cond (meterFit m) (startOn s m k) (notStarted stateUnfit m))
 

@@ -6,10 +6,10 @@ use mathlib.Core.Bool.{cond}
 use mathlib.Core.List.{List, [], _∷_, _++_, foldl}
 use lib.ListN.{length, drop}
 use Rattle.rfc4737.specs.declared.Arrival.{Arrival}
-use Rattle.rfc4737.specs.Order.{Placed}
-use Rattle.rfc4737.specs.Refusals.{outside, inCase, sentOutside, noStream}
+use Rattle.rfc4737.specs.Order.{FirstArrival}
+use Rattle.rfc4737.specs.Refusals.{outside, noStream}
+use Rattle.rfc4737.specs.Judge.{sentMost, judgeSent}
 use Rattle.receiver.specs.declared.Outcome.{Outcome}
-use Rattle.receiver.specs.Limits.{packets}
 use Rattle.receiver.specs.Outcomes.{refusedOutcome}
 use Rattle.receiver.specs.Account.{accountWith, jumpIn, outcomeIn}
 use Rattle.meter.specs.Streams.{Side, one, two, sideOf, onStream, freeBeside, takesPlace}
@@ -35,14 +35,14 @@ pub data Reply : Type 0 where
 pub record Part : Type 0 where
   pub sent : ℕ
   pub accepted : List Arrival
-  pub window : List Placed
+  pub window : List FirstArrival
 
 -- fresh for K
 abbrev pub freshPart : ℕ → Part
 freshPart k = record { sent = k; accepted = []; window = [] }
 
 -- the jumps kept under a new one: it takes a free place, or the oldest kept one is dropped for it
-unfoldable pub keptWith : ℕ → List Placed → Placed → List Placed
+unfoldable pub keptWith : ℕ → List FirstArrival → FirstArrival → List FirstArrival
 keptWith free kept p = cond (takesPlace (length kept) free) kept (drop 1 kept) ++ (p ∷ [])
 
 -- a stream's part after a call on it, where so many places are free; refused, it stays
@@ -53,12 +53,12 @@ partAfter free h (arrives n a) =
       accepted = accountWith (h .sent) (h .accepted) a;
       window = foldl (keptWith free) (h .window) (jumpIn (h .sent) (h .accepted) a);
     }
-partAfter free h (starts n k) = cond (outside 1 packets k) h (freshPart k)
+partAfter free h (starts n k) = cond (outside 1 sentMost k) h (freshPart k)
 
 -- the reply to a call on a stream
 unfoldable pub replyIn : Part → Call → Reply
 replyIn h (arrives n a) = said (outcomeIn (h .window) (h .sent) (h .accepted) a)
-replyIn h (starts n k) = started (inCase (outside 1 packets k) sentOutside)
+replyIn h (starts n k) = started (judgeSent k)
 
 -- the reply to a call on no stream
 abbrev pub noReply : Call → Reply
@@ -89,9 +89,9 @@ accountAfter account c =
     (λ (s : Side). withPart s (partAfter (freeIn account) (account s) c) account)
 
 -- the account of the calls: at first both streams are fresh for K = 1
-unfoldable pub accountOf : List Call → Account
-accountOf calls = foldl accountAfter (λ s. freshPart 1) calls
+unfoldable pub meterAccountOf : List Call → Account
+meterAccountOf calls = foldl accountAfter (λ s. freshPart 1) calls
 
 -- the account's reply to a call, after the calls before it
 unfoldable pub accountReply : List Call → Call → Reply
-accountReply earlier c = onStream (sideOf (numberOf c)) (noReply c) (λ (s : Side). replyIn (accountOf earlier s) c)
+accountReply earlier c = onStream (sideOf (numberOf c)) (noReply c) (λ (s : Side). replyIn (meterAccountOf earlier s) c)

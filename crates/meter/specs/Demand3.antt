@@ -11,7 +11,7 @@ use Rattle.rfc4737.specs.declared.ReorderedFigures.{ReorderedFigures}
 use Rattle.rfc4737.specs.declared.Answer.the-variants as answer
 use Rattle.rfc4737.specs.declared.Counts.{Counts}
 use Rattle.rfc4737.specs.Arrivals.{firsts, each, count}
-use Rattle.rfc4737.specs.Order.{Placed, jumps}
+use Rattle.rfc4737.specs.Order.{FirstArrival, jumps}
 use Rattle.rfc4737.specs.Runs.{counts}
 use Rattle.rfc4737.specs.Refusals.{stateUnfit}
 use Rattle.receiver.specs.declared.Stream.{Stream}
@@ -21,7 +21,7 @@ use Rattle.receiver.specs.Demand3.{Answered}
 use Rattle.meter.specs.declared.Meter.{Meter}
 use Rattle.meter.specs.Streams.{Side, one, two, sideOf, shared, mostKept, streamOf, receiverOf}
 use Rattle.meter.specs.Step.{newMeter, meterStep, meterStart}
-use Rattle.meter.specs.Account.{Call, arrives, starts, Reply, said, started, accountOf, accountReply}
+use Rattle.meter.specs.Account.{Call, arrives, starts, Reply, said, started, meterAccountOf, accountReply}
 
 -- the meter after a call
 abbrev pub metAfter : Meter → Call → Meter
@@ -53,18 +53,18 @@ abbrev pub streamNumbers : Side → List Call → Stream
 streamNumbers s calls = streamOf s (meterAfter calls) .stream
 
 -- the jumps that it keeps there
-abbrev pub keptAfter : Side → List Call → List Placed
+abbrev pub keptAfter : Side → List Call → List FirstArrival
 keptAfter s calls =
     let r = receiverOf s (meterAfter calls) in
     keptOf (heldOf (r .stream) (r .places))
 
 -- its counts by the account
 abbrev pub countsOf : Side → List Call → Counts
-countsOf s calls = counts (answersIn (accountOf calls s .accepted))
+countsOf s calls = counts (answersIn (meterAccountOf calls s .accepted))
 
 -- its jumps
-abbrev pub jumpsOf : Side → List Call → List Placed
-jumpsOf s calls = jumps (firsts (accountOf calls s .accepted))
+abbrev pub jumpsOf : Side → List Call → List FirstArrival
+jumpsOf s calls = jumps (firsts (meterAccountOf calls s .accepted))
 
 -- what a stream holds after the calls agrees with the account
 pub record Agrees (s : Side) (calls : List Call) : Type 0 where
@@ -75,16 +75,16 @@ pub record Agrees (s : Side) (calls : List Call) : Type 0 where
   pub runs : streamNumbers s calls .runs ≡ countsOf s calls .runs
   -- duplicates, in-order and reordered packets are together the accepted arrivals
   pub sum : streamNumbers s calls .duplicates + streamNumbers s calls .inorder + countsOf s calls .reordered
-      ≡ length (accountOf calls s .accepted)
+      ≡ length (meterAccountOf calls s .accepted)
   -- the jumps that it keeps are its window
-  pub kept : keptAfter s calls ≡ accountOf calls s .window
+  pub kept : keptAfter s calls ≡ meterAccountOf calls s .window
   -- which are the last of its jumps: at least 16 or all that it has, and never over 48
-  pub last : accountOf calls s .window ≡ drop (length (jumpsOf s calls) - length (accountOf calls s .window)) (jumpsOf s calls)
-  pub least : min 16 (length (jumpsOf s calls)) ≤ length (accountOf calls s .window)
-  pub most : length (accountOf calls s .window) ≤ mostKept
+  pub last : meterAccountOf calls s .window ≡ drop (length (jumpsOf s calls) - length (meterAccountOf calls s .window)) (jumpsOf s calls)
+  pub least : min 16 (length (jumpsOf s calls)) ≤ length (meterAccountOf calls s .window)
+  pub most : length (meterAccountOf calls s .window) ≤ mostKept
 
 -- the claim, of a list of calls
-pub record Demand3 (calls : List Call) : Type 0 where
+pub record MeterDemand3 (calls : List Call) : Type 0 where
   -- the refusals and answers are the account's
   pub replies : each meterReply calls ≡ each accountReply calls
   -- 10 never comes
@@ -94,12 +94,12 @@ pub record Demand3 (calls : List Call) : Type 0 where
       → calls ≡ earlier ++ (arrives n a ∷ later)
       → (s : Side)
       → sideOf n ≡ some s
-      → accountRefusal (accountOf earlier s .sent) (accountOf earlier s .accepted) a ≡ 0
+      → accountRefusal (meterAccountOf earlier s .sent) (meterAccountOf earlier s .accepted) a ≡ 0
       → (d : ReorderedFigures)
-      → answerIn (accountOf earlier s .accepted) a ≡ answer.Reordered d
-      → Answered (accountOf earlier s .window) (accountOf earlier s .accepted) a d
+      → answerIn (meterAccountOf earlier s .accepted) a ≡ answer.Reordered d
+      → Answered (meterAccountOf earlier s .window) (meterAccountOf earlier s .accepted) a d
       (meterStep (meterAfter earlier) n (a .number) (a .time) .outcome .noted)
   -- after the list each stream is as its account
   pub streams : (s : Side) → Agrees s calls
   -- and they keep at most 64 jumps together
-  pub places : length (accountOf calls one .window) + length (accountOf calls two .window) ≤ shared
+  pub places : length (meterAccountOf calls one .window) + length (meterAccountOf calls two .window) ≤ shared

@@ -5,12 +5,12 @@ use mathlib.Core.Path.{_≡_}
 use mathlib.Core.List.{List, [], _∷_, map, flatten}
 use mathlib.Core.Option.{Option, none, some}
 use Rattle.rfc4737.specs.Arrivals.{each}
-use Rattle.rfc4737.specs.Order.{Placed}
+use Rattle.rfc4737.specs.Order.{FirstArrival}
 use Rattle.receiver.specs.declared.ReceiverAnswer.{ReceiverAnswer}
 use Rattle.receiver.specs.declared.ReceiverAnswer.the-variants.{Duplicate, InOrder, Exact, Beyond}
 use Rattle.receiver.specs.Account.{jumpIn}
 use Rattle.meter.specs.Streams.{Side, one, two, sideOf}
-use Rattle.meter.specs.Account.{Call, arrives, starts, numberOf, Reply, said, started, Part, freeIn, accountOf}
+use Rattle.meter.specs.Account.{Call, arrives, starts, numberOf, Reply, said, started, Part, freeIn, meterAccountOf}
 use Rattle.meter.specs.Demand3.{meterReply, streamNumbers, jumpsOf}
 
 -- whether a stream is the one of a call, if that is on one
@@ -61,7 +61,7 @@ flagOf (started zero) = fresh
 -- "its flags, jumps, runs and counts stay what they'd be without a neighbour"
 pub record Alone (s : Side) (calls : List Call) : Type 0 where
   pub flags : map flagOf (ownReplies s calls) ≡ map flagOf (each meterReply (ownCalls s calls))
-  pub accepted : accountOf calls s .accepted ≡ accountOf (ownCalls s calls) s .accepted
+  pub accepted : meterAccountOf calls s .accepted ≡ meterAccountOf (ownCalls s calls) s .accepted
   pub jumps : jumpsOf s calls ≡ jumpsOf s (ownCalls s calls)
   pub runs : streamNumbers s calls .runs ≡ streamNumbers s (ownCalls s calls) .runs
   pub arrived : streamNumbers s calls .arrived ≡ streamNumbers s (ownCalls s calls) .arrived
@@ -72,13 +72,13 @@ pub record Alone (s : Side) (calls : List Call) : Type 0 where
 
 -- the number of free places where a call is a jump of a stream
 abbrev pub freeAt : Part → ℕ → Call → List ℕ
-freeAt h free (arrives n a) = map (λ (p : Placed). free) (jumpIn (h .sent) (h .accepted) a)
+freeAt h free (arrives n a) = map (λ (p : FirstArrival). free) (jumpIn (h .sent) (h .accepted) a)
 freeAt h free (starts n k) = []
 
 -- the calls on a stream, with the number of free places at each of its jumps
 abbrev pub trace : Side → List Call → List (Call × List ℕ)
 trace s calls =
-    ofOwn s (λ (earlier : List Call) (c : Call). (c, freeAt (accountOf earlier s) (freeIn (accountOf earlier)) c)) calls
+    ofOwn s (λ (earlier : List Call) (c : Call). (c, freeAt (meterAccountOf earlier s) (freeIn (meterAccountOf earlier)) c)) calls
 
 -- the claim. Of two lists of calls: with the same calls on a stream, and the same number of free places at each of its jumps,
 -- its replies are the same

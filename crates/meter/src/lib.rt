@@ -10,6 +10,7 @@ use receiver::Places;
 use receiver::Receiver;
 use receiver::ReceiverAnswer;
 use receiver::Stream;
+use rfc4737::judge::outside;
 use rfc4737::refusal;
 ghost use mathlib.Core.Path.{_≡_};
 ghost use mathlib.Core.Bool.{true};
@@ -18,7 +19,7 @@ ghost use Prim.Native.Nat.{_-_, _≤_, min};
 ghost use Rattle.meter.specs.Streams.{one, two, shared, mostKept, streamIn, withStream};
 ghost use Rattle.meter.specs.Step.{newMeter, fitOnMeter, meterFit, notStepped, stepOn, meterStep, meterStart};
 ghost use Rattle.meter.specs.Account.{Call};
-ghost use Rattle.meter.specs.Demand3.{Demand3};
+ghost use Rattle.meter.specs.Demand3.{MeterDemand3};
 ghost use Rattle.meter.specs.Independence.{Independence};
 
 // What a stream has for itself: its numbers, and a bit for each of its packets that has arrived.
@@ -38,14 +39,14 @@ pub struct Meter {
 }
 
 // The answer of a step: what is said of the arrival, and the meter after it.
-pub struct MeterStepped {
+pub struct MeterStepAnswer {
     pub outcome: Outcome,
     pub state: Meter,
 }
 
 // A meter after a fresh start of a stream: the refusal (0 for none), and the meter.
 #[repr(C)]
-pub struct MeterStarted {
+pub struct MeterStartAnswer {
     pub refusal: u32,
     pub state: Meter,
 }
@@ -60,7 +61,7 @@ impl Meter {
     // A new meter: both streams fresh for a single packet.
     pub fn new() -> Meter
         ensures new { λ r. ⌜ r ≡ newMeter ⌝ }
-        ensures demand3 { λ _. ⌜ ((calls : List Call) → Demand3 calls) ⌝ }
+        ensures demand3 { λ _. ⌜ ((calls : List Call) → MeterDemand3 calls) ⌝ }
         ensures independence { λ _. ⌜ Independence ⌝ }
     {
         let fresh = Receiver::fresh(1);
@@ -74,57 +75,48 @@ impl Meter {
     }
 
     // A stream started afresh for k packets.
-    pub fn start(self, stream: u32, k: u32) -> MeterStarted
+    pub fn start(self, stream: u32, k: u32) -> MeterStartAnswer
         ensures start { λ r. ⌜ r ≡ meterStart self stream k ⌝ }
         ensures refused { λ r. ⌜ ((r .refusal ≡ 0 → ⊥) → r .state ≡ self) ⌝ }
     {
-        if stream == 0 {
-            return MeterStarted {
-                refusal: refusal::NO_STREAM,
-                state: self,
-            };
-        }
-        if 2 < stream {
-            return MeterStarted {
+        if outside(1, 2, stream as u64) {
+            return MeterStartAnswer {
                 refusal: refusal::NO_STREAM,
                 state: self,
             };
         }
         if !is_fit(self) {
-            return MeterStarted {
+            return MeterStartAnswer {
                 refusal: refusal::STATE_UNFIT,
                 state: self,
             };
         }
         let fresh = Receiver::fresh(k);
         if fresh.refusal != 0 {
-            return MeterStarted {
+            return MeterStartAnswer {
                 refusal: fresh.refusal,
                 state: self,
             };
         }
         let r = fresh.state;
         if stream == 1 {
-            return MeterStarted {
+            return MeterStartAnswer {
                 refusal: 0,
                 state: with_first(self, state_of(r)),
             };
         }
-        MeterStarted {
+        MeterStartAnswer {
             refusal: 0,
             state: with_second(self, state_of(r)),
         }
     }
 
     // The answer to an arrival on a stream, and the meter after it.
-    pub fn step(self, stream: u32, number: u32, time: u64) -> MeterStepped
+    pub fn step(self, stream: u32, number: u32, time: u64) -> MeterStepAnswer
         ensures step { λ r. ⌜ r ≡ meterStep self stream number time ⌝ }
         ensures refused { λ r. ⌜ ((r .outcome .refusal ≡ 0 → ⊥) → r .state ≡ self) ⌝ }
     {
-        if stream == 0 {
-            return not_stepped(refusal::NO_STREAM, self);
-        }
-        if 2 < stream {
+        if outside(1, 2, stream as u64) {
             return not_stepped(refusal::NO_STREAM, self);
         }
         if !is_fit(self) {
@@ -138,10 +130,10 @@ impl Meter {
 }
 
 // A refused arrival: an equal meter.
-fn not_stepped(refusal: u32, m: Meter) -> MeterStepped
+fn not_stepped(refusal: u32, m: Meter) -> MeterStepAnswer
     ensures { λ r. ⌜ r ≡ notStepped refusal m ⌝ }
 {
-    MeterStepped {
+    MeterStepAnswer {
         outcome: Outcome {
             refusal,
             noted: ReceiverAnswer::InOrder(0),
@@ -226,7 +218,7 @@ fn most_beside(kept: u32) -> u32
 }
 
 // The step on stream 1 of a fit meter.
-fn step_first(m: Meter, number: u32, time: u64) -> MeterStepped
+fn step_first(m: Meter, number: u32, time: u64) -> MeterStepAnswer
     requires { ⌜ meterFit m ≡ true ⌝ }
     ensures { λ r. ⌜ r ≡ stepOn one m number time ⌝ }
 {
@@ -237,7 +229,7 @@ fn step_first(m: Meter, number: u32, time: u64) -> MeterStepped
     let outcome = s.outcome;
     let r = s.state;
     let places = r.places;
-    MeterStepped {
+    MeterStepAnswer {
         outcome,
         state: Meter {
             first: state_of(r),
@@ -248,7 +240,7 @@ fn step_first(m: Meter, number: u32, time: u64) -> MeterStepped
 }
 
 // The step on stream 2 of a fit meter.
-fn step_second(m: Meter, number: u32, time: u64) -> MeterStepped
+fn step_second(m: Meter, number: u32, time: u64) -> MeterStepAnswer
     requires { ⌜ meterFit m ≡ true ⌝ }
     ensures { λ r. ⌜ r ≡ stepOn two m number time ⌝ }
 {
@@ -258,7 +250,7 @@ fn step_second(m: Meter, number: u32, time: u64) -> MeterStepped
     let s = Receiver::step_within(receiver_of(second, turned(m.places)), most, number, time);
     let outcome = s.outcome;
     let r = s.state;
-    MeterStepped {
+    MeterStepAnswer {
         outcome,
         state: Meter {
             first,

@@ -19,11 +19,13 @@ use Rattle.rfc4737.specs.Answer.{inOrderAnswer, reorderedAnswer}
 use Rattle.rfc4737.proofs.Arrivals.{has-firsts, length-firsts}
 use Rattle.rfc4737.proofs.Folds.{answer-duplicate, answer-first, first-in-order, first-reordered}
 use Rattle.rfc4737.proofs.Jumps.{reordered-discontinuity}
+use Rattle.rfc4737.specs.Judge.{sentMost, arrivalsMost}
 use Rattle.sample.specs.declared.Layout.{Layout}
 use Rattle.sample.specs.Decode.{Decoded}
 use Rattle.metrics.specs.Sample.{sizeOf, sampleArrivals}
-use Rattle.metrics.specs.Private.Sample.{noArrival, arrivalAt, before, answerAt, Laid, Has}
-use Rattle.metrics.specs.Private.Tables.{Numbered, Packets, Recorded, Follows, Late, placeOf, classBy, Tells, lateOnly, NewIfLate}
+use Rattle.sample.specs.Places.{noArrival}
+use Rattle.metrics.specs.Private.Sample.{arrivalAt, before, answerAt, FileLayout, HasRecord}
+use Rattle.metrics.specs.Private.Tables.{NumberTable, Packets, RecordTable, EngineTables, LateRecord, placeOf, classOf, classBy, ClassAnswer, lateOnly, NewIfLate}
 use Rattle.metrics.specs.Private.Steps.{placeIn, placeBy}
 use Rattle.metrics.specs.declared.look.Class.{Class}
 use Rattle.metrics.specs.declared.tables.State.{State}
@@ -32,9 +34,9 @@ use Rattle.metrics.proofs.Records.{record-none, record-some, has-at, fi
 use Rattle.metrics.proofs.Reordered.{Found, found}
 
 module _ (d : Decoded) (i : ℕ) (numbers records skipped : List ℕ) (state : State)
-    (f : Follows (before d i) numbers records skipped state) (n : ℕ) (is : n ≡ arrivalAt d i .number) (low : 1 ≤ n) (high : n ≤ 4096) where
+    (f : EngineTables (before d i) numbers records skipped state) (n : ℕ) (is : n ≡ arrivalAt d i .number) (low : 1 ≤ n) (high : n ≤ arrivalsMost) where
   -- a packet with a record is a duplicate
-  told-duplicate : (getD records n 0 ≡ 0 → ⊥) → Tells d i (state .count) (Class.Duplicate (getD records n 0))
+  told-duplicate : (getD records n 0 ≡ 0 → ⊥) → ClassAnswer d i (state .count) (Class.Duplicate (getD records n 0))
   told-duplicate e =
       let arrived : has (arrivalAt d i .number) (before d i) ≡ true = rw is at (arrived-recorded (before d i) numbers records skipped state f n low high e) in
       answer-duplicate (sizeOf d) (before d i) (arrivalAt d i) arrived
@@ -45,7 +47,7 @@ module _ (d : Decoded) (i : ℕ) (numbers records skipped : List ℕ) (state : S
   new e = rw is at (new-recorded (before d i) numbers records skipped state f n low high e)
 
   -- from NextExp on it is in order
-  told-in-order : getD records n 0 ≡ 0 → state .next ≤ n → Tells d i (state .count) (Class.InOrder (n - state .next))
+  told-in-order : getD records n 0 ≡ 0 → state .next ≤ n → ClassAnswer d i (state .count) (Class.InOrder (n - state .next))
   unfolding inOrderAnswer jumpSize
   told-in-order e ahead =
       answer-first (sizeOf d) (before d i) (arrivalAt d i) (new e)
@@ -53,7 +55,7 @@ module _ (d : Decoded) (i : ℕ) (numbers records skipped : List ℕ) (state : S
       ∙ rw (f .numbered .all, f .next, is)
 
   -- below NextExp it is reordered, and the table has its discontinuity
-  told-reordered : getD records n 0 ≡ 0 → n < state .next → Tells d i (state .count) (Class.Reordered (getD skipped n 0))
+  told-reordered : getD records n 0 ≡ 0 → n < state .next → ClassAnswer d i (state .count) (Class.Reordered (getD skipped n 0))
   unfolding isInOrder
   told-reordered e late =
       let s = arrivalAt d i .number in
@@ -70,19 +72,19 @@ module _ (d : Decoded) (i : ℕ) (numbers records skipped : List ℕ) (state : S
       }
 
   -- the class that the tables give tells the answer
-  pub tells : Tells d i (state .count) (classBy records skipped (state .next) n)
+  pub tells : ClassAnswer d i (state .count) (classBy records skipped (state .next) n)
   unfolding classBy
   tells = go (eqb (getD records n 0) 0) refl (leb (state .next) n) refl
     where
       go : (t : Bool) → eqb (getD records n 0) 0 ≡ t → (u : Bool) → leb (state .next) n ≡ u
-          → Tells d i (state .count)
+          → ClassAnswer d i (state .count)
           (cond t (cond u (Class.InOrder (n - state .next)) (Class.Reordered (getD skipped n 0))) (Class.Duplicate (getD records n 0)))
       go false e u q = told-duplicate (eqb-false _ _ e)
       go true e true q = told-in-order (eqb-true _ _ e) (leb-true _ _ q)
       go true e false q = told-reordered (eqb-true _ _ e) (leb-false _ _ q)
 
   -- a class that the tables give tells the answer
-  pub told : (k : Class) → k ≡ classBy records skipped (state .next) n → Tells d i (state .count) k
+  pub told : (k : Class) → k ≡ classBy records skipped (state .next) n → ClassAnswer d i (state .count) k
   told k e = rw e tells
 
   -- and a packet that is reordered by it has not arrived
@@ -105,18 +107,28 @@ module _ (d : Decoded) (i : ℕ) (numbers records skipped : List ℕ) (state : S
       ∙ simp (eq-eqb (getD records n 0) 0 (f .recorded .at n low high ∙ record-none n (before d i) new), lt-leb (state .next) n (omega (arith, f .next)))
 
 -- where the discontinuity of a reordered record stands
-pub late-found : (d : Decoded) (i at : ℕ) (h : Late d i at) → Found (sizeOf d) (firsts (before d i)) (arrivalAt d i .number) (h .place)
+pub late-found : (d : Decoded) (i at : ℕ) (h : LateRecord d i at) → Found (sizeOf d) (firsts (before d i)) (arrivalAt d i .number) (h .place)
 late-found d i at h = found (sizeOf d) (arrivalAt d i .number) (firsts (before d i)) (h .place) (h .is)
 
+-- a class that tells the answer is the answer's
+pub class-told : (d : Decoded) (i count : ℕ) (k : Class) → ClassAnswer d i count k → k ≡ classOf (answerAt d i)
+unfolding reorderedAnswer extentFrom
+class-told d i count (Class.Duplicate first) h = rw h
+class-told d i count (Class.InOrder jump) h = rw h
+class-told d i count (Class.Reordered at) h =
+    let f = late-found d i at h in
+    let e : length (firsts (before d i)) + 1 - (length (firsts (before d i)) + 1 - h .place .position) ≡ at = omega (arith, h .position, f .low, f .high) in
+    rw (h .answer, e)
+
 -- the position that a class gives which tells the answer is the answer's
-pub place-told : (d : Decoded) (i count : ℕ) (k : Class) → Tells d i count k → count ≡ length (firsts (before d i)) → placeBy count k ≡ placeIn (answerAt d i)
+pub place-told : (d : Decoded) (i count : ℕ) (k : Class) → ClassAnswer d i count k → count ≡ length (firsts (before d i)) → placeBy count k ≡ placeIn (answerAt d i)
 unfolding placeBy reorderedAnswer
 place-told d i count (Class.Duplicate first) h c = rw h
 place-told d i count (Class.InOrder jump) h c = rw h
 place-told d i count (Class.Reordered at) h c = rw (h .answer, c)
 
 -- a first arrival among the first i arrivals stands at one of their records
-module _ (d : Decoded) (y : Layout) (i : ℕ) (h : Laid d y) (most : i ≤ y .arrivals) (p : ℕ) (inside : p < length (firsts (before d i))) where
+module _ (d : Decoded) (y : Layout) (i : ℕ) (h : FileLayout d y) (most : i ≤ y .arrivals) (p : ℕ) (inside : p < length (firsts (before d i))) where
   -- its packet has arrived
   arrived : has (getD (firsts (before d i)) p noArrival .number) (before d i) ≡ true
   arrived = sym (has-firsts _ (before d i)) ∙ has-at noArrival (firsts (before d i)) p inside
@@ -140,8 +152,8 @@ module _ (d : Decoded) (y : Layout) (i : ℕ) (h : Laid d y) (most : i ≤ y .ar
       omega (arith, n, ap (λ (a : Arrival). a .number) first-stands)
 
 -- there are few first arrivals, and their numbers are those of packets
-pub packets : (d : Decoded) (y : Layout) (i : ℕ) → Laid d y → (numbers : List ℕ) (count : ℕ)
-    → Numbered (firsts (before d i)) numbers count → i ≤ y .arrivals → (count ≤ 4096) × Packets numbers count (y .sent)
+pub packets : (d : Decoded) (y : Layout) (i : ℕ) → FileLayout d y → (numbers : List ℕ) (count : ℕ)
+    → NumberTable (firsts (before d i)) numbers count → i ≤ y .arrivals → (count ≤ sentMost) × Packets numbers count (y .sent)
 packets d y i h numbers count n most = (
   omega (arith, n .all, length-firsts (before d i), before-count d y i h most, h .few),
   record {
@@ -150,8 +162,8 @@ packets d y i h numbers count n most = (
   },
 )
 
-module _ (d : Decoded) (y : Layout) (i at count : ℕ) (h : Has d y i) (late : Late d i at) (numbers records : List ℕ)
-    (nums : Numbered (firsts (before d i)) numbers count) (recs : Recorded (before d i) records) where
+module _ (d : Decoded) (y : Layout) (i at count : ℕ) (h : HasRecord d y i) (late : LateRecord d i at) (numbers records : List ℕ)
+    (nums : NumberTable (firsts (before d i)) numbers count) (recs : RecordTable (before d i) records) where
   -- record i + 1 is one of the records
   most : i ≤ y .arrivals
   most = omega (arith, h .inside)
@@ -167,7 +179,7 @@ module _ (d : Decoded) (y : Layout) (i at count : ℕ) (h : Has d y i) (late : L
   inside = omega (arith, late-place, nums .all)
 
   -- its packet is one of the packets
-  pub late-packet : (1 ≤ getD numbers (at - 1) 0) × (getD numbers (at - 1) 0 ≤ 4096)
+  pub late-packet : (1 ≤ getD numbers (at - 1) 0) × (getD numbers (at - 1) 0 ≤ sentMost)
   late-packet = omega (arith, packets d y i (h .file) numbers count nums most .1 .inside (at - 1) (omega (arith, late-place)), h .file .sentFew)
 
   -- the table of records has its record

@@ -1,6 +1,6 @@
 -- How many octets two texts have in common, octet by octet and line by line, and when they are the same. Assumes nothing.
 use Prim.Native.Nat.{ℕ, suc, _+_, _-_, _≤_, _<_}
-use mathlib.Core.Path.{_≡_, refl, sym, ap, _∙_}
+use mathlib.Core.Path.{_≡_, refl}
 use mathlib.Core.Bool.{Bool, true, false, cond, _&&_}
 use mathlib.Core.List.{List, [], _∷_, _++_}
 use native.Mathlib.Omega.{arith}
@@ -9,7 +9,7 @@ use lib.ListN.{length, take, drop, getD, length-drop, drop-of-length-le}
 use lib.Seq.{drop-cons, take-all}
 use borrow.Author.Tests.{eqb-true, eqb-false, eq-eqb, ne-eqb}
 use Rattle.octets.specs.Memory.{put}
-use Rattle.octets.proofs.Memory.{put-part, put-length}
+use Rattle.octets.proofs.Memory.{put-part}
 use Rattle.metrics.specs.Agreement.{common, sameText}
 
 -- ---- octet by octet
@@ -114,11 +114,3 @@ module _ (line old new : List ℕ) (n : ℕ) (e : n ≡ length line) (h : length
   -- it stands there
   pub line-read : take n new ≡ line
   line-read = rw (e, q) (put-part 0 (length line) line old refl (omega arith))
-
-  -- so many octets of it
-  pub line-count : n ≡ length (take n new)
-  line-count = rw line-read e
-
-  -- and fits
-  pub line-fits : n ≤ length new
-  line-fits = omega (arith, ap length q, put-length 0 line old)

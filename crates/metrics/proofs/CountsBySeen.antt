@@ -20,10 +20,11 @@ use Rattle.rfc4737.proofs.Lists.{snoc-ind}
 use Rattle.rfc4737.proofs.Arrivals.{has-more, firsts-more, with-duplicate, with-first}
 use Rattle.rfc4737.proofs.Folds.{next-more}
 use Rattle.rfc4737.proofs.Jumps.{nextAfter-above}
+use Rattle.rfc4737.specs.Judge.{sentMost, arrivalsMost}
 use Rattle.sample.specs.declared.Layout.{Layout}
 use Rattle.sample.specs.Decode.{Decoded}
 use Rattle.metrics.specs.Sample.{sizeOf}
-use Rattle.metrics.specs.Private.Sample.{arrivalAt, before, answerAt, answersTo, Has}
+use Rattle.metrics.specs.Private.Sample.{arrivalAt, before, answerAt, answersTo, HasRecord, numberPlaces}
 use Rattle.metrics.specs.Private.Tables.{classOf}
 use Rattle.metrics.specs.Private.Steps.{countsBy, kindBy}
 use Rattle.metrics.specs.declared.look.Class.{Class}
@@ -32,15 +33,15 @@ use Rattle.metrics.proofs.OneArrivalMore.{answers-next, counts-more}
 
 -- after some arrivals a table has for each packet whether it has arrived, and NextExp is known
 pub record Seen (earlier : List Arrival) (seen : List Bool) (next : ℕ) : Type 0 where
-  pub places : length seen ≡ 4097
-  pub at : (s : ℕ) → s ≤ 4096 → getD seen s false ≡ has s earlier
+  pub places : length seen ≡ numberPlaces
+  pub at : (s : ℕ) → s ≤ sentMost → getD seen s false ≡ has s earlier
   pub expected : next ≡ nextExp (firsts earlier)
 
 -- before any arrival
-pub seen-start : (d : Decoded) → Seen (before d 0) (replicate 4097 false) 1
+pub seen-start : (d : Decoded) → Seen (before d 0) (replicate numberPlaces false) 1
 unfolding has firsts nextExp
 seen-start d =
-    record { places = length-replicate 4097 false; at = λ s h. getD-replicate 4097 s false false (omega arith); expected = refl }
+    record { places = length-replicate numberPlaces false; at = λ s h. getD-replicate numberPlaces s false false (omega arith); expected = refl }
 
 -- ---- one arrival more
 
@@ -80,7 +81,7 @@ marked-one seen n s room = go (eqb n s) refl
     go false e = getD-set-other seen n s true false (λ q. eqb-false n s e (sym q)) ∙ sym (or-false (getD seen s false))
 
 -- the table under one arrival more
-seen-more : (l : List Arrival) (a : Arrival) (seen : List Bool) (next : ℕ) → a .number ≤ 4096 → Seen l seen next
+seen-more : (l : List Arrival) (a : Arrival) (seen : List Bool) (next : ℕ) → a .number ≤ sentMost → Seen l seen next
     → Seen (l ++ (a ∷ [])) (set seen (a .number) true) (nextAfter next (a .number))
 seen-more l a seen next high f =
     record {
@@ -89,8 +90,8 @@ seen-more l a seen next high f =
       expected = rw (f .expected) (sym (next-arrival l a));
     }
 
-module _ (d : Decoded) (y : Layout) (i : ℕ) (h : Has d y i) (seen : List Bool) (next : ℕ) (f : Seen (before d i) seen next)
-    (n : ℕ) (is : n ≡ arrivalAt d i .number) (high : n ≤ 4096) where
+module _ (d : Decoded) (y : Layout) (i : ℕ) (h : HasRecord d y i) (seen : List Bool) (next : ℕ) (f : Seen (before d i) seen next)
+    (n : ℕ) (is : n ≡ arrivalAt d i .number) (high : n ≤ arrivalsMost) where
   -- the table under record i + 1
   pub seen-next : Seen (before d (i + 1)) (set seen n true) (nextAfter next n)
   seen-next = rw (before-more d y i h, is) (seen-more (before d i) (arrivalAt d i) seen next (rw is at high) f)

@@ -12,7 +12,7 @@ use Rattle.rfc4737.specs.declared.Arrival.{Arrival}
 use Rattle.rfc4737.specs.declared.Answer.{Answer}
 use Rattle.rfc4737.specs.declared.LateTime.{LateTime}
 use Rattle.rfc4737.specs.Arrivals.{has, firsts, firstRecord}
-use Rattle.rfc4737.specs.Order.{Placed, isInOrder, jumpSize}
+use Rattle.rfc4737.specs.Order.{FirstArrival, isInOrder, jumpSize}
 use Rattle.rfc4737.specs.Times.{backMost, elapsed}
 use Rattle.rfc4737.specs.Extent.{extentFrom, lateFrom, sizeIn, discontinuity}
 use Rattle.rfc4737.specs.Answer.{inOrderAnswer, reorderedAnswer, firstAnswer, answerTo}
@@ -22,17 +22,19 @@ use Rattle.rfc4737.proofs.Arrivals.{length-firsts}
 use Rattle.rfc4737.proofs.Jumps.{discontinuity-until}
 use Rattle.rfc4737.proofs.Packets.{all-firsts}
 use Rattle.rfc4737.proofs.Folds.{offset-le, largest-le, in-order-or-reordered, duplicate-or-first, closed-reordered, current-le, squares-le}
+use Rattle.rfc4737.specs.Judge.{sentMost, arrivalsMost}
 use Rattle.listing.specs.Private.DigitBounds.{TimeWithin, AnswerWithin, CountsWithin}
 use Rattle.sample.specs.Decode.{Decoded, refused, accepted, decode}
 use Rattle.sample.specs.declared.Layout.{Layout}
 use Rattle.sample.proofs.Accepted.{size-fits, time-fits, times-back}
 use Rattle.metrics.specs.Sample.{sizeOf, sampleArrivals}
-use Rattle.metrics.specs.Private.Sample.{noArrival, arrivalAt, before, answerAt, Has}
+use Rattle.sample.specs.Places.{noArrival}
+use Rattle.metrics.specs.Private.Sample.{arrivalAt, before, answerAt, HasRecord}
 use Rattle.metrics.proofs.Records.{record-some}
 use Rattle.metrics.proofs.Follow.{inside-laid, before-length}
 
 -- the extent is at most the position
-extent-le : (i : ℕ) (d : Option Placed) → extentFrom i d ≤ i
+extent-le : (i : ℕ) (d : Option FirstArrival) → extentFrom i d ≤ i
 unfolding extentFrom
 extent-le i none = omega arith
 extent-le i (some j) = omega arith
@@ -44,15 +46,15 @@ late-within : (t : ℕ) → t < 2 ^ 64 → (fs : List Arrival) → All (λ (b : 
 unfolding lateFrom elapsed
 late-within t high fs back s = go (discontinuity fs s) (discontinuity-until (t + backMost) fs back s)
   where
-    test : (p : Placed) → p .time ≤ t + backMost → (u : Bool) → TimeWithin (cond u (LateTime.Before (p .time - t)) (LateTime.After (t - p .time)))
+    test : (p : FirstArrival) → p .time ≤ t + backMost → (u : Bool) → TimeWithin (cond u (LateTime.Before (p .time - t)) (LateTime.After (t - p .time)))
     test p h true = omega arith
     test p h false = omega arith
 
-    go : (d : Option Placed) → ((p : Placed) → d ≡ some p → p .time ≤ t + backMost) → TimeWithin (lateFrom t d)
+    go : (d : Option FirstArrival) → ((p : FirstArrival) → d ≡ some p → p .time ≤ t + backMost) → TimeWithin (lateFrom t d)
     go none h = omega arith
     go (some p) h = test p (h p refl) (ltb t (p .time))
 
-module _ (size : ℕ → ℕ) (small : (s : ℕ) → size s ≤ 65535) (earlier : List Arrival) (few : length earlier < 4096) (a : Arrival) (number : a .number ≤ 4096)
+module _ (size : ℕ → ℕ) (small : (s : ℕ) → size s ≤ 65535) (earlier : List Arrival) (few : length earlier < arrivalsMost) (a : Arrival) (number : a .number ≤ sentMost)
     (time : a .time < 2 ^ 64) (back : All (λ (b : Arrival). b .time ≤ a .time + backMost) earlier) where
   -- the answer for an arrival after fewer than 4,096
   answer-within : AnswerWithin (answerTo size earlier a)
@@ -93,7 +95,7 @@ time-most file o i = go (decode file) refl
     go (accepted w) e = time-fits file w e o i
 
 -- no arrival of a file is over 1,000 later than one after it
-back-most : (file : List ℕ) (y : Layout) → Octets file → (i : ℕ) → Has (decode file) y i
+back-most : (file : List ℕ) (y : Layout) → Octets file → (i : ℕ) → HasRecord (decode file) y i
     → All (λ (b : Arrival). b .time ≤ arrivalAt (decode file) i .time + backMost) (before (decode file) i)
 back-most file y o i h =
     all-take _ noArrival (sampleArrivals (decode file)) i (λ j k. go (decode file) refl j (omega arith) (inside-laid (decode file) y i h))
@@ -103,7 +105,7 @@ back-most file y o i h =
     go (accepted w) e j p q = times-back file w e o noArrival j i p q
 
 -- the answer for any record of a file of octets
-pub answers-within : (file : List ℕ) (y : Layout) (i : ℕ) → Octets file → Has (decode file) y i → AnswerWithin (answerAt (decode file) i)
+pub answers-within : (file : List ℕ) (y : Layout) (i : ℕ) → Octets file → HasRecord (decode file) y i → AnswerWithin (answerAt (decode file) i)
 answers-within file y i o h =
     answer-within (sizeOf (decode file)) (size-most file o) (before (decode file) i)
     (omega (arith, before-length (decode file) y i h, h .inside, h .file .few))
@@ -113,12 +115,12 @@ answers-within file y i o h =
     (back-most file y o i h)
 
 -- the counts of at most 4,096 answers
-pub counts-within : (l : List Answer) → length l ≤ 4096 → CountsWithin (counts l)
+pub counts-within : (l : List Answer) → length l ≤ arrivalsMost → CountsWithin (counts l)
 unfolding counts
 counts-within l h =
     let a = in-order-or-reordered l in
     let b = duplicate-or-first l in
     let c = closed-reordered l in
     let e = current-le l in
-    let s = squares-le 4096 l (omega arith) in
+    let s = squares-le arrivalsMost l (omega arith) in
     record { arrived = omega arith; reordered = omega arith; duplicates = omega arith; closed = omega arith; squares = omega arith; current = omega arith }

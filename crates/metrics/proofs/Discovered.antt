@@ -3,7 +3,7 @@ use mathlib.Core.Path.{_≡_, refl, sym, ap, _∙_}
 use mathlib.Core.Bool.{Bool, true, false, cond, not}
 use mathlib.Core.List.{List, [], _∷_, _++_}
 use mathlib.Core.Option.{Option, none, some}
-use Prim.Native.Nat.{ℕ, zero, suc, _+_, _-_, _≤_, _<_}
+use Prim.Native.Nat.{ℕ, zero, suc, _-_, _≤_, _<_}
 use native.Mathlib.Omega.{arith}
 use lib.Dec.{eqb, ltb}
 use lib.ListN.{getD}
@@ -13,6 +13,7 @@ use Rattle.rfc4737.specs.declared.Gap.{Gap}
 use Rattle.rfc4737.specs.Runs.{arrived}
 use Rattle.rfc4737.specs.Gaps.{discoverer, isSome, discontinuitiesTo, discontinuities, earlier, gapAfter, gapAmong, gapOf}
 use Rattle.rfc4737.proofs.Lists.{All, all-append, all-weaken}
+use Rattle.rfc4737.specs.Judge.{sentMost, arrivalsMost}
 use Rattle.metrics.specs.Private.Steps.{orZero, DiscoverersAt, lastTo, gapFrom, gapBy}
 
 -- ---- the last discontinuity of a table up to a position
@@ -158,7 +159,7 @@ module _ (l : List Answer) where
 
   module _ (found : List ℕ) (m : DiscoverersAt l found) where
     -- a discontinuity is marked
-    marked-some : (p : ℕ) → 1 ≤ p → p ≤ 4096 → isSome (discoverer p l) ≡ not (eqb (getD found p 0) 0)
+    marked-some : (p : ℕ) → 1 ≤ p → p ≤ sentMost → isSome (discoverer p l) ≡ not (eqb (getD found p 0) 0)
     marked-some p low high = go (discoverer p l) refl
       where
         go : (o : Option ℕ) → discoverer p l ≡ o → isSome (discoverer p l) ≡ not (eqb (getD found p 0) 0)
@@ -172,7 +173,7 @@ module _ (l : List Answer) where
     known (suc q) = some (suc q)
 
     -- the last discontinuity up to a position is that of the table
-    last-known : (q : ℕ) → q ≤ 4096 → lastOf none (discontinuitiesTo q l) ≡ known (lastTo found q)
+    last-known : (q : ℕ) → q ≤ sentMost → lastOf none (discontinuitiesTo q l) ≡ known (lastTo found q)
     unfolding discontinuitiesTo lastTo
     last-known zero h = refl
     last-known (suc q) h =
@@ -185,20 +186,20 @@ module _ (l : List Answer) where
         go false t e k = rw e
 
     -- of two discoverers the first is earlier by the table, if it is there
-    earlier-marked : (q p : ℕ) → 1 ≤ q → q ≤ 4096 → 1 ≤ p → p ≤ 4096 → (getD found q 0 ≡ 0 → ⊥)
+    earlier-marked : (q p : ℕ) → 1 ≤ q → q ≤ sentMost → 1 ≤ p → p ≤ sentMost → (getD found q 0 ≡ 0 → ⊥)
         → earlier (discoverer q l) (discoverer p l) ≡ ltb (getD found q 0) (getD found p 0)
     earlier-marked q p low high low' high' h =
         rw (m .at q low high, m .at p low' high') (earlier-known (discoverer q l) (discoverer p l) (λ z. h (m .at q low high ∙ z)))
 
     -- and the gap after the last discontinuity is that of the table
-    gap-known : (p n q : ℕ) → 1 ≤ p → p ≤ 4096 → n ≤ 4096 → lastTo found n ≡ q → gapAfter l (known q) p ≡ gapFrom found p q
+    gap-known : (p n q : ℕ) → 1 ≤ p → p ≤ sentMost → n ≤ arrivalsMost → lastTo found n ≡ q → gapAfter l (known q) p ≡ gapFrom found p q
     unfolding gapAfter
     gap-known p n zero low few h e = refl
     gap-known p n (suc q) low few h e =
         rw (earlier-marked (suc q) p (omega arith) (omega (arith, e, h, last-le found n)) low few (last-marked found n q e))
 
     -- the gap of a position from 1 on
-    gap-suc : (q : ℕ) → suc q ≤ arrived l → suc q ≤ 4096 → gapOf l (some (suc q)) ≡ gapBy found (suc q)
+    gap-suc : (q : ℕ) → suc q ≤ arrived l → suc q ≤ sentMost → gapOf l (some (suc q)) ≡ gapBy found (suc q)
     unfolding gapOf discontinuities gapBy
     gap-suc q inside few =
         gap-upto (suc q) (arrived l) inside
@@ -214,6 +215,6 @@ module _ (l : List Answer) where
         go false = refl
 
     -- the gap of a position is that of the table
-    pub gap-marked : (p : ℕ) → 1 ≤ p → p ≤ arrived l → p ≤ 4096 → gapOf l (some p) ≡ gapBy found p
+    pub gap-marked : (p : ℕ) → 1 ≤ p → p ≤ arrived l → p ≤ sentMost → gapOf l (some p) ≡ gapBy found p
     gap-marked zero low inside few = absurd (omega arith)
     gap-marked (suc q) low inside few = gap-suc q inside few

@@ -1,6 +1,6 @@
 -- How the tables follow the arrivals: at the start, and under one arrival more. Assumes nothing.
 use mathlib.Core.Path.{_≡_, refl, sym, ap, _∙_}
-use mathlib.Core.Bool.{Bool, true, false, cond, true≢false}
+use mathlib.Core.Bool.{Bool, true, false, cond, not, true≢false}
 use mathlib.Core.List.{List, [], _∷_, _++_}
 use mathlib.Core.Option.{none, some}
 use Prim.Native.Nat.{ℕ, _+_, _-_, _≤_, _<_}
@@ -8,20 +8,22 @@ use native.Mathlib.Omega.{arith}
 use lib.ListN.{length, getD, set, length-set, length-append, List·getD-append}
 use lib.Seq.{length-take-le, getD-set-same, getD-set-other, getD-append-seam}
 use lib.Dec.{eqb, ltb}
-use borrow.Author.Tests.{eq-eqb, ne-eqb, eqb-true, eqb-false, ltb-true, ltb-false, lt-ltb, lt-leb, le-leb}
+use borrow.Author.Tests.{eq-eqb, ne-eqb, eqb-true, eqb-false, ltb-true, ltb-false, lt-ltb, lt-leb, le-leb, not-true, not-false}
 use Rattle.rfc4737.specs.declared.Arrival.{Arrival}
 use Rattle.rfc4737.specs.Arrivals.{has, firsts, firstRecord}
-use Rattle.rfc4737.specs.Order.{Placed, placed, placeAfter, jumps, nextExp, nextAfter, isInOrder}
+use Rattle.rfc4737.specs.Order.{FirstArrival, placed, placeAfter, jumps, nextExp, nextAfter, isInOrder}
 use Rattle.rfc4737.specs.Extent.{discontinuity, firstAbove}
 use Rattle.rfc4737.proofs.Lists.{all-weaken}
 use Rattle.rfc4737.proofs.Arrivals.{has-firsts, firsts-more, with-duplicate, with-first, record-more, length-firsts, take-more}
 use Rattle.rfc4737.proofs.Folds.{next-more}
 use Rattle.rfc4737.proofs.Jumps.{has-more-false, placed-more, firstAbove-append, firstAbove-none, search-agrees, Within, jumps-within, reordered-discontinuity}
+use Rattle.rfc4737.specs.Judge.{sentMost, arrivalsMost}
 use Rattle.sample.specs.declared.Layout.{Layout}
 use Rattle.sample.specs.Decode.{Decoded}
 use Rattle.metrics.specs.Sample.{sampleArrivals}
-use Rattle.metrics.specs.Private.Sample.{noArrival, arrivalAt, before, Laid, Has}
-use Rattle.metrics.specs.Private.Tables.{Filled, Numbered, Recorded, Follows, placeOf}
+use Rattle.sample.specs.Places.{noArrival}
+use Rattle.metrics.specs.Private.Sample.{arrivalAt, before, FileLayout, HasRecord}
+use Rattle.metrics.specs.Private.Tables.{Filled, NumberTable, RecordTable, EngineTables, placeOf}
 use Rattle.metrics.specs.declared.tables.State.{State}
 use Rattle.metrics.proofs.Records.{record-none, record-some}
 
@@ -60,8 +62,8 @@ filled-to from to s value old new h g f =
 -- ---- one arrival more
 
 -- the numbers under one first arrival more, put after those before it
-pub numbered-more : (fs : List Arrival) (a : Arrival) (numbers : List ℕ) (count : ℕ) → length fs < length numbers → Numbered fs numbers count
-    → Numbered (fs ++ (a ∷ [])) (set numbers count (a .number)) (count + 1)
+pub numbered-more : (fs : List Arrival) (a : Arrival) (numbers : List ℕ) (count : ℕ) → length fs < length numbers → NumberTable fs numbers count
+    → NumberTable (fs ++ (a ∷ [])) (set numbers count (a .number)) (count + 1)
 numbered-more fs a numbers count room h =
     record { all = rw (length-append fs (a ∷ [])) (ap (λ (n : ℕ). n + 1) (h .all)); at = λ p g. go p g (eqb p (length fs)) refl }
   where
@@ -90,8 +92,8 @@ recorded-copy l a arrived s = record-more s l a ∙ go (has s l) refl
 
 -- the records under one first arrival more, whose own is put at its packet
 recorded-more : (l : List Arrival) (a : Arrival) (records : List ℕ) → a .number < length records → has (a .number) l ≡ false
-    → ((s : ℕ) → 1 ≤ s → s ≤ 4096 → getD records s 0 ≡ firstRecord s l)
-    → (s : ℕ) → 1 ≤ s → s ≤ 4096 → getD (set records (a .number) (length l + 1)) s 0 ≡ firstRecord s (l ++ (a ∷ []))
+    → ((s : ℕ) → 1 ≤ s → s ≤ sentMost → getD records s 0 ≡ firstRecord s l)
+    → (s : ℕ) → 1 ≤ s → s ≤ sentMost → getD (set records (a .number) (length l + 1)) s 0 ≡ firstRecord s (l ++ (a ∷ []))
 recorded-more l a records room new h s low high = go (eqb (a .number) s) refl
   where
     go : (t : Bool) → eqb (a .number) s ≡ t → getD (set records (a .number) (length l + 1)) s 0 ≡ firstRecord s (l ++ (a ∷ []))
@@ -107,7 +109,7 @@ recorded-more l a records room new h s low high = go (eqb (a .number) s) refl
         same false q = sym (record-none s l q)
 
 -- a discontinuity stays under first arrivals more
-pub discontinuity-stays : (fs : List Arrival) (a : Arrival) (s : ℕ) (p : Placed) → discontinuity fs s ≡ some p → discontinuity (fs ++ (a ∷ [])) s ≡ some p
+pub discontinuity-stays : (fs : List Arrival) (a : Arrival) (s : ℕ) (p : FirstArrival) → discontinuity fs s ≡ some p → discontinuity (fs ++ (a ∷ [])) s ≡ some p
 unfolding discontinuity
 discontinuity-stays fs a s p e = rw (placed-more, firstAbove-append, e)
 
@@ -115,7 +117,7 @@ discontinuity-stays fs a s p e = rw (placed-more, firstAbove-append, e)
 pub discontinuity-none : (fs : List Arrival) (s : ℕ) → 1 ≤ s → has s fs ≡ false → nextExp fs ≤ s → discontinuity fs s ≡ none
 discontinuity-none fs s low new h =
     search-agrees s low fs new .same
-    ∙ firstAbove-none s (jumps fs) (all-weaken (λ (p : Placed) (w : Within fs p). omega arith) (jumps fs) (jumps-within fs))
+    ∙ firstAbove-none s (jumps fs) (all-weaken (λ (p : FirstArrival) (w : Within fs p). omega arith) (jumps fs) (jumps-within fs))
 
 -- one that a first arrival more skips has that arrival as its own
 pub discontinuity-new : (fs : List Arrival) (a : Arrival) (s : ℕ) → 1 ≤ s → has s fs ≡ false → nextExp fs ≤ s → s < a .number
@@ -127,7 +129,7 @@ discontinuity-new fs a s low new h g =
 
 -- the tables under a copy of a packet that has arrived
 pub kept-copy : (l : List Arrival) (a : Arrival) (numbers records skipped : List ℕ) (state : State)
-    → Follows l numbers records skipped state → has (a .number) l ≡ true → Follows (l ++ (a ∷ [])) numbers records skipped state
+    → EngineTables l numbers records skipped state → has (a .number) l ≡ true → EngineTables (l ++ (a ∷ [])) numbers records skipped state
 kept-copy l a numbers records skipped state f arrived =
     let same : firsts (l ++ (a ∷ [])) ≡ firsts l = firsts-more l a ∙ with-duplicate (firsts l) a (has-firsts (a .number) l ∙ arrived) in
     record {
@@ -139,18 +141,18 @@ kept-copy l a numbers records skipped state f arrived =
     }
 
 module _ (l : List Arrival) (a : Arrival) (numbers records skipped : List ℕ) (state : State)
-    (f : Follows l numbers records skipped state) (new : has (a .number) l ≡ false)
-    (low : 1 ≤ a .number) (high : a .number ≤ 4096) (room : length l < 4096) where
+    (f : EngineTables l numbers records skipped state) (new : has (a .number) l ≡ false)
+    (low : 1 ≤ a .number) (high : a .number ≤ sentMost) (room : length l < arrivalsMost) where
   -- it is the last of the first arrivals
   pub one-more : firsts (l ++ (a ∷ [])) ≡ firsts l ++ (a ∷ [])
   one-more = firsts-more l a ∙ with-first (firsts l) a (has-firsts (a .number) l ∙ new)
 
   -- its number is put after theirs
-  numbers-more : Numbered (firsts l ++ (a ∷ [])) (set numbers (state .count) (a .number)) (state .count + 1)
+  numbers-more : NumberTable (firsts l ++ (a ∷ [])) (set numbers (state .count) (a .number)) (state .count + 1)
   numbers-more = numbered-more (firsts l) a numbers (state .count) (omega (arith, f .places, length-firsts l)) (f .numbered)
 
   -- and its record at its packet
-  records-more : Recorded (l ++ (a ∷ [])) (set records (a .number) (length l + 1))
+  records-more : RecordTable (l ++ (a ∷ [])) (set records (a .number) (length l + 1))
   records-more = record { at = recorded-more l a records (omega (arith, f .places)) new (f .recorded .at) }
 
   -- the discontinuity of a packet below NextExp stays
@@ -163,7 +165,7 @@ module _ (l : List Arrival) (a : Arrival) (numbers records skipped : List ℕ) (
 
   -- the tables under a first arrival that is reordered: where its discontinuity stood any number may stand
   pub kept-reordered : (largest : ℕ) → a .number < state .next
-      → Follows (l ++ (a ∷ [])) (set numbers (state .count) (a .number)) (set records (a .number) (length l + 1)) (set skipped (a .number) largest)
+      → EngineTables (l ++ (a ∷ [])) (set numbers (state .count) (a .number)) (set records (a .number) (length l + 1)) (set skipped (a .number) largest)
       (record { count = state .count + 1; next = state .next })
   unfolding nextAfter
   kept-reordered largest late =
@@ -180,7 +182,7 @@ module _ (l : List Arrival) (a : Arrival) (numbers records skipped : List ℕ) (
 
   -- the tables under a first arrival that is in order, and skips the packets from NextExp on
   pub kept-in-order : state .next ≤ a .number → (skipped′ : List ℕ) → Filled (state .next) (a .number) (state .count + 1) skipped skipped′
-      → Follows (l ++ (a ∷ [])) (set numbers (state .count) (a .number)) (set records (a .number) (length l + 1)) skipped′
+      → EngineTables (l ++ (a ∷ [])) (set numbers (state .count) (a .number)) (set records (a .number) (length l + 1)) skipped′
       (record { count = state .count + 1; next = a .number + 1 })
   unfolding nextAfter
   kept-in-order ahead skipped′ filled =
@@ -208,16 +210,16 @@ module _ (l : List Arrival) (a : Arrival) (numbers records skipped : List ℕ) (
 -- ---- along a file
 
 -- a file of this layout has as many arrivals
-pub arrivals-laid : (d : Decoded) (y : Layout) → Laid d y → y .arrivals ≡ length (sampleArrivals d)
+pub arrivals-laid : (d : Decoded) (y : Layout) → FileLayout d y → y .arrivals ≡ length (sampleArrivals d)
 arrivals-laid d y h = ap (λ (y : Layout). y .arrivals) (h .laid)
 
 -- there are i among its first i
-pub before-count : (d : Decoded) (y : Layout) (i : ℕ) → Laid d y → i ≤ y .arrivals → length (before d i) ≡ i
+pub before-count : (d : Decoded) (y : Layout) (i : ℕ) → FileLayout d y → i ≤ y .arrivals → length (before d i) ≡ i
 before-count d y i h most = length-take-le i (sampleArrivals d) (omega (arith, arrivals-laid d y h))
 
-module _ (d : Decoded) (y : Layout) (i : ℕ) (h : Has d y i) where
+module _ (d : Decoded) (y : Layout) (i : ℕ) (h : HasRecord d y i) where
   -- the number of its arrival is that of a packet
-  pub number-few : (a : Arrival) → a ≡ arrivalAt d i → (a .number ≡ arrivalAt d i .number) × (1 ≤ a .number) × (a .number ≤ 4096)
+  pub number-few : (a : Arrival) → a ≡ arrivalAt d i → (a .number ≡ arrivalAt d i .number) × (1 ≤ a .number) × (a .number ≤ sentMost)
   number-few a e =
       let same : a .number ≡ arrivalAt d i .number = ap (λ (b : Arrival). b .number) e in
       let n = h .file .numbers i (h .inside) in
@@ -236,28 +238,23 @@ module _ (d : Decoded) (y : Layout) (i : ℕ) (h : Has d y i) where
   before-length = before-count d y i (h .file) (omega (arith, h .inside))
 
   -- at most i of them are first arrivals
-  pub numbered-le : (numbers : List ℕ) (count : ℕ) → Numbered (firsts (before d i)) numbers count → (count ≤ i) × (i < 4096)
+  pub numbered-le : (numbers : List ℕ) (count : ℕ) → NumberTable (firsts (before d i)) numbers count → (count ≤ i) × (i < arrivalsMost)
   numbered-le numbers count n = omega (arith, n .all, length-firsts (before d i), before-length, h .inside, h .file .few)
 
-  -- the same of the tables
-  pub count-le : (numbers records skipped : List ℕ) (state : State) → Follows (before d i) numbers records skipped state
-      → (state .count ≤ i) × (i < 4096)
-  count-le numbers records skipped state f = numbered-le numbers (state .count) (f .numbered)
+module _ (l : List Arrival) (numbers records skipped : List ℕ) (state : State) (f : EngineTables l numbers records skipped state)
+    (s : ℕ) (low : 1 ≤ s) (high : s ≤ sentMost) where
+  -- a packet has a record if it has arrived
+  recorded-has : eqb (getD records s 0) 0 ≡ not (has s l)
+  recorded-has = go (has s l) refl
+    where
+      go : (t : Bool) → has s l ≡ t → eqb (getD records s 0) 0 ≡ not t
+      go true q = ne-eqb (getD records s 0) 0 (λ e. omega (arith, record-some s l q, f .recorded .at s low high, e))
+      go false q = eq-eqb _ 0 (f .recorded .at s low high ∙ record-none s l q)
 
-module _ (l : List Arrival) (numbers records skipped : List ℕ) (state : State) (f : Follows l numbers records skipped state)
-    (s : ℕ) (low : 1 ≤ s) (high : s ≤ 4096) where
-  -- a packet with a record has arrived
+  -- with one it has arrived
   pub arrived-recorded : (getD records s 0 ≡ 0 → ⊥) → has s l ≡ true
-  arrived-recorded e = go (has s l) refl
-    where
-      go : (t : Bool) → has s l ≡ t → t ≡ true
-      go true q = refl
-      go false q = absurd (e (f .recorded .at s low high ∙ record-none s l q))
+  arrived-recorded e = not-false (has s l) (sym recorded-has ∙ ne-eqb _ 0 e)
 
-  -- a packet without one has not
+  -- without one it has not
   pub new-recorded : getD records s 0 ≡ 0 → has s l ≡ false
-  new-recorded e = go (has s l) refl
-    where
-      go : (t : Bool) → has s l ≡ t → t ≡ false
-      go false q = refl
-      go true q = absurd (omega (arith, record-some s l q, f .recorded .at s low high, e))
+  new-recorded e = not-true (has s l) (sym recorded-has ∙ eq-eqb _ 0 e)

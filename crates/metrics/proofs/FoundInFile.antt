@@ -10,25 +10,26 @@ use Rattle.octets.specs.Memory.{part}
 use Rattle.octets.proofs.Memory.{taken}
 use Rattle.rfc4737.specs.declared.Arrival.{Arrival}
 use Rattle.rfc4737.specs.Extent.{sizeIn}
+use Rattle.rfc4737.specs.Judge.{sentMost}
 use Rattle.sample.specs.declared.Layout.{Layout}
 use Rattle.sample.specs.Decode.{arrivalIn, Decoded, refused, accepted, decode, layoutOf}
-use Rattle.sample.specs.Places.{arrivalsAt, sizeFound, arrivalFound}
+use Rattle.sample.specs.Places.{noArrival, arrivalsAt, sizeFound, arrivalFound}
 use Rattle.sample.proofs.Accepted.{accepted-limits, number-within, size-found, octets-inside, arrival-found}
 use Rattle.metrics.specs.Sample.{sizeOf}
-use Rattle.metrics.specs.Private.Sample.{noArrival, arrivalAt, Laid}
+use Rattle.metrics.specs.Private.Sample.{arrivalAt, FileLayout}
 
 module _ (file : List ℕ) where
   -- the check's answer lays the file out
-  pub laid : Octets file → Laid (decode file) (layoutOf (decode file))
+  pub laid : Octets file → FileLayout (decode file) (layoutOf (decode file))
   laid o = go (decode file) refl
     where
-      go : (d : Decoded) → decode file ≡ d → Laid d (layoutOf d)
+      go : (d : Decoded) → decode file ≡ d → FileLayout d (layoutOf d)
       go (refused r) e = record { laid = refl; sentFew = omega arith; few = omega arith; numbers = λ i h. absurd (omega arith) }
       go (accepted s) e =
           let m = accepted-limits file s e o in
           record { laid = refl; sentFew = omega arith; few = omega arith; numbers = number-within file s e o noArrival }
 
-  module _ (y : Layout) (h : Laid (decode file) y) where
+  module _ (y : Layout) (h : FileLayout (decode file) y) where
     -- the arrival of record i + 1
     arrival-stands : (i : ℕ) → i < y .arrivals → arrivalFound file y i ≡ arrivalAt (decode file) i
     arrival-stands i g = go (decode file) refl
@@ -39,7 +40,7 @@ module _ (file : List ℕ) where
 
     -- what is read there, and within which limits its number lies
     pub arrival-known : (i : ℕ) {a : Arrival} → i < y .arrivals → a ≡ arrivalFound file y i
-        → (a ≡ arrivalAt (decode file) i) × (1 ≤ a .number) × (a .number ≤ 4096)
+        → (a ≡ arrivalAt (decode file) i) × (1 ≤ a .number) × (a .number ≤ sentMost)
     arrival-known i g e =
         let q = e ∙ arrival-stands i g in
         let m = ap (λ (a : Arrival). a .number) q in
@@ -56,7 +57,7 @@ module _ (file : List ℕ) where
 
     -- what is read of its twelve octets
     pub arrival-read : (i : ℕ) {a : Arrival} → i < y .arrivals → a ≡ arrivalIn (taken (arrivalsAt y + 12 * i) 12 file)
-        → (a ≡ arrivalAt (decode file) i) × (1 ≤ a .number) × (a .number ≤ 4096)
+        → (a ≡ arrivalAt (decode file) i) × (1 ≤ a .number) × (a .number ≤ sentMost)
     unfolding arrivalFound
     arrival-read i g e =
         let start : ℕ = arrivalsAt y + 12 * i in

@@ -2,7 +2,7 @@
 use Prim.Native.Nat.{ℕ, zero, suc, _+_, _≤_, _<_}
 use mathlib.Core.Path.{_≡_, refl, sym, ap, ap₂, _∙_}
 use mathlib.Core.Bool.{Bool, true, false, _&&_}
-use mathlib.Core.List.{List, [], _∷_, _++_, append-assoc}
+use mathlib.Core.List.{List, _∷_, _++_, append-assoc}
 use native.Mathlib.Omega.{arith}
 use native.Mathlib.Nat.{zero-add}
 use lib.Dec.{eqb}
@@ -16,12 +16,13 @@ use Rattle.rfc4737.proofs.Folds.{length-answers}
 use Rattle.listing.specs.Lines.{headerLine, recordLine, recordLinesFrom, recordLines, endLine, listingOf}
 use Rattle.listing.specs.Private.DigitBounds.{CountsWithin}
 use Rattle.sample.specs.declared.Layout.{Layout}
-use Rattle.sample.specs.Decode.{Decoded, sampleOf, decodedRefusal}
+use Rattle.sample.specs.Decode.{Decoded, decodedRefusal}
 use Rattle.metrics.specs.Agreement.{common, agreementUnless, sampleAgreement}
 use Rattle.metrics.specs.Report.{sampleText}
 use Rattle.metrics.specs.Sample.{sizeOf, sampleArrivals, answersOf}
 use Rattle.metrics.specs.Private.Compared.{Agreed, LeftOf, textFrom, LeftAt}
-use Rattle.metrics.specs.Private.Sample.{noArrival, arrivalAt, answerAt, Laid}
+use Rattle.sample.specs.Places.{noArrival}
+use Rattle.metrics.specs.Private.Sample.{arrivalAt, answerAt, FileLayout}
 use Rattle.metrics.specs.declared.SampleAgreement.{SampleAgreement}
 use Rattle.metrics.specs.declared.parts.Part.{Part}
 use Rattle.metrics.proofs.RecordsAsked.{answer-at}
@@ -82,7 +83,7 @@ left-last total text at line h p a =
 -- ---- the listing of a sample
 
 -- the first line, and the records
-text-start : (d : Decoded) (y : Layout) → Laid d y → sampleText d ≡ headerLine (y .sent) (y .arrivals) ++ textFrom d 0
+text-start : (d : Decoded) (y : Layout) → FileLayout d y → sampleText d ≡ headerLine (y .sent) (y .arrivals) ++ textFrom d 0
 unfolding listingOf recordLines
 text-start d y h = rw (h .laid)
 
@@ -106,7 +107,7 @@ text-end d i h = rw (drop-of-length-le (sampleArrivals d) h)
 
 -- ---- its lines against a text
 
-module _ (d : Decoded) (y : Layout) (h : Laid d y) (text : List ℕ) (p : Part) where
+module _ (d : Decoded) (y : Layout) (h : FileLayout d y) (text : List ℕ) (p : Part) where
   -- the first line
   abbrev header : List ℕ
   header = headerLine (y .sent) (y .arrivals)
@@ -145,12 +146,12 @@ module _ (d : Decoded) (y : Layout) (h : Laid d y) (text : List ℕ) (p : Part) 
       left-last (sampleText d) text at (endLine c) t p a
 
 -- the counts have few digits
-pub end-within : (d : Decoded) (y : Layout) → Laid d y → (c : Counts) → c ≡ counts (answersOf d) → CountsWithin c
+pub end-within : (d : Decoded) (y : Layout) → FileLayout d y → (c : Counts) → c ≡ counts (answersOf d) → CountsWithin c
 end-within d y h c e = rw e (counts-within (answersOf d) (omega (arith, h .few, arrivals-laid d y h, length-answers (sizeOf d) (sampleArrivals d))))
 
 -- ---- the call
 
-module _ (d : Decoded) (y : Layout) (h : Laid d y) (text : List ℕ) where
+module _ (d : Decoded) (y : Layout) (h : FileLayout d y) (text : List ℕ) where
   -- the refusal that is found
   own : y .refusal ≡ decodedRefusal d
   own = ap (λ (y : Layout). y .refusal) (h .laid)

@@ -6,10 +6,10 @@ pub mod Reordered
 pub mod AnswersByClass
 pub mod OneArrivalMore
 pub mod CountsBySeen
-pub mod Linked
+pub mod Links
 pub mod NotingArrivals
 pub mod Pairs
-pub mod Running
+pub mod EngineState
 pub mod Shares
 pub mod Discovered
 pub mod RecordsAsked

@@ -1,13 +1,10 @@
 -- The listing of a checked file: how long it is, and how it is written, line by line. Assumes nothing.
 use mathlib.Core.Path.{_≡_, refl, sym, ap, ap₂, _∙_}
-use mathlib.Core.Bool.{Bool, true, false}
-use mathlib.Core.List.{List, [], _∷_, _++_}
-use Prim.Native.Nat.{ℕ, zero, suc, _+_, _*_, _≤_, _<_}
+use mathlib.Core.List.{List, [], _++_}
+use Prim.Native.Nat.{ℕ, zero, suc, _+_, _*_, _≤_}
 use native.Mathlib.Omega.{arith}
-use lib.Dec.{ltb}
 use lib.ListN.{length, length-append}
 use lib.Seq.{take-all}
-use borrow.Author.Tests.{ltb-false, lt-ltb, le-ltb}
 use Rattle.octets.specs.Below.{Octets}
 use Rattle.octets.specs.Memory.{over, put}
 use Rattle.octets.proofs.Memory.{over-drop, put-over, put-length}
@@ -15,19 +12,19 @@ use Rattle.rfc4737.specs.declared.Arrival.{Arrival}
 use Rattle.rfc4737.specs.declared.Answer.{Answer}
 use Rattle.rfc4737.specs.declared.Counts.{Counts}
 use Rattle.rfc4737.specs.Runs.{counts}
-use Rattle.rfc4737.specs.Refusals.{inCase, firstOf, outputShort}
 use Rattle.listing.specs.Lines.{headerLine, recordLine, endLine, listingOf}
 use Rattle.listing.specs.Private.Listed.{listingUpTo, Listed}
 use Rattle.listing.specs.Room.{listingOctets}
 use Rattle.listing.proofs.Lengths.{header-octets, record-octets, end-octets}
 use Rattle.listing.proofs.Listed.{up-to-none, up-to-more, up-to-end, listed-start, listed-next, listed-end}
 use Rattle.rfc4737.proofs.Folds.{length-answers}
-use Rattle.sample.specs.Decode.{Decoded, decode, sampleOf, decodedRefusal}
+use Rattle.rfc4737.specs.Judge.{arrivalsMost}
+use Rattle.sample.specs.Decode.{Decoded, decode, sampleOf}
 use Rattle.sample.specs.declared.Layout.{Layout}
 use Rattle.metrics.specs.Sample.{sampleArrivals, answersOf, sizeOf}
 use Rattle.metrics.specs.Private.Passed.{ListedAt}
-use Rattle.metrics.specs.Private.Sample.{arrivalAt, before, answerAt, answersTo, Laid, Has}
-use Rattle.metrics.specs.Report.{sampleText, listingRefusal, ListedTo}
+use Rattle.metrics.specs.Private.Sample.{arrivalAt, before, answerAt, answersTo, FileLayout, HasRecord}
+use Rattle.metrics.specs.Report.{sampleText}
 use Rattle.metrics.proofs.Follow.{arrivals-laid, before-more, before-length}
 use Rattle.metrics.proofs.OneArrivalMore.{answers-start, answers-next, answers-end, answers-length}
 use Rattle.metrics.proofs.DigitBounds.{answers-within, counts-within}
@@ -38,7 +35,7 @@ use Rattle.metrics.proofs.DigitBounds.{answers-within, counts-within}
 abbrev linesTo : Decoded → Layout → ℕ → List ℕ
 linesTo d y i = listingUpTo (y .sent) (y .arrivals) (before d i) (answersTo d i)
 
-module _ (d : Decoded) (y : Layout) (laid : Laid d y) where
+module _ (d : Decoded) (y : Layout) (laid : FileLayout d y) where
   -- up to the last record, with the last line, it is whole
   lines-end : linesTo d y (y .arrivals) ++ endLine (counts (answersOf d)) ≡ sampleText d
   lines-end =
@@ -48,7 +45,7 @@ module _ (d : Decoded) (y : Layout) (laid : Laid d y) where
       let k : y .sent ≡ length (sampleOf d .sizes) = ap (λ (y : Layout). y .sent) (laid .laid) in
       rw (m, l, many, k) (up-to-end (length (sampleOf d .sizes)) (sampleArrivals d) (answersOf d) (counts (answersOf d)))
 
-module _ (file : List ℕ) (y : Layout) (laid : Laid (decode file) y) (o : Octets file) where
+module _ (file : List ℕ) (y : Layout) (laid : FileLayout (decode file) y) (o : Octets file) where
   -- up to record i it has at most 24 octets for the first line and 61 for each record
   pub lines-within : (i : ℕ) → i ≤ y .arrivals → length (linesTo (decode file) y i) ≤ 24 + 61 * i
   lines-within zero h =
@@ -56,7 +53,7 @@ module _ (file : List ℕ) (y : Layout) (laid : Laid (decode file) y) (o : Octet
       (omega (arith, header-octets (y .sent) (y .arrivals) (omega (arith, laid .sentFew)) (omega (arith, laid .few))))
   lines-within (suc i) h =
       let d = decode file in
-      let r : Has d y i = record { file = laid; inside = omega arith } in
+      let r : HasRecord d y i = record { file = laid; inside = omega arith } in
       let b = before-length d y i r in
       let paired : length (answersTo d i) ≡ length (before d i) = answers-length d y i r ∙ sym b in
       let more = rw b at (up-to-more (y .sent) (y .arrivals) (before d i) (answersTo d i) (arrivalAt d i) (answerAt d i) paired) in
@@ -69,7 +66,7 @@ module _ (file : List ℕ) (y : Layout) (laid : Laid (decode file) y) (o : Octet
   pub sample-within : length (sampleText (decode file)) ≤ listingOctets
   sample-within =
       let d = decode file in
-      let few : length (answersOf d) ≤ 4096 = omega (arith, laid .few, arrivals-laid d y laid, length-answers (sizeOf d) (sampleArrivals d)) in
+      let few : length (answersOf d) ≤ arrivalsMost = omega (arith, laid .few, arrivals-laid d y laid, length-answers (sizeOf d) (sampleArrivals d)) in
       let end = end-octets (counts (answersOf d)) (counts-within (answersOf d) few) in
       let lines = lines-within (y .arrivals) (omega arith) in
       rw (← lines-end d y laid, length-append (linesTo d y (y .arrivals)) _) (omega (arith, laid .few))
@@ -86,14 +83,14 @@ unfolding listingOf
 header-le k l m c = simp length-append (omega arith)
 
 -- after the line of record i + 1
-pub listing-next : (d : Decoded) (y : Layout) (start : List ℕ) {i at n number : ℕ} {answer : Answer} {out newer : List ℕ} → Has d y i
+pub listing-next : (d : Decoded) (y : Layout) (start : List ℕ) {i at n number : ℕ} {answer : Answer} {out newer : List ℕ} → HasRecord d y i
     → ListedAt d y i at start out → number ≡ arrivalAt d i .number → answer ≡ answerAt d i → n ≡ length (recordLine (i + 1) number answer)
     → newer ≡ put at (recordLine (i + 1) number answer) out → ListedAt d y (i + 1) (at + n) start newer
 listing-next d y start {i} h s en ea e w =
     rw (answers-next d y i h, before-more d y i h)
     (listed-next (y .sent) (y .arrivals) start i (arrivalAt d i) (answerAt d i) (before-length d y i h) s (rw (en, ea) at e) (rw (en, ea) at w))
 
-module _ (d : Decoded) (y : Layout) (laid : Laid d y) (old : List ℕ) {start : List ℕ}
+module _ (d : Decoded) (y : Layout) (laid : FileLayout d y) (old : List ℕ) {start : List ℕ}
     (first : start ≡ put 0 (headerLine (y .sent) (y .arrivals)) old) where
   -- the first line
   abbrev header : List ℕ
@@ -136,50 +133,3 @@ module _ (d : Decoded) (y : Layout) (laid : Laid d y) (old : List ℕ) {start : 
             r .1 (omega (arith, start-length)) ∙ ap (λ (t : List ℕ). over t start) text ∙ ap (over (sampleText d)) (header-over (omega arith))
             ∙ over-again header (sampleText d) old head,
       )
-
--- ---- what the call leaves
-
--- the file's own refusal comes first
-pub own-due : (short r : ℕ) → (r ≡ 0 → ⊥) → r ≡ firstOf (r ∷ short ∷ [])
-own-due short zero h = absurd (h refl)
-own-due short (suc r) h = refl
-
-module _ (d : Decoded) (room : ℕ) where
-  -- the file's own refusal
-  pub refused-own : {own : ℕ} → own ≡ decodedRefusal d → (own ≡ 0 → ⊥) → own ≡ listingRefusal d room
-  unfolding listingRefusal
-  refused-own {own} e h = rw (← e) (own-due (inCase (ltb room (length (sampleText d))) outputShort) own h)
-
-  -- the listing does not fit
-  pub refused-short : {own : ℕ} → own ≡ decodedRefusal d → own ≡ 0 → room < length (sampleText d) → 8 ≡ listingRefusal d room
-  unfolding listingRefusal
-  refused-short e z h = rw (← e, z, lt-ltb _ _ h)
-
-  -- nothing is refused
-  pub refused-none : {own : ℕ} → own ≡ decodedRefusal d → own ≡ 0 → length (sampleText d) ≤ room → 0 ≡ listingRefusal d room
-  unfolding listingRefusal
-  refused-none e z h = rw (← e, z, le-ltb _ _ h)
-
--- refused: nothing is written
-pub listed-refused : (d : Decoded) (old : List ℕ) (r : ℕ) → r ≡ listingRefusal d (length old) → (r ≡ 0 → ⊥)
-    → ListedTo d old (record { refusal = r; length = 0 }) old
-listed-refused d old zero e h = absurd (h refl)
-listed-refused d old (suc r) e h = record { answer = rw (← e); memory = rw (← e) }
-
--- not refused: the listing fits
-fits-into : (own : ℕ) (short : Bool) → 0 ≡ firstOf (own ∷ inCase short outputShort ∷ []) → short ≡ false
-fits-into zero true e = absurd (omega (arith, e))
-fits-into zero false e = refl
-fits-into (suc own) short e = absurd (omega (arith, e))
-
--- not refused: it is written whole
-pub listed-whole : (d : Decoded) (old : List ℕ) (r n : ℕ) {new : List ℕ} → r ≡ listingRefusal d (length old) → r ≡ 0 → n ≡ length (sampleText d)
-    → (n ≤ length old → new ≡ over (sampleText d) old) → ListedTo d old (record { refusal = r; length = n }) new
-unfolding listingRefusal
-listed-whole d old r n e z l w =
-    let none : 0 ≡ listingRefusal d (length old) = sym z ∙ e in
-    let fits : length (sampleText d) ≤ length old = ltb-false _ _ (fits-into (decodedRefusal d) (ltb (length old) (length (sampleText d))) none) in
-    record {
-      answer = rw (z, l, ← none);
-      memory = rw (← none) (w (omega arith));
-    }

@@ -1,19 +1,17 @@
 -- Moving the clock: every call answers of the moved sample as of the sample, since the answers of its records are the same and the
 -- listing has no time in it but theirs. Assumes nothing.
 use Prim.Native.Nat.{ℕ, _+_}
-use mathlib.Core.Path.{_≡_, refl, sym, ap, ap₂, subst, _∙_}
-use mathlib.Core.Bool.{cond, not}
+use mathlib.Core.Path.{_≡_, refl, sym, ap, subst, _∙_}
+use mathlib.Core.Bool.{cond}
 use mathlib.Core.List.{List, [], _∷_, _++_}
-use lib.Dec.{ltb}
 use lib.ListN.{length, length-map}
 use Rattle.octets.specs.Below.{Octets}
-use Rattle.octets.specs.Memory.{over}
 use Rattle.rfc4737.specs.declared.Arrival.{Arrival}
 use Rattle.rfc4737.specs.declared.Answer.{Answer}
 use Rattle.rfc4737.specs.declared.Gap.{Gap}
 use Rattle.rfc4737.specs.declared.Counts.{Counts}
 use Rattle.rfc4737.specs.Extent.{sizeIn}
-use Rattle.rfc4737.specs.Refusals.{within, inCase, firstOf, askedOutside, outputShort}
+use Rattle.rfc4737.specs.Refusals.{inCase, firstOf, askedOutside, outside}
 use Rattle.rfc4737.specs.Runs as run
 use Rattle.rfc4737.specs.Tally as tallying
 use Rattle.rfc4737.specs.Gaps.{gaps}
@@ -23,12 +21,12 @@ use Rattle.rfc4737.proofs.Moved.{answers-moved}
 use Rattle.listing.specs.Lines.{recordLine, recordLinesFrom, recordLines, listingOf}
 use Rattle.sample.specs.Format.{Sample}
 use Rattle.sample.specs.Decode.{Decoded, accepted}
-use Rattle.sample.specs.Calls.{unlessRefused}
+use Rattle.sample.specs.Output.{Output}
 use Rattle.sample.specs.Moved.{movedSample}
 use Rattle.sample.proofs.Moved.{moved-accepted, sample-twice}
 use Rattle.metrics.specs.Sample.{answersOf}
-use Rattle.metrics.specs.Figures.{atRecord, degreeInside, recordAnswer, recordGap, sampleCounts, sampleTally, degreeCounts, sampleDegree, sampleRatios}
-use Rattle.metrics.specs.Report.{sampleText, listingRefusal, listingInto}
+use Rattle.metrics.specs.Figures.{atRecord, recordAnswer, recordGap, sampleCounts, sampleTally, degreeCounts, sampleDegree, sampleRatios, degreeMost}
+use Rattle.metrics.specs.Report.{sampleText}
 use Rattle.metrics.specs.Moved.{SameFigures, ClockMoved}
 
 module _ (c : ℕ) where
@@ -66,14 +64,6 @@ module _ (c : ℕ) where
         listing-moved (length (s .sizes)) (s .arrivals) (answersOf there) (run.counts (answersOf there))
         ∙ ap (λ (m : List Answer). listingOf (length (s .sizes)) (s .arrivals) m (run.counts m)) answers-same
 
-    -- into so many octets
-    refusal-same : (room : ℕ) → listingRefusal there room ≡ listingRefusal here room
-    unfolding listingRefusal
-    refusal-same room = ap (λ (t : List ℕ). firstOf (inCase (ltb room (length t)) outputShort ∷ [])) text-same
-
-    into-same : (room : ℕ) → listingInto there room ≡ listingInto here room
-    into-same room = ap₂ unlessRefused (refusal-same room) text-same
-
     -- every call
     pub figures-same : SameFigures there here
     unfolding recordAnswer recordGap sampleCounts sampleTally degreeCounts sampleDegree sampleRatios
@@ -82,33 +72,29 @@ module _ (c : ℕ) where
         let n = records-same in
         record {
           text = text-same;
-          listing = λ old r new h.
-              record {
-                answer = h .answer ∙ (λ i. record { refusal = refusal-same (length old) i; length = length (into-same (length old) i) });
-                memory = h .memory ∙ ap (λ (t : List ℕ). over t old) (into-same (length old));
-              };
+          listing = λ old r new h. subst (λ (t : List ℕ). Output 0 t old r new) text-same h;
           answer = λ asked i.
               record {
-                refusal = firstOf (inCase (not (within 1 (n i) asked)) askedOutside ∷ []);
+                refusal = firstOf (inCase (outside 1 (n i) asked) askedOutside ∷ []);
                 answer = atRecord (Answer.InOrder (record { position = 0; jump = 0 })) (a i) asked;
               };
           gap = λ asked i.
               record {
-                refusal = firstOf (inCase (not (within 1 (n i) asked)) askedOutside ∷ []);
+                refusal = firstOf (inCase (outside 1 (n i) asked) askedOutside ∷ []);
                 gap = atRecord Gap.None (gaps (a i)) asked;
               };
           counts = λ i. record { refusal = 0; counts = run.counts (a i) };
           tally = λ i. record { refusal = 0; tally = tallying.tally (a i) };
           shares = λ m i.
               record {
-                refusal = firstOf (inCase (not (within 1 100 m)) askedOutside ∷ []);
-                reordered = ratio.nReordered m (cond (degreeInside m) (a i) []);
-                arrived = run.arrived (cond (degreeInside m) (a i) []);
+                refusal = firstOf (inCase (outside 1 degreeMost m) askedOutside ∷ []);
+                reordered = ratio.nReordered m (cond (outside 1 degreeMost m) [] (a i));
+                arrived = run.arrived (cond (outside 1 degreeMost m) [] (a i));
               };
           degree = λ m i.
               record {
-                refusal = firstOf (inCase (not (within 1 100 m)) askedOutside ∷ []);
-                ratio = ratio.degree m (cond (degreeInside m) (a i) []);
+                refusal = firstOf (inCase (outside 1 degreeMost m) askedOutside ∷ []);
+                ratio = ratio.degree m (cond (outside 1 degreeMost m) [] (a i));
               };
           ratios = λ i. record { refusal = 0; ratios = ratio.ratios (a i) };
         }

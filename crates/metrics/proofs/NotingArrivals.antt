@@ -10,38 +10,39 @@ use Rattle.rfc4737.specs.Arrivals.{has, firsts}
 use Rattle.rfc4737.specs.Order.{nextExp}
 use Rattle.rfc4737.specs.Extent.{largestN}
 use Rattle.rfc4737.proofs.Arrivals.{has-firsts, firsts-more, with-duplicate, length-firsts}
+use Rattle.rfc4737.specs.Judge.{sentMost, arrivalsMost}
 use Rattle.sample.specs.declared.Layout.{Layout}
 use Rattle.sample.specs.Decode.{Decoded}
-use Rattle.metrics.specs.Private.Sample.{arrivalAt, before, Has}
-use Rattle.metrics.specs.Private.Tables.{Filled, Follows, Linked, Noting, ReceiverAnswer}
+use Rattle.metrics.specs.Private.Sample.{arrivalAt, before, HasRecord}
+use Rattle.metrics.specs.Private.Tables.{Filled, EngineTables, LinkTable, NextRecord, NotedRecord}
 use Rattle.metrics.specs.declared.tables.State.{State}
 use Rattle.metrics.proofs.Follow.{kept-copy, one-more, kept-reordered, kept-in-order, arrived-recorded, new-recorded, before-more, before-length}
-use Rattle.metrics.proofs.Linked.{linked-set, linked-in-order}
+use Rattle.metrics.proofs.Links.{linked-set, linked-in-order}
 
 -- where a record can be noted there are fewer first arrivals than places
-pub noting-few : (numbers records skipped : List ℕ) (state : State) (i number : ℕ) → Noting numbers records skipped state i number → state .count < 4096
+pub noting-few : (numbers records skipped : List ℕ) (state : State) (i number : ℕ) → NextRecord numbers records skipped state i number → state .count < sentMost
 noting-few numbers records skipped state i number n = omega (arith, n .follows .numbered .all, length-firsts (n .earlier), n .many, n .few)
 
-module _ (i largest : ℕ) (numbers records skipped : List ℕ) (state : State) (few : i < 4096) where
+module _ (i largest : ℕ) (numbers records skipped : List ℕ) (state : State) (few : i < arrivalsMost) where
   -- of a copy: all stays
-  pub noted-copy : (number : ℕ) → 1 ≤ number → number ≤ 4096 → (getD records number 0 ≡ 0 → ⊥) → ReceiverAnswer i number largest numbers records skipped state numbers records skipped state
+  pub noted-copy : (number : ℕ) → 1 ≤ number → number ≤ sentMost → (getD records number 0 ≡ 0 → ⊥) → NotedRecord i number largest numbers records skipped state numbers records skipped state
   noted-copy number low high e =
       record {
         follows = λ l a m is f. kept-copy l a numbers records skipped state f (arrived l a is f);
         linked = λ l a m is f lar k. rw (firsts-more l a ∙ with-duplicate (firsts l) a (has-firsts (a .number) l ∙ arrived l a is f)) k;
       }
     where
-      arrived : (l : List Arrival) (a : Arrival) → a .number ≡ number → Follows l numbers records skipped state → has (a .number) l ≡ true
+      arrived : (l : List Arrival) (a : Arrival) → a .number ≡ number → EngineTables l numbers records skipped state → has (a .number) l ≡ true
       arrived l a is f = rw is (arrived-recorded l numbers records skipped state f number low high e)
 
-  module _ (number : ℕ) (low : 1 ≤ number) (high : number ≤ 4096) (e : getD records number 0 ≡ 0) where
+  module _ (number : ℕ) (low : 1 ≤ number) (high : number ≤ sentMost) (e : getD records number 0 ≡ 0) where
     -- a packet without a record is new
-    new : (l : List Arrival) (a : Arrival) → a .number ≡ number → Follows l numbers records skipped state → has (a .number) l ≡ false
+    new : (l : List Arrival) (a : Arrival) → a .number ≡ number → EngineTables l numbers records skipped state → has (a .number) l ≡ false
     new l a is f = rw is (new-recorded l numbers records skipped state f number low high e)
 
     -- of a reordered packet
     pub noted-reordered : number < state .next
-        → ReceiverAnswer i number largest numbers records skipped state (set numbers (state .count) number) (set records number (i + 1)) (set skipped number largest)
+        → NotedRecord i number largest numbers records skipped state (set numbers (state .count) number) (set records number (i + 1)) (set skipped number largest)
         (record { count = state .count + 1; next = state .next })
     noted-reordered late =
         record {
@@ -57,7 +58,7 @@ module _ (i largest : ℕ) (numbers records skipped : List ℕ) (state : State) 
 
     -- of a packet in order
     pub noted-in-order : state .next ≤ number → (skipped′ : List ℕ) → Filled (state .next) number (state .count + 1) skipped skipped′
-        → ReceiverAnswer i number largest numbers records skipped state (set numbers (state .count) number) (set records number (i + 1)) skipped′
+        → NotedRecord i number largest numbers records skipped state (set numbers (state .count) number) (set records number (i + 1)) skipped′
         (record { count = state .count + 1; next = number + 1 })
     noted-in-order ahead skipped′ filled =
         record {
@@ -69,10 +70,10 @@ module _ (i largest : ℕ) (numbers records skipped : List ℕ) (state : State) 
               (linked-in-order (firsts l) a (has-firsts (a .number) l ∙ new l a is f) skipped skipped′ k _ (omega (arith, f .next)) (rw (← is, f .next) at filled));
         }
 
-module _ (d : Decoded) (y : Layout) (i : ℕ) (h : Has d y i) (numbers records skipped : List ℕ) (state : State)
-    (f : Follows (before d i) numbers records skipped state) (number : ℕ) (is : number ≡ arrivalAt d i .number) where
+module _ (d : Decoded) (y : Layout) (i : ℕ) (h : HasRecord d y i) (numbers records skipped : List ℕ) (state : State)
+    (f : EngineTables (before d i) numbers records skipped state) (number : ℕ) (is : number ≡ arrivalAt d i .number) where
   -- record i + 1 can be noted
-  pub noting : Noting numbers records skipped state i number
+  pub noting : NextRecord numbers records skipped state i number
   noting =
       let n = h .file .numbers i (h .inside) in
       record {
@@ -85,12 +86,12 @@ module _ (d : Decoded) (y : Layout) (i : ℕ) (h : Has d y i) (numbers records s
       }
 
   module _ (largest : ℕ) (numbers′ records′ skipped′ : List ℕ) (state′ : State)
-      (n : ReceiverAnswer i number largest numbers records skipped state numbers′ records′ skipped′ state′) where
+      (n : NotedRecord i number largest numbers records skipped state numbers′ records′ skipped′ state′) where
     -- the tables after it
-    pub noted-follows : Follows (before d (i + 1)) numbers′ records′ skipped′ state′
+    pub noted-follows : EngineTables (before d (i + 1)) numbers′ records′ skipped′ state′
     noted-follows = rw (before-more d y i h) (n .follows (before d i) (arrivalAt d i) (before-length d y i h) (sym is) f)
 
     -- and the links
     pub noted-linked : (has number (before d i) ≡ false → number < nextExp (firsts (before d i)) → largest ≡ largestN (firsts (before d i)) number)
-        → Linked 1 (firsts (before d i)) skipped → Linked 1 (firsts (before d (i + 1))) skipped′
+        → LinkTable 1 (firsts (before d i)) skipped → LinkTable 1 (firsts (before d (i + 1))) skipped′
     noted-linked lar k = rw (before-more d y i h) (n .linked (before d i) (arrivalAt d i) (before-length d y i h) (sym is) f lar k)

@@ -7,27 +7,26 @@ use Prim.Native.Nat.{ℕ, zero, suc, _+_, _-_, _*_, _≤_, _<_}
 use native.Mathlib.Nat.{mul-le-mul}
 use native.Mathlib.Omega.{arith}
 use lib.Dec.{eqb}
-use lib.ListN.{length, getD, set, replicate, length-append, length-set}
+use lib.ListN.{length, getD, set, replicate, length-set}
 use lib.Seq.{take-all, getD-set-same, getD-set-other}
 use borrow.Author.Tests.{eqb-true, eqb-false}
 use Rattle.rfc4737.specs.declared.Answer.{Answer}
 use Rattle.rfc4737.specs.Arrivals.{firsts, firstRecord, recordFrom, each, eachAfter, count}
 use Rattle.rfc4737.specs.Order.{nextExp}
-use Rattle.rfc4737.specs.Extent.{extentFrom, largestN}
+use Rattle.rfc4737.specs.Extent.{extentFrom}
 use Rattle.rfc4737.specs.Answer.{reorderedAnswer, answers}
-use Rattle.rfc4737.specs.Runs.{isDuplicate, isInOrderAnswer, isReordered, arrived, runs, runsAfter, counts}
-use Rattle.rfc4737.specs.Tally.{tally, tallyAfter}
-use Rattle.rfc4737.specs.Ratios.{isNReordered, nReordered}
+use Rattle.rfc4737.specs.Runs.{isDuplicate, isInOrderAnswer, isReordered, arrived, runsAfter, counts, squaresMost}
+use Rattle.rfc4737.specs.Tally.{tally, tallyAfter, tallyPlaces}
 use Rattle.rfc4737.specs.Gaps.{belongsTo, positionOf, discoverer}
-use Rattle.rfc4737.proofs.Lists.{snoc-ind}
 use Rattle.rfc4737.proofs.Arrivals.{count-more}
 use Rattle.rfc4737.proofs.Folds.{answers-more, length-answers, arrived-more, runs-more, tally-more, in-order-or-reordered, duplicate-or-first, closed-reordered, current-le, squares-le}
+use Rattle.rfc4737.specs.Judge.{sentMost, arrivalsMost}
 use Rattle.sample.specs.declared.Layout.{Layout}
 use Rattle.sample.specs.Decode.{Decoded}
 use Rattle.metrics.specs.Sample.{sizeOf, sampleArrivals, answersOf}
-use Rattle.metrics.specs.Private.Sample.{arrivalAt, before, answerAt, answersTo, Laid, Has}
-use Rattle.metrics.specs.Private.Tables.{Follows, Late, classOf, Tells, lateOnly}
-use Rattle.metrics.specs.Private.Steps.{Inside, FewCounted, noCounts, countsBy, tallyBy, orZero, DiscoverersAt, markBy}
+use Rattle.metrics.specs.Private.Sample.{arrivalAt, before, answerAt, answersTo, FileLayout, HasRecord, numberPlaces}
+use Rattle.metrics.specs.Private.Tables.{EngineTables, LateRecord, classOf, ClassAnswer}
+use Rattle.metrics.specs.Private.Steps.{Inside, FewCounted, countsBy, tallyBy, orZero, DiscoverersAt, markBy}
 use Rattle.metrics.specs.declared.look.Class.{Class}
 use Rattle.metrics.specs.declared.tables.State.{State}
 use Rattle.metrics.proofs.Follow.{arrivals-laid, before-more, before-length}
@@ -42,14 +41,14 @@ zeros (suc n) zero = refl
 zeros (suc n) (suc k) = zeros n k
 
 -- the tables at the start
-pub follows-start : (d : Decoded) → Follows (before d 0) (replicate 4096 0) (replicate 4097 0) (replicate 4097 0) (record { count = 0; next = 1 })
+pub follows-start : (d : Decoded) → EngineTables (before d 0) (replicate sentMost 0) (replicate numberPlaces 0) (replicate numberPlaces 0) (record { count = 0; next = 1 })
 unfolding firsts nextExp firstRecord recordFrom
 follows-start d =
     record {
       places = (refl, refl, refl);
       numbered = record { all = refl; at = λ p h. absurd (omega arith) };
       next = refl;
-      recorded = record { at = λ s low high. zeros 4097 s };
+      recorded = record { at = λ s low high. zeros numberPlaces s };
       skips = λ s low h new. absurd (omega arith);
     }
 
@@ -59,12 +58,12 @@ unfolding answers each eachAfter
 answers-start d = refl
 
 -- after all arrivals
-pub answers-end : (d : Decoded) (y : Layout) (i : ℕ) → Laid d y → y .arrivals ≤ i → answersTo d i ≡ answersOf d
+pub answers-end : (d : Decoded) (y : Layout) (i : ℕ) → FileLayout d y → y .arrivals ≤ i → answersTo d i ≡ answersOf d
 answers-end d y i h g = ap (answers (sizeOf d)) (take-all i (sampleArrivals d) (omega (arith, arrivals-laid d y h)))
 
 -- ---- one arrival more
 
-module _ (d : Decoded) (y : Layout) (i : ℕ) (h : Has d y i) where
+module _ (d : Decoded) (y : Layout) (i : ℕ) (h : HasRecord d y i) where
   -- the answers under record i + 1
   pub answers-next : answersTo d (i + 1) ≡ answersTo d i ++ (answerAt d i ∷ [])
   answers-next = rw (before-more d y i h) (answers-more (sizeOf d) (before d i) (arrivalAt d i))
@@ -74,8 +73,8 @@ module _ (d : Decoded) (y : Layout) (i : ℕ) (h : Has d y i) where
   answers-length = length-answers (sizeOf d) (before d i) ∙ before-length d y i h
 
   -- a discontinuity that the class names is at one of the positions
-  pub inside-told : (numbers records skipped : List ℕ) (state : State) → Follows (before d i) numbers records skipped state
-      → (k : Class) → Tells d i (state .count) k → Inside (state .count) k
+  pub inside-told : (numbers records skipped : List ℕ) (state : State) → EngineTables (before d i) numbers records skipped state
+      → (k : Class) → ClassAnswer d i (state .count) k → Inside (state .count) k
   inside-told numbers records skipped state f (Class.Duplicate first) t = tt
   inside-told numbers records skipped state f (Class.InOrder jump) t = tt
   inside-told numbers records skipped state f (Class.Reordered at) t =
@@ -94,23 +93,18 @@ counts-more l (Answer.Reordered f) =
     rw (arrived-more l (Answer.Reordered f), count-more isReordered l (Answer.Reordered f), count-more isDuplicate l (Answer.Reordered f), count-more isInOrderAnswer l (Answer.Reordered f), runs-more l (Answer.Reordered f))
 
 -- the square of a number below 4,096
-pub square-le : {n : ℕ} → n < 4096 → n * n ≤ 16777216
-square-le {n} h = mul-le-mul {n₁ = n} {m₁ = n} {n₂ = 4096} {m₂ = 4096} (omega arith) (omega arith)
-
--- the counts of no answers
-pub counts-none : counts [] ≡ noCounts
-unfolding counts arrived count runs
-counts-none = refl
+pub square-le : {n : ℕ} → n < arrivalsMost → n * n ≤ squaresMost
+square-le {n} h = mul-le-mul {n₁ = n} {m₁ = n} {n₂ = arrivalsMost} {m₂ = arrivalsMost} (omega arith) (omega arith)
 
 -- the counts of fewer than 4,096 answers
-pub counts-small : (l : List Answer) → length l < 4096 → FewCounted (counts l)
+pub counts-small : (l : List Answer) → length l < arrivalsMost → FewCounted (counts l)
 unfolding counts
 counts-small l h =
     let a = in-order-or-reordered l in
     let b = duplicate-or-first l in
     let c = closed-reordered l in
     let e = current-le l in
-    let s = squares-le 4096 l (omega arith) in
+    let s = squares-le arrivalsMost l (omega arith) in
     record {
       arrived = omega arith;
       reordered = omega arith;
@@ -124,7 +118,7 @@ counts-small l h =
 -- ---- tally
 
 -- the tally's step, by the class
-tally-told : (d : Decoded) (i n : ℕ) (k : Class) → Tells d i n k → n ≡ length (firsts (before d i)) → (t : List ℕ)
+tally-told : (d : Decoded) (i n : ℕ) (k : Class) → ClassAnswer d i n k → n ≡ length (firsts (before d i)) → (t : List ℕ)
     → tallyAfter t (answerAt d i) ≡ tallyBy t n k
 unfolding tallyAfter tallyBy reorderedAnswer extentFrom
 tally-told d i n (Class.Duplicate first) e c t = rw e
@@ -132,22 +126,22 @@ tally-told d i n (Class.InOrder jump) e c t = rw e
 tally-told d i n (Class.Reordered at) e c t = rw (e .answer) (rw (e .position, c))
 
 -- the tally under record i + 1
-pub tally-next : (d : Decoded) (y : Layout) (i : ℕ) → Has d y i → (n : ℕ) (k : Class) → Tells d i n k → n ≡ length (firsts (before d i))
+pub tally-next : (d : Decoded) (y : Layout) (i : ℕ) → HasRecord d y i → (n : ℕ) (k : Class) → ClassAnswer d i n k → n ≡ length (firsts (before d i))
     → tally (answersTo d (i + 1)) ≡ tallyBy (tally (answersTo d i)) n k
 tally-next d y i h n k t c =
     ap tally (answers-next d y i h) ∙ tally-more (answersTo d i) (answerAt d i) ∙ tally-told d i n k t c (tally (answersTo d i))
 
 -- the tally of no answers
-pub tally-none : tally [] ≡ replicate 101 0
+pub tally-none : tally [] ≡ replicate tallyPlaces 0
 unfolding tally
 tally-none = refl
 
 -- ---- discoverers of discontinuities
 
 -- among no answers
-pub marked-start : (d : Decoded) → DiscoverersAt (answersTo d 0) (replicate 4097 0)
+pub marked-start : (d : Decoded) → DiscoverersAt (answersTo d 0) (replicate numberPlaces 0)
 unfolding answers each eachAfter discoverer
-marked-start d = record { places = refl; at = λ p low high. zeros 4097 p; positive = λ p q e. absurd (Option·some-ne-none q (sym e)) }
+marked-start d = record { places = refl; at = λ p low high. zeros numberPlaces p; positive = λ p q e. absurd (Option·some-ne-none q (sym e)) }
 
 -- the first of two positions that there is
 abbrev first-of : Option ℕ → Option ℕ → Option ℕ
@@ -198,7 +192,7 @@ marked-same l a found e m =
     }
 
 -- under a reordered packet's answer the discontinuity at `at` has its position, if it had none
-module _ (l : List Answer) (a : Answer) (found : List ℕ) (at position : ℕ) (m : DiscoverersAt l found) (low : 1 ≤ at) (high : at ≤ 4096) (one : 1 ≤ position)
+module _ (l : List Answer) (a : Answer) (found : List ℕ) (at position : ℕ) (m : DiscoverersAt l found) (low : 1 ≤ at) (high : at ≤ sentMost) (one : 1 ≤ position)
     (mine : (p : ℕ) → cond (belongsTo p a) (positionOf a) none ≡ cond (eqb at p) (some position) none) where
   -- the discoverer at each position
   now-found : (p : ℕ) → discoverer p (l ++ (a ∷ [])) ≡ first-of (discoverer p l) (cond (eqb at p) (some position) none)
@@ -214,7 +208,7 @@ module _ (l : List Answer) (a : Answer) (found : List ℕ) (at position : ℕ) (
       go none e false u = absurd (Option·some-ne-none q (sym u))
 
   -- the table has it
-  at-more : (p : ℕ) → 1 ≤ p → p ≤ 4096 → getD (cond (eqb (getD found at 0) 0) (set found at position) found) p 0 ≡ orZero (discoverer p (l ++ (a ∷ [])))
+  at-more : (p : ℕ) → 1 ≤ p → p ≤ sentMost → getD (cond (eqb (getD found at 0) 0) (set found at position) found) p 0 ≡ orZero (discoverer p (l ++ (a ∷ [])))
   at-more p lo hi = go (eqb (getD found at 0) 0) refl (eqb at p) refl (discoverer p l) refl ∙ sym (ap orZero (now-found p))
     where
       go : (z : Bool) → eqb (getD found at 0) 0 ≡ z → (t : Bool) → eqb at p ≡ t → (o : Option ℕ) → discoverer p l ≡ o
@@ -237,10 +231,10 @@ module _ (l : List Answer) (a : Answer) (found : List ℕ) (at position : ℕ) (
           absurd (eqb-false (getD found at 0) 0 ez (rw here (m .at p lo hi ∙ ap orZero eo)))
 
   -- the table keeps its places
-  places-more : length (cond (eqb (getD found at 0) 0) (set found at position) found) ≡ 4097
+  places-more : length (cond (eqb (getD found at 0) 0) (set found at position) found) ≡ numberPlaces
   places-more = go (eqb (getD found at 0) 0)
     where
-      go : (z : Bool) → length (cond z (set found at position) found) ≡ 4097
+      go : (z : Bool) → length (cond z (set found at position) found) ≡ numberPlaces
       go true = length-set found at position ∙ m .places
       go false = m .places
 
@@ -249,7 +243,7 @@ module _ (l : List Answer) (a : Answer) (found : List ℕ) (at position : ℕ) (
   marked-more = record { places = places-more; at = at-more; positive = positive-more }
 
 -- the answer of a late record has its discontinuity as its own
-late-mine : (d : Decoded) (i at n : ℕ) (h : Late d i at) → n ≡ length (firsts (before d i)) → (p : ℕ)
+late-mine : (d : Decoded) (i at n : ℕ) (h : LateRecord d i at) → n ≡ length (firsts (before d i)) → (p : ℕ)
     → cond (belongsTo p (answerAt d i)) (positionOf (answerAt d i)) none ≡ cond (eqb at p) (some (n + 1)) none
 unfolding belongsTo positionOf reorderedAnswer extentFrom
 late-mine d i at n h c p =
@@ -258,7 +252,7 @@ late-mine d i at n h c p =
     rw (h .answer) (rw (e, c))
 
 -- the table of discoverers under record i + 1
-pub marked-next : (d : Decoded) (y : Layout) (i : ℕ) → Has d y i → (n : ℕ) (k : Class) → Tells d i n k → n ≡ length (firsts (before d i)) → n ≤ 4096
+pub marked-next : (d : Decoded) (y : Layout) (i : ℕ) → HasRecord d y i → (n : ℕ) (k : Class) → ClassAnswer d i n k → n ≡ length (firsts (before d i)) → n ≤ arrivalsMost
     → Inside n k → (found : List ℕ) → DiscoverersAt (answersTo d i) found → DiscoverersAt (answersTo d (i + 1)) (markBy found n k)
 unfolding markBy
 marked-next d y i h n (Class.Duplicate first) t c few s found m =

@@ -15,10 +15,11 @@ use Rattle.rfc4737.proofs.Lists.{snoc-ind}
 use Rattle.rfc4737.proofs.Arrivals.{take-more}
 use Rattle.rfc4737.proofs.Folds.{offset-more, offset-le}
 use Rattle.rfc4737.proofs.Jumps.{has-more-false}
+use Rattle.rfc4737.specs.Judge.{sentMost}
 use Rattle.sums.specs.Tree.{Added, sumTo}
 use Rattle.sums.proofs.Summed.{summed-none, summed-more, sum-summed}
-use Rattle.metrics.specs.Private.Sample.{noArrival}
-use Rattle.metrics.specs.Private.Engine.{Totalled}
+use Rattle.sample.specs.Places.{noArrival}
+use Rattle.metrics.specs.Private.Engine.{SizeTree}
 use Rattle.metrics.specs.declared.totals.Totals.{Totals}
 
 -- a packet is above number 2k if its pair is above k
@@ -57,24 +58,24 @@ module _ (size : ℕ → ℕ) (s : ℕ) (low : 1 ≤ s) where
       go false e = ap (byteOffset size fs) (omega (arith, eqb-false (s % 2) 0 e)) ∙ offset-before fs new
 
 -- a tree of no first arrivals
-pub totalled-none : (size : ℕ → ℕ) (fs : List Arrival) → Totalled size fs (replicate 2049 0) (record { filled = 0; total = 0 })
+pub totalled-none : (size : ℕ → ℕ) (fs : List Arrival) → SizeTree size fs (replicate 2049 0) (record { filled = 0; total = 0 })
 unfolding byteOffset
 totalled-none size fs =
     record { places = refl; some = omega arith; summed = summed-none _ 2049 (λ i. refl); whole = refl }
 
-module _ (size : ℕ → ℕ) (small : (s : ℕ) → size s ≤ 65535) (fs : List Arrival) (few : length fs ≤ 4096) (tree : List ℕ) where
+module _ (size : ℕ → ℕ) (small : (s : ℕ) → size s ≤ 65535) (fs : List Arrival) (few : length fs ≤ sentMost) (tree : List ℕ) where
   -- the sizes of some first arrivals together are small
   sizes-few : (p s : ℕ) → p ≤ length fs → byteOffset size (take p fs) s ≤ 65535 * p
   sizes-few p s h = omega (arith, offset-le size 65535 small (take p fs) s, length-take-le p fs h)
 
   -- of those in the tree
-  pub total-small : (t : Totals) → Totalled size fs tree t → t .total ≤ 65535 * t .filled
+  pub total-small : (t : Totals) → SizeTree size fs tree t → t .total ≤ 65535 * t .filled
   total-small t k = omega (arith, k .whole, sizes-few (t .filled) 0 (k .some))
 
   -- a tree of one first arrival more
   pub totalled-more : (p number value total : ℕ) (tree′ : List ℕ) → p < length fs → number ≡ getD fs p noArrival .number → 1 ≤ number → value ≡ size number
-      → Totalled size fs tree (record { filled = p; total = total }) → Added ((number + 1) / 2) value tree tree′
-      → Totalled size fs tree′ (record { filled = p + 1; total = total + value })
+      → SizeTree size fs tree (record { filled = p; total = total }) → Added ((number + 1) / 2) value tree tree′
+      → SizeTree size fs tree′ (record { filled = p + 1; total = total + value })
   totalled-more p number value total tree′ inside is low own t added =
       record {
         places = added .places ∙ t .places;
@@ -90,7 +91,7 @@ module _ (size : ℕ → ℕ) (small : (s : ℕ) → size s ≤ 65535) (fs : Lis
       more s = rw (own, take-more noArrival fs p inside, is) (offset-more size (take p fs) s (getD fs p noArrival))
 
   -- the sum up to the pair of a packet, and what is above it
-  pub total-sum : (t : Totals) (s : ℕ) → t .filled ≡ length fs → s ≤ 4096 → Totalled size fs tree t
+  pub total-sum : (t : Totals) (s : ℕ) → t .filled ≡ length fs → s ≤ sentMost → SizeTree size fs tree t
       → sumTo tree (s / 2) + byteOffset size fs (s / 2 * 2) ≡ t .total
   total-sum t s all high k =
       let whole : take (t .filled) fs ≡ fs = take-all (t .filled) fs (omega arith) in
@@ -99,6 +100,6 @@ module _ (size : ℕ → ℕ) (small : (s : ℕ) → size s ≤ 65535) (fs : Lis
       rw whole at (e ∙ sym (k .whole))
 
   -- so the total without the sum is the byte offset of a packet that has not arrived
-  pub offset-summed : (t : Totals) (s : ℕ) → t .filled ≡ length fs → 1 ≤ s → s ≤ 4096 → Totalled size fs tree t → has s fs ≡ false
+  pub offset-summed : (t : Totals) (s : ℕ) → t .filled ≡ length fs → 1 ≤ s → s ≤ sentMost → SizeTree size fs tree t → has s fs ≡ false
       → t .total - sumTo tree (s / 2) ≡ byteOffset size fs s
   offset-summed t s all low high k new = omega (arith, total-sum t s all high k, offset-pair size s low fs new)

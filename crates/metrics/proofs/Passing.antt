@@ -19,10 +19,10 @@ use Rattle.metrics.specs.Report.{sampleText}
 use Rattle.metrics.specs.Sample.{answersOf}
 use Rattle.metrics.specs.Private.Compared.{Agreed}
 use Rattle.metrics.specs.Private.Passed.{ListedAt, PassedTo, PassEnded, TextTaken}
-use Rattle.metrics.specs.Private.Sample.{arrivalAt, answerAt, answersTo, Laid, Has}
-use Rattle.metrics.specs.Private.Taken.{Ready, Held, Taken}
+use Rattle.metrics.specs.Private.Sample.{arrivalAt, answerAt, answersTo, FileLayout, HasRecord}
+use Rattle.metrics.specs.Private.Taken.{LineRoom, LineHeld, LineTaken}
 use Rattle.metrics.specs.declared.parts.Part.{Part}
-use Rattle.metrics.specs.declared.pass.Passed.{Passed}
+use Rattle.metrics.specs.declared.pass.PassResult.{PassResult}
 use Rattle.metrics.proofs.OneArrivalMore.{answers-end}
 use Rattle.metrics.proofs.Common.{common-le, line-read}
 use Rattle.metrics.proofs.Listed.{lines-within, sample-within, listing-start, listing-next, listing-end}
@@ -31,7 +31,7 @@ use Rattle.metrics.proofs.Left.{part-most, header-left, header-stop, re
 -- ---- a line
 
 module _ (comparing : Bool) (line text : List ℕ) (at : ℕ) {old new : List ℕ} {n place : ℕ} (e : n ≡ length line) (few : length line ≤ 93)
-    (ready : Ready comparing text at old) (p : place ≡ cond comparing 0 at) (q : new ≡ put place line old) where
+    (ready : LineRoom comparing text at old) (p : place ≡ cond comparing 0 at) (q : new ≡ put place line old) where
   -- memory is as long with it
   line-kept : length new ≡ length old
   line-kept = ap length q ∙ put-length place line old
@@ -41,7 +41,7 @@ module _ (comparing : Bool) (line text : List ℕ) (at : ℕ) {old new : List �
   line-ready t = (omega (arith, line-kept, ready .room t), ready .inside t)
 
   -- then it is taken
-  pub line-taken : {r : Part} → Held comparing new text at n r → Taken comparing line text at old new r
+  pub line-taken : {r : Part} → LineHeld comparing new text at n r → LineTaken comparing line text at old new r
   line-taken h =
       record {
         listed = λ f. (h .listed f ∙ rw e, rw (p ∙ ap (λ (b : Bool). cond b 0 at) f) at q);
@@ -60,8 +60,8 @@ same-start false = refl
 -- ---- a record's line
 
 module _ (d : Decoded) (y : Layout) (text : List ℕ) (comparing : Bool) {i at number : ℕ} {answer : Answer} {old new newer : List ℕ} {p : Part}
-    (h : Has d y i) (s : PassedTo d y text comparing i at old new) (is : number ≡ arrivalAt d i .number) (says : answer ≡ answerAt d i)
-    (t : Taken comparing (recordLine (i + 1) number answer) text at new newer p) where
+    (h : HasRecord d y i) (s : PassedTo d y text comparing i at old new) (is : number ≡ arrivalAt d i .number) (says : answer ≡ answerAt d i)
+    (t : LineTaken comparing (recordLine (i + 1) number answer) text at new newer p) where
   -- the listing, after the line of record i + 1
   line-listed : comparing ≡ false → ListedAt d y (i + 1) (at + p .octets) old newer
   line-listed e = listing-next d y old h (s .listed e) is says (ap (λ (q : Part). q .octets) (t .listed e .0)) (t .listed e .1)
@@ -91,9 +91,9 @@ module _ (d : Decoded) (y : Layout) (text : List ℕ) (comparing : Bool) {i at n
 -- the place after a line: in a text it is one of the text's, and a listing is short
 pub place-fits : (file : List ℕ) → Octets file → (y : Layout) (text : List ℕ) → length text < 2 ^ 64 → (comparing : Bool)
     → {i at number : ℕ} {answer : Answer} {old new newer : List ℕ} {p : Part}
-    → Has (decode file) y i → PassedTo (decode file) y text comparing i at old new
+    → HasRecord (decode file) y i → PassedTo (decode file) y text comparing i at old new
     → number ≡ arrivalAt (decode file) i .number → answer ≡ answerAt (decode file) i
-    → Taken comparing (recordLine (i + 1) number answer) text at new newer p → at + p .octets < 2 ^ 64
+    → LineTaken comparing (recordLine (i + 1) number answer) text at new newer p → at + p .octets < 2 ^ 64
 place-fits file o y text short comparing {i} {at} {number} {answer} {old} {new} {newer} {p} h s is says t = go comparing refl
   where
     go : (b : Bool) → comparing ≡ b → at + p .octets < 2 ^ 64
@@ -103,7 +103,7 @@ place-fits file o y text short comparing {i} {at} {number} {answer} {old} {new} 
         omega (arith, h .file .few, line-listed (decode file) y text comparing h s is says t e .place, lines-within file y (h .file) o (i + 1) inside)
 
 -- after the last record
-pub passed-all : (d : Decoded) (y : Layout) (text : List ℕ) (comparing : Bool) {i at : ℕ} {old new : List ℕ} {c : Counts} → Laid d y
+pub passed-all : (d : Decoded) (y : Layout) (text : List ℕ) (comparing : Bool) {i at : ℕ} {old new : List ℕ} {c : Counts} → FileLayout d y
     → i ≤ y .arrivals → y .arrivals ≤ i → PassedTo d y text comparing i at old new → c ≡ counts (answersTo d i)
     → PassEnded d y text comparing old new (record { part = record { octets = at; whole = true }; counts = c })
 passed-all d y text comparing {i} h most all s e =
@@ -116,8 +116,8 @@ passed-all d y text comparing {i} h most all s e =
 
 -- ---- the first line and the last
 
-module _ (d : Decoded) (y : Layout) (laid : Laid d y) (text : List ℕ) (comparing : Bool) {old start : List ℕ} {p : Part}
-    (t : Taken comparing (headerLine (y .sent) (y .arrivals)) text 0 old start p) where
+module _ (d : Decoded) (y : Layout) (laid : FileLayout d y) (text : List ℕ) (comparing : Bool) {old start : List ℕ} {p : Part}
+    (t : LineTaken comparing (headerLine (y .sent) (y .arrivals)) text 0 old start p) where
   -- after the first line
   pub first-taken : p .whole ≡ true → PassedTo d y text comparing 0 (p .octets) start start
   first-taken w =
@@ -137,7 +137,7 @@ module _ (d : Decoded) (y : Layout) (laid : Laid d y) (text : List ℕ) (compari
       }
 
   -- where a record's line differs
-  pub record-differs : {new : List ℕ} (r : Passed) → PassEnded d y text comparing start new r → r .part .whole ≡ false
+  pub record-differs : {new : List ℕ} (r : PassResult) → PassEnded d y text comparing start new r → r .part .whole ≡ false
       → TextTaken comparing (sampleText d) text old new (r .part)
   record-differs r s w =
       record {
@@ -148,7 +148,7 @@ module _ (d : Decoded) (y : Layout) (laid : Laid d y) (text : List ℕ) (compari
 
   -- after the last line
   pub last-taken : {at : ℕ} {new newer : List ℕ} {c : Counts} {q : Part} → PassedTo d y text comparing (y .arrivals) at start new
-      → c ≡ counts (answersOf d) → Taken comparing (endLine c) text at new newer q
+      → c ≡ counts (answersOf d) → LineTaken comparing (endLine c) text at new newer q
       → TextTaken comparing (sampleText d) text old newer (record { octets = at + q .octets; whole = q .whole })
   last-taken {at} {new} {newer} {c} {q} s ec u =
       record {
@@ -160,7 +160,7 @@ module _ (d : Decoded) (y : Layout) (laid : Laid d y) (text : List ℕ) (compari
       }
 
 -- the place after the last line
-pub last-fits : (file : List ℕ) → Octets file → (y : Layout) → Laid (decode file) y → (text : List ℕ) → length text < 2 ^ 64 → (comparing : Bool)
+pub last-fits : (file : List ℕ) → Octets file → (y : Layout) → FileLayout (decode file) y → (text : List ℕ) → length text < 2 ^ 64 → (comparing : Bool)
     → {old new : List ℕ} (r : Part) → TextTaken comparing (sampleText (decode file)) text old new r → r .octets < 2 ^ 64
 last-fits file o y laid text short comparing r t = go comparing refl
   where

@@ -1,17 +1,18 @@
--- What is asked for: refusals, records and their answers. Assumes nothing.
+-- What is asked for, by a record or by n: a call is refused with the file's own refusal or where the number lies outside its range, and
+-- then finds nothing; else the answer and the gap at record i + 1 are those of the arrivals before it. Assumes nothing.
 use mathlib.Core.Path.{_≡_, refl, sym, ap, ap₂, _∙_}
-use mathlib.Core.Bool.{Bool, true, false, cond, not, _&&_, true≢false}
+use mathlib.Core.Bool.{Bool, true, false, cond}
 use mathlib.Core.List.{List, [], _∷_, _++_, append-nil, append-assoc}
 use mathlib.Core.Option.{none, some}
 use Prim.Native.Nat.{ℕ, zero, suc, _+_, _-_, _≤_, _<_}
 use native.Mathlib.Omega.{arith}
 use lib.Dec.{leb}
 use lib.ListN.{length, take, drop, getD, take-append-drop, length-append, List·getD-eq-default, List·getD-map, length-map}
-use borrow.Author.Tests.{le-leb, leb-true, leb-false}
+use borrow.Author.Tests.{leb-true, leb-false}
 use Rattle.rfc4737.specs.declared.Arrival.{Arrival}
 use Rattle.rfc4737.specs.declared.Answer.{Answer}
 use Rattle.rfc4737.specs.declared.Gap.{Gap}
-use Rattle.rfc4737.specs.Refusals.{firstOf, inCase, within, askedOutside}
+use Rattle.rfc4737.specs.Refusals.{firstOf, inCase, outside, askedOutside}
 use Rattle.rfc4737.specs.Arrivals.{count, has, withArrival, firsts, each, eachAfter}
 use Rattle.rfc4737.specs.Order.{isInOrder}
 use Rattle.rfc4737.specs.Extent.{discontinuity}
@@ -19,13 +20,16 @@ use Rattle.rfc4737.specs.Answer.{inOrderAnswer, reorderedAnswer, firstAnswer, a
 use Rattle.rfc4737.specs.Runs.{arrived}
 use Rattle.rfc4737.specs.Gaps.{positionOf, gapOf, gaps}
 use Rattle.rfc4737.specs.Ratios.{nReordered}
+use Rattle.rfc4737.proofs.Due.{first-none, first-one, case-none, between, not-outside}
 use Rattle.rfc4737.proofs.Arrivals.{has-firsts, firsts-more, with-duplicate, with-first, length-firsts}
 use Rattle.rfc4737.proofs.Folds.{answer-duplicate, answer-first, arrived-answers, length-answers}
+use Rattle.rfc4737.specs.Judge.{sentMost}
 use Rattle.sample.specs.declared.Layout.{Layout}
 use Rattle.sample.specs.Decode.{Decoded, refused, accepted, decodedRefusal}
 use Rattle.metrics.specs.Sample.{sizeOf, sampleArrivals, answersOf}
-use Rattle.metrics.specs.Private.Sample.{noArrival, arrivalAt, before, answerAt, Laid, Has}
-use Rattle.metrics.specs.Figures.{atRecord, askedRefusal, recordRefusal, degreeInside, degreeAnswers, recordAnswer, recordGap, degreeCounts}
+use Rattle.sample.specs.Places.{noArrival}
+use Rattle.metrics.specs.Private.Sample.{arrivalAt, before, answerAt, FileLayout, HasRecord}
+use Rattle.metrics.specs.Figures.{atRecord, askedRefusal, recordRefusal, degreeAnswers, recordAnswer, recordGap, degreeCounts, degreeMost}
 use Rattle.metrics.specs.Private.Steps.{placeIn, DiscoverersAt, gapBy}
 use Rattle.metrics.specs.declared.RecordAnswer.{RecordAnswer}
 use Rattle.metrics.specs.declared.RecordGap.{RecordGap}
@@ -35,53 +39,36 @@ use Rattle.metrics.proofs.Discovered.{gap-marked}
 
 -- ---- refusals
 
--- a refusal that is due comes before all others
-pub own-first : (r low high asked : ℕ) → (r ≡ 0 → ⊥) → r ≡ firstOf (r ∷ inCase (not (within low high asked)) askedOutside ∷ [])
-own-first zero low high asked h = absurd (h refl)
-own-first (suc r) low high asked h = refl
-
 -- no refusal: the file has none of its own, and what is asked for is in its range
-asked-inside : (r : ℕ) (b : Bool) → firstOf (r ∷ inCase (not b) askedOutside ∷ []) ≡ 0 → (r ≡ 0) × (b ≡ true)
-asked-inside zero true e = (refl, refl)
-asked-inside zero false e = absurd (omega (arith, e))
-asked-inside (suc r) b e = absurd (omega (arith, e))
-
--- what lies in a range
-within-true : (low high n : ℕ) → within low high n ≡ true → (low ≤ n) × (n ≤ high)
-within-true low high n e = go (leb low n) refl (leb n high) refl e
-  where
-    go : (t : Bool) → leb low n ≡ t → (u : Bool) → leb n high ≡ u → (t && u) ≡ true → (low ≤ n) × (n ≤ high)
-    go true a true b e = (leb-true low n a, leb-true n high b)
-    go true a false b e = absurd (true≢false (sym e))
-    go false a u b e = absurd (true≢false (sym e))
+asked-inside : (d : Decoded) (low high asked : ℕ) → askedRefusal d low high asked ≡ 0 → outside low high asked ≡ false
+asked-inside d low high asked e = case-none (outside low high asked) askedOutside (omega arith) (sym (first-one _) ∙ first-none (decodedRefusal d) (inCase (outside low high asked) askedOutside ∷ []) e .1)
 
 -- a call that is not refused asks for a number in its range
 pub asked-within : (d : Decoded) (low high asked : ℕ) → askedRefusal d low high asked ≡ 0 → (low ≤ asked) × (asked ≤ high)
-asked-within d low high asked e = within-true low high asked (asked-inside (decodedRefusal d) (within low high asked) e .1)
+asked-within d low high asked e = between low high asked (asked-inside d low high asked e)
 
 -- a call that is refused asks for no record
 asked-outside : (d : Decoded) (asked : ℕ) → (recordRefusal d asked ≡ 0 → ⊥) → 1 ≤ asked → asked ≤ length (sampleArrivals d) → ⊥
 asked-outside (refused r) asked h low high = omega arith
-asked-outside (accepted s) asked h low high =
-    h (rw (le-leb 1 asked low, le-leb asked (length (sampleArrivals (accepted s))) high))
+asked-outside (accepted s) asked h low high = h (rw (not-outside 1 (length (sampleArrivals (accepted s))) asked low high))
 
 -- where a degree is refused there are no answers
-pub degree-refused : (d : Decoded) (n : ℕ) → (askedRefusal d 1 100 n ≡ 0 → ⊥) → degreeAnswers d n ≡ []
+pub degree-refused : (d : Decoded) (n : ℕ) → (askedRefusal d 1 degreeMost n ≡ 0 → ⊥) → degreeAnswers d n ≡ []
 unfolding answers each eachAfter
-degree-refused (refused r) n h = go (degreeInside n)
+degree-refused (refused r) n h = go (outside 1 degreeMost n)
   where
-    go : (b : Bool) → cond b (answersOf (refused r)) [] ≡ []
+    go : (b : Bool) → cond b [] (answersOf (refused r)) ≡ []
     go true = refl
     go false = refl
-degree-refused (accepted s) n h = go (degreeInside n) refl
+degree-refused (accepted s) n h = go (outside 1 degreeMost n) refl
   where
-    go : (b : Bool) → degreeInside n ≡ b → cond b (answersOf (accepted s)) [] ≡ []
-    go true e = absurd (h (rw e))
-    go false e = refl
+    go : (b : Bool) → outside 1 degreeMost n ≡ b → cond b [] (answersOf (accepted s)) ≡ []
+    go true e = refl
+    go false e = absurd (h (rw e))
 
 -- where it is not, all
-pub degree-accepted : (d : Decoded) (n : ℕ) → askedRefusal d 1 100 n ≡ 0 → degreeAnswers d n ≡ answersOf d
-degree-accepted d n e = rw (asked-inside (decodedRefusal d) (degreeInside n) e .1)
+pub degree-accepted : (d : Decoded) (n : ℕ) → askedRefusal d 1 degreeMost n ≡ 0 → degreeAnswers d n ≡ answersOf d
+degree-accepted d n e = rw (asked-inside d 1 degreeMost n e)
 
 -- ---- what stands at a record
 
@@ -179,7 +166,7 @@ firsts-grow : (l m : List Arrival) → length (firsts l) ≤ length (firsts (l +
 firsts-grow l [] = rw append-nil (omega arith)
 firsts-grow l (a ∷ m) = let k = rw append-assoc at (firsts-grow (l ++ (a ∷ [])) m) in omega (arith, firsts-one l a, k)
 
-module _ (d : Decoded) (y : Layout) (i : ℕ) (h : Has d y i) where
+module _ (d : Decoded) (y : Layout) (i : ℕ) (h : HasRecord d y i) where
   -- the position of record i + 1, if it is a first arrival
   new-place : has (arrivalAt d i .number) (before d i) ≡ false → placeIn (answerAt d i) ≡ length (firsts (before d i)) + 1
   new-place e = rw (answer-first (sizeOf d) (before d i) (arrivalAt d i) e) (first-place (sizeOf d) (firsts (before d i)) (arrivalAt d i))
@@ -213,21 +200,21 @@ module _ (d : Decoded) (y : Layout) (i : ℕ) (h : Has d y i) where
           omega (arith, grown, ap length more, length-append (firsts (before d i)) (arrivalAt d i ∷ []), new-place e)
 
   -- and L at most 4,096
-  pub arrived-le : arrived (answersOf d) ≤ 4096
+  pub arrived-le : arrived (answersOf d) ≤ sentMost
   arrived-le =
       omega (arith, arrived-answers (sizeOf d) (sampleArrivals d), length-firsts (sampleArrivals d), arrivals-laid d y (h .file), h .file .few)
 
 -- ---- the calls' answers
 
 -- the refusal that is found by the layout
-pub laid-refusal : (d : Decoded) (y : Layout) → Laid d y → (r low high asked : ℕ)
-    → r ≡ firstOf (y .refusal ∷ inCase (not (within low high asked)) askedOutside ∷ []) → r ≡ askedRefusal d low high asked
+pub laid-refusal : (d : Decoded) (y : Layout) → FileLayout d y → (r low high asked : ℕ)
+    → r ≡ firstOf (y .refusal ∷ inCase (outside low high asked) askedOutside ∷ []) → r ≡ askedRefusal d low high asked
 laid-refusal d y h r low high asked e =
-    e ∙ ap (λ (y : Layout). firstOf (y .refusal ∷ inCase (not (within low high asked)) askedOutside ∷ [])) (h .laid)
+    e ∙ ap (λ (y : Layout). firstOf (y .refusal ∷ inCase (outside low high asked) askedOutside ∷ [])) (h .laid)
 
 -- the same of a record
-pub laid-record : (d : Decoded) (y : Layout) → Laid d y → (r asked : ℕ)
-    → r ≡ firstOf (y .refusal ∷ inCase (not (within 1 (y .arrivals) asked)) askedOutside ∷ []) → r ≡ recordRefusal d asked
+pub laid-record : (d : Decoded) (y : Layout) → FileLayout d y → (r asked : ℕ)
+    → r ≡ firstOf (y .refusal ∷ inCase (outside 1 (y .arrivals) asked) askedOutside ∷ []) → r ≡ recordRefusal d asked
 laid-record d y h r asked e =
     laid-refusal d y h r 1 (y .arrivals) asked e ∙ ap (λ (n : ℕ). askedRefusal d 1 n asked) (arrivals-laid d y h)
 
@@ -264,7 +251,7 @@ module _ (d : Decoded) (asked r : ℕ) (e : r ≡ recordRefusal d asked) where
   unfolding recordGap
   gap-answered z g k = ap₂ gap-with e (k ∙ sym (gap-known d asked (sym e ∙ z)))
 
-module _ (d : Decoded) (n r : ℕ) (e : r ≡ askedRefusal d 1 100 n) where
+module _ (d : Decoded) (n r : ℕ) (e : r ≡ askedRefusal d 1 degreeMost n) where
   -- the counts of a degree with a refusal
   pub degree-answered-refused : (r ≡ 0 → ⊥) → record { refusal = r; reordered = 0; arrived = 0 } ≡ degreeCounts d n
   unfolding degreeCounts nReordered arrived count
@@ -278,13 +265,13 @@ module _ (d : Decoded) (n r : ℕ) (e : r ≡ askedRefusal d 1 100 n) where
 
 -- ---- the gap of a record, by its position
 
-module _ (d : Decoded) (y : Layout) (h : Laid d y) (asked r : ℕ) (e : r ≡ recordRefusal d asked) (z : r ≡ 0) where
+module _ (d : Decoded) (y : Layout) (h : FileLayout d y) (asked r : ℕ) (e : r ≡ recordRefusal d asked) (z : r ≡ 0) where
   -- the record asked for is one of the file's
   pub record-laid : (1 ≤ asked) × (asked ≤ y .arrivals)
   record-laid = omega (arith, record-inside d asked (sym e ∙ z), arrivals-laid d y h)
 
   -- so it is there
-  inside : Has d y (asked - 1)
+  inside : HasRecord d y (asked - 1)
   inside = record { file = h; inside = omega (arith, record-laid) }
 
   module _ (p : ℕ) (is : p ≡ placeIn (answerAt d (asked - 1))) where
@@ -294,7 +281,7 @@ module _ (d : Decoded) (y : Layout) (h : Laid d y) (asked r : ℕ) (e : r ≡ re
     gap-copy s = gap-answered d asked r e z Gap.None (sym (ap (gapOf (answersOf d)) (position-none d y (asked - 1) inside (sym is ∙ s))))
 
     -- a position is at most 4,096
-    pub place-few : p ≤ 4096
+    pub place-few : p ≤ sentMost
     place-few = omega (arith, is, position-le d y (asked - 1) inside, arrived-le d y (asked - 1) inside)
 
     -- any other that of its position

@@ -12,15 +12,15 @@ use lib.ListN.{length, take, getD, length-append, List·getD-append}
 use lib.Seq.{take-all, take-append-le, take-append-seam, getD-append-seam}
 use borrow.Author.Tests.{lt-ltb, le-ltb, ltb-true, ltb-false}
 use Rattle.rfc4737.specs.declared.Arrival.{Arrival}
-use Rattle.rfc4737.specs.Order.{Placed, placed, placeAfter}
+use Rattle.rfc4737.specs.Order.{FirstArrival, placed, placeAfter}
 use Rattle.rfc4737.specs.Extent.{firstAbove, discontinuity, byteOffset, largestN}
 use Rattle.rfc4737.specs.Arrivals.{each, eachAfter}
 use Rattle.rfc4737.proofs.Lists.{snoc-ind}
 use Rattle.rfc4737.proofs.Arrivals.{fold-take}
 use Rattle.rfc4737.proofs.Folds.{offset-more}
 use Rattle.rfc4737.proofs.Jumps.{placed-more, firstAbove-append, orElse}
-use Rattle.metrics.specs.Private.Sample.{noArrival}
-use Rattle.metrics.specs.Private.Tables.{Numbered, Above}
+use Rattle.sample.specs.Places.{noArrival}
+use Rattle.metrics.specs.Private.Tables.{NumberTable, Above}
 
 -- ---- numbers above a packet's, from a place to another
 
@@ -53,15 +53,15 @@ module _ (numbers : List ℕ) (count s : ℕ) where
   -- a sum is the byte offset over the first p positions, where none of the first `from` has a greater number
   abbrev pub OffsetTo : (ℕ → ℕ) → ℕ → ℕ → ℕ → Type 0
   OffsetTo size from p sum =
-      (fs : List Arrival) → Numbered fs numbers count → byteOffset size (take from fs) s ≡ 0 → sum ≡ byteOffset size (take p fs) s
+      (fs : List Arrival) → NumberTable fs numbers count → byteOffset size (take from fs) s ≡ 0 → sum ≡ byteOffset size (take p fs) s
 
   -- the largest n is that over the first p positions, and one for each position after them
   abbrev LargestFrom : ℕ → Type 0
-  LargestFrom p = (fs : List Arrival) → Numbered fs numbers count → largestN fs s ≡ largestN (take p fs) s + (count - p)
+  LargestFrom p = (fs : List Arrival) → NumberTable fs numbers count → largestN fs s ≡ largestN (take p fs) s + (count - p)
 
   module _ (p n : ℕ) (inside : p < count) (is : n ≡ getD numbers p 0) where
     -- the number at position p + 1
-    at : (fs : List Arrival) → Numbered fs numbers count → getD fs p noArrival .number ≡ n
+    at : (fs : List Arrival) → NumberTable fs numbers count → getD fs p noArrival .number ≡ n
     at fs h = sym (is ∙ h .at p (omega (arith, h .all)))
 
     -- under one position more, of a greater number
@@ -87,7 +87,7 @@ module _ (numbers : List ℕ) (count s : ℕ) where
         omega (arith, o fs h)
 
     -- and where it is not
-    largest-one-none : n ≤ s → LargestFrom (p + 1) → (fs : List Arrival) → Numbered fs numbers count → count - (p + 1) ≡ largestN fs s
+    largest-one-none : n ≤ s → LargestFrom (p + 1) → (fs : List Arrival) → NumberTable fs numbers count → count - (p + 1) ≡ largestN fs s
     unfolding largestN
     largest-one-none g o fs h =
         let e : largestN (take (p + 1) fs) s ≡ 0 =
@@ -96,7 +96,7 @@ module _ (numbers : List ℕ) (count s : ℕ) where
 
   -- the byte offset over all positions
   pub offset-all : (size : ℕ → ℕ) (from p sum : ℕ) → count ≤ p → OffsetTo size from p sum
-      → (fs : List Arrival) → Numbered fs numbers count → byteOffset size (take from fs) s ≡ 0 → sum ≡ byteOffset size fs s
+      → (fs : List Arrival) → NumberTable fs numbers count → byteOffset size (take from fs) s ≡ 0 → sum ≡ byteOffset size fs s
   offset-all size from p sum g o fs h none-before =
       o fs h none-before ∙ ap (λ (l : List Arrival). byteOffset size l s) (take-all p fs (omega (arith, h .all)))
 
@@ -109,7 +109,7 @@ module _ (numbers : List ℕ) (count s : ℕ) where
 
   -- the largest n counts the positions whose numbers are all greater, back to one whose number is not, or to the first
   pub largest-back : (p : ℕ) → Above numbers s p count → (0 < p → getD numbers (p - 1) 0 ≤ s)
-      → (fs : List Arrival) → Numbered fs numbers count → count - p ≡ largestN fs s
+      → (fs : List Arrival) → NumberTable fs numbers count → count - p ≡ largestN fs s
   unfolding largestN
   largest-back zero g stop = λ fs h. omega (arith, largest-above count 0 (omega arith) g fs h)
   largest-back (suc p) g stop =
@@ -120,7 +120,7 @@ module _ (numbers : List ℕ) (count s : ℕ) where
 -- ---- where a discontinuity stands
 
 -- the discontinuity p of a packet s among first arrivals: it is one of them, and none before it has a greater number
-pub record Found (size : ℕ → ℕ) (fs : List Arrival) (s : ℕ) (p : Placed) : Type 0 where
+pub record Found (size : ℕ → ℕ) (fs : List Arrival) (s : ℕ) (p : FirstArrival) : Type 0 where
   pub low : 1 ≤ p .position
   pub high : p .position ≤ length fs
   pub time : getD fs (p .position - 1) noArrival .time ≡ p .time
@@ -129,7 +129,7 @@ pub record Found (size : ℕ → ℕ) (fs : List Arrival) (s : ℕ) (p : Placed)
 -- nothing is above s where no discontinuity is found, and what is found is such
 record Searched (size : ℕ → ℕ) (fs : List Arrival) (s : ℕ) : Type 0 where
   none-above : discontinuity fs s ≡ none → byteOffset size fs s ≡ 0
-  some-found : (p : Placed) → discontinuity fs s ≡ some p → Found size fs s p
+  some-found : (p : FirstArrival) → discontinuity fs s ≡ some p → Found size fs s p
 
 -- the same under one first arrival more
 searched-more : (size : ℕ → ℕ) (s : ℕ) (fs : List Arrival) (a : Arrival) → Searched size fs s → Searched size (fs ++ (a ∷ [])) s
@@ -139,7 +139,7 @@ searched-more size s fs a h = go (discontinuity fs s) refl (ltb s (a .number)) r
     both : discontinuity (fs ++ (a ∷ [])) s ≡ orElse (discontinuity fs s) (cond (ltb s (a .number)) (some (placeAfter fs a)) none)
     both = rw (placed-more, firstAbove-append)
 
-    earlier : (p : Placed) → Found size fs s p → Found size (fs ++ (a ∷ [])) s p
+    earlier : (p : FirstArrival) → Found size fs s p → Found size (fs ++ (a ∷ [])) s p
     earlier p k =
         record {
           low = k .low;
@@ -160,14 +160,14 @@ searched-more size s fs a h = go (discontinuity fs s) refl (ltb s (a .number)) r
           alone = rw (last, take-append-seam fs (a ∷ [])) e;
         }
 
-    only : (p : Placed) → discontinuity (fs ++ (a ∷ [])) s ≡ some p → Found size (fs ++ (a ∷ [])) s p → Searched size (fs ++ (a ∷ [])) s
+    only : (p : FirstArrival) → discontinuity (fs ++ (a ∷ [])) s ≡ some p → Found size (fs ++ (a ∷ [])) s p → Searched size (fs ++ (a ∷ [])) s
     only p e k =
         record {
           none-above = λ n. absurd (Option·some-ne-none p (sym e ∙ n));
           some-found = λ r w. let same : p ≡ r = cc in rw same at k;
         }
 
-    go : (o : Option Placed) → discontinuity fs s ≡ o → (t : Bool) → ltb s (a .number) ≡ t → Searched size (fs ++ (a ∷ [])) s
+    go : (o : Option FirstArrival) → discontinuity fs s ≡ o → (t : Bool) → ltb s (a .number) ≡ t → Searched size (fs ++ (a ∷ [])) s
     go (some p) e t q = only p (rw e at both) (earlier p (h .some-found p e))
     go none e true q = only (placeAfter fs a) (rw (e, q) at both) (own (h .none-above e))
     go none e false q =
@@ -178,7 +178,7 @@ searched-more size s fs a h = go (discontinuity fs s) refl (ltb s (a .number)) r
         }
 
 -- every discontinuity is such
-pub found : (size : ℕ → ℕ) (s : ℕ) (fs : List Arrival) (p : Placed) → discontinuity fs s ≡ some p → Found size fs s p
+pub found : (size : ℕ → ℕ) (s : ℕ) (fs : List Arrival) (p : FirstArrival) → discontinuity fs s ≡ some p → Found size fs s p
 unfolding discontinuity placed firstAbove byteOffset each eachAfter
 found size s fs =
     snoc-ind (λ (fs : List Arrival). Searched size fs s) (searched-more size s)

@@ -1,14 +1,14 @@
 -- The shares of some arrivals, with their two tables: at the start, and under one arrival more, by what it is. Every new packet, in
 -- order or not, is linked by its largest n. Assumes nothing.
 use mathlib.Core.Path.{_≡_, refl, sym, ap, _∙_}
-use mathlib.Core.Bool.{Bool, true, false, cond, not, _||_, or-true, or-false, true≢false}
+use mathlib.Core.Bool.{Bool, true, false, cond, not, _||_, or-true, or-false}
 use mathlib.Core.List.{List, [], _∷_, _++_}
 use Prim.Native.Nat.{ℕ, _+_, _≤_, _<_}
 use native.Mathlib.Omega.{arith}
 use lib.Dec.{eqb}
 use lib.ListN.{length, getD, set, replicate, length-set, length-append}
 use lib.Seq.{getD-set-same, getD-set-other}
-use borrow.Author.Tests.{eq-eqb, ne-eqb, eqb-true, eqb-false, le-leb, lt-leb}
+use borrow.Author.Tests.{eq-eqb, ne-eqb, eqb-true, eqb-false, le-leb, lt-leb, not-true, not-false}
 use Rattle.rfc4737.specs.declared.Arrival.{Arrival}
 use Rattle.rfc4737.specs.declared.Answer.{Answer}
 use Rattle.rfc4737.specs.Arrivals.{has, firsts, each, eachAfter, count}
@@ -20,20 +20,20 @@ use Rattle.rfc4737.specs.Ratios.{isNReordered, nReordered}
 use Rattle.rfc4737.proofs.Lists.{snoc-ind}
 use Rattle.rfc4737.proofs.Arrivals.{has-firsts, has-more, firsts-more, with-duplicate, with-first, count-more}
 use Rattle.rfc4737.proofs.Folds.{answers-more, length-answers, arrived-more, answer-duplicate, answer-first, first-in-order, first-reordered}
+use Rattle.rfc4737.specs.Judge.{sentMost, arrivalsMost}
 use Rattle.sample.specs.Decode.{Decoded}
 use Rattle.metrics.specs.Sample.{sizeOf}
-use Rattle.metrics.specs.Private.Sample.{before}
-use Rattle.metrics.specs.Private.Tables.{Numbered}
-use Rattle.metrics.specs.Private.Steps.{FewShares, reachedBy, sharesOf, ShareTables}
+use Rattle.metrics.specs.Private.Sample.{before, numberPlaces}
+use Rattle.metrics.specs.Private.Tables.{NumberTable}
+use Rattle.metrics.specs.Private.Steps.{reachedBy, sharesOf, ShareTables}
 use Rattle.metrics.specs.declared.figures.Shares.{Shares}
 use Rattle.metrics.proofs.Follow.{numbered-more}
 use Rattle.metrics.proofs.OneArrivalMore.{zeros}
 use Rattle.metrics.proofs.CountsBySeen.{has-below, next-arrival}
-use Rattle.metrics.proofs.Linked.{largest-next, linked-set}
-use Rattle.metrics.proofs.Running.{linked-start}
+use Rattle.metrics.proofs.Links.{largest-next, linked-start, linked-set}
 
 -- before any arrival
-pub shares-start : (low high : ℕ) (d : Decoded) → ShareTables low high (sizeOf d) (before d 0) (replicate 4096 0) (replicate 4097 0)
+pub shares-start : (low high : ℕ) (d : Decoded) → ShareTables low high (sizeOf d) (before d 0) (replicate sentMost 0) (replicate numberPlaces 0)
     (record { whole = 0; reordered = 0; low = 0; high = 0; next = 1 })
 unfolding sharesOf answers each eachAfter arrived nReordered count firsts nextExp has
 shares-start low high d =
@@ -42,7 +42,7 @@ shares-start low high d =
       places = (refl, refl);
       numbered = record { all = refl; at = λ p h. absurd (omega arith) };
       linked = linked-start 0 d;
-      arrived = λ s h. rw (zeros 4097 s);
+      arrived = λ s h. rw (zeros numberPlaces s);
     }
 
 -- no more answers pass a test than there are
@@ -58,11 +58,12 @@ count-most p l = snoc-ind (λ (l : List Answer). count p l ≤ length l) more (o
     more l a h = rw (count-more p l a, length-append l (a ∷ [])) (go (p a) (count p l) (length l) h)
 
 -- the shares of fewer than 4,096 arrivals
-pub shares-few : (low high : ℕ) (size : ℕ → ℕ) (l : List Arrival) → length l < 4096 → FewShares (sharesOf low high size l)
+pub shares-few : (low high : ℕ) (size : ℕ → ℕ) (l : List Arrival) (t : Shares) → t ≡ sharesOf low high size l → length l < arrivalsMost
+    → (t .whole < sentMost) × (t .reordered < arrivalsMost) × (t .low < arrivalsMost) × (t .high < arrivalsMost)
 unfolding sharesOf nReordered arrived
-shares-few low high size l h =
-    let most : (p : Answer → Bool) → count p (answers size l) < 4096 = λ p. omega (arith, count-most p (answers size l), length-answers size l) in
-    record { whole = most _; reordered = most isReordered; low = most (isNReordered low); high = most (isNReordered high) }
+shares-few low high size l t is h =
+    let most : (p : Answer → Bool) → count p (answers size l) < arrivalsMost = λ p. omega (arith, count-most p (answers size l), length-answers size l) in
+    rw is (most _, most isReordered, most (isNReordered low), most (isNReordered high))
 
 -- ---- one arrival more
 
@@ -103,23 +104,15 @@ module _ (low high : ℕ) (size : ℕ → ℕ) (l : List Arrival) (a : Arrival) 
     shares-late late n e =
         rw (is, e) (sym (shares-more _ (answer-first size l a new ∙ first-reordered size (firsts l) a late) ∙ rw (lt-leb (nextExp (firsts l)) (a .number) late)))
 
-module _ (low high : ℕ) (size : ℕ → ℕ) (l : List Arrival) (a : Arrival) (most : a .number ≤ 4096) (numbers links : List ℕ) (t : Shares)
+module _ (low high : ℕ) (size : ℕ → ℕ) (l : List Arrival) (a : Arrival) (most : a .number ≤ sentMost) (numbers links : List ℕ) (t : Shares)
     (h : ShareTables low high size l numbers links t) where
   -- a packet with a link has arrived
   old : (getD links (a .number) 0 ≡ 0 → ⊥) → has (a .number) l ≡ true
-  old e = go (has (a .number) l) (sym (h .arrived (a .number) most) ∙ ne-eqb (getD links (a .number) 0) 0 e)
-    where
-      go : (b : Bool) → not b ≡ false → b ≡ true
-      go true q = refl
-      go false q = absurd (true≢false q)
+  old e = not-false (has (a .number) l) (sym (h .arrived (a .number) most) ∙ ne-eqb (getD links (a .number) 0) 0 e)
 
   -- one without has not
   new : getD links (a .number) 0 ≡ 0 → has (a .number) l ≡ false
-  new e = go (has (a .number) l) (sym (h .arrived (a .number) most) ∙ eq-eqb (getD links (a .number) 0) 0 e)
-    where
-      go : (b : Bool) → not b ≡ true → b ≡ false
-      go true q = absurd (true≢false (sym q))
-      go false q = refl
+  new e = not-true (has (a .number) l) (sym (h .arrived (a .number) most) ∙ eq-eqb (getD links (a .number) 0) 0 e)
 
   -- of a copy all stays
   after-copy : (getD links (a .number) 0 ≡ 0 → ⊥) → ShareTables low high size (l ++ (a ∷ [])) numbers links t
@@ -140,7 +133,7 @@ module _ (low high : ℕ) (size : ℕ → ℕ) (l : List Arrival) (a : Arrival) 
       kept s false q = or-false (has s l)
 
   -- a new packet adds its number, and its link by its largest n
-  after-new : getD links (a .number) 0 ≡ 0 → t .whole < 4096 → (n : ℕ) → n ≡ largestN (firsts l) (a .number) → (t′ : Shares) → t′ ≡ sharesOf low high size (l ++ (a ∷ []))
+  after-new : getD links (a .number) 0 ≡ 0 → t .whole < sentMost → (n : ℕ) → n ≡ largestN (firsts l) (a .number) → (t′ : Shares) → t′ ≡ sharesOf low high size (l ++ (a ∷ []))
       → t′ .whole ≡ t .whole + 1 → ShareTables low high size (l ++ (a ∷ [])) (set numbers (t .whole) (a .number)) (set links (a .number) (n + 1)) t′
   after-new e few n is t′ shares one =
       record {
@@ -154,14 +147,14 @@ module _ (low high : ℕ) (size : ℕ → ℕ) (l : List Arrival) (a : Arrival) 
       more : firsts (l ++ (a ∷ [])) ≡ firsts l ++ (a ∷ [])
       more = firsts-more l a ∙ with-first (firsts l) a (has-firsts (a .number) l ∙ new e)
 
-      marked : (s : ℕ) → s ≤ 4096 → (u : Bool) → eqb (a .number) s ≡ u → eqb (getD (set links (a .number) (n + 1)) s 0) 0 ≡ not (has s l || eqb (a .number) s)
+      marked : (s : ℕ) → s ≤ sentMost → (u : Bool) → eqb (a .number) s ≡ u → eqb (getD (set links (a .number) (n + 1)) s 0) 0 ≡ not (has s l || eqb (a .number) s)
       marked s g true q =
           rw (q, or-true (has s l), ← eqb-true (a .number) s q, getD-set-same links (a .number) (n + 1) 0 (omega (arith, h .places)))
           (ne-eqb (n + 1) 0 (λ z. omega arith))
       marked s g false q =
           rw (q, or-false (has s l), getD-set-other links (a .number) s (n + 1) 0 (λ z. eqb-false (a .number) s q (sym z))) (h .arrived s g)
 
-module _ (low high number : ℕ) (most : number ≤ 4096) (numbers links : List ℕ) (t : Shares) where
+module _ (low high number : ℕ) (most : number ≤ sentMost) (numbers links : List ℕ) (t : Shares) where
   -- the shares and tables after one arrival more of this number
   abbrev After : List ℕ → List ℕ → Shares → Type 0
   After numbers′ links′ t′ = (size : ℕ → ℕ) (l : List Arrival) (a : Arrival) → a .number ≡ number
@@ -171,7 +164,7 @@ module _ (low high number : ℕ) (most : number ≤ 4096) (numbers links : List 
   pub shared-copy : (getD links number 0 ≡ 0 → ⊥) → After numbers links t
   shared-copy e size l a is h = after-copy low high size l a (rw is most) numbers links t h (rw is e)
 
-  module _ (e : getD links number 0 ≡ 0) (few : t .whole < 4096) where
+  module _ (e : getD links number 0 ≡ 0) (few : t .whole < sentMost) where
     -- of a packet in order
     pub shared-in-order : t .next ≤ number
         → After (set numbers (t .whole) number) (set links number 1) (record { whole = t .whole + 1; reordered = t .reordered; low = t .low; high = t .high; next = number + 1 })
@@ -183,7 +176,7 @@ module _ (low high number : ℕ) (most : number ≤ 4096) (numbers links : List 
         (shares-in-order low high size l a (new low high size l a (rw is most) numbers links t h (rw is e)) t (h .shares) first) refl)
 
     -- of a reordered one
-    pub shared-late : number < t .next → (n : ℕ) → ((fs : List Arrival) → Numbered fs numbers (t .whole) → n ≡ largestN fs number)
+    pub shared-late : number < t .next → (n : ℕ) → ((fs : List Arrival) → NumberTable fs numbers (t .whole) → n ≡ largestN fs number)
         → (low′ high′ : ℕ) → low′ ≡ reachedBy low n (t .low) → high′ ≡ reachedBy high n (t .high)
         → After (set numbers (t .whole) number) (set links number (n + 1)) (record { whole = t .whole + 1; reordered = t .reordered + 1; low = low′; high = high′; next = t .next })
     unfolding sharesOf

@@ -2,12 +2,12 @@
 -- first, then 9. A refused file has the empty sample, so what stands beside a refusal is the figure of no arrivals: zeros, no gap, an
 -- undefined ratio. Assumes nothing.
 use Prim.Native.Nat.{ℕ, zero, suc}
-use mathlib.Core.Bool.{Bool, cond, not}
+use mathlib.Core.Bool.{cond}
 use mathlib.Core.List.{List, [], _∷_}
 use lib.ListN.{length, getD}
 use Rattle.rfc4737.specs.declared.Answer.{Answer}
 use Rattle.rfc4737.specs.declared.Gap.{Gap}
-use Rattle.rfc4737.specs.Refusals.{within, inCase, firstOf, askedOutside}
+use Rattle.rfc4737.specs.Refusals.{outside, inCase, firstOf, askedOutside}
 use Rattle.rfc4737.specs.Runs.{arrived, counts}
 use Rattle.rfc4737.specs.Tally.{tally}
 use Rattle.rfc4737.specs.Gaps.{gaps}
@@ -32,19 +32,19 @@ module _ {ℓ} {A : Type ℓ} where
 
 -- the refusal of a call that asks for a number from low to high: the file's own, then 9
 abbrev pub askedRefusal : Decoded → ℕ → ℕ → ℕ → ℕ
-askedRefusal d low high asked = firstOf (decodedRefusal d ∷ inCase (not (within low high asked)) askedOutside ∷ [])
+askedRefusal d low high asked = firstOf (decodedRefusal d ∷ inCase (outside low high asked) askedOutside ∷ [])
 
 -- the refusal of a call that asks for a record: 1 to A
 abbrev pub recordRefusal : Decoded → ℕ → ℕ
 recordRefusal d asked = askedRefusal d 1 (length (sampleArrivals d)) asked
 
--- whether n is 1 to 100
-abbrev pub degreeInside : ℕ → Bool
-degreeInside n = within 1 100 n
+-- the greatest n of a degree
+abbrev pub degreeMost : ℕ
+degreeMost = 100
 
 -- the answers over which n is asked for: none where it is outside 1 to 100
 abbrev pub degreeAnswers : Decoded → ℕ → List Answer
-degreeAnswers d n = cond (degreeInside n) (answersOf d) []
+degreeAnswers d n = cond (outside 1 degreeMost n) [] (answersOf d)
 
 -- ---- the calls
 
@@ -72,14 +72,14 @@ sampleTally d = record { refusal = decodedRefusal d; tally = tally (answersOf d)
 unfoldable pub degreeCounts : Decoded → ℕ → DegreeCounts
 degreeCounts d n =
     record {
-      refusal = askedRefusal d 1 100 n;
+      refusal = askedRefusal d 1 degreeMost n;
       reordered = nReordered n (degreeAnswers d n);
       arrived = arrived (degreeAnswers d n);
     }
 
 -- the degree of n-reordering
 unfoldable pub sampleDegree : Decoded → ℕ → SampleDegree
-sampleDegree d n = record { refusal = askedRefusal d 1 100 n; ratio = degree n (degreeAnswers d n) }
+sampleDegree d n = record { refusal = askedRefusal d 1 degreeMost n; ratio = degree n (degreeAnswers d n) }
 
 -- the ratio figures of a sample
 unfoldable pub sampleRatios : Decoded → SampleRatios

@@ -10,13 +10,13 @@ use Rattle.sample.specs.Decode.{Decoded, decode, accepted}
 use Rattle.sample.specs.Moved.{movedSample, MovedAccepted, SampleMovedTwice}
 use Rattle.metrics.specs.Figures.{recordAnswer, recordGap, sampleCounts, sampleTally, degreeCounts, sampleDegree, sampleRatios}
 use Rattle.metrics.specs.Report.{sampleText, ListedTo}
-use Rattle.metrics.specs.declared.SampleListing.{SampleListing}
+use Rattle.sample.specs.declared.WriteAnswer.{WriteAnswer}
 
 -- every call answers of one decoded file as of another
 pub record SameFigures (d e : Decoded) : Type 0 where
   -- `listing`: its octets, and what it answers and leaves in any lent memory
   pub text : sampleText d ≡ sampleText e
-  pub listing : (old : List ℕ) (r : SampleListing) (new : List ℕ) → ListedTo d old r new → ListedTo e old r new
+  pub listing : (old : List ℕ) (r : WriteAnswer) (new : List ℕ) → ListedTo d old r new → ListedTo e old r new
   -- `answer` and `gap`, of any record
   pub answer : (asked : ℕ) → recordAnswer d asked ≡ recordAnswer e asked
   pub gap : (asked : ℕ) → recordGap d asked ≡ recordGap e asked

@@ -1,12 +1,11 @@
 // The answer for one record.
 ghost use mathlib.Core.Path.{_≡_};
-ghost use mathlib.Core.Bool.{not};
 ghost use mathlib.Core.List.{[], _∷_};
 ghost use Prim.Native.Nat.{_≤_};
-ghost use Rattle.rfc4737.specs.Refusals.{within, inCase, firstOf, askedOutside};
+ghost use Rattle.rfc4737.specs.Refusals.{outside, inCase, firstOf, askedOutside};
 ghost use Rattle.sample.specs.Decode.{decode};
-ghost use Rattle.metrics.specs.Private.Sample.{Laid, Has, before, answerAt};
-ghost use Rattle.metrics.specs.Private.Tables.{Follows};
+ghost use Rattle.metrics.specs.Private.Sample.{FileLayout, HasRecord, before, answerAt};
+ghost use Rattle.metrics.specs.Private.Tables.{EngineTables};
 ghost use Rattle.metrics.specs.Figures.{recordAnswer};
 use crate::RecordAnswer;
 use crate::input;
@@ -22,21 +21,19 @@ use crate::tables::note;
 use crate::tables::start;
 use rfc4737::Answer;
 use rfc4737::InOrderFigures;
+use rfc4737::judge::outside;
 use rfc4737::refusal::ASKED_OUTSIDE;
 use rfc4737::refusal::NONE;
 use sample::Layout;
 
 // The refusal of a call that asks for a number from low to high: the file's own, then 9.
 pub(crate) fn refusal_of(own: u32, low: u32, high: u32, asked: u32) -> u32
-    ensures { λ r. ⌜ r ≡ firstOf (own ∷ inCase (not (within low high asked)) askedOutside ∷ []) ⌝ }
+    ensures { λ r. ⌜ r ≡ firstOf (own ∷ inCase (outside low high asked) askedOutside ∷ []) ⌝ }
 {
     if own != NONE {
         return own;
     }
-    if asked < low {
-        return ASKED_OUTSIDE;
-    }
-    if high < asked {
+    if outside(low as u64, high as u64, asked as u64) {
         return ASKED_OUTSIDE;
     }
     NONE
@@ -51,9 +48,9 @@ fn follow(
     records: &mut [u16; PLACES],
     skipped: &mut [u16; PLACES],
 ) -> State
-    requires { ⌜ Laid (decode (now file)) y × (n ≤ y .arrivals)
-        × Follows (before (decode (now file)) 0) (now numbers) (now records) (now skipped) (record { count = 0; next = 1 }) ⌝ }
-    ensures { λ r. ⌜ Follows (before (decode (now (file .entry))) n) (now (numbers .exit)) (now (records .exit)) (now (skipped .exit)) r ⌝ }
+    requires { ⌜ FileLayout (decode (now file)) y × (n ≤ y .arrivals)
+        × EngineTables (before (decode (now file)) 0) (now numbers) (now records) (now skipped) (record { count = 0; next = 1 }) ⌝ }
+    ensures { λ r. ⌜ EngineTables (before (decode (now (file .entry))) n) (now (numbers .exit)) (now (records .exit)) (now (skipped .exit)) r ⌝ }
 {
     let mut state = start();
     let mut i: u32 = 0;
@@ -76,7 +73,7 @@ fn look(
     skipped: &[u16; PLACES],
     state: State,
 ) -> Answer
-    requires { ⌜ Has (decode (now file)) y i × Follows (before (decode (now file)) i) (now numbers) (now records) (now skipped) state ⌝ }
+    requires { ⌜ HasRecord (decode (now file)) y i × EngineTables (before (decode (now file)) i) (now numbers) (now records) (now skipped) state ⌝ }
     ensures { λ r. ⌜ r ≡ answerAt (decode (now (file .entry))) i ⌝ }
 {
     let arrival = input::arrival(file, y, i);
@@ -107,7 +104,7 @@ fn look(
 
 // The answer for a record of a file: as many steps as there are arrivals before it, and its extent.
 pub(crate) fn answer_of(file: &[u8], y: Layout, asked: u32) -> RecordAnswer
-    requires { ⌜ Laid (decode (now file)) y ⌝ }
+    requires { ⌜ FileLayout (decode (now file)) y ⌝ }
     ensures { λ r. ⌜ r ≡ recordAnswer (decode (now (file .entry))) asked ⌝ }
 {
     let refusal = refusal_of(y.refusal, 1, y.arrivals, asked);

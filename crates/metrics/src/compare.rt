@@ -4,7 +4,7 @@ ghost use mathlib.Core.Bool.{_&&_};
 ghost use lib.Dec.{eqb};
 ghost use Rattle.sample.specs.Decode.{decode};
 ghost use Rattle.metrics.specs.Private.Compared.{Agreed};
-ghost use Rattle.metrics.specs.Private.Sample.{Laid};
+ghost use Rattle.metrics.specs.Private.Sample.{FileLayout};
 ghost use Rattle.metrics.specs.Report.{sampleText};
 use crate::parts::Part;
 use crate::pass::pass;
@@ -13,7 +13,7 @@ use sample::Layout;
 
 // The listing of a sample against a text: each line is made in a buffer of one line, and compared there.
 pub(crate) fn compare(file: &[u8], y: Layout, text: &[u8]) -> Part
-    requires { ⌜ Laid (decode (now file)) y ⌝ }
+    requires { ⌜ FileLayout (decode (now file)) y ⌝ }
     ensures { λ r. ⌜ Agreed (sampleText (decode (now (file .entry)))) (now (text .entry)) r ⌝ }
 {
     let mut line = [0u8; LINE];

@@ -4,19 +4,18 @@
 ghost use mathlib.Core.Path.{_≡_};
 ghost use Prim.Native.Nat.{_+_};
 ghost use Rattle.sample.specs.Decode.{decode};
-ghost use Rattle.metrics.specs.Private.Sample.{Has, arrivalAt, answerAt};
-ghost use Rattle.metrics.specs.Private.Engine.{Running};
+ghost use Rattle.metrics.specs.Private.Sample.{HasRecord, arrivalAt, answerAt};
+ghost use Rattle.metrics.specs.Private.Tables.{classOf};
+ghost use Rattle.metrics.specs.Private.Engine.{EngineState};
+use crate::look::Class;
 use crate::look::answer_by;
 use crate::look::class_of;
-use crate::scan::largest_of;
 use crate::tables::FIRSTS;
 use crate::tables::PLACES;
 use crate::tables::State;
 use crate::tables::note;
-use crate::tables::start;
 use crate::totals::Totals;
-use crate::totals::no_totals;
-use crate::totals::offset_of;
+use crate::totals::late_figures;
 use rfc4737::Answer;
 use rfc4737::Arrival;
 use sample::Layout;
@@ -32,14 +31,18 @@ pub(crate) fn fresh_engine() -> Engine
     ensures { λ r. ⌜ r ≡ record { noted = record { count = 0; next = 1 }; totals = record { filled = 0; total = 0 } } ⌝ }
 {
     Engine {
-        noted: start(),
-        totals: no_totals(),
+        noted: State { count: 0, next: 1 },
+        totals: Totals {
+            filled: 0,
+            total: 0,
+        },
     }
 }
 
-// The answer for one record more, and what is known after it.
-pub(crate) struct Advanced {
+// The answer for one record more with its class, and what is known after it.
+pub(crate) struct EngineAnswer {
     pub answer: Answer,
+    pub class: Class,
     pub engine: Engine,
 }
 
@@ -54,19 +57,29 @@ pub(crate) fn advance(
     skipped: &mut [u16; PLACES],
     tree: &mut [u32],
     engine: Engine,
-) -> Advanced
-    requires { ⌜ Has (decode (now file)) y i × (arrival ≡ arrivalAt (decode (now file)) i)
-        × Running (decode (now file)) i (now numbers) (now records) (now skipped) (now tree) engine ⌝ }
-    ensures { λ r. ⌜ (r .answer ≡ answerAt (decode (now (file .entry))) i)
-        × Running (decode (now (file .entry))) (i + 1) (now (numbers .exit)) (now (records .exit)) (now (skipped .exit)) (now (tree .exit)) (r .engine) ⌝ }
+) -> EngineAnswer
+    requires { ⌜ HasRecord (decode (now file)) y i × (arrival ≡ arrivalAt (decode (now file)) i)
+        × EngineState (decode (now file)) i (now numbers) (now records) (now skipped) (now tree) engine ⌝ }
+    ensures { λ r. ⌜ (r .answer ≡ answerAt (decode (now (file .entry))) i) × (r .class ≡ classOf (answerAt (decode (now (file .entry))) i))
+        × EngineState (decode (now (file .entry))) (i + 1) (now (numbers .exit)) (now (records .exit)) (now (skipped .exit)) (now (tree .exit)) (r .engine) ⌝ }
 {
     let noted = engine.noted;
     let totals = engine.totals;
     let number = arrival.number;
     let count = noted.count;
     let class = class_of(records, skipped, noted.next, number);
-    let found = offset_of(file, y, numbers, tree, count, number, totals, class);
-    let largest = largest_of(numbers, skipped, count, number, class);
+    let found = late_figures(
+        file,
+        y,
+        numbers,
+        skipped,
+        tree,
+        count,
+        number,
+        totals,
+        class,
+    );
+    let largest = found.largest;
     let answer = answer_by(
         file,
         y,
@@ -81,8 +94,9 @@ pub(crate) fn advance(
     );
     let after = note(numbers, records, skipped, i, number, largest as u16, noted);
     let filled = found.totals;
-    Advanced {
+    EngineAnswer {
         answer,
+        class,
         engine: Engine {
             noted: after,
             totals: filled,

@@ -5,13 +5,16 @@ ghost use Prim.Native.Nat.{ℕ, _+_, _≤_, _<_};
 ghost use lib.ListN.{length, getD};
 ghost use Rattle.rfc4737.specs.declared.Arrival.{Arrival};
 ghost use Rattle.rfc4737.specs.Order.{nextAfter};
-ghost use Rattle.rfc4737.specs.Runs.{lengthened, ended, counts};
-ghost use Rattle.rfc4737.specs.Tally.{tallyPlace, tally};
+ghost use Rattle.rfc4737.specs.Runs.{counts};
+ghost use Rattle.rfc4737.specs.Tally.{tallyPlace, tally, tallyPlaces};
+ghost use Rattle.rfc4737.specs.Judge.{sentMost, arrivalsMost};
 ghost use Rattle.sample.specs.Decode.{decode};
 ghost use Rattle.metrics.specs.Sample.{sizeOf, sampleArrivals, answersOf};
-ghost use Rattle.metrics.specs.Private.Sample.{Laid};
+ghost use Rattle.metrics.specs.Private.Sample.{FileLayout, numberPlaces};
 ghost use Rattle.metrics.specs.Private.Tables.{Links};
-ghost use Rattle.metrics.specs.Private.Steps.{Inside, FewCounted, noCounts, countsBy, kindBy, tallyBy, FewShares, reachedBy, sharesOf, ShareTables};
+ghost use Rattle.metrics.specs.Private.Steps.{Inside, FewCounted, countsBy, kindBy, tallyBy, reachedBy, sharesOf, ShareTables};
+use crate::TALLY_MOST;
+use crate::TALLY_PLACES;
 use crate::input;
 use crate::look::Class;
 use crate::look::class_of;
@@ -26,7 +29,7 @@ use sample::Layout;
 
 // The counts of no arrivals.
 pub(crate) fn no_counts() -> Counts
-    ensures { λ r. ⌜ r ≡ noCounts ⌝ }
+    ensures { λ r. ⌜ r ≡ counts [] ⌝ }
 {
     Counts {
         arrived: 0,
@@ -41,31 +44,7 @@ pub(crate) fn no_counts() -> Counts
     }
 }
 
-// The runs under an in-order packet more.
-fn lengthened(r: Runs) -> Runs
-    requires { ⌜ r .current < 4096 ⌝ }
-    ensures { λ s. ⌜ s ≡ lengthened r ⌝ }
-{
-    Runs {
-        closed: r.closed,
-        squares: r.squares,
-        current: r.current + 1,
-    }
-}
-
-// The runs under a reordered packet more.
-fn ended(r: Runs) -> Runs
-    requires { ⌜ (r .closed < 4096) × (r .squares ≤ 16777216) × (r .current < 4096) ⌝ }
-    ensures { λ s. ⌜ s ≡ ended r ⌝ }
-{
-    Runs {
-        closed: r.closed + 1,
-        squares: r.squares + r.current * r.current,
-        current: 0,
-    }
-}
-
-// The counts under one arrival more.
+// The counts under one arrival more: an in-order packet lengthens the open run, and a reordered one closes it.
 pub(crate) fn counted(c: Counts, class: Class) -> Counts
     requires { ⌜ FewCounted c ⌝ }
     ensures { λ r. ⌜ r ≡ countsBy c class ⌝ }
@@ -84,21 +63,29 @@ pub(crate) fn counted(c: Counts, class: Class) -> Counts
             reordered: c.reordered,
             duplicates: c.duplicates,
             inorder: c.inorder + 1,
-            runs: lengthened(runs),
+            runs: Runs {
+                closed: runs.closed,
+                squares: runs.squares,
+                current: runs.current + 1,
+            },
         },
         Class::Reordered(_) => Counts {
             arrived: c.arrived + 1,
             reordered: c.reordered + 1,
             duplicates: c.duplicates,
             inorder: c.inorder,
-            runs: ended(runs),
+            runs: Runs {
+                closed: runs.closed + 1,
+                squares: runs.squares + runs.current * runs.current,
+                current: 0,
+            },
         },
     }
 }
 
 // The class of an arrival of this number, without its figures, by the packets that have arrived and NextExp.
 fn kind_of(seen: &[bool; PLACES], next: u32, number: u32) -> Class
-    requires { ⌜ number ≤ 4096 ⌝ }
+    requires { ⌜ number ≤ sentMost ⌝ }
     ensures { λ r. ⌜ r ≡ kindBy (now (seen .entry)) next number ⌝ }
 {
     let at = number as usize;
@@ -113,7 +100,7 @@ fn kind_of(seen: &[bool; PLACES], next: u32, number: u32) -> Class
 
 // NextExp after an arrival of this number; a duplicate is below it and leaves it.
 fn next_after(next: u32, number: u32) -> u32
-    requires { ⌜ number ≤ 4096 ⌝ }
+    requires { ⌜ number ≤ sentMost ⌝ }
     ensures { λ r. ⌜ r ≡ nextAfter next number ⌝ }
 {
     if next <= number {
@@ -124,7 +111,7 @@ fn next_after(next: u32, number: u32) -> u32
 
 // The counts of a sample.
 pub(crate) fn counts_of(file: &[u8], y: Layout) -> Counts
-    requires { ⌜ Laid (decode (now file)) y ⌝ }
+    requires { ⌜ FileLayout (decode (now file)) y ⌝ }
     ensures { λ r. ⌜ r ≡ counts (answersOf (decode (now (file .entry)))) ⌝ }
 {
     let mut seen = [false; PLACES];
@@ -147,15 +134,15 @@ pub(crate) fn counts_of(file: &[u8], y: Layout) -> Counts
 fn place_of(extent: u32) -> usize
     ensures { λ r. ⌜ r ≡ tallyPlace extent ⌝ }
 {
-    if extent <= 100 {
+    if extent <= TALLY_MOST {
         return extent as usize;
     }
     0
 }
 
 // Tallies one arrival more, after so many first arrivals.
-fn tallied(t: &mut [u32; 101], count: u32, class: Class)
-    requires { ⌜ (length (now t) ≡ 101) × ((k : ℕ) → getD (now t) k 0 ≤ 4096) × (count ≤ 4096) × Inside count class ⌝ }
+fn tallied(t: &mut [u32; TALLY_PLACES], count: u32, class: Class)
+    requires { ⌜ (length (now t) ≡ tallyPlaces) × ((k : ℕ) → getD (now t) k 0 ≤ arrivalsMost) × (count ≤ sentMost) × Inside count class ⌝ }
     ensures { λ _. ⌜ now (t .exit) ≡ tallyBy (now (t .entry)) count class ⌝ }
 {
     match class {
@@ -169,14 +156,14 @@ fn tallied(t: &mut [u32; 101], count: u32, class: Class)
 }
 
 // The extent tally of a sample.
-pub(crate) fn tally_of(file: &[u8], y: Layout) -> [u32; 101]
-    requires { ⌜ Laid (decode (now file)) y ⌝ }
+pub(crate) fn tally_of(file: &[u8], y: Layout) -> [u32; TALLY_PLACES]
+    requires { ⌜ FileLayout (decode (now file)) y ⌝ }
     ensures { λ r. ⌜ r ≡ tally (answersOf (decode (now (file .entry)))) ⌝ }
 {
     let mut numbers = [0u16; FIRSTS];
     let mut records = [0u16; PLACES];
     let mut skipped = [0u16; PLACES];
-    let mut t = [0u32; 101];
+    let mut t = [0u32; TALLY_PLACES];
     let mut state = start();
     let mut i: u32 = 0;
     while i < y.arrivals {
@@ -209,7 +196,7 @@ pub(crate) struct Shares {
 
 // The n-reordered packets under a reordered one more, of this largest n.
 fn reached(n: u32, most: u32, part: u32) -> u32
-    requires { ⌜ part < 4096 ⌝ }
+    requires { ⌜ part < arrivalsMost ⌝ }
     ensures { λ r. ⌜ r ≡ reachedBy n most part ⌝ }
 {
     if n <= most {
@@ -228,8 +215,8 @@ fn share(
     number: u32,
     t: Shares,
 ) -> Shares
-    requires { ⌜ (number ≤ 4096) × FewShares t × (length (now numbers) ≡ 4096) × (length (now links) ≡ 4097)
-        × Links 0 (now numbers) (now links) (t .whole) ⌝ }
+    requires { ⌜ (number ≤ sentMost) × (t .whole < sentMost) × (t .reordered < arrivalsMost) × (t .low < arrivalsMost) × (t .high < arrivalsMost)
+        × (length (now numbers) ≡ sentMost) × (length (now links) ≡ numberPlaces) × Links 0 (now numbers) (now links) (t .whole) ⌝ }
     ensures { λ r. ⌜ ((size : ℕ → ℕ) (l : List Arrival) (a : Arrival) → a .number ≡ number
         → ShareTables low high size l (now (numbers .entry)) (now (links .entry)) t
         → ShareTables low high size (l ++ (a ∷ [])) (now (numbers .exit)) (now (links .exit)) r) ⌝ }
@@ -266,7 +253,7 @@ fn share(
 // The shares of a sample: one pass, with two tables, the numbers of the first arrivals in order of position and, by
 // packet number, 1 and its largest n (0 where it has not arrived).
 pub(crate) fn shares_of(file: &[u8], y: Layout, low: u32, high: u32) -> Shares
-    requires { ⌜ Laid (decode (now file)) y ⌝ }
+    requires { ⌜ FileLayout (decode (now file)) y ⌝ }
     ensures { λ r. ⌜ r ≡ sharesOf low high (sizeOf (decode (now (file .entry)))) (sampleArrivals (decode (now (file .entry)))) ⌝ }
 {
     let mut numbers = [0u16; FIRSTS];

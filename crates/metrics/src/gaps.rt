@@ -2,9 +2,10 @@
 ghost use mathlib.Core.Path.{_≡_};
 ghost use Prim.Native.Nat.{_-_, _≤_};
 ghost use lib.ListN.{length, replicate};
+ghost use Rattle.rfc4737.specs.Judge.{sentMost};
 ghost use Rattle.sample.specs.Decode.{decode};
 ghost use Rattle.metrics.specs.Sample.{answersOf};
-ghost use Rattle.metrics.specs.Private.Sample.{Laid, answerAt};
+ghost use Rattle.metrics.specs.Private.Sample.{FileLayout, answerAt, numberPlaces};
 ghost use Rattle.metrics.specs.Figures.{recordGap};
 ghost use Rattle.metrics.specs.Private.Steps.{Inside, placeIn, placeBy, DiscoverersAt, markBy, lastTo, gapBy};
 use crate::RecordGap;
@@ -23,7 +24,7 @@ use sample::Layout;
 // Notes at the discontinuity of one arrival more, after so many first arrivals, the position of the arrival, if
 // it is the first that has it as its own.
 fn mark(found: &mut [u16; PLACES], count: u32, class: Class)
-    requires { ⌜ (length (now found) ≡ 4097) × (count ≤ 4096) × Inside count class ⌝ }
+    requires { ⌜ (length (now found) ≡ numberPlaces) × (count ≤ sentMost) × Inside count class ⌝ }
     ensures { λ _. ⌜ now (found .exit) ≡ markBy (now (found .entry)) count class ⌝ }
 {
     match class {
@@ -40,7 +41,7 @@ fn mark(found: &mut [u16; PLACES], count: u32, class: Class)
 
 // The position of an arrival, after so many first arrivals; 0 for a duplicate.
 fn position_of(count: u32, class: Class) -> u32
-    requires { ⌜ count ≤ 4096 ⌝ }
+    requires { ⌜ count ≤ sentMost ⌝ }
     ensures { λ r. ⌜ r ≡ placeBy count class ⌝ }
 {
     match class {
@@ -53,7 +54,7 @@ fn position_of(count: u32, class: Class) -> u32
 // Notes at every discontinuity of a sample the position of its discoverer, and answers the position of the record
 // asked for, 0 for a duplicate.
 fn mark_all(file: &[u8], y: Layout, asked: u32, found: &mut [u16; PLACES]) -> u32
-    requires { ⌜ Laid (decode (now file)) y × (1 ≤ asked) × (asked ≤ y .arrivals) × (now found ≡ replicate 4097 0) ⌝ }
+    requires { ⌜ FileLayout (decode (now file)) y × (1 ≤ asked) × (asked ≤ y .arrivals) × (now found ≡ replicate numberPlaces 0) ⌝ }
     ensures { λ r. ⌜ (r ≡ placeIn (answerAt (decode (now (file .entry))) (asked - 1)))
         × DiscoverersAt (answersOf (decode (now (file .entry)))) (now (found .exit)) ⌝ }
 {
@@ -86,7 +87,7 @@ fn mark_all(file: &[u8], y: Layout, asked: u32, found: &mut [u16; PLACES]) -> u3
 
 // The last discontinuity at a position from 1 to p, 0 if there is none.
 fn last_to(found: &[u16; PLACES], p: u32) -> u32
-    requires { ⌜ p ≤ 4096 ⌝ }
+    requires { ⌜ p ≤ sentMost ⌝ }
     ensures { λ r. ⌜ r ≡ lastTo (now (found .entry)) p ⌝ }
 {
     let mut q = p;
@@ -102,7 +103,7 @@ fn last_to(found: &[u16; PLACES], p: u32) -> u32
 
 // The gap of position p: there is one if the discontinuity before it was discovered earlier.
 fn gap_at(found: &[u16; PLACES], p: u32) -> Gap
-    requires { ⌜ (1 ≤ p) × (p ≤ 4096) ⌝ }
+    requires { ⌜ (1 ≤ p) × (p ≤ sentMost) ⌝ }
     ensures { λ r. ⌜ r ≡ gapBy (now (found .entry)) p ⌝ }
 {
     let place = p as usize;
@@ -122,7 +123,7 @@ fn gap_at(found: &[u16; PLACES], p: u32) -> Gap
 
 // The gap of a record of a file.
 pub(crate) fn gap_of(file: &[u8], y: Layout, asked: u32) -> RecordGap
-    requires { ⌜ Laid (decode (now file)) y ⌝ }
+    requires { ⌜ FileLayout (decode (now file)) y ⌝ }
     ensures { λ r. ⌜ r ≡ recordGap (decode (now (file .entry))) asked ⌝ }
 {
     let refusal = refusal_of(y.refusal, 1, y.arrivals, asked);

@@ -1,23 +1,24 @@
 // The values of a file that has been checked, read where they stand.
 ghost use mathlib.Core.Path.{_≡_};
 ghost use Prim.Native.Nat.{_≤_};
+ghost use Rattle.rfc4737.specs.Judge.{sentMost};
 ghost use Rattle.sample.specs.Decode.{decode};
 ghost use Rattle.metrics.specs.Sample.{sizeOf};
-ghost use Rattle.metrics.specs.Private.Sample.{arrivalAt, Laid, Has};
+ghost use Rattle.metrics.specs.Private.Sample.{arrivalAt, FileLayout, HasRecord};
 use rfc4737::Arrival;
 use sample::Layout;
 
 // The layout of a file, checked.
 pub(crate) fn layout(file: &[u8]) -> Layout
-    ensures { λ r. ⌜ Laid (decode (now (file .entry))) r ⌝ }
+    ensures { λ r. ⌜ FileLayout (decode (now (file .entry))) r ⌝ }
 {
     sample::check(file)
 }
 
 // The arrival of record i + 1, read where it stands: no test of the file's length is in the callers' loops.
 pub(crate) fn arrival(file: &[u8], y: Layout, i: u32) -> Arrival
-    requires { ⌜ Has (decode (now file)) y i ⌝ }
-    ensures { λ r. ⌜ (r ≡ arrivalAt (decode (now (file .entry))) i) × (1 ≤ r .number) × (r .number ≤ 4096) ⌝ }
+    requires { ⌜ HasRecord (decode (now file)) y i ⌝ }
+    ensures { λ r. ⌜ (r ≡ arrivalAt (decode (now (file .entry))) i) × (1 ≤ r .number) × (r .number ≤ sentMost) ⌝ }
 {
     let start = sample::arrivals_at(y) + 12 * (i as usize);
     let end = start + 12;
@@ -27,15 +28,15 @@ pub(crate) fn arrival(file: &[u8], y: Layout, i: u32) -> Arrival
 
 // Its sequence number.
 pub(crate) fn number(file: &[u8], y: Layout, i: u32) -> u32
-    requires { ⌜ Has (decode (now file)) y i ⌝ }
-    ensures { λ r. ⌜ (r ≡ arrivalAt (decode (now (file .entry))) i .number) × (1 ≤ r) × (r ≤ 4096) ⌝ }
+    requires { ⌜ HasRecord (decode (now file)) y i ⌝ }
+    ensures { λ r. ⌜ (r ≡ arrivalAt (decode (now (file .entry))) i .number) × (1 ≤ r) × (r ≤ sentMost) ⌝ }
 {
     arrival(file, y, i).number
 }
 
 // Its arrival time.
 pub(crate) fn time(file: &[u8], y: Layout, i: u32) -> u64
-    requires { ⌜ Has (decode (now file)) y i ⌝ }
+    requires { ⌜ HasRecord (decode (now file)) y i ⌝ }
     ensures { λ r. ⌜ r ≡ arrivalAt (decode (now (file .entry))) i .time ⌝ }
 {
     arrival(file, y, i).time
@@ -43,7 +44,7 @@ pub(crate) fn time(file: &[u8], y: Layout, i: u32) -> u64
 
 // The payload size of a packet.
 pub(crate) fn size(file: &[u8], y: Layout, s: u32) -> u32
-    requires { ⌜ Laid (decode (now file)) y × (1 ≤ s) × (s ≤ y .sent) ⌝ }
+    requires { ⌜ FileLayout (decode (now file)) y × (1 ≤ s) × (s ≤ y .sent) ⌝ }
     ensures { λ r. ⌜ (r ≡ sizeOf (decode (now (file .entry))) s) × (r ≤ 65535) ⌝ }
 {
     sample::payload_size(file, y, s - 1) as u32

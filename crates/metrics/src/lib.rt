@@ -45,6 +45,16 @@ use quotients::ratios_of;
 use report::list;
 use report::refusal_into;
 use rfc4737::refusal::NONE;
+use sample::WriteAnswer;
+
+// The greatest extent that has a place of its own in a tally.
+const TALLY_MOST: u32 = 100;
+
+// The places of a tally.
+pub const TALLY_PLACES: usize = TALLY_MOST as usize + 1;
+
+// The greatest n of a degree.
+const DEGREE_MOST: u32 = 100;
 
 // The answer for a record, and the refusal (0 for none).
 pub struct RecordAnswer {
@@ -69,7 +79,7 @@ pub struct SampleCounts {
 #[repr(C)]
 pub struct SampleTally {
     pub refusal: u32,
-    pub tally: [u32; 101],
+    pub tally: [u32; TALLY_PLACES],
 }
 
 // The two counts of a degree of n-reordering, and the refusal (0 for none).
@@ -90,13 +100,6 @@ pub struct SampleDegree {
 pub struct SampleRatios {
     pub refusal: u32,
     pub ratios: rfc4737::Ratios,
-}
-
-// The octets of a listing, 0 where nothing was written, and the refusal (0 for none).
-#[repr(C)]
-pub struct SampleListing {
-    pub refusal: u32,
-    pub length: u32,
 }
 
 // How many octets of a text agree with the listing of a sample, from the start on; whether the text is that listing; and the
@@ -153,7 +156,7 @@ pub fn n_reordered(file: &[u8], n: u32) -> DegreeCounts
     ensures { λ r. ⌜ r ≡ degreeCounts (decode (now (file .entry))) n ⌝ }
 {
     let y = layout(file);
-    let refusal = refusal_of(y.refusal, 1, 100, n);
+    let refusal = refusal_of(y.refusal, 1, DEGREE_MOST, n);
     if refusal != NONE {
         return DegreeCounts {
             refusal,
@@ -195,7 +198,7 @@ pub fn ratios(file: &[u8]) -> SampleRatios
 // The listing of a sample, at the start of lent memory that has room for it, as LISTING_OCTETS octets have for any:
 // one pass, in which a reordered packet takes at most 11 steps of a tree of sums, and each first arrival before it once
 // at most 12. A times the binary digits of K, and K; twice that where less is lent.
-pub fn listing(file: &[u8], out: &mut [u8]) -> SampleListing
+pub fn listing(file: &[u8], out: &mut [u8]) -> WriteAnswer
     ensures { λ r. ⌜ ListedTo (decode (now (file .entry))) (now (out .entry)) r (now (out .exit)) ⌝ }
     ensures room { λ _. ⌜ length (sampleText (decode (now (file .entry)))) ≤ listingOctets ⌝ }
     ensures example { λ _. ⌜ ExampleHolds ⌝ }
@@ -204,9 +207,9 @@ pub fn listing(file: &[u8], out: &mut [u8]) -> SampleListing
     let y = layout(file);
     let refusal = refusal_into(file, y, out.len());
     if refusal != NONE {
-        return SampleListing { refusal, length: 0 };
+        return WriteAnswer { refusal, length: 0 };
     }
-    SampleListing {
+    WriteAnswer {
         refusal,
         length: list(file, y, out),
     }

@@ -6,7 +6,7 @@ ghost use Prim.Native.Nat.{_≤_};
 ghost use lib.ListN.{length};
 ghost use Rattle.listing.specs.Lines.{headerLine, recordLine, endLine};
 ghost use Rattle.listing.specs.Private.DigitBounds.{AnswerWithin, CountsWithin, FourDigits};
-ghost use Rattle.metrics.specs.Private.Taken.{Ready, Held, Taken};
+ghost use Rattle.metrics.specs.Private.Taken.{LineRoom, LineHeld, LineTaken};
 use crate::parts::Part;
 use crate::parts::part_of;
 use rfc4737::Answer;
@@ -25,7 +25,7 @@ fn put_place(comparing: bool, at: usize) -> usize
 // A line of n octets that is put, as a part: comparing, against the text.
 fn held(out: &[u8], text: &[u8], comparing: bool, at: usize, n: usize) -> Part
     requires { ⌜ (comparing ≡ true → (n ≤ length (now out)) × (at ≤ length (now text))) ⌝ }
-    ensures { λ r. ⌜ Held comparing (now (out .entry)) (now (text .entry)) at n r ⌝ }
+    ensures { λ r. ⌜ LineHeld comparing (now (out .entry)) (now (text .entry)) at n r ⌝ }
 {
     if comparing {
         return part_of(&out[..n], text, at);
@@ -38,8 +38,8 @@ fn held(out: &[u8], text: &[u8], comparing: bool, at: usize, n: usize) -> Part
 
 // Takes the first line.
 pub(crate) fn take_header(out: &mut [u8], text: &[u8], comparing: bool, k: u32, a: u32) -> Part
-    requires { ⌜ Ready comparing (now text) 0 (now out) × FourDigits k × FourDigits a ⌝ }
-    ensures { λ r. ⌜ Taken comparing (headerLine k a) (now (text .entry)) 0 (now (out .entry)) (now (out .exit)) r ⌝ }
+    requires { ⌜ LineRoom comparing (now text) 0 (now out) × FourDigits k × FourDigits a ⌝ }
+    ensures { λ r. ⌜ LineTaken comparing (headerLine k a) (now (text .entry)) 0 (now (out .entry)) (now (out .exit)) r ⌝ }
 {
     let n = listing::put_header(out, 0, k, a);
     held(out, text, comparing, 0, n)
@@ -55,8 +55,8 @@ pub(crate) fn take_record(
     number: u32,
     answer: Answer,
 ) -> Part
-    requires { ⌜ Ready comparing (now text) at (now out) × FourDigits «record» × FourDigits number × AnswerWithin answer ⌝ }
-    ensures { λ r. ⌜ Taken comparing (recordLine «record» number answer) (now (text .entry)) at (now (out .entry)) (now (out .exit)) r ⌝ }
+    requires { ⌜ LineRoom comparing (now text) at (now out) × FourDigits «record» × FourDigits number × AnswerWithin answer ⌝ }
+    ensures { λ r. ⌜ LineTaken comparing (recordLine «record» number answer) (now (text .entry)) at (now (out .entry)) (now (out .exit)) r ⌝ }
 {
     let n = listing::put_record(out, put_place(comparing, at), record, number, answer);
     held(out, text, comparing, at, n)
@@ -64,8 +64,8 @@ pub(crate) fn take_record(
 
 // Takes the last line.
 pub(crate) fn take_end(out: &mut [u8], text: &[u8], comparing: bool, at: usize, c: Counts) -> Part
-    requires { ⌜ Ready comparing (now text) at (now out) × CountsWithin c ⌝ }
-    ensures { λ r. ⌜ Taken comparing (endLine c) (now (text .entry)) at (now (out .entry)) (now (out .exit)) r ⌝ }
+    requires { ⌜ LineRoom comparing (now text) at (now out) × CountsWithin c ⌝ }
+    ensures { λ r. ⌜ LineTaken comparing (endLine c) (now (text .entry)) at (now (out .entry)) (now (out .exit)) r ⌝ }
 {
     let n = listing::put_end(out, put_place(comparing, at), c);
     held(out, text, comparing, at, n)

@@ -4,10 +4,11 @@ ghost use Prim.Native.Nat.{_≤_};
 ghost use Rattle.rfc4737.specs.declared.Answer.{Answer};
 ghost use Rattle.rfc4737.specs.Arrivals.{firsts};
 ghost use Rattle.rfc4737.specs.Extent.{byteOffset, largestN};
+ghost use Rattle.rfc4737.specs.Judge.{sentMost};
 ghost use Rattle.sample.specs.Decode.{decode};
 ghost use Rattle.metrics.specs.Sample.{sizeOf};
-ghost use Rattle.metrics.specs.Private.Sample.{Has, arrivalAt, before, answerAt};
-ghost use Rattle.metrics.specs.Private.Tables.{Numbered, Recorded, Late, classBy, Tells, lateOnly};
+ghost use Rattle.metrics.specs.Private.Sample.{HasRecord, arrivalAt, before, answerAt};
+ghost use Rattle.metrics.specs.Private.Tables.{NumberTable, RecordTable, LateRecord, classBy, ClassAnswer, lateOnly};
 use crate::input;
 use crate::tables::FIRSTS;
 use crate::tables::PLACES;
@@ -34,7 +35,7 @@ pub(crate) fn class_of(
     next: u32,
     number: u32,
 ) -> Class
-    requires { ⌜ number ≤ 4096 ⌝ }
+    requires { ⌜ number ≤ sentMost ⌝ }
     ensures { λ r. ⌜ r ≡ classBy (now (records .entry)) (now (skipped .entry)) next number ⌝ }
 {
     let at = number as usize;
@@ -62,8 +63,8 @@ fn reordered(
     offset: u32,
     largest: u32,
 ) -> ReorderedFigures
-    requires { ⌜ Has (decode (now file)) y i × Late (decode (now file)) i at
-        × Numbered (firsts (before (decode (now file)) i)) (now numbers) count × Recorded (before (decode (now file)) i) (now records)
+    requires { ⌜ HasRecord (decode (now file)) y i × LateRecord (decode (now file)) i at
+        × NumberTable (firsts (before (decode (now file)) i)) (now numbers) count × RecordTable (before (decode (now file)) i) (now records)
         × (time ≡ arrivalAt (decode (now file)) i .time)
         × (offset ≡ byteOffset (sizeOf (decode (now file))) (firsts (before (decode (now file)) i)) (arrivalAt (decode (now file)) i .number))
         × (largest ≡ largestN (firsts (before (decode (now file)) i)) (arrivalAt (decode (now file)) i .number)) ⌝ }
@@ -95,9 +96,9 @@ pub(crate) fn answer_by(
     offset: u32,
     largest: u32,
 ) -> Answer
-    requires { ⌜ Has (decode (now file)) y i × (arrival ≡ arrivalAt (decode (now file)) i)
-        × Numbered (firsts (before (decode (now file)) i)) (now numbers) count × Recorded (before (decode (now file)) i) (now records)
-        × Tells (decode (now file)) i count class
+    requires { ⌜ HasRecord (decode (now file)) y i × (arrival ≡ arrivalAt (decode (now file)) i)
+        × NumberTable (firsts (before (decode (now file)) i)) (now numbers) count × RecordTable (before (decode (now file)) i) (now records)
+        × ClassAnswer (decode (now file)) i count class
         × (offset ≡ lateOnly (byteOffset (sizeOf (decode (now file))) (firsts (before (decode (now file)) i)) (arrivalAt (decode (now file)) i .number)) class)
         × (largest ≡ lateOnly (largestN (firsts (before (decode (now file)) i)) (arrivalAt (decode (now file)) i .number)) class) ⌝ }
     ensures { λ r. ⌜ r ≡ answerAt (decode (now (file .entry))) i ⌝ }

@@ -3,10 +3,8 @@
 ghost use mathlib.Core.Path.{_≡_};
 ghost use Rattle.sample.specs.Decode.{decode};
 ghost use Rattle.metrics.specs.Private.Passed.{PassedTo, PassEnded, TextTaken};
-ghost use Rattle.metrics.specs.Private.Sample.{Laid};
-ghost use Rattle.metrics.specs.Private.Steps.{FewCounted, countsBy};
-ghost use Rattle.metrics.specs.Private.Tables.{classOf};
-ghost use Rattle.metrics.specs.Private.Taken.{Ready};
+ghost use Rattle.metrics.specs.Private.Sample.{FileLayout};
+ghost use Rattle.metrics.specs.Private.Taken.{LineRoom};
 ghost use Rattle.metrics.specs.Report.{sampleText};
 use crate::engine::advance;
 use crate::engine::fresh_engine;
@@ -16,31 +14,17 @@ use crate::input;
 use crate::lines::take_end;
 use crate::lines::take_header;
 use crate::lines::take_record;
-use crate::look::Class;
 use crate::parts::Part;
 use crate::parts::after;
 use crate::tables::FIRSTS;
 use crate::tables::PLACES;
 use crate::totals::PAIRS;
-use rfc4737::Answer;
 use rfc4737::Counts;
 use sample::Layout;
 
-// The counts under one answer more.
-fn counted_by(c: Counts, answer: Answer) -> Counts
-    requires { ⌜ FewCounted c ⌝ }
-    ensures { λ r. ⌜ r ≡ countsBy c (classOf answer) ⌝ }
-{
-    match answer {
-        Answer::Duplicate(_) => counted(c, Class::Duplicate(0)),
-        Answer::InOrder(_) => counted(c, Class::InOrder(0)),
-        Answer::Reordered(_) => counted(c, Class::Reordered(0)),
-    }
-}
-
 // How a pass ended: the place after the last line or, where a line differs from the text, how far the text agrees and that
 // it does no further; and the counts of the answers.
-struct Passed {
+struct PassResult {
     pub part: Part,
     pub counts: Counts,
 }
@@ -53,8 +37,8 @@ fn take_records(
     text: &[u8],
     comparing: bool,
     start: usize,
-) -> Passed
-    requires { ⌜ Laid (decode (now file)) y × Ready comparing (now text) start (now out)
+) -> PassResult
+    requires { ⌜ FileLayout (decode (now file)) y × LineRoom comparing (now text) start (now out)
         × PassedTo (decode (now file)) y (now text) comparing 0 start (now out) (now out) ⌝ }
     ensures { λ r. ⌜ PassEnded (decode (now (file .entry))) y (now (text .entry)) comparing (now (out .entry)) (now (out .exit)) r ⌝ }
 {
@@ -82,13 +66,14 @@ fn take_records(
         let answer = step.answer;
         let part = take_record(out, text, comparing, at, i + 1, arrival.number, answer);
         if !part.whole {
-            return Passed {
+            return PassResult {
                 part: after(at, part),
                 counts,
             };
         }
         at += part.octets;
-        counts = counted_by(counts, answer);
+        let class = step.class;
+        counts = counted(counts, class);
         engine = step.engine;
         i += 1;
     }
@@ -96,12 +81,12 @@ fn take_records(
         octets: at,
         whole: true,
     };
-    Passed { part, counts }
+    PassResult { part, counts }
 }
 
 // Takes all lines.
 pub(crate) fn pass(file: &[u8], y: Layout, out: &mut [u8], text: &[u8], comparing: bool) -> Part
-    requires { ⌜ Laid (decode (now file)) y × Ready comparing (now text) 0 (now out) ⌝ }
+    requires { ⌜ FileLayout (decode (now file)) y × LineRoom comparing (now text) 0 (now out) ⌝ }
     ensures { λ r. ⌜ TextTaken comparing (sampleText (decode (now (file .entry)))) (now (text .entry)) (now (out .entry)) (now (out .exit)) r ⌝ }
 {
     let first = take_header(out, text, comparing, y.sent, y.arrivals);

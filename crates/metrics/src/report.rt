@@ -3,9 +3,10 @@ ghost use mathlib.Core.Path.{_≡_};
 ghost use Prim.Native.Nat.{_≤_};
 ghost use lib.ListN.{length};
 ghost use Rattle.octets.specs.Memory.{over};
-ghost use Rattle.sample.specs.Decode.{decode};
-ghost use Rattle.metrics.specs.Private.Sample.{Laid};
-ghost use Rattle.metrics.specs.Report.{sampleText, listingRefusal};
+ghost use Rattle.sample.specs.Decode.{decode, decodedRefusal};
+ghost use Rattle.sample.specs.Output.{outputRefusal};
+ghost use Rattle.metrics.specs.Private.Sample.{FileLayout};
+ghost use Rattle.metrics.specs.Report.{sampleText};
 use crate::pass::pass;
 use rfc4737::refusal::NONE;
 use rfc4737::refusal::OUTPUT_SHORT;
@@ -14,7 +15,7 @@ use sample::Layout;
 // Writes the lines of a sample at the start of lent memory if it has room for all of them, and answers how many
 // octets they have. Where it has no room, some of them may stand in it.
 pub(crate) fn list(file: &[u8], y: Layout, out: &mut [u8]) -> u32
-    requires { ⌜ Laid (decode (now file)) y ⌝ }
+    requires { ⌜ FileLayout (decode (now file)) y ⌝ }
     ensures { λ r. ⌜ (r ≡ length (sampleText (decode (now (file .entry)))))
         × (r ≤ length (now (out .entry)) → now (out .exit) ≡ over (sampleText (decode (now (file .entry)))) (now (out .entry))) ⌝ }
 {
@@ -25,8 +26,8 @@ pub(crate) fn list(file: &[u8], y: Layout, out: &mut [u8]) -> u32
 // The refusal of a listing into so many octets: the file's own, then 8. Where any listing has room no line is made;
 // else all are, with no memory to stand in.
 pub(crate) fn refusal_into(file: &[u8], y: Layout, room: usize) -> u32
-    requires { ⌜ Laid (decode (now file)) y ⌝ }
-    ensures { λ r. ⌜ r ≡ listingRefusal (decode (now (file .entry))) room ⌝ }
+    requires { ⌜ FileLayout (decode (now file)) y ⌝ }
+    ensures { λ r. ⌜ r ≡ outputRefusal (decodedRefusal (decode (now (file .entry)))) (sampleText (decode (now (file .entry)))) room ⌝ }
 {
     if y.refusal != NONE {
         return y.refusal;

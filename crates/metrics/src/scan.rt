@@ -5,12 +5,12 @@ ghost use Prim.Native.Nat.{_≤_};
 ghost use lib.ListN.{take};
 ghost use Rattle.rfc4737.specs.declared.Arrival.{Arrival};
 ghost use Rattle.rfc4737.specs.Extent.{byteOffset, largestN};
+ghost use Rattle.rfc4737.specs.Judge.{sentMost};
 ghost use Rattle.sample.specs.Decode.{decode};
 ghost use Rattle.metrics.specs.Sample.{sizeOf};
-ghost use Rattle.metrics.specs.Private.Sample.{Laid};
-ghost use Rattle.metrics.specs.Private.Tables.{Numbered, Packets, Links, lateOnly};
+ghost use Rattle.metrics.specs.Private.Sample.{FileLayout};
+ghost use Rattle.metrics.specs.Private.Tables.{NumberTable, Packets, Links};
 use crate::input;
-use crate::look::Class;
 use crate::tables::FIRSTS;
 use crate::tables::PLACES;
 use crate::tables::wide;
@@ -26,8 +26,8 @@ pub(crate) fn offset(
     count: u32,
     s: u32,
 ) -> u32
-    requires { ⌜ Laid (decode (now file)) y × (count ≤ 4096) × Packets (now numbers) count (y .sent) ⌝ }
-    ensures { λ r. ⌜ ((fs : List Arrival) → Numbered fs (now (numbers .entry)) count
+    requires { ⌜ FileLayout (decode (now file)) y × (count ≤ sentMost) × Packets (now numbers) count (y .sent) ⌝ }
+    ensures { λ r. ⌜ ((fs : List Arrival) → NumberTable fs (now (numbers .entry)) count
         → byteOffset (sizeOf (decode (now (file .entry)))) (take from fs) s ≡ 0
         → r ≡ byteOffset (sizeOf (decode (now (file .entry)))) fs s) ⌝ }
 {
@@ -46,8 +46,8 @@ pub(crate) fn offset(
 
 // The largest n of a packet: it goes back over the first arrivals one by one, as far as their numbers are greater.
 pub(crate) fn largest(numbers: &[u16; FIRSTS], count: u32, s: u32) -> u32
-    requires { ⌜ count ≤ 4096 ⌝ }
-    ensures { λ r. ⌜ ((fs : List Arrival) → Numbered fs (now (numbers .entry)) count → r ≡ largestN fs s) ⌝ }
+    requires { ⌜ count ≤ sentMost ⌝ }
+    ensures { λ r. ⌜ ((fs : List Arrival) → NumberTable fs (now (numbers .entry)) count → r ≡ largestN fs s) ⌝ }
 {
     let mut p = count;
     while 0 < p {
@@ -69,8 +69,8 @@ pub(crate) fn largest_by_links(
     count: u32,
     s: u32,
 ) -> u32
-    requires { ⌜ (count ≤ 4096) × Links more (now numbers) (now links) count ⌝ }
-    ensures { λ r. ⌜ (r ≤ 4096) × ((fs : List Arrival) → Numbered fs (now (numbers .entry)) count → r ≡ largestN fs s) ⌝ }
+    requires { ⌜ (count ≤ sentMost) × Links more (now numbers) (now links) count ⌝ }
+    ensures { λ r. ⌜ (r ≤ sentMost) × ((fs : List Arrival) → NumberTable fs (now (numbers .entry)) count → r ≡ largestN fs s) ⌝ }
 {
     let mut p = count;
     while 0 < p {
@@ -83,23 +83,4 @@ pub(crate) fn largest_by_links(
         p = p - more - wide(links[packet]);
     }
     count - p
-}
-
-// The largest n of a packet of this number and class, by links; 0 for one that is not reordered. All packets of a
-// sample together take at most two steps for each first arrival.
-pub(crate) fn largest_of(
-    numbers: &[u16; FIRSTS],
-    skipped: &[u16; PLACES],
-    count: u32,
-    s: u32,
-    class: Class,
-) -> u32
-    requires { ⌜ (count ≤ 4096) × Links 1 (now numbers) (now skipped) count ⌝ }
-    ensures { λ r. ⌜ (r ≤ 4096) × ((fs : List Arrival) → Numbered fs (now (numbers .entry)) count → r ≡ lateOnly (largestN fs s) class) ⌝ }
-{
-    match class {
-        Class::Duplicate(_) => 0,
-        Class::InOrder(_) => 0,
-        Class::Reordered(_) => largest_by_links(numbers, skipped, 1, count, s),
-    }
 }

@@ -5,13 +5,15 @@
 ghost use mathlib.Core.Path.{_≡_};
 ghost use Prim.Native.Nat.{_≤_};
 ghost use lib.ListN.{length};
-ghost use Rattle.metrics.specs.Private.Tables.{Filled, Noting, ReceiverAnswer};
+ghost use Rattle.metrics.specs.Private.Sample.{numberPlaces};
+ghost use Rattle.metrics.specs.Private.Tables.{Filled, NextRecord, NotedRecord};
+use rfc4737::judge::SENT_MOST;
 
 // The greatest number of first arrivals.
-pub(crate) const FIRSTS: usize = 4096;
+pub(crate) const FIRSTS: usize = SENT_MOST as usize;
 
 // The places by packet number.
-pub(crate) const PLACES: usize = 4097;
+pub(crate) const PLACES: usize = SENT_MOST as usize + 1;
 
 // Of the arrivals noted: how many are first arrivals, and NextExp.
 pub(crate) struct State {
@@ -35,7 +37,7 @@ pub(crate) fn wide(x: u16) -> u32
 
 // Notes that the jump at a position skipped the packets from `from` to before `to`.
 fn skip(skipped: &mut [u16; PLACES], from: u32, to: u32, position: u16)
-    requires { ⌜ (to ≤ 4097) × (length (now skipped) ≡ 4097) ⌝ }
+    requires { ⌜ (to ≤ numberPlaces) × (length (now skipped) ≡ numberPlaces) ⌝ }
     ensures { λ _. ⌜ Filled from to position (now (skipped .entry)) (now (skipped .exit)) ⌝ }
 {
     let mut s = from;
@@ -57,8 +59,8 @@ pub(crate) fn note(
     largest: u16,
     state: State,
 ) -> State
-    requires { ⌜ Noting (now numbers) (now records) (now skipped) state i number ⌝ }
-    ensures { λ r. ⌜ ReceiverAnswer i number largest (now (numbers .entry)) (now (records .entry)) (now (skipped .entry)) state
+    requires { ⌜ NextRecord (now numbers) (now records) (now skipped) state i number ⌝ }
+    ensures { λ r. ⌜ NotedRecord i number largest (now (numbers .entry)) (now (records .entry)) (now (skipped .entry)) state
         (now (numbers .exit)) (now (records .exit)) (now (skipped .exit)) r ⌝ }
 {
     let at = number as usize;

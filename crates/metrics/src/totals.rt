@@ -5,14 +5,17 @@ ghost use mathlib.Core.Path.{_≡_};
 ghost use mathlib.Core.List.{List};
 ghost use Prim.Native.Nat.{_≤_};
 ghost use Rattle.rfc4737.specs.declared.Arrival.{Arrival};
-ghost use Rattle.rfc4737.specs.Extent.{byteOffset};
+ghost use Rattle.rfc4737.specs.Extent.{byteOffset, largestN};
+ghost use Rattle.rfc4737.specs.Judge.{sentMost};
 ghost use Rattle.sample.specs.Decode.{decode};
 ghost use Rattle.metrics.specs.Sample.{sizeOf};
-ghost use Rattle.metrics.specs.Private.Tables.{Numbered, lateOnly, NewIfLate};
-ghost use Rattle.metrics.specs.Private.Engine.{Totalled, Filling};
+ghost use Rattle.metrics.specs.Private.Tables.{NumberTable, Links, lateOnly, NewIfLate};
+ghost use Rattle.metrics.specs.Private.Engine.{SizeTree, FillInput};
 use crate::input;
 use crate::look::Class;
+use crate::scan::largest_by_links;
 use crate::tables::FIRSTS;
+use crate::tables::PLACES;
 use crate::tables::wide;
 use sample::Layout;
 
@@ -25,16 +28,6 @@ pub(crate) struct Totals {
     pub total: u32,
 }
 
-// Of no first arrivals.
-pub(crate) fn no_totals() -> Totals
-    ensures { λ r. ⌜ r ≡ record { filled = 0; total = 0 } ⌝ }
-{
-    Totals {
-        filled: 0,
-        total: 0,
-    }
-}
-
 // Puts those of the first `count` first arrivals into the tree that do not stand there yet.
 fn fill(
     file: &[u8],
@@ -44,9 +37,9 @@ fn fill(
     count: u32,
     t: Totals,
 ) -> Totals
-    requires { ⌜ Filling (decode (now file)) y (now numbers) (now tree) count t ⌝ }
-    ensures { λ r. ⌜ ((fs : List Arrival) → Numbered fs (now (numbers .entry)) count → Totalled (sizeOf (decode (now (file .entry)))) fs (now (tree .entry)) t
-        → Totalled (sizeOf (decode (now (file .entry)))) fs (now (tree .exit)) r × (r .filled ≡ count)) ⌝ }
+    requires { ⌜ FillInput (decode (now file)) y (now numbers) (now tree) count t ⌝ }
+    ensures { λ r. ⌜ ((fs : List Arrival) → NumberTable fs (now (numbers .entry)) count → SizeTree (sizeOf (decode (now (file .entry)))) fs (now (tree .entry)) t
+        → SizeTree (sizeOf (decode (now (file .entry)))) fs (now (tree .exit)) r × (r .filled ≡ count)) ⌝ }
 {
     let mut total = t.total;
     let mut p = t.filled;
@@ -61,42 +54,50 @@ fn fill(
     Totals { filled: p, total }
 }
 
-// A byte offset, and the totals with which it was found.
-pub(crate) struct Offset {
+// The figures that only a reordered packet has, and the totals with which its byte offset was found.
+pub(crate) struct LateFigures {
     pub offset: u32,
+    pub largest: u32,
     pub totals: Totals,
 }
 
-// The byte offset of a packet of this number and class, after so many first arrivals: if it is reordered, the sizes of
-// all of them without those of smaller numbers; 0 for any other packet.
-pub(crate) fn offset_of(
+// The byte offset and the largest n of a packet of this number and class, after so many first arrivals: if it is reordered,
+// the sizes of all of them without those of smaller numbers, and the largest n by links; 0 for any other packet. All packets
+// of a sample together take at most two links for each first arrival.
+pub(crate) fn late_figures(
     file: &[u8],
     y: Layout,
     numbers: &[u16; FIRSTS],
+    skipped: &[u16; PLACES],
     tree: &mut [u32],
     count: u32,
     s: u32,
     t: Totals,
     class: Class,
-) -> Offset
-    requires { ⌜ Filling (decode (now file)) y (now numbers) (now tree) count t × (1 ≤ s) × (s ≤ 4096) ⌝ }
-    ensures { λ r. ⌜ ((fs : List Arrival) → Numbered fs (now (numbers .entry)) count → Totalled (sizeOf (decode (now (file .entry)))) fs (now (tree .entry)) t
-        → Totalled (sizeOf (decode (now (file .entry)))) fs (now (tree .exit)) (r .totals)
+) -> LateFigures
+    requires { ⌜ FillInput (decode (now file)) y (now numbers) (now tree) count t × (1 ≤ s) × (s ≤ sentMost) × Links 1 (now numbers) (now skipped) count ⌝ }
+    ensures { λ r. ⌜ (r .largest ≤ sentMost) × ((fs : List Arrival) → NumberTable fs (now (numbers .entry)) count
+        → SizeTree (sizeOf (decode (now (file .entry)))) fs (now (tree .entry)) t
+        → SizeTree (sizeOf (decode (now (file .entry)))) fs (now (tree .exit)) (r .totals) × (r .largest ≡ lateOnly (largestN fs s) class)
         × (NewIfLate s fs class → r .offset ≡ lateOnly (byteOffset (sizeOf (decode (now (file .entry)))) fs s) class)) ⌝ }
 {
     match class {
-        Class::Duplicate(_) => Offset {
+        Class::Duplicate(_) => LateFigures {
             offset: 0,
+            largest: 0,
             totals: t,
         },
-        Class::InOrder(_) => Offset {
+        Class::InOrder(_) => LateFigures {
             offset: 0,
+            largest: 0,
             totals: t,
         },
         Class::Reordered(_) => {
+            let largest = largest_by_links(numbers, skipped, 1, count, s);
             let totals = fill(file, y, numbers, tree, count, t);
-            Offset {
+            LateFigures {
                 offset: totals.total - sums::sum_to(tree, s / 2),
+                largest,
                 totals,
             }
         }

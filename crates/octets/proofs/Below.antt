@@ -41,11 +41,6 @@ module _ (n : ℕ) where
   below-append [] ys h k = k
   below-append (x ∷ xs) ys h k = below-cons x (xs ++ ys) (h 0) (below-append xs ys (below-tail x xs h) k)
 
-  -- the first of two
-  pub below-first : (xs ys : List ℕ) → 0 < n → Below n (xs ++ ys) → Below n xs
-  below-first [] ys p h = below-nil p
-  below-first (x ∷ xs) ys p h = below-cons x xs (h 0) (below-first xs ys p (below-tail x (xs ++ ys) h))
-
   -- the second of two
   pub below-second : (xs ys : List ℕ) → Below n (xs ++ ys) → Below n ys
   below-second [] ys h = h

@@ -12,7 +12,7 @@ use Rattle.octets.specs.Below.{Octets}
 use Rattle.octets.specs.BigEndian.{beValue, beOctets}
 use Rattle.octets.specs.Memory.{part, put}
 use Rattle.octets.proofs.Below.{below-nil, below-cons, below-append, below-tail, below-take, below-part}
-use Rattle.octets.proofs.Memory.{part-length, part-most, part-snoc, splice-same, put-room, put-part}
+use Rattle.octets.proofs.Memory.{part-most, part-snoc, put-part}
 
 -- ---- the value
 
@@ -130,18 +130,8 @@ octets-value-at (suc w) os e h =
 pub octets-value : (os : List ℕ) → Octets os → beOctets (length os) (beValue os) ≡ os
 octets-value os h = octets-value-at (length os) os refl h
 
--- the same of a part that stands whole
-pub octets-part : (at n : ℕ) (l : List ℕ) → Octets l → at + n ≤ length l → beOctets n (beValue (part at n l)) ≡ part at n l
-octets-part at n l h p = octets-value-at n (part at n l) (part-length at n l p) (below-part 256 at n l h)
-
 -- ---- in memory
 
 -- a number that fits, put where there is room, is read back at its place
 pub put-value : (at w v : ℕ) (old : List ℕ) → v < 256 ^ w → at + w ≤ length old → beValue (part at w (put at (beOctets w v) old)) ≡ v
 put-value at w v old h p = ap beValue (put-part at w (beOctets w v) old (octets-length w v) p) ∙ value-octets w v h
-
--- what is read at a place, put back there, changes nothing
-pub put-same : (at w : ℕ) (old : List ℕ) → Octets old → at + w ≤ length old → put at (beOctets w (beValue (part at w old))) old ≡ old
-put-same at w old h p =
-    let q : at + length (part at w old) ≤ length old = rw part-length p in
-    rw (octets-part at w old h p, put-room at (part at w old) old q) (splice-same at w old p)

@@ -3,3 +3,4 @@ pub mod Below
 pub mod BigEndian
 pub mod Memory
 pub mod RoundTrip
+pub mod Text

@@ -9,7 +9,7 @@ use mathlib.Core.List.{List, [], _∷_, _++_, append-assoc, append-nil}
 use borrow.Author.Tests.{le-leb, lt-leb, leb-true, leb-false}
 use lib.Dec.{leb}
 use lib.ListN.{length, getD, take, drop, set, length-append, length-take, length-drop, take-append-drop, drop-of-length-le}
-use lib.Seq.{length-take-le, take-all, take-nil, take-length, take-suc, take-take, take-add, take-at, take-append-le, take-append-seam, drop-drop, drop-at, getD-take, getD-drop, set-split, set-at, drop-cons, append-snoc}
+use lib.Seq.{length-take-le, take-all, take-nil, take-length, take-suc, take-take, take-add, take-at, take-append-le, take-append-seam, drop-drop, drop-at, getD-drop, set-split, set-at, drop-cons, append-snoc}
 use Rattle.octets.specs.Memory.{part, over, splice, put}
 
 module _ {ℓ} {A : Type ℓ} where
@@ -59,10 +59,6 @@ module _ {ℓ} {A : Type ℓ} where
   part-snoc at n l z h =
       let p : n < length (drop at l) = simp length-drop (omega arith) in
       rw (add-one, take-suc (drop at l) n z p, getD-drop)
-
-  -- an element of a part
-  pub part-getD : (at n : ℕ) (l : List A) (i : ℕ) (z : A) → i < n → getD (part at n l) i z ≡ getD l (at + i) z
-  part-getD at n l i z h = rw (getD-take n (drop at l) i z h, getD-drop)
 
   -- a part of a part
   pub part-part : (at n from m : ℕ) (l : List A) → from + m ≤ n → part from m (part at n l) ≡ part (at + from) m l
@@ -120,25 +116,6 @@ module _ {ℓ} {A : Type ℓ} where
   pub splice-part : (at : ℕ) (xs old : List A) → at ≤ length old → part at (length xs) (splice at xs old) ≡ xs
   splice-part at xs old h = rw (splice-tail at xs old h) (take-append-seam xs (drop (at + length xs) old))
 
-  -- reading back a part of what was written
-  pub splice-inside : (at : ℕ) (xs old : List A) (from n : ℕ) → from + n ≤ length xs → at ≤ length old
-      → part (at + from) n (splice at xs old) ≡ part from n xs
-  splice-inside at xs old from n h k = sym (part-part at (length xs) from n (splice at xs old) h) ∙ ap (λ (l : List A). part from n l) (splice-part at xs old k)
-
-  -- writing back what stands there changes nothing
-  pub splice-same : (at n : ℕ) (old : List A) → at + n ≤ length old → splice at (part at n old) old ≡ old
-  splice-same at n old h =
-      rw (part-length at n old h, ← drop-drop n at old, take-append-drop n (drop at old)) (take-append-drop at old)
-
-  -- a part that ends by the place is as before
-  pub splice-before : (at : ℕ) (xs old : List A) (from n : ℕ) → from + n ≤ at → at ≤ length old → part from n (splice at xs old) ≡ part from n old
-  splice-before at xs old from n h k =
-      part-drop from n (splice at xs old) ∙ ap (λ (l : List A). drop from l) (splice-take at xs old (from + n) h k) ∙ sym (part-drop from n old)
-
-  -- a part after what was written is as before
-  pub splice-after : (at : ℕ) (xs old : List A) (from n : ℕ) → at + length xs ≤ from → at ≤ length old → part from n (splice at xs old) ≡ part from n old
-  splice-after at xs old from n h k = ap (λ (l : List A). take n l) (splice-drop at xs old from h k)
-
   -- written on, at the next place: one write of both
   pub splice-next : (at next : ℕ) (xs ys old : List A) → at + length xs ≡ next → at ≤ length old
       → splice next ys (splice at xs old) ≡ splice at (xs ++ ys) old
@@ -179,6 +156,10 @@ module _ {ℓ} {A : Type ℓ} where
   -- reading back
   pub over-read : (xs old : List A) → take (length xs) (over xs old) ≡ xs
   over-read xs old = take-append-seam xs (drop (length xs) old)
+
+  -- the same of memory l after it, by the number n of elements written
+  pub over-first : (xs old : List A) {l : List A} {n : ℕ} → n ≡ length xs → l ≡ over xs old → (n ≤ length l) × (take n l ≡ xs)
+  over-first xs old e f = rw (f, e, length-append xs (drop (length xs) old)) (omega arith, over-read xs old)
 
   -- the first n are those of xs, where n is at most the number written
   pub over-take : (xs old : List A) (n : ℕ) → n ≤ length xs → take n (over xs old) ≡ take n xs
@@ -286,14 +267,6 @@ module _ {ℓ} {A : Type ℓ} where
   copy-done at xs old i h e = e ∙ ap (λ (l : List A). splice at l old) (take-all i xs h)
 
   -- ---- a loop that fills memory with xs from its start, one element a turn: after i turns it is `take i xs ++ drop i old`
-
-  -- which is `over` of the first i
-  pub fill-over : (xs old : List A) (i : ℕ) → i ≤ length xs → take i xs ++ drop i old ≡ over (take i xs) old
-  fill-over xs old i h = ap (λ (n : ℕ). take i xs ++ drop n old) (sym (length-take-le i xs h))
-
-  -- at the start
-  pub fill-start : (xs old : List A) → old ≡ take 0 xs ++ drop 0 old
-  fill-start xs old = refl
 
   -- the length stays
   pub fill-length : (xs old : List A) (i : ℕ) → i ≤ length xs → i ≤ length old → length (take i xs ++ drop i old) ≡ length old

@@ -6,11 +6,11 @@ use mathlib.Core.List.{List, map}
 use lib.ListN.{length}
 use Rattle.octets.specs.BigEndian.{beValue, beOctets}
 use Rattle.octets.specs.Memory.{part, put}
-use Rattle.octets.specs.RoundTrip.{table, ReadBack}
+use Rattle.octets.specs.RoundTrip.{octetCases, ReadBack}
 use Rattle.octets.proofs.BigEndian.{value-octets, octets-value, put-value}
 
 -- each number of the table is written as its octets
-written : map (λ (c : ℕ × List ℕ). beOctets (length (c .1)) (c .0)) table ≡ map (λ (c : ℕ × List ℕ). c .1) table
+written : map (λ (c : ℕ × List ℕ). beOctets (length (c .1)) (c .0)) octetCases ≡ map (λ (c : ℕ × List ℕ). c .1) octetCases
 unfolding beOctets
 written = refl
 

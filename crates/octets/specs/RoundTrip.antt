@@ -8,8 +8,8 @@ use Rattle.octets.specs.BigEndian.{beValue, beOctets}
 use Rattle.octets.specs.Memory.{part, put}
 
 -- numbers, each with octets that it is written as
-abbrev pub table : List (ℕ × List ℕ)
-table =
+abbrev pub octetCases : List (ℕ × List ℕ)
+octetCases =
     -- the first octet is the most significant
     (66051, 1 ∷ 2 ∷ 3 ∷ [])
     -- zeros come first
@@ -28,4 +28,4 @@ pub record ReadBack : Type 0 where
   pub inPlace : (at width v : ℕ) (old : List ℕ) → width ≤ 8 → v < 256 ^ width → at + width ≤ length old
       → beValue (part at (min width 8) (put at (beOctets (min width 8) v) old)) ≡ v
   -- each number of the table is written as its octets
-  pub cases : map (λ (c : ℕ × List ℕ). beOctets (length (c .1)) (c .0)) table ≡ map (λ (c : ℕ × List ℕ). c .1) table
+  pub cases : map (λ (c : ℕ × List ℕ). beOctets (length (c .1)) (c .0)) octetCases ≡ map (λ (c : ℕ × List ℕ). c .1) octetCases

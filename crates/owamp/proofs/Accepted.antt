@@ -1,4 +1,6 @@
--- Imported arrivals are accepted as those of a sample. Assumes nothing.
+-- Imported arrivals are accepted as those of a sample: what holds of every arrival holds of every one in order, so the numbers stay in
+-- 1 to K; whole microseconds do not go back where receive times do not, so no time is refused. l are arrivals, b what is taken off
+-- their times. Assumes nothing.
 use Prim.Native.Nat.{ℕ, zero, suc, _-_, _≤_, zero-le}
 use native.Mathlib.Omega.{arith}
 use mathlib.Core.Bool.{Bool, true, false, cond}
@@ -17,8 +19,8 @@ use Rattle.rfc4737.proofs.Pairs.{arrivals-back}
 use Rattle.rfc4737.proofs.Judged.{fit-lists}
 use Rattle.sample.specs.Judge.{judgeLabel, judgeOctets}
 use Rattle.sample.specs.Calls.{sampleRefusal}
-use Rattle.owamp.specs.Record.{arrivalsIn}
-use Rattle.owamp.specs.Order.{NotBefore, NotBack, insert, inOrder}
+use Rattle.owamp.specs.Record.{recordsArrivals}
+use Rattle.owamp.specs.Order.{NotBefore, NotBack, insert, inTimeOrder}
 use Rattle.owamp.specs.Clock.{microseconds, smallest, since, fromSmallest}
 use Rattle.owamp.specs.Judge.{judgeNumber, judgeNumbers, recordsRefusal}
 use Rattle.owamp.specs.Calls.{imported}
@@ -45,12 +47,12 @@ module _ (P : Arrival → Type 0) where
       go m true = (p, h)
       go m false = (h .0, m)
 
-  order-all : (l : List Arrival) → All P l → All P (inOrder l)
-  unfolding inOrder
-  order-all l = snoc-ind (λ (l : List Arrival). All P l → All P (inOrder l)) more (λ h. tt) l
+  order-all : (l : List Arrival) → All P l → All P (inTimeOrder l)
+  unfolding inTimeOrder
+  order-all l = snoc-ind (λ (l : List Arrival). All P l → All P (inTimeOrder l)) more (λ h. tt) l
     where
-      more : (l : List Arrival) (a : Arrival) → (All P l → All P (inOrder l)) → All P (l ++ (a ∷ [])) → All P (inOrder (l ++ (a ∷ [])))
-      more l a f h = rw (order-more l a) (insert-all a (inOrder l) (all-right P l (a ∷ []) h .0) (f (all-left P l (a ∷ []) h)))
+      more : (l : List Arrival) (a : Arrival) → (All P l → All P (inTimeOrder l)) → All P (l ++ (a ∷ [])) → All P (inTimeOrder (l ++ (a ∷ [])))
+      more l a f h = rw (order-more l a) (insert-all a (inTimeOrder l) (all-right P l (a ∷ []) h .0) (f (all-left P l (a ∷ []) h)))
 
 -- ---- the numbers
 
@@ -80,8 +82,8 @@ module _ (b : ℕ) where
 pub imported-rising : (os : List ℕ) → NotBack (imported os)
 unfolding imported fromSmallest
 imported-rising os =
-    let l : List Arrival = inOrder (arrivalsIn os) in
-    since-rising (smallest (map microseconds (timesOf l))) l (in-order (arrivalsIn os) .rising)
+    let l : List Arrival = inTimeOrder (recordsArrivals os) in
+    since-rising (smallest (map microseconds (timesOf l))) l (in-order (recordsArrivals os) .rising)
 
 -- ---- the judge of arrivals
 
@@ -106,15 +108,15 @@ before-zero : (l : List Arrival) → NotBefore 0 l
 before-zero [] = tt
 before-zero (a ∷ l) = (zero-le, before-zero l)
 
-imported-within : (k : ℕ) (os : List ℕ) → judgeNumbers k (arrivalsIn os) ≡ 0 → All (Within k) (imported os)
+imported-within : (k : ℕ) (os : List ℕ) → judgeNumbers k (recordsArrivals os) ≡ 0 → All (Within k) (imported os)
 unfolding imported fromSmallest
 imported-within k os e =
-    let l : List Arrival = inOrder (arrivalsIn os) in
-    since-within (smallest (map microseconds (timesOf l))) k l (order-all (Within k) (arrivalsIn os) (numbers-all k (arrivalsIn os) e))
+    let l : List Arrival = inTimeOrder (recordsArrivals os) in
+    since-within (smallest (map microseconds (timesOf l))) k l (order-all (Within k) (recordsArrivals os) (numbers-all k (recordsArrivals os) e))
 
-imported-length : (os : List ℕ) → length (imported os) ≡ length (arrivalsIn os)
+imported-length : (os : List ℕ) → length (imported os) ≡ length (recordsArrivals os)
 unfolding imported
-imported-length os = smallest-length (inOrder (arrivalsIn os)) ∙ order-length (arrivalsIn os)
+imported-length os = smallest-length (inTimeOrder (recordsArrivals os)) ∙ order-length (recordsArrivals os)
 
 accepted : (k : ℕ) (os : List ℕ) → recordsRefusal k os ≡ 0 → refusalOfLists k (numbersOf (imported os)) (timesOf (imported os)) ≡ 0
 accepted k os e =

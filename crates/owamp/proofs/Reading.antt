@@ -15,10 +15,11 @@ use Rattle.octets.proofs.Memory.{part-part, take-snoc}
 use Rattle.octets.proofs.Below.{below-cons, below-nil}
 use Rattle.rfc4737.specs.declared.Arrival.{Arrival}
 use Rattle.rfc4737.specs.Refusals.{outside, firstOf, numberOutside}
-use Rattle.rfc4737.specs.Judge.{numbersOf}
-use Rattle.owamp.specs.Record.{recordIn, recordCount, recordsIn, keptIf, passing, isArrival, arrivalsIn}
+use Rattle.rfc4737.specs.Judge.{sentMost, numbersOf}
+use Rattle.owamp.specs.Record.{recordIn, recordCount, recordsIn, keptIf, passing, isArrival, recordsArrivals}
 use Rattle.owamp.specs.Judge.{judgeNumber, judgeNumbers}
-use Rattle.owamp.specs.Private.Reading.{noArrival, oneIfArrived, judgeRecord}
+use Rattle.sample.specs.Places.{noArrival}
+use Rattle.owamp.specs.Private.Reading.{oneIfArrived, judgeRecord}
 use Rattle.sample.proofs.Items.{items-length, items-getD}
 use Rattle.rfc4737.proofs.Due.{first-none, case-none, between}
 use Rattle.owamp.proofs.Sorted.{passing-append}
@@ -79,8 +80,8 @@ arrived-at-most t = go (eqb t 0)
     go true = omega arith
     go false = omega arith
 
-pub count-done : (os : List ℕ) (i n : ℕ) → recordCount os ≤ i → n ≡ length (passing isArrival (take i (recordsIn os))) → n ≡ length (arrivalsIn os)
-unfolding arrivalsIn
+pub count-done : (os : List ℕ) (i n : ℕ) → recordCount os ≤ i → n ≡ length (passing isArrival (take i (recordsIn os))) → n ≡ length (recordsArrivals os)
+unfolding recordsArrivals
 count-done os i n h e = e ∙ ap (λ (l : List Arrival). length (passing isArrival l)) (take-all i (recordsIn os) (let k = records-length os in omega arith))
 
 -- ---- the judge
@@ -101,7 +102,7 @@ judge-all k (a ∷ l) = go (judge-all k l) (isArrival a)
     go e false = e
 
 -- numbers that are not refused fit
-pub numbers-fit : (k : ℕ) (l : List Arrival) → k ≤ 4096 → judgeNumbers k l ≡ 0 → Below (2 ^ 32) (numbersOf l)
+pub numbers-fit : (k : ℕ) (l : List Arrival) → k ≤ sentMost → judgeNumbers k l ≡ 0 → Below (2 ^ 32) (numbersOf l)
 unfolding judgeNumbers judgeNumber
 numbers-fit k [] h e = below-nil (2 ^ 32) (omega arith)
 numbers-fit k (a ∷ l) h e =

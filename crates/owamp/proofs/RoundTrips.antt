@@ -1,7 +1,8 @@
--- Records written and read again. Assumes nothing.
+-- Records written and read again: the record in place i of those written is that of arrival i, its number is the arrival's and its
+-- receive time does not go back where the sample's does not; so in order the arrivals stand as they stood. Assumes nothing.
 use Prim.Native.Nat.{ℕ, _+_, _-_, _*_, _%_, _^_, _≤_, _<_}
 use native.Mathlib.Omega.{arith}
-use mathlib.Core.Bool.{false, not}
+use mathlib.Core.Bool.{false}
 use mathlib.Core.List.{List, [], _∷_, _++_, append-assoc, map}
 use mathlib.Core.Path.{_≡_, refl, sym, ap, _∙_}
 use lib.Dec.{ltb, eqb}
@@ -13,11 +14,11 @@ use Rattle.octets.specs.Memory.{part}
 use Rattle.octets.proofs.BigEndian.{octets-length, value-octets, value-append}
 use Rattle.rfc4737.specs.declared.Arrival.{Arrival}
 use Rattle.rfc4737.specs.Refusals.{outside, firstOf, numberOutside, secondsOver}
-use Rattle.rfc4737.specs.Judge.{numbersOf}
+use Rattle.rfc4737.specs.Judge.{sentMost, arrivalsMost, numbersOf}
 use Rattle.sample.specs.Format.{itemsIn, itemOctets}
-use Rattle.owamp.specs.Record.{recordIn, recordCount, passing, isArrival, arrivalsIn}
-use Rattle.owamp.specs.Order.{NotBefore, NotBack, inOrder}
-use Rattle.owamp.specs.Clock.{fromSmallest, writtenSeconds, writtenFraction}
+use Rattle.owamp.specs.Record.{recordIn, recordCount, passing, isArrival, recordsArrivals}
+use Rattle.owamp.specs.Order.{NotBefore, NotBack, inTimeOrder}
+use Rattle.owamp.specs.Clock.{fractions, fromSmallest, writtenSeconds, writtenFraction}
 use Rattle.owamp.specs.Judge.{judgeNumber, judgeNumbers, recordsRefusal, secondsMost, judgeTime, judgeSeconds}
 use Rattle.owamp.specs.Calls.{imported, recordOctets, recordsOf}
 use Rattle.rfc4737.proofs.Due.{first-none, case-none, between, not-outside}
@@ -27,7 +28,7 @@ use Rattle.owamp.proofs.Converted.{smallest-numbers}
 
 -- a written receive time as the number of 64 bits that it is
 abbrev pub stampOf : ℕ → ℕ
-stampOf t = writtenSeconds t * 4294967296 + writtenFraction t
+stampOf t = writtenSeconds t * fractions + writtenFraction t
 
 -- it keeps the order
 pub stamp-rising : (s t : ℕ) → s ≤ t → stampOf s ≤ stampOf t
@@ -59,7 +60,7 @@ unfolding recordOctets
 record-long a = simp (length-append, octets-length)
 
 -- what is read from it
-pub record-read : (a : Arrival) → 1 ≤ a .number → a .number ≤ 4096 → writtenSeconds (a .time) < 256 ^ 4 → recordIn (recordOctets a) ≡ stamped a
+pub record-read : (a : Arrival) → 1 ≤ a .number → a .number ≤ sentMost → writtenSeconds (a .time) < 256 ^ 4 → recordIn (recordOctets a) ≡ stamped a
 unfolding recordIn recordOctets
 record-read a h k s =
     let u : length (before a) ≡ 16 = simp (length-append, octets-length) in
@@ -91,7 +92,7 @@ timed a l e =
     let q = ltb-false secondsMost (writtenSeconds (a .time)) (case-none (ltb secondsMost (writtenSeconds (a .time))) secondsOver (omega arith) (p .0)) in
     (omega arith, p .1)
 
-items-read : (k : ℕ) (l : List Arrival) → k ≤ 4096 → judgeNumbers k l ≡ 0 → judgeSeconds l ≡ 0 → itemsIn 25 recordIn (length l) (itemOctets recordOctets l) ≡ map stamped l
+items-read : (k : ℕ) (l : List Arrival) → k ≤ sentMost → judgeNumbers k l ≡ 0 → judgeSeconds l ≡ 0 → itemsIn 25 recordIn (length l) (itemOctets recordOctets l) ≡ map stamped l
 unfolding itemsIn itemOctets
 items-read k [] h e s = refl
 items-read k (a ∷ l) h e s =
@@ -111,8 +112,8 @@ all-arrived (a ∷ l) =
     let e : eqb (stampOf (a .time)) 0 ≡ false = ne-eqb (stampOf (a .time)) 0 (λ q. omega arith) in
     rw (e, all-arrived l)
 
-pub arrivals-read : (k : ℕ) (l : List Arrival) → k ≤ 4096 → judgeNumbers k l ≡ 0 → judgeSeconds l ≡ 0 → arrivalsIn (recordsOf l) ≡ map stamped l
-unfolding arrivalsIn recordsOf
+pub arrivals-read : (k : ℕ) (l : List Arrival) → k ≤ sentMost → judgeNumbers k l ≡ 0 → judgeSeconds l ≡ 0 → recordsArrivals (recordsOf l) ≡ map stamped l
+unfolding recordsArrivals recordsOf
 arrivals-read k l h e s =
     let n : recordCount (itemOctets recordOctets l) ≡ length l = omega (arith, octets-many recordOctets 25 record-long l) in
     ap (λ (c : ℕ). passing isArrival (itemsIn 25 recordIn c (itemOctets recordOctets l))) n ∙ ap (passing isArrival) (items-read k l h e s) ∙ all-arrived l
@@ -140,17 +141,17 @@ stamped-judged k l = ap firstOf (stamped-each k l)
 
 -- arrivals of packets 1 to K whose times can be written and do not go back, written as records and read again: none is refused, and they
 -- have the same numbers in the same order
-pub records-again : (k : ℕ) (l : List Arrival) → 1 ≤ k → k ≤ 4096 → length l ≤ 4096 → judgeNumbers k l ≡ 0 → judgeSeconds l ≡ 0 → NotBack l
+pub records-again : (k : ℕ) (l : List Arrival) → 1 ≤ k → k ≤ sentMost → length l ≤ arrivalsMost → judgeNumbers k l ≡ 0 → judgeSeconds l ≡ 0 → NotBack l
     → (recordsRefusal k (recordsOf l) ≡ 0) × (numbersOf (imported (recordsOf l)) ≡ numbersOf l)
 unfolding recordsRefusal imported
 records-again k l h₁ h₂ m e s r =
-    let q : arrivalsIn (recordsOf l) ≡ map stamped l = arrivals-read k l h₂ e s in
+    let q : recordsArrivals (recordsOf l) ≡ map stamped l = arrivals-read k l h₂ e s in
     let n : length (recordsOf l) % 25 ≡ 0 = omega (arith, records-many l) in
-    let c : length (arrivalsIn (recordsOf l)) ≡ length l = ap length q ∙ length-map l stamped in
-    let j : judgeNumbers k (arrivalsIn (recordsOf l)) ≡ 0 = ap (judgeNumbers k) q ∙ stamped-judged k l ∙ e in
-    let o : outside 0 4096 (length (arrivalsIn (recordsOf l))) ≡ false = not-outside 0 4096 _ (omega arith) (omega arith) in (
-      simp (eq-eqb _ _ n, not-outside 1 4096 k h₁ h₂, o, j),
-      ap (λ (x : List Arrival). numbersOf (fromSmallest (inOrder x))) q
+    let c : length (recordsArrivals (recordsOf l)) ≡ length l = ap length q ∙ length-map l stamped in
+    let j : judgeNumbers k (recordsArrivals (recordsOf l)) ≡ 0 = ap (judgeNumbers k) q ∙ stamped-judged k l ∙ e in
+    let o : outside 0 arrivalsMost (length (recordsArrivals (recordsOf l))) ≡ false = not-outside 0 arrivalsMost _ (omega arith) (omega arith) in (
+      simp (eq-eqb _ _ n, not-outside 1 sentMost k h₁ h₂, o, j),
+      ap (λ (x : List Arrival). numbersOf (fromSmallest (inTimeOrder x))) q
           ∙ ap (λ (x : List Arrival). numbersOf (fromSmallest x)) (order-rising (map stamped l) (stamped-rising l r))
           ∙ sym (smallest-numbers (map stamped l)) ∙ stamped-numbers l,
     )

@@ -3,27 +3,28 @@ use Prim.Native.Nat.{ℕ, zero, suc, _+_, _-_, _≤_, _<_}
 use native.Mathlib.Omega.{arith}
 use mathlib.Core.List.{List, [], _∷_, _++_, append-assoc}
 use mathlib.Core.Path.{_≡_, refl, sym, ap, subst, _∙_}
-use lib.Dec.{ltb}
-use lib.ListN.{length, getD, take, length-append, length-map}
-use borrow.Author.Tests.{lt-ltb, le-ltb}
+use lib.ListN.{length, getD, length-append, length-map}
+use borrow.Author.Tests.{le-ltb}
 use Rattle.octets.specs.Below.{Octets}
 use Rattle.octets.specs.BigEndian.{beOctets}
-use Rattle.octets.specs.Memory.{over, splice, put}
+use Rattle.octets.specs.Memory.{over, put}
 use Rattle.octets.proofs.BigEndian.{octets-length}
-use Rattle.octets.proofs.Memory.{put-next, over-splice, over-read}
+use Rattle.octets.proofs.Memory.{put-next}
 use Rattle.rfc4737.specs.declared.Arrival.{Arrival}
-use Rattle.rfc4737.specs.Refusals.{inCase, firstOf, outputShort}
+use Rattle.rfc4737.specs.Refusals.{firstOf}
 use Rattle.rfc4737.specs.Judge.{numbersOf}
 use Rattle.sample.specs.Decode.{decode, sampleOf, decodedRefusal, layoutOf, accepted}
-use Rattle.sample.specs.Calls.{unlessRefused}
-use Rattle.owamp.specs.Record.{arrivalsIn}
+use Rattle.sample.specs.Output.{unlessRefused}
+use Rattle.owamp.specs.Record.{recordsArrivals}
 use Rattle.owamp.specs.Clock.{writtenSeconds, writtenFraction}
-use Rattle.owamp.specs.Judge.{judgeNumber, judgeNumbers, recordsRefusal, judgeSeconds}
-use Rattle.owamp.specs.Calls.{importRefusal, imported, ImportedFrom, recordOctets, recordsOf, arrivalsOfFile, writeRefusal, WrittenFrom}
-use Rattle.owamp.specs.RoundTrip.{ReadAgain}
-use Rattle.owamp.specs.Private.Reading.{noArrival, AcceptedLayout}
+use Rattle.owamp.specs.Judge.{judgeNumber, judgeNumbers, judgeSeconds}
+use Rattle.owamp.specs.Calls.{importRefusal, imported, RecordsImportedFrom, recordOctets, recordsOf, arrivalsOfFile, exportRefusal}
+use Rattle.owamp.specs.RoundTrip.{RecordsReadAgain}
+use Rattle.sample.specs.Places.{noArrival}
+use Rattle.owamp.specs.Private.Reading.{AcceptedLayout}
 use Rattle.sample.specs.declared.Layout.{Layout}
-use Rattle.rfc4737.proofs.Due.{first-none, not-outside}
+use Rattle.rfc4737.proofs.Due.{first-none, first-next, first-one, not-outside}
+use Rattle.sample.proofs.Output.{own-none, output-read}
 use Rattle.sample.proofs.Accepted.{found-sample, accepted-limits, number-within}
 use Rattle.owamp.proofs.RoundTrips.{records-again, arrivals-read, stamped}
 
@@ -80,45 +81,17 @@ found-refusal file y e = ap (λ (x : Layout). x .refusal) e
 
 -- ---- the answers
 
-module _ (file out : List ℕ) where
-  due : (r : ℕ) → writeRefusal (length out) file ≡ suc r → WrittenFrom file out (record { refusal = suc r; length = 0 }) out
-  due r e = record {
-    refusal = sym e;
-    octets = ap (λ (x : ℕ). length (unlessRefused x (recordsOf (arrivalsOfFile file)))) (sym e);
-    filled = ap (λ (x : ℕ). over (unlessRefused x (recordsOf (arrivalsOfFile file))) out) (sym e);
-  }
+module _ (file : List ℕ) where
+  -- the file's own refusal
+  pub own-refusal : (r : ℕ) → r ≡ decodedRefusal (decode file) → (r ≡ 0 → ⊥) → r ≡ exportRefusal file
+  unfolding exportRefusal
+  own-refusal zero e n = absurd (n refl)
+  own-refusal (suc r) e n = ap (λ (x : ℕ). firstOf (x ∷ judgeSeconds (arrivalsOfFile file) ∷ [])) e
 
-  -- the sample's own
-  pub write-refused : (r : ℕ) → r ≡ decodedRefusal (decode file) → (r ≡ 0 → ⊥) → WrittenFrom file out (record { refusal = r; length = 0 }) out
-  unfolding writeRefusal
-  write-refused zero e n = absurd (n refl)
-  write-refused (suc r) e n =
-      due r (ap (λ (x : ℕ). firstOf (x ∷ judgeSeconds (arrivalsOfFile file) ∷ inCase (ltb (length out) (length (recordsOf (arrivalsOfFile file)))) outputShort ∷ [])) (sym e))
-
-  -- 18
-  pub write-over : (r : ℕ) → decodedRefusal (decode file) ≡ 0 → r ≡ judgeSeconds (arrivalsOfFile file) → (r ≡ 0 → ⊥) → WrittenFrom file out (record { refusal = r; length = 0 }) out
-  unfolding writeRefusal
-  write-over zero z e n = absurd (n refl)
-  write-over (suc r) z e n = due r (simp (z, sym e))
-
-  -- 8
-  pub write-short : decodedRefusal (decode file) ≡ 0 → judgeSeconds (arrivalsOfFile file) ≡ 0 → length out < length (recordsOf (arrivalsOfFile file))
-      → WrittenFrom file out (record { refusal = 8; length = 0 }) out
-  unfolding writeRefusal
-  write-short z e h = due 7 (simp (z, e, lt-ltb _ _ h))
-
-  -- written
-  pub write-filled : (n : ℕ) {out′ : List ℕ} → decodedRefusal (decode file) ≡ 0 → judgeSeconds (arrivalsOfFile file) ≡ 0 → length (recordsOf (arrivalsOfFile file)) ≤ length out
-      → n ≡ length (recordsOf (arrivalsOfFile file)) → out′ ≡ splice 0 (recordsOf (arrivalsOfFile file)) out
-      → WrittenFrom file out (record { refusal = 0; length = n }) out′
-  unfolding writeRefusal
-  write-filled n z e h c f =
-      let q : writeRefusal (length out) file ≡ 0 = simp (z, e, le-ltb _ _ h) in
-      record {
-        refusal = sym q;
-        octets = c ∙ ap (λ (x : ℕ). length (unlessRefused x (recordsOf (arrivalsOfFile file)))) (sym q);
-        filled = f ∙ sym (over-splice (recordsOf (arrivalsOfFile file)) out) ∙ ap (λ (x : ℕ). over (unlessRefused x (recordsOf (arrivalsOfFile file))) out) (sym q);
-      }
+  -- where there is none, that of the times alone
+  pub times-refusal : (r : ℕ) → decodedRefusal (decode file) ≡ 0 → r ≡ judgeSeconds (arrivalsOfFile file) → r ≡ exportRefusal file
+  unfolding exportRefusal
+  times-refusal r z e = e ∙ sym (first-next _ (judgeSeconds (arrivalsOfFile file) ∷ []) z ∙ first-one _)
 
 -- ---- read again
 
@@ -130,24 +103,21 @@ numbers-within k (a ∷ l) h =
     let p = h 0 (omega arith) in
     rw (not-outside 1 k (a .number) (p .0) (p .1)) (numbers-within k l (λ i q. h (suc i) (omega arith)))
 
-pub read-again : (file : List ℕ) → Octets file → ReadAgain file
-unfolding writeRefusal importRefusal imported
+pub read-again : (file : List ℕ) → Octets file → RecordsReadAgain file
+unfolding exportRefusal importRefusal imported
 read-again file o out out′ numbers times numbers′ times′ written read w z r hn ht i =
     let l : List Arrival = arrivalsOfFile file in
     let k : ℕ = length (sampleOf (decode file) .sizes) in
     let rs : List ℕ = recordsOf l in
-    let q : writeRefusal (length out) file ≡ 0 = sym (w .refusal) ∙ z in
-    let p₁ = first-none (decodedRefusal (decode file)) (judgeSeconds l ∷ inCase (ltb (length out) (length rs)) outputShort ∷ []) q in
-    let p₂ = first-none (judgeSeconds l) (inCase (ltb (length out) (length rs)) outputShort ∷ []) (p₁ .1) in
+    let p₁ = first-none (decodedRefusal (decode file)) (judgeSeconds l ∷ []) (own-none (exportRefusal file) rs out w z) in
+    let p₂ = first-none (judgeSeconds l) [] (p₁ .1) in
     let d : decode file ≡ accepted (sampleOf (decode file)) = found-sample file (layoutOf (decode file)) refl (p₁ .0) in
     let m = accepted-limits file (sampleOf (decode file)) d o in
     let j : judgeNumbers k l ≡ 0 = numbers-within k l (number-within file (sampleOf (decode file)) d o noArrival) in
-    let n : written .length ≡ length rs = w .octets ∙ ap (λ (x : ℕ). length (unlessRefused x rs)) q in
-    let f : out′ ≡ over rs out = w .filled ∙ ap (λ (x : ℕ). over (unlessRefused x rs) out) q in
-    let t : take (written .length) out′ ≡ rs = ap (λ (x : List ℕ). take (written .length) x) f ∙ ap (λ (x : ℕ). take x (over rs out)) n ∙ over-read rs out in
-    let g : ImportedFrom k rs numbers times read numbers′ times′ = subst (λ (x : List ℕ). ImportedFrom k x numbers times read numbers′ times′) t i in
+    let t = output-read (exportRefusal file) rs out w z in
+    let g : RecordsImportedFrom k rs numbers times read numbers′ times′ = subst (λ (x : List ℕ). RecordsImportedFrom k x numbers times read numbers′ times′) t i in
     let a = records-again k l (m .sentSome) (m .sentFits) (m .arrivalsFit) j (p₂ .0) r in
-    let c : length (arrivalsIn rs) ≡ length l = ap length (arrivals-read k l (m .sentFits) j (p₂ .0)) ∙ length-map l stamped in
+    let c : length (recordsArrivals rs) ≡ length l = ap length (arrivals-read k l (m .sentFits) j (p₂ .0)) ∙ length-map l stamped in
     let b : importRefusal k (length numbers) (length times) rs ≡ 0 = simp (a .0, c, le-ltb _ _ hn, le-ltb _ _ ht) in
     let x : read .refusal ≡ 0 = g .refusal ∙ b in
     let f′ : unlessRefused (importRefusal k (length numbers) (length times) rs) (numbersOf (imported rs)) ≡ numbersOf l = ap (λ (x : ℕ). unlessRefused x (numbersOf (imported rs))) b ∙ a .1 in

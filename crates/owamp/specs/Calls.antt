@@ -11,26 +11,26 @@ use Rattle.rfc4737.specs.Judge.{numbersOf, timesOf}
 use Rattle.rfc4737.specs.Refusals.{inCase, firstOf, outputShort}
 use Rattle.sample.specs.Format.{itemOctets}
 use Rattle.sample.specs.Decode.{decode, sampleOf, decodedRefusal}
-use Rattle.sample.specs.Calls.{unlessRefused}
-use Rattle.sample.specs.declared.Written.{Written}
-use Rattle.owamp.specs.Record.{sequenceNumber, sendError, receiveError, sendTime, receiveSeconds, receiveFraction, ttl, fieldOctets, arrivalsIn}
-use Rattle.owamp.specs.Order.{inOrder}
+use Rattle.sample.specs.Output.{unlessRefused, Output}
+use Rattle.sample.specs.declared.WriteAnswer.{WriteAnswer}
+use Rattle.owamp.specs.Record.{sequenceNumber, sendError, receiveError, sendTime, receiveSeconds, receiveFraction, ttl, fieldOctets, recordsArrivals}
+use Rattle.owamp.specs.Order.{inTimeOrder}
 use Rattle.owamp.specs.Clock.{fromSmallest, writtenSeconds, writtenFraction}
 use Rattle.owamp.specs.Judge.{recordsRefusal, judgeSeconds}
-use Rattle.owamp.specs.declared.Imported.{Imported}
+use Rattle.owamp.specs.declared.RecordsImport.{RecordsImport}
 
 -- ---- the importer
 
 -- the arrivals of records: in order, in whole microseconds from the smallest
 unfoldable pub imported : List ℕ → List Arrival
-imported os = fromSmallest (inOrder (arrivalsIn os))
+imported os = fromSmallest (inTimeOrder (recordsArrivals os))
 
 -- the first refusal that is due where lists of so many places are filled: 8 comes last
 unfoldable pub importRefusal : (k numbers times : ℕ) (os : List ℕ) → ℕ
 importRefusal k numbers times os =
     firstOf
     (recordsRefusal k os
-    ∷ inCase (ltb numbers (length (arrivalsIn os)) || ltb times (length (arrivalsIn os))) outputShort
+    ∷ inCase (ltb numbers (length (recordsArrivals os)) || ltb times (length (recordsArrivals os))) outputShort
     ∷ [])
 
 -- the numbers that are filled in where lists have so many places, or none with a refusal
@@ -42,7 +42,7 @@ abbrev pub timesInto : (k numbers times : ℕ) (os : List ℕ) → List ℕ
 timesInto k numbers times os = unlessRefused (importRefusal k numbers times os) (timesOf (imported os))
 
 -- the importer's answer, and the two lists after it: the arrivals' values from their start, all else as it was
-pub record ImportedFrom (k : ℕ) (os numbers times : List ℕ) (answer : Imported) (numbers′ times′ : List ℕ) : Type 0 where
+pub record RecordsImportedFrom (k : ℕ) (os numbers times : List ℕ) (answer : RecordsImport) (numbers′ times′ : List ℕ) : Type 0 where
   pub refusal : answer .refusal ≡ importRefusal k (length numbers) (length times) os
   pub arrivals : answer .arrivals ≡ length (numbersInto k (length numbers) (length times) os)
   pub filledNumbers : numbers′ ≡ over (numbersInto k (length numbers) (length times) os) numbers
@@ -69,21 +69,10 @@ recordsOf l = itemOctets recordOctets l
 abbrev pub arrivalsOfFile : List ℕ → List Arrival
 arrivalsOfFile file = sampleOf (decode file) .arrivals
 
--- the first refusal that is due of a sample's file where so many octets can be written: the sample's own, 18, 8
-unfoldable pub writeRefusal : ℕ → List ℕ → ℕ
-writeRefusal room file =
-    firstOf
-    (decodedRefusal (decode file)
-    ∷ judgeSeconds (arrivalsOfFile file)
-    ∷ inCase (ltb room (length (recordsOf (arrivalsOfFile file)))) outputShort
-    ∷ [])
+-- the first refusal that is due of a sample's file: its own, then 18
+unfoldable pub exportRefusal : List ℕ → ℕ
+exportRefusal file = firstOf (decodedRefusal (decode file) ∷ judgeSeconds (arrivalsOfFile file) ∷ [])
 
--- the octets that are written where there is room for so many: those of the records, or none with a refusal
-abbrev pub octetsInto : ℕ → List ℕ → List ℕ
-octetsInto room file = unlessRefused (writeRefusal room file) (recordsOf (arrivalsOfFile file))
-
--- the writer's answer, and the lent octets after it: those of the records from their start, all else as it was
-pub record WrittenFrom (file out : List ℕ) (answer : Written) (out′ : List ℕ) : Type 0 where
-  pub refusal : answer .refusal ≡ writeRefusal (length out) file
-  pub octets : answer .length ≡ length (octetsInto (length out) file)
-  pub filled : out′ ≡ over (octetsInto (length out) file) out
+-- the writer's answer, and the lent octets after it: those of the records
+abbrev pub RecordsWrittenTo : (file out : List ℕ) → WriteAnswer → List ℕ → Type 0
+RecordsWrittenTo file out answer out′ = Output (exportRefusal file) (recordsOf (arrivalsOfFile file)) out answer out′

@@ -52,14 +52,17 @@ importTable =
     ∷ (received 0 4294 ++ received 1 4295, record { number = 1; time = 0 } ∷ record { number = 2; time = 1 } ∷ [])
     ∷ []
 
-pub record ReadAsGiven : Type 0 where
+-- what is read of the cases is what they give: the microseconds of each receive time and what rounding takes off
+pub record RecordsReadAsGiven : Type 0 where
   pub times : map (λ (c : ℕ × (ℕ × ℕ)). (microseconds (c .0), takenOff (c .0))) timeTable ≡ map (λ (c : ℕ × (ℕ × ℕ)). c .1) timeTable
+  -- the refusal of each K and records
   pub refusals : map (λ (c : (ℕ × List ℕ) × ℕ). recordsRefusal (c .0 .0) (c .0 .1)) refusalTable ≡ map (λ (c : (ℕ × List ℕ) × ℕ). c .1) refusalTable
+  -- the arrivals imported from each records
   pub arrivals : map (λ (c : List ℕ × List Arrival). imported (c .0)) importTable ≡ map (λ (c : List ℕ × List Arrival). c .1) importTable
 
 -- ---- what is written
 
 -- packet 3 at 1.5 seconds: sequence number 2, and 2 seconds and half of one
-pub record WrittenAsGiven : Type 0 where
+pub record RecordsWrittenAsGiven : Type 0 where
   pub written : recordOctets (record { number = 3; time = 1500000 })
       ≡ (0 ∷ 0 ∷ 0 ∷ 2 ∷ 0 ∷ 1 ∷ 0 ∷ 1 ∷ 0 ∷ 0 ∷ 0 ∷ 0 ∷ 0 ∷ 0 ∷ 0 ∷ 0 ∷ 0 ∷ 0 ∷ 0 ∷ 2 ∷ 128 ∷ 0 ∷ 0 ∷ 0 ∷ 255 ∷ [])

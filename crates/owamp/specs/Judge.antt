@@ -7,7 +7,7 @@ use lib.ListN.{length}
 use Rattle.rfc4737.specs.declared.Arrival.{Arrival}
 use Rattle.rfc4737.specs.Judge.{judgeSent, judgeArrivals}
 use Rattle.rfc4737.specs.Refusals.{outside, inCase, firstOf, numberOutside, recordCut, secondsOver}
-use Rattle.owamp.specs.Record.{recordWidth, arrivalsIn}
+use Rattle.owamp.specs.Record.{recordWidth, recordsArrivals}
 use Rattle.owamp.specs.Clock.{writtenSeconds}
 
 -- 15: a length that is no multiple of 25
@@ -28,8 +28,8 @@ recordsRefusal k os =
     firstOf
     (judgeLength (length os)
     ∷ judgeSent k
-    ∷ judgeArrivals (length (arrivalsIn os))
-    ∷ judgeNumbers k (arrivalsIn os)
+    ∷ judgeArrivals (length (recordsArrivals os))
+    ∷ judgeNumbers k (recordsArrivals os)
     ∷ [])
 
 -- the greatest number of 32 bits

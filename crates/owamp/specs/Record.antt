@@ -83,5 +83,5 @@ abbrev pub isArrival : Arrival → Bool
 isArrival a = not (eqb (a .time) 0)
 
 -- the arrivals in file order, their times as recorded
-unfoldable pub arrivalsIn : List ℕ → List Arrival
-arrivalsIn os = passing isArrival (recordsIn os)
+unfoldable pub recordsArrivals : List ℕ → List Arrival
+recordsArrivals os = passing isArrival (recordsIn os)

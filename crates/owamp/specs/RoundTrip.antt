@@ -10,15 +10,15 @@ use Rattle.rfc4737.specs.Refusals.{firstOf}
 use Rattle.sample.specs.Judge.{judgeLabel, judgeOctets}
 use Rattle.sample.specs.Decode.{decode, sampleOf}
 use Rattle.sample.specs.Calls.{sampleRefusal}
-use Rattle.sample.specs.declared.Written.{Written}
+use Rattle.sample.specs.declared.WriteAnswer.{WriteAnswer}
 use Rattle.owamp.specs.Order.{NotBack}
 use Rattle.owamp.specs.Judge.{recordsRefusal}
-use Rattle.owamp.specs.Calls.{imported, ImportedFrom, arrivalsOfFile, WrittenFrom}
-use Rattle.owamp.specs.declared.Imported.{Imported}
+use Rattle.owamp.specs.Calls.{imported, RecordsImportedFrom, arrivalsOfFile, RecordsWrittenTo}
+use Rattle.owamp.specs.declared.RecordsImport.{RecordsImport}
 
 -- imported arrivals that a sample may have: no time goes back, and with K nothing of them is refused; so of a label, K payload sizes and
 -- these arrivals the sample's writer refuses, before 8, the label alone, by 3 or 13
-pub record Accepted (k : ℕ) (os : List ℕ) : Type 0 where
+pub record AcceptedRecords (k : ℕ) (os : List ℕ) : Type 0 where
   pub rising : NotBack (imported os)
   pub lists : refusalOfLists k (numbersOf (imported os)) (timesOf (imported os)) ≡ 0
   pub written : (label sizes : List ℕ) → length sizes ≡ k
@@ -26,18 +26,18 @@ pub record Accepted (k : ℕ) (os : List ℕ) : Type 0 where
 
 -- the arrivals of records that are not refused are such
 abbrev pub AcceptedLists : ℕ → List ℕ → Type 0
-AcceptedLists k os = recordsRefusal k os ≡ 0 → Accepted k os
+AcceptedLists k os = recordsRefusal k os ≡ 0 → AcceptedRecords k os
 
 -- a sample's file that is written as records, and these read again with its K into lists that are long enough: where no time goes back, the
 -- same numbers in the same order. Of the times nothing is said: written and read they are rounded down, and a microsecond may be lost
-abbrev pub ReadAgain : List ℕ → Type 0
-ReadAgain file =
-    (out out′ numbers times numbers′ times′ : List ℕ) (written : Written) (read : Imported)
-    → WrittenFrom file out written out′
+abbrev pub RecordsReadAgain : List ℕ → Type 0
+RecordsReadAgain file =
+    (out out′ numbers times numbers′ times′ : List ℕ) (written : WriteAnswer) (read : RecordsImport)
+    → RecordsWrittenTo file out written out′
     → written .refusal ≡ 0
     → NotBack (arrivalsOfFile file)
     → length (arrivalsOfFile file) ≤ length numbers
     → length (arrivalsOfFile file) ≤ length times
-    → ImportedFrom (length (sampleOf (decode file) .sizes)) (take (written .length) out′) numbers times read numbers′ times′
+    → RecordsImportedFrom (length (sampleOf (decode file) .sizes)) (take (written .length) out′) numbers times read numbers′ times′
     → (read ≡ record { refusal = 0; arrivals = length (arrivalsOfFile file) })
     × (numbers′ ≡ over (numbersOf (arrivalsOfFile file)) numbers)

@@ -1,7 +1,7 @@
 // What is refused of records and K, and of times that are written.
 ghost use mathlib.Core.Path.{_≡_};
 ghost use lib.ListN.{length};
-ghost use Rattle.owamp.specs.Record.{arrivalsIn};
+ghost use Rattle.owamp.specs.Record.{recordsArrivals};
 ghost use Rattle.owamp.specs.Judge.{judgeNumbers, recordsRefusal, judgeTime, judgeSeconds};
 ghost use Rattle.owamp.specs.Calls.{arrivalsOfFile};
 ghost use Rattle.owamp.specs.Private.Reading.{oneIfArrived, judgeRecord, AcceptedLayout};
@@ -34,7 +34,7 @@ fn one_if_arrived(time: u64) -> usize
 
 // How many records are arrivals.
 pub(crate) fn arrivals_among(records: &[u8]) -> usize
-    ensures { λ r. ⌜ r ≡ length (arrivalsIn (now (records .entry))) ⌝ }
+    ensures { λ r. ⌜ r ≡ length (recordsArrivals (now (records .entry))) ⌝ }
 {
     let count = records.len() / WIDTH;
     let mut n = 0;
@@ -61,7 +61,7 @@ fn judge_record(k: u64, number: u64, time: u64) -> u32
 
 // The records in turn, each by 6.
 fn judge_numbers(records: &[u8], k: u64) -> u32
-    ensures { λ r. ⌜ r ≡ judgeNumbers k (arrivalsIn (now (records .entry))) ⌝ }
+    ensures { λ r. ⌜ r ≡ judgeNumbers k (recordsArrivals (now (records .entry))) ⌝ }
 {
     let count = records.len() / WIDTH;
     let mut i = 0;
@@ -77,7 +77,7 @@ fn judge_numbers(records: &[u8], k: u64) -> u32
 
 // The first refusal that is due of K and records, so many of them arrivals: 15, 4, 5, 6; 0 if none is.
 pub(crate) fn refusal_in(records: &[u8], k: u32, count: usize) -> u32
-    requires { ⌜ count ≡ length (arrivalsIn (now records)) ⌝ }
+    requires { ⌜ count ≡ length (recordsArrivals (now records)) ⌝ }
     ensures { λ r. ⌜ r ≡ recordsRefusal k (now (records .entry)) ⌝ }
 {
     if records.len() % WIDTH != 0 {

@@ -4,12 +4,12 @@ ghost use mathlib.Core.Path.{_≡_};
 ghost use Prim.Native.Nat.{_*_, _≤_};
 ghost use lib.ListN.{length};
 ghost use Rattle.octets.specs.Memory.{splice};
-ghost use Rattle.owamp.specs.Record.{arrivalsIn};
+ghost use Rattle.owamp.specs.Record.{recordWidth, recordsArrivals};
 ghost use Rattle.owamp.specs.Order.{OnlyOne};
 ghost use Rattle.owamp.specs.Clock.{RoundedDown};
-ghost use Rattle.owamp.specs.Calls.{ImportedFrom, recordsOf, arrivalsOfFile, WrittenFrom};
-ghost use Rattle.owamp.specs.RoundTrip.{AcceptedLists, ReadAgain};
-ghost use Rattle.owamp.specs.Cases.{ReadAsGiven, WrittenAsGiven};
+ghost use Rattle.owamp.specs.Calls.{RecordsImportedFrom, recordsOf, arrivalsOfFile, RecordsWrittenTo};
+ghost use Rattle.owamp.specs.RoundTrip.{AcceptedLists, RecordsReadAgain};
+ghost use Rattle.owamp.specs.Cases.{RecordsReadAsGiven, RecordsWrittenAsGiven};
 ghost use Rattle.owamp.specs.Private.Reading.{AcceptedLayout};
 
 mod clock;
@@ -26,47 +26,47 @@ use records::WIDTH;
 use records::put_record;
 use rfc4737::refusal::OUTPUT_SHORT;
 use sample::Layout;
-use sample::Written;
+use sample::WriteAnswer;
 
 // What was imported: the refusal (0 for none), and the number of arrivals, 0 with a refusal.
 #[repr(C)]
-pub struct Imported {
+pub struct RecordsImport {
     pub refusal: u32,
     pub arrivals: u32,
 }
 
 // Imports the records of K sent packets: fills the lists of numbers and times from their start, in the order of the receive
 // times as recorded. With a refusal they stay as they were.
-pub fn import(records: &[u8], k: u32, numbers: &mut [u32], times: &mut [u64]) -> Imported
-    ensures { λ r. ⌜ ImportedFrom k (now (records .entry)) (now (numbers .entry)) (now (times .entry)) r (now (numbers .exit)) (now (times .exit)) ⌝ }
-    ensures order { λ _. ⌜ OnlyOne (arrivalsIn (now (records .entry))) ⌝ }
+pub fn import(records: &[u8], k: u32, numbers: &mut [u32], times: &mut [u64]) -> RecordsImport
+    ensures { λ r. ⌜ RecordsImportedFrom k (now (records .entry)) (now (numbers .entry)) (now (times .entry)) r (now (numbers .exit)) (now (times .exit)) ⌝ }
+    ensures order { λ _. ⌜ OnlyOne (recordsArrivals (now (records .entry))) ⌝ }
     ensures clock { λ _. ⌜ RoundedDown ⌝ }
     ensures accepted { λ _. ⌜ AcceptedLists k (now (records .entry)) ⌝ }
-    ensures cases { λ _. ⌜ ReadAsGiven ⌝ }
+    ensures cases { λ _. ⌜ RecordsReadAsGiven ⌝ }
 {
     let count = arrivals_among(records);
     let refusal = refusal_in(records, k, count);
     if refusal != 0 {
-        return Imported {
+        return RecordsImport {
             refusal,
             arrivals: 0,
         };
     }
     if numbers.len() < count {
-        return Imported {
+        return RecordsImport {
             refusal: OUTPUT_SHORT,
             arrivals: 0,
         };
     }
     if times.len() < count {
-        return Imported {
+        return RecordsImport {
             refusal: OUTPUT_SHORT,
             arrivals: 0,
         };
     }
     fill(records, numbers, times);
     convert(times, count);
-    Imported {
+    RecordsImport {
         refusal: 0,
         arrivals: count as u32,
     }
@@ -74,7 +74,7 @@ pub fn import(records: &[u8], k: u32, numbers: &mut [u32], times: &mut [u64]) ->
 
 // Writes the records of an accepted file's arrivals from the start of `out`.
 fn write_records(file: &[u8], found: Layout, out: &mut [u8])
-    requires { ⌜ AcceptedLayout (now file) found × (25 * (found .arrivals) ≤ length (now out)) ⌝ }
+    requires { ⌜ AcceptedLayout (now file) found × (recordWidth * (found .arrivals) ≤ length (now out)) ⌝ }
     ensures { λ _. ⌜ now (out .exit) ≡ splice 0 (recordsOf (arrivalsOfFile (now (file .entry)))) (now (out .entry)) ⌝ }
 {
     let count = found.arrivals;
@@ -90,31 +90,31 @@ fn write_records(file: &[u8], found: Layout, out: &mut [u8])
 }
 
 // Writes the records of a sample's file from the start of `out`. With a refusal `out` stays as it was.
-pub fn write(file: &[u8], out: &mut [u8]) -> Written
-    ensures { λ r. ⌜ WrittenFrom (now (file .entry)) (now (out .entry)) r (now (out .exit)) ⌝ }
-    ensures again { λ _. ⌜ ReadAgain (now (file .entry)) ⌝ }
-    ensures cases { λ _. ⌜ WrittenAsGiven ⌝ }
+pub fn write(file: &[u8], out: &mut [u8]) -> WriteAnswer
+    ensures { λ r. ⌜ RecordsWrittenTo (now (file .entry)) (now (out .entry)) r (now (out .exit)) ⌝ }
+    ensures again { λ _. ⌜ RecordsReadAgain (now (file .entry)) ⌝ }
+    ensures cases { λ _. ⌜ RecordsWrittenAsGiven ⌝ }
 {
     let found = sample::check(file);
     if found.refusal != 0 {
-        return Written {
+        return WriteAnswer {
             refusal: found.refusal,
             length: 0,
         };
     }
     let refusal = judge_seconds(file, found);
     if refusal != 0 {
-        return Written { refusal, length: 0 };
+        return WriteAnswer { refusal, length: 0 };
     }
     let end = WIDTH * (found.arrivals as usize);
     if out.len() < end {
-        return Written {
+        return WriteAnswer {
             refusal: OUTPUT_SHORT,
             length: 0,
         };
     }
     write_records(file, found, out);
-    Written {
+    WriteAnswer {
         refusal: 0,
         length: end as u32,
     }

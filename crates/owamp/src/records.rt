@@ -3,9 +3,9 @@ ghost use mathlib.Core.Path.{_≡_};
 ghost use Prim.Native.Nat.{_≤_, _<_};
 ghost use lib.ListN.{length, getD};
 ghost use Rattle.octets.specs.Memory.{put};
-ghost use Rattle.owamp.specs.Record.{recordCount, recordsIn};
+ghost use Rattle.owamp.specs.Record.{recordWidth, recordCount, recordsIn};
 ghost use Rattle.owamp.specs.Calls.{recordOctets};
-ghost use Rattle.owamp.specs.Private.Reading.{noArrival};
+ghost use Rattle.sample.specs.Places.{noArrival};
 use crate::clock::fraction_of;
 use crate::clock::seconds_of;
 
@@ -45,7 +45,7 @@ pub(crate) fn time_of(records: &[u8], i: usize) -> u64
 
 // Writes the record of an arrival.
 pub(crate) fn put_record(lent: &mut [u8], number: u32, time: u64)
-    requires { ⌜ (1 ≤ number) × (length (now lent) ≡ 25) ⌝ }
+    requires { ⌜ (1 ≤ number) × (length (now lent) ≡ recordWidth) ⌝ }
     ensures { λ _. ⌜ now (lent .exit) ≡ put 0 (recordOctets (record { number = number; time = time })) (now (lent .entry)) ⌝ }
 {
     octets::put_number(lent, SEQUENCE_NUMBER, 4, number as u64 - 1);

@@ -1,7 +1,12 @@
-// Lists: what they are filled with before a call, and what they hold after it.
-use crate::print::write_number;
-use crate::print::write_word;
-use std::num::wrapping_add_u64;
+// Lists: what they are filled with before an import, and what is written of them after it.
+use cases::print::write_32;
+use cases::print::write_64;
+use cases::print::write_answer;
+use cases::print::write_number;
+use cases::print::write_word;
+use cases::sums::Sums;
+use cases::sums::sum_32;
+use cases::sums::sum_64;
 
 // What numbers are filled with.
 pub(crate) const NUMBER: u32 = 77;
@@ -9,61 +14,42 @@ pub(crate) const NUMBER: u32 = 77;
 // What times are filled with.
 pub(crate) const TIME: u64 = 99;
 
-// A number of 32 bits as one of 64.
-fn wide(n: u32) -> u64 {
-    n as u64
+// Imports records into two lists, and writes the answer.
+fn import(name: &[u8], k: u32, records: &[u8], numbers: &mut [u32], times: &mut [u64]) {
+    let got = owamp::import(records, k, numbers, times);
+    write_answer(name, got.refusal, b": arrivals ", got.arrivals as u64);
 }
 
-// Writes all numbers of a list.
-pub(crate) fn write_numbers(s: &[u32]) {
-    write_word(b"; numbers");
-    let mut i: usize = 0;
-    while i < s.len() {
-        write_number(b" ", wide(s[i]));
-        i += 1;
-    }
+// Imports records into two lists, and writes the answer and both lists.
+pub(crate) fn import_into(
+    name: &[u8],
+    k: u32,
+    records: &[u8],
+    numbers: &mut [u32],
+    times: &mut [u64],
+) {
+    import(name, k, records, numbers, times);
+    write_32(b"; numbers", numbers);
+    write_64(b"; times", times);
+    write_word(b"\n");
 }
 
-// Writes all times of a list.
-pub(crate) fn write_times(s: &[u64]) {
-    write_word(b"; times");
-    let mut i: usize = 0;
-    while i < s.len() {
-        write_number(b" ", s[i]);
-        i += 1;
-    }
+// Writes what a list comes to.
+pub(crate) fn write_sums(word: &[u8], all: Sums) {
+    write_number(word, all.sum);
+    write_number(b" sums ", all.sums);
 }
 
-// Writes a sum of a list, and the sum of the sums up to each place, which tells its order.
-fn write_sums(sum: u64, sums: u64) {
-    write_number(b" sum ", sum);
-    write_number(b" sums ", sums);
-}
-
-// Writes what the numbers of a list come to, modulo 2^64.
-pub(crate) fn sum_numbers(s: &[u32]) {
-    write_word(b"; numbers");
-    let mut sum: u64 = 0;
-    let mut sums: u64 = 0;
-    let mut i: usize = 0;
-    while i < s.len() {
-        sum = wrapping_add_u64(sum, wide(s[i]));
-        sums = wrapping_add_u64(sums, sum);
-        i += 1;
-    }
-    write_sums(sum, sums);
-}
-
-// Writes what the times of a list come to, modulo 2^64.
-pub(crate) fn sum_times(s: &[u64]) {
-    write_word(b"; times");
-    let mut sum: u64 = 0;
-    let mut sums: u64 = 0;
-    let mut i: usize = 0;
-    while i < s.len() {
-        sum = wrapping_add_u64(sum, s[i]);
-        sums = wrapping_add_u64(sums, sum);
-        i += 1;
-    }
-    write_sums(sum, sums);
+// Imports records into two long lists, and writes the answer and what the lists come to.
+pub(crate) fn import_and_sum(
+    name: &[u8],
+    k: u32,
+    records: &[u8],
+    numbers: &mut [u32],
+    times: &mut [u64],
+) {
+    import(name, k, records, numbers, times);
+    write_sums(b"; numbers sum ", sum_32(numbers));
+    write_sums(b"; times sum ", sum_64(times));
+    write_word(b"\n");
 }

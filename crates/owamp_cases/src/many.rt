@@ -1,13 +1,13 @@
 // The cases of many records: after each arrival a lost record of the greatest sequence number.
-use crate::build::OTHER;
-use crate::build::put_record;
-use crate::fields::FIELD;
-use crate::fields::number_in;
-use crate::import_and_sum;
+use crate::OTHER;
 use crate::lists::NUMBER;
 use crate::lists::TIME;
+use crate::lists::import_and_sum;
+use cases::fields::field;
+use cases::fields::number_in_32;
 use cases::lists::first_8;
-use cases::text::part;
+use cases::lists::least;
+use cases::series::put_series;
 
 // The most arrivals, and their octets with those of the lost records.
 const ARRIVALS: u16 = 4097;
@@ -17,66 +17,69 @@ const OCTETS: usize = 204_850;
 // The fractions between the times of two arrivals: 5 microseconds and a part of one.
 const STEP: u64 = 25_000;
 
-// How the times of arrivals lie, as a line has it: 0 each after the one before, 1 each before it, 2 eight and eight of them reversed, 3
-// all at one time, and 4 all lost.
-const IN_ORDER: u32 = 0;
+// The same downwards, modulo 2^64; and eight of them.
+const DOWN: u64 = 18_446_744_073_709_526_616;
 
-const REVERSED: u32 = 1;
+const EIGHT: u64 = 200_000;
 
-const NEARLY: u32 = 2;
-
-const EQUAL: u32 = 3;
-
-const LOST: u32 = 4;
-
-// The receive time of arrival i + 1.
-fn time_of(order: u32, i: u16) -> u64 {
-    let place = i as u64;
-    if order == IN_ORDER {
-        return STEP * (place + 1);
-    }
-    if order == REVERSED {
-        return STEP * (70_000 - place);
-    }
-    if order == NEARLY {
-        return STEP * (place + 8 - 2 * (place % 8));
-    }
-    if order == EQUAL {
-        return STEP;
-    }
-    0
+// Puts the times of all arrivals: the first one, and a step from each to the next.
+fn put_times(records: &mut [u8], first: u64, step: u64) {
+    put_series(records, 16, 8, 50, ARRIVALS, first, step);
 }
 
-// All records.
-fn put_records(out: &mut [u8], order: u32) {
-    let mut i: u16 = 0;
-    while i < ARRIVALS {
-        put_record(out, 2 * i, i as u64, time_of(order, i));
-        put_record(out, 2 * i + 1, 4_294_967_295, 0);
-        i += 1;
+// Puts the times of each eighth arrival from a place on.
+fn put_eighth(records: &mut [u8], at: u32, first: u64) {
+    put_series(records, at, 8, 400, 513, first, EIGHT);
+}
+
+// Puts the times of arrivals of which eight and eight are reversed.
+fn put_nearly(records: &mut [u8]) {
+    put_eighth(records, 16, 200_000);
+    put_eighth(records, 66, 175_000);
+    put_eighth(records, 116, 150_000);
+    put_eighth(records, 166, 125_000);
+    put_eighth(records, 216, 100_000);
+    put_eighth(records, 266, 75_000);
+    put_eighth(records, 316, 50_000);
+    put_eighth(records, 366, 25_000);
+}
+
+// Puts the times of arrivals as a line has their order: 0 each after the one before, 1 each before it, 2 eight and eight of them
+// reversed, 3 all at one time, and 4 all lost.
+fn put_order(records: &mut [u8], order: u32) {
+    match order {
+        0 => put_times(records, STEP, STEP),
+        1 => put_times(records, 70_000 * STEP, DOWN),
+        2 => put_nearly(records),
+        3 => put_times(records, STEP, 0),
+        _ => put_times(records, 0, 0),
     }
 }
 
-// Imports records into lists of so many places: 4,095 or 4,098.
+// Imports records into lists of so many places: 4,098 at most.
 fn import_records(line: &[u8], records: &[u8]) {
-    let name = part(line, FIELD, 1);
-    if number_in(line, 2) == 4095 {
-        import_and_sum(name, 4096, records, &mut [NUMBER; 4095], &mut [TIME; 4095]);
-        return;
-    }
-    import_and_sum(name, 4096, records, &mut [NUMBER; 4098], &mut [TIME; 4098]);
+    let mut numbers = [NUMBER; 4098];
+    let mut times = [TIME; 4098];
+    let n = least(number_in_32(line, 2) as usize, 4098);
+    import_and_sum(
+        field(line, 1),
+        4096,
+        records,
+        &mut numbers[0..n],
+        &mut times[0..n],
+    );
 }
 
 // Runs the case of a line.
 pub(crate) fn run(line: &[u8]) {
-    let order = number_in(line, 3);
     let mut records = [OTHER; OCTETS];
-    put_records(&mut records, order);
-    put_record(
-        &mut records,
-        2 * ARRIVALS - 4,
-        number_in(line, 5) as u64,
-        time_of(order, ARRIVALS - 2),
+    put_series(&mut records, 0, 4, 50, ARRIVALS, 0, 1);
+    put_series(&mut records, 25, 4, 50, ARRIVALS, 4_294_967_295, 0);
+    put_series(&mut records, 41, 8, 50, ARRIVALS, 0, 0);
+    put_order(&mut records, number_in_32(line, 3));
+    octets::put_number(&mut records, 204_750, 4, number_in_32(line, 5) as u64);
+    import_records(
+        line,
+        first_8(&records, 50 * (number_in_32(line, 4) as usize)),
     );
-    import_records(line, first_8(&records, 50 * (number_in(line, 4) as usize)));
 }

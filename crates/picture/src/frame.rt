@@ -8,7 +8,7 @@ const WIDE: u64 = 7700;
 
 const TALL: u64 = 4300;
 
-pub(crate) const BOTTOM: u64 = 5700;
+const BOTTOM: u64 = 5700;
 
 // The frame of the tally: where its first bar's place begins, how wide the places of all bars but the last are together, and where
 // the last one's bar begins and how wide it is.
@@ -20,17 +20,12 @@ pub(crate) const OVER_LEFT: u64 = 11600;
 
 pub(crate) const OVER_WIDE: u64 = 100;
 
-// What is drawn: the positions and numbers that the frame ends with, and half of a mark's width.
+// What is drawn: how many arrivals, the positions and numbers that the frame ends with, and half of a mark's width.
 pub(crate) struct Scale {
+    pub(crate) arrivals: u32,
     pub(crate) positions: u32,
     pub(crate) numbers: u32,
     pub(crate) radius: u64,
-}
-
-// A point of the picture.
-pub(crate) struct Point {
-    pub(crate) x: u64,
-    pub(crate) y: u64,
 }
 
 // How far so many half positions lie from the left edge, where the frame ends half a position after its last one.

@@ -20,10 +20,8 @@ fn write_octet(octet: u8) {
 
 // Writes the octets of a label.
 fn write_octets(label: &[u8]) {
-    let mut i: usize = 0;
-    while i < label.len() {
+    for i in 0..label.len() {
         write_octet(label[i]);
-        i += 1;
     }
 }
 
@@ -43,9 +41,10 @@ pub(crate) fn write_title(label: &[u8]) {
     );
     write_name(label);
     write_word(
-        b"</title>\n<path fill='#fff' d='M0 0H1200V640H0z'/>\n<g font-family='sans-serif' font-size='13' fill='#333'>\n",
+        b"</title>\n<path fill='#fff' d='M0 0H1200V640H0z'/>\n\
+        <g font-family='sans-serif' font-size='13' fill='#333'>\n\
+        <text x='80' y='42' font-size='18' font-weight='bold' xml:space='preserve'>",
     );
-    write_word(b"<text x='80' y='42' font-size='18' font-weight='bold' xml:space='preserve'>");
     write_name(label);
     write_word(b"</text>\n");
 }
@@ -69,43 +68,25 @@ pub(crate) fn write_counts(found: Layout, counts: Counts) {
 // Writes the legend: each mark with its name.
 pub(crate) fn write_legend() {
     write_word(
-        b"<path fill='none' stroke='#0072B2' stroke-linecap='round' stroke-width='10' d='M85 98h0'/><text x='97' y='102.5'>in order</text>\n",
-    );
-    write_word(
-        b"<path fill='#D55E00' d='M180 93l5 10h-10z'/><text x='192' y='102.5'>late</text>\n",
-    );
-    write_word(
-        b"<path fill='none' stroke='#009E73' stroke-width='2.5' d='M245 93l10 10m0-10l-10 10'/><text x='262' y='102.5'>copy</text>\n",
-    );
-    write_word(
-        b"<path stroke='#D55E00' stroke-opacity='.7' d='M320 98h24'/><text x='351' y='102.5'>from a late packet to its discontinuity</text>\n",
+        b"<path fill='none' stroke='#0072B2' stroke-linecap='round' stroke-width='10' d='M85 98h0'/>\
+        <text x='97' y='102.5'>in order</text>\n\
+        <path fill='#D55E00' d='M180 93l5 10h-10z'/><text x='192' y='102.5'>late</text>\n\
+        <path fill='none' stroke='#009E73' stroke-width='2.5' d='M245 93l10 10m0-10l-10 10'/>\
+        <text x='262' y='102.5'>copy</text>\n\
+        <path stroke='#D55E00' stroke-opacity='.7' d='M320 98h24'/>\
+        <text x='351' y='102.5'>from a late packet to its discontinuity</text>\n",
     );
 }
 
-// Writes the names of the axes of the arrivals, and their frame.
-fn write_frame() {
-    write_word(
-        b"<text text-anchor='middle' x='465' y='618'>position among the first arrivals</text>\n",
-    );
-    write_word(
-        b"<text text-anchor='middle' transform='translate(24 355)rotate(-90)'>sequence number</text>\n",
-    );
-    write_word(b"<path fill='none' stroke='#333' d='M80 132V570H858'/>\n");
-}
-
-// Writes the names of the axes of the tally, and their frame.
-fn write_tally_frame() {
-    write_word(
-        b"<text x='935' y='102.5'>late packets by their extent</text><text text-anchor='middle' x='1035' y='618'>extent</text>\n",
-    );
-    write_word(
-        b"<g text-anchor='middle'><text x='1165' y='590'>over</text><text x='1165' y='605'>100</text></g>\n",
-    );
-    write_word(b"<path fill='none' stroke='#333' d='M935 132V570H1180'/>\n");
-}
-
-// Writes both frames.
+// Writes both frames, and the names of their axes.
 pub(crate) fn write_frames() {
-    write_frame();
-    write_tally_frame();
+    write_word(
+        b"<text text-anchor='middle' x='465' y='618'>position among the first arrivals</text>\n\
+        <text text-anchor='middle' transform='translate(24 355)rotate(-90)'>sequence number</text>\n\
+        <path fill='none' stroke='#333' d='M80 132V570H858'/>\n\
+        <text x='935' y='102.5'>late packets by their extent</text>\
+        <text text-anchor='middle' x='1035' y='618'>extent</text>\n\
+        <g text-anchor='middle'><text x='1165' y='590'>over</text><text x='1165' y='605'>100</text></g>\n\
+        <path fill='none' stroke='#333' d='M935 132V570H1180'/>\n",
+    );
 }

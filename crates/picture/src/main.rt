@@ -3,7 +3,6 @@
 mod axes;
 mod frame;
 mod head;
-mod layers;
 mod marks;
 mod tally;
 mod text;
@@ -16,10 +15,11 @@ use head::write_counts;
 use head::write_frames;
 use head::write_legend;
 use head::write_title;
-use layers::write_layers;
 use libc::STDIN_FILENO;
 use marks::greatest;
 use marks::place_all;
+use marks::write_layers;
+use rfc4737::judge::SENT_MOST;
 use rfc4737::refusal::NONE;
 use sample::Layout;
 use tally::span_of;
@@ -31,25 +31,26 @@ use text::write_word;
 const INPUT_OCTETS: usize = sample::LONGEST + 1;
 
 // The places of each list: as many as a sample may have packets, and arrivals.
-const PLACES: usize = 4096;
+const PLACES: usize = SENT_MOST as usize;
 
 // One place more, for the positions from 1 on.
 const POSITIONS: usize = PLACES + 1;
 
 // Draws the arrivals by their figures.
-fn draw_arrivals(file: &[u8], found: Layout, flags: &[u8], positions: &[u32], extents: &[u32]) {
-    let mut places = [0u32; PLACES];
+fn draw_arrivals(file: &[u8], found: Layout, flags: &[u8], positions: &mut [u32], extents: &[u32]) {
+    let mut numbers = [0u32; PLACES];
     let mut firsts = [0u32; POSITIONS];
-    place_all(file, found, flags, positions, &mut places, &mut firsts);
+    let last = span_of(greatest(positions));
+    place_all(file, found, flags, positions, &mut numbers, &mut firsts);
     let scale = Scale {
-        positions: span_of(greatest(positions)),
+        arrivals: found.arrivals,
+        positions: last,
         numbers: span_of(greatest(&firsts)),
         radius: radius_for(found.arrivals),
     };
     write_ticks(Axis::Positions, scale.positions);
     write_ticks(Axis::Numbers, scale.numbers);
-    write_layers(scale, file, found, flags, &places, extents, &firsts);
-    write_tally(file, greatest(extents));
+    write_layers(scale, flags, positions, &numbers, extents, &firsts);
 }
 
 // Sweeps over the arrivals, and draws them.
@@ -67,7 +68,8 @@ fn draw_sweep(file: &[u8]) {
         &mut extents,
         &mut lates,
     );
-    draw_arrivals(file, found, &flags, &positions, &extents);
+    draw_arrivals(file, found, &flags, &mut positions, &extents);
+    write_tally(file, greatest(&extents));
 }
 
 // Draws what stands above the frames.

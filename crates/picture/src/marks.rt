@@ -1,13 +1,12 @@
 // The arrivals: a mark for each, in layers, and a line from each late packet to its discontinuity. A first arrival stands at its
-// position, a copy half a position after the first arrival before it.
-use crate::frame::Point;
+// position, a copy half a position after the first arrival before it; of both twice the position is kept. The layers are paths, each with
+// its colour: blue, vermillion and bluish green, of which no two look alike to a colour-blind reader.
 use crate::frame::Scale;
 use crate::frame::across;
 use crate::frame::down;
-use crate::text::put_point;
-use crate::text::put_step;
-use crate::text::put_word;
-use crate::text::write_first;
+use crate::text::write_length;
+use crate::text::write_shape;
+use crate::text::write_word;
 use sample::Layout;
 use sample::arrival;
 use std::num::wrapping_add_u32;
@@ -15,28 +14,22 @@ use std::num::wrapping_add_u64;
 use std::num::wrapping_sub_u32;
 use std::num::wrapping_sub_u64;
 
-// The layers, the lowest one first.
-pub(crate) enum Layer {
-    Joins,
-    InOrder,
-    Late,
-    Copies,
-}
+// The kinds of arrivals: in order, late and a copy, whose flag is this number too.
+const IN_ORDER: u8 = 0;
 
-// The number of a copy's flag.
+const LATE: u8 = 1;
+
 const COPY: u8 = 3;
 
-// An arrival: its flag, its number, twice the position where it came (and 1 for a copy), and its extent.
-struct Mark {
-    flag: u8,
-    number: u32,
-    halves: u32,
-    extent: u32,
-}
-
-// The octet at a place, 0 where there is none.
-fn flag_at(flags: &[u8], i: usize) -> u8 {
-    if i < flags.len() { flags[i] } else { 0 }
+// The kind of the arrival at a place, by its flag; in order where there is none.
+fn kind_at(flags: &[u8], i: usize) -> u8 {
+    if i < flags.len() {
+        if flags[i] == 2 {
+            return LATE;
+        }
+        return flags[i];
+    }
+    IN_ORDER
 }
 
 // The number at a place, 0 where there is none.
@@ -51,127 +44,122 @@ fn set_number(numbers: &mut [u32], i: usize, number: u32) {
     }
 }
 
-// Whether a flag is a reordered packet's.
-fn is_late(flag: u8) -> bool {
-    if flag == 1 {
-        return true;
+// Writes the mark of an arrival that has this kind, number and place: a dot, a triangle or a cross.
+fn write_mark(kind: u8, scale: Scale, halves: u32, number: u32) {
+    let x = across(halves, scale.positions);
+    let y = down(number, scale.numbers);
+    if kind == LATE {
+        let half = wrapping_add_u64(scale.radius, 6);
+        let whole = wrapping_add_u64(half, half);
+        write_shape(b"Ma blc dh-dz\n", x, wrapping_sub_u64(y, half), half, whole);
+    } else if kind == COPY {
+        let half = wrapping_add_u64(scale.radius, 4);
+        let whole = wrapping_add_u64(half, half);
+        write_shape(
+            b"Ma blc cm0-cl-c c\n",
+            wrapping_sub_u64(x, half),
+            wrapping_sub_u64(y, half),
+            whole,
+            0,
+        );
+    } else {
+        write_shape(b"Ma bh0\n", x, y, 0, 0);
     }
-    flag == 2
 }
 
-// The point of a number at so many half positions.
-fn point_of(scale: Scale, halves: u32, number: u32) -> Point {
-    Point {
-        x: across(halves, scale.positions),
-        y: down(number, scale.numbers),
+// Writes the marks of all arrivals of a kind.
+fn write_marks(kind: u8, scale: Scale, flags: &[u8], places: &[u32], numbers: &[u32]) {
+    for i in 0..scale.arrivals {
+        if kind_at(flags, i as usize) == kind {
+            let halves = number_at(places, i as usize);
+            write_mark(kind, scale, halves, number_at(numbers, i as usize));
+        }
     }
-}
-
-// Writes a dot.
-fn write_dot(p: Point) {
-    let mut text = [0u8; 64];
-    let point = put_point(&mut text, 0, b"M", p.x, p.y);
-    let end = put_word(&mut text, point, b"h0\n");
-    write_first(&text, end);
-}
-
-// Puts the sides of a triangle that begins at its upper corner, and answers the place after them.
-fn put_sides(out: &mut [u8], at: usize, half: u64, whole: u64) -> usize {
-    let low = put_point(out, at, b"l", half, whole);
-    let base = put_step(out, low, b"h-", whole);
-    put_word(out, base, b"z\n")
-}
-
-// Writes a triangle.
-fn write_triangle(p: Point, half: u64) {
-    let mut text = [0u8; 64];
-    let corner = put_point(&mut text, 0, b"M", p.x, wrapping_sub_u64(p.y, half));
-    let end = put_sides(&mut text, corner, half, wrapping_add_u64(half, half));
-    write_first(&text, end);
-}
-
-// Puts the two lines of a cross that begins at its upper left, and answers the place after them.
-fn put_lines(out: &mut [u8], at: usize, whole: u64) -> usize {
-    let one = put_point(out, at, b"l", whole, whole);
-    let up = put_step(out, one, b"m0-", whole);
-    let left = put_step(out, up, b"l-", whole);
-    put_step(out, left, b" ", whole)
-}
-
-// Writes a cross.
-fn write_cross(p: Point, half: u64) {
-    let mut text = [0u8; 64];
-    let corner = put_point(
-        &mut text,
-        0,
-        b"M",
-        wrapping_sub_u64(p.x, half),
-        wrapping_sub_u64(p.y, half),
-    );
-    let lines = put_lines(&mut text, corner, wrapping_add_u64(half, half));
-    let end = put_word(&mut text, lines, b"\n");
-    write_first(&text, end);
-}
-
-// Writes the line between two points.
-fn write_line(p: Point, q: Point) {
-    let mut text = [0u8; 64];
-    let one = put_point(&mut text, 0, b"M", p.x, p.y);
-    let other = put_point(&mut text, one, b"L", q.x, q.y);
-    let end = put_word(&mut text, other, b"\n");
-    write_first(&text, end);
 }
 
 // Writes the line from a late packet to its discontinuity, of which the position is its own less its extent.
-fn write_join(scale: Scale, mark: Mark, firsts: &[u32]) {
-    let position = wrapping_sub_u32(mark.halves / 2, mark.extent);
-    let number = number_at(firsts, position as usize);
-    let from = point_of(scale, mark.halves, mark.number);
-    let to = point_of(scale, wrapping_add_u32(position, position), number);
-    write_line(from, to);
+fn write_join(scale: Scale, halves: u32, number: u32, extent: u32, firsts: &[u32]) {
+    let position = wrapping_sub_u32(halves / 2, extent);
+    let other = number_at(firsts, position as usize);
+    write_shape(
+        b"Ma bLc d\n",
+        across(halves, scale.positions),
+        down(number, scale.numbers),
+        across(wrapping_add_u32(position, position), scale.positions),
+        down(other, scale.numbers),
+    );
 }
 
-// Writes what a layer has of a late packet.
-fn write_late(layer: Layer, scale: Scale, mark: Mark, firsts: &[u32]) {
-    match layer {
-        Layer::Joins => write_join(scale, mark, firsts),
-        Layer::Late => write_triangle(
-            point_of(scale, mark.halves, mark.number),
-            wrapping_add_u64(scale.radius, 6),
-        ),
-        Layer::InOrder => {}
-        Layer::Copies => {}
-    }
-}
-
-// Writes what a layer has of any other arrival.
-fn write_other(layer: Layer, scale: Scale, mark: Mark) {
-    match layer {
-        Layer::InOrder => {
-            if mark.flag == 0 {
-                write_dot(point_of(scale, mark.halves, mark.number));
-            }
+// Writes the lines of all late packets.
+fn write_joins(
+    scale: Scale,
+    flags: &[u8],
+    places: &[u32],
+    numbers: &[u32],
+    extents: &[u32],
+    firsts: &[u32],
+) {
+    for i in 0..scale.arrivals {
+        if kind_at(flags, i as usize) == LATE {
+            let halves = number_at(places, i as usize);
+            let number = number_at(numbers, i as usize);
+            write_join(
+                scale,
+                halves,
+                number,
+                number_at(extents, i as usize),
+                firsts,
+            );
         }
-        Layer::Copies => {
-            if mark.flag == COPY {
-                write_cross(
-                    point_of(scale, mark.halves, mark.number),
-                    wrapping_add_u64(scale.radius, 4),
-                );
-            }
-        }
-        Layer::Joins => {}
-        Layer::Late => {}
     }
 }
 
-// Writes what a layer has of an arrival.
-fn write_mark(layer: Layer, scale: Scale, mark: Mark, firsts: &[u32]) {
-    if is_late(mark.flag) {
-        write_late(layer, scale, mark, firsts);
-    } else {
-        write_other(layer, scale, mark);
+// Writes the beginning of a layer's path: its attributes up to the width of its lines, and that.
+fn write_stroke(word: &[u8], width: u64) {
+    write_word(word);
+    write_length(width);
+    write_word(b"' d='\n");
+}
+
+// Writes all layers, the lowest one first.
+pub(crate) fn write_layers(
+    scale: Scale,
+    flags: &[u8],
+    places: &[u32],
+    numbers: &[u32],
+    extents: &[u32],
+    firsts: &[u32],
+) {
+    let radius = scale.radius;
+    write_stroke(
+        b"<path fill='none' stroke='#D55E00' stroke-opacity='.7' stroke-width='",
+        radius / 7 + 3,
+    );
+    write_joins(scale, flags, places, numbers, extents, firsts);
+    write_stroke(
+        b"'/>\n<path fill='none' stroke='#0072B2' stroke-linecap='round' stroke-width='",
+        wrapping_add_u64(radius, radius),
+    );
+    write_marks(IN_ORDER, scale, flags, places, numbers);
+    write_stroke(
+        b"'/>\n<path fill='#D55E00' stroke='#D55E00' stroke-linejoin='round' stroke-width='",
+        radius / 10,
+    );
+    write_marks(LATE, scale, flags, places, numbers);
+    write_stroke(
+        b"'/>\n<path fill='none' stroke='#009E73' stroke-width='",
+        radius / 2,
+    );
+    write_marks(COPY, scale, flags, places, numbers);
+    write_word(b"'/>\n");
+}
+
+// Twice the position where an arrival came, and 1 more for a copy: its own position, or that of the arrival before it.
+fn halves_of(kind: u8, position: u32, before: u32) -> u32 {
+    if kind == COPY {
+        return before | 1;
     }
+    wrapping_add_u32(position, position)
 }
 
 // The sequence number of record i + 1.
@@ -180,69 +168,48 @@ fn number_of(file: &[u8], found: Layout, i: u32) -> u32 {
     a.number
 }
 
-// Writes a layer of the arrivals.
-pub(crate) fn write_layer(
-    layer: Layer,
-    scale: Scale,
+// Puts for the position of record i + 1 its place, which is the answer, and its number into the list of numbers and that by position.
+fn place(
     file: &[u8],
     found: Layout,
     flags: &[u8],
-    places: &[u32],
-    extents: &[u32],
-    firsts: &[u32],
-) {
-    let arrivals = found.arrivals;
-    let mut i: u32 = 0;
-    while i < arrivals {
-        let mark = Mark {
-            flag: flag_at(flags, i as usize),
-            number: number_of(file, found, i),
-            halves: number_at(places, i as usize),
-            extent: number_at(extents, i as usize),
-        };
-        write_mark(layer, scale, mark, firsts);
-        i += 1;
-    }
+    positions: &mut [u32],
+    numbers: &mut [u32],
+    firsts: &mut [u32],
+    i: u32,
+    before: u32,
+) -> u32 {
+    let position = number_at(positions, i as usize);
+    let number = number_of(file, found, i);
+    let halves = halves_of(kind_at(flags, i as usize), position, before);
+    set_number(positions, i as usize, halves);
+    set_number(numbers, i as usize, number);
+    set_number(firsts, position as usize, number);
+    halves
 }
 
-// Twice the position where an arrival came, and 1 more for a copy: its own position, or that of the arrival before it.
-fn halves_of(flag: u8, position: u32, before: u32) -> u32 {
-    if flag == COPY {
-        return before | 1;
-    }
-    wrapping_add_u32(position, position)
-}
-
-// Fills the list of the arrivals' places, and that of the numbers by position.
+// Does so for all arrivals.
 pub(crate) fn place_all(
     file: &[u8],
     found: Layout,
     flags: &[u8],
-    positions: &[u32],
-    places: &mut [u32],
+    positions: &mut [u32],
+    numbers: &mut [u32],
     firsts: &mut [u32],
 ) {
-    let arrivals = found.arrivals;
     let mut halves: u32 = 0;
-    let mut i: u32 = 0;
-    while i < arrivals {
-        let position = number_at(positions, i as usize);
-        halves = halves_of(flag_at(flags, i as usize), position, halves);
-        set_number(places, i as usize, halves);
-        set_number(firsts, position as usize, number_of(file, found, i));
-        i += 1;
+    for i in 0..found.arrivals {
+        halves = place(file, found, flags, positions, numbers, firsts, i, halves);
     }
 }
 
 // The greatest of a list of numbers, 0 of none.
 pub(crate) fn greatest(numbers: &[u32]) -> u32 {
     let mut most: u32 = 0;
-    let mut i: usize = 0;
-    while i < numbers.len() {
+    for i in 0..numbers.len() {
         if most < numbers[i] {
             most = numbers[i];
         }
-        i += 1;
     }
     most
 }

@@ -1,7 +1,6 @@
 // The tally of the extents: a bar for each from 1 to 100, and one for those over 100.
 use crate::axes::Axis;
 use crate::axes::write_ticks;
-use crate::frame::BOTTOM;
 use crate::frame::OVER_LEFT;
 use crate::frame::OVER_WIDE;
 use crate::frame::bar_left;
@@ -10,23 +9,16 @@ use crate::frame::down;
 use crate::frame::last_bar;
 use crate::marks::greatest;
 use crate::marks::number_at;
-use crate::text::put_point;
-use crate::text::put_step;
-use crate::text::put_word;
-use crate::text::write_first;
+use crate::text::write_shape;
 use crate::text::write_word;
+use metrics::TALLY_PLACES;
 
 // How many counts a tally has: at 0 that of the extents over 100, and else that of the extent.
-const COUNTS: u32 = 101;
+const COUNTS: u32 = TALLY_PLACES as u32;
 
 // Writes a bar from the left to the right, which has its upper end at a height.
 fn write_bar(left: u64, width: u64, top: u64) {
-    let mut text = [0u8; 64];
-    let corner = put_point(&mut text, 0, b"M", left, BOTTOM);
-    let up = put_step(&mut text, corner, b"V", top);
-    let right = put_step(&mut text, up, b"h", width);
-    let end = put_word(&mut text, right, b"V570z\n");
-    write_first(&text, end);
+    write_shape(b"Ma 570VbhcV570z\n", left, top, width, 0);
 }
 
 // Writes the bar of an extent's count, where there is one; 0 stands for those over 100.
@@ -47,10 +39,8 @@ fn write_count(extent: u32, places: u32, count: u32, most: u32) {
 
 // Writes the bars of a tally.
 fn write_bars(tally: &[u32], places: u32, most: u32) {
-    let mut i: u32 = 0;
-    while i < COUNTS {
+    for i in 0..COUNTS {
         write_count(i, places, number_at(tally, i as usize), most);
-        i += 1;
     }
 }
 

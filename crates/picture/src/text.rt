@@ -9,7 +9,7 @@ pub(crate) fn write_word(word: &[u8]) {
 }
 
 // Writes the first n octets, which there are.
-pub(crate) fn write_first(text: &[u8], n: usize) {
+fn write_first(text: &[u8], n: usize) {
     if n <= text.len() {
         io::write_all(STDOUT_FILENO, &text[0..n]);
     }
@@ -21,7 +21,7 @@ pub(crate) fn write_number(n: u32) {
 }
 
 // Puts a word at a place, and answers the place after it.
-pub(crate) fn put_word(out: &mut [u8], at: usize, word: &[u8]) -> usize {
+fn put_word(out: &mut [u8], at: usize, word: &[u8]) -> usize {
     octets::put_octets(out, at, word);
     wrapping_add_usize(at, word.len())
 }
@@ -33,7 +33,7 @@ fn put_digits(out: &mut [u8], at: usize, n: u64) -> usize {
 }
 
 // Puts a length in pixels, with one decimal where it has one, and answers the place after it.
-pub(crate) fn put_length(out: &mut [u8], at: usize, tenths: u64) -> usize {
+fn put_length(out: &mut [u8], at: usize, tenths: u64) -> usize {
     let end = put_digits(out, at, tenths / 10);
     if tenths % 10 == 0 {
         return end;
@@ -42,16 +42,28 @@ pub(crate) fn put_length(out: &mut [u8], at: usize, tenths: u64) -> usize {
     put_digits(out, decimal, tenths % 10)
 }
 
-// Puts a word and a length, and answers the place after them.
-pub(crate) fn put_step(out: &mut [u8], at: usize, word: &[u8], tenths: u64) -> usize {
-    let length = put_word(out, at, word);
-    put_length(out, length, tenths)
+// Puts an octet of a shape, or for one of the letters from a to d the length that it stands for, and answers the place after it.
+fn put_part(out: &mut [u8], at: usize, octet: u8, a: u64, b: u64, c: u64, d: u64) -> usize {
+    match octet {
+        b'a' => put_length(out, at, a),
+        b'b' => put_length(out, at, b),
+        b'c' => put_length(out, at, c),
+        b'd' => put_length(out, at, d),
+        _ => {
+            let word = [octet];
+            put_word(out, at, &word)
+        }
+    }
 }
 
-// Puts a letter of a path and the point that it leads to, and answers the place after them.
-pub(crate) fn put_point(out: &mut [u8], at: usize, letter: &[u8], x: u64, y: u64) -> usize {
-    let second = put_step(out, at, letter, x);
-    put_step(out, second, b" ", y)
+// Writes a shape: a part of a path in which the letters from a to d stand for lengths.
+pub(crate) fn write_shape(shape: &[u8], a: u64, b: u64, c: u64, d: u64) {
+    let mut text = [0u8; 64];
+    let mut at: usize = 0;
+    for i in 0..shape.len() {
+        at = put_part(&mut text, at, shape[i], a, b, c, d);
+    }
+    write_first(&text, at);
 }
 
 // Writes a length in pixels.

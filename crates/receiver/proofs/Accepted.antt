@@ -1,53 +1,43 @@
 -- What an account is: its arrivals are of the packets 1 to K, at most 4,096. Assumes nothing.
 use Prim.Native.Nat.{ℕ, _+_, _≤_}
 use mathlib.Core.Path.{_≡_, refl}
-use mathlib.Core.Bool.{Bool, true, false, not, cond}
+use mathlib.Core.Bool.{Bool, true, false, cond}
 use mathlib.Core.List.{List, [], _∷_, _++_}
 use native.Mathlib.Omega.{arith}
-use lib.Dec.{eqb}
+use lib.Dec.{eqb, lit<}
 use lib.ListN.{length, length-append}
 use borrow.Author.Tests.{eqb-true, eqb-false}
 use Rattle.rfc4737.specs.declared.Arrival.{Arrival}
-use Rattle.rfc4737.specs.Times.{tooEarly, greatestTime}
-use Rattle.rfc4737.specs.Refusals.{within}
+use Rattle.rfc4737.specs.Times.{greatestTime}
+use Rattle.rfc4737.specs.Refusals.{inCase, stateFull}
+use Rattle.rfc4737.specs.Judge.{arrivalsMost, judgeOne}
 use Rattle.rfc4737.proofs.Lists.{snoc-ind, All, all-append}
 use Rattle.rfc4737.proofs.Arrivals.{fold-more}
 use Rattle.rfc4737.proofs.Packets.{OfPackets}
-use Rattle.receiver.specs.Limits.{packets}
-use Rattle.receiver.proofs.Fits.{within-true}
+use Rattle.rfc4737.proofs.Due.{first-none, case-none}
+use Rattle.rfc4737.proofs.Judged.{one-split}
 use Rattle.receiver.specs.Account.{accountRefusal, accountWith, accountOf}
 
 -- what an arrival has that is not refused
 pub record Accepted (k : ℕ) (account : List Arrival) (a : Arrival) : Type 0 where
-  pub room : length account ≡ packets → ⊥
+  pub room : length account ≡ arrivalsMost → ⊥
   pub numbered : OfPackets k a
 
 -- an arrival that is not refused has it
 pub accepted-arrival : (k : ℕ) (account : List Arrival) (a : Arrival) → accountRefusal k account a ≡ 0 → Accepted k account a
 unfolding accountRefusal
 accepted-arrival k account a e =
-    go (eqb (length account) packets) (within 1 k (a .number)) (tooEarly (greatestTime account) (a .time)) refl refl refl e
-  where
-    go : (t u v : Bool)
-        → eqb (length account) packets ≡ t
-        → within 1 k (a .number) ≡ u
-        → tooEarly (greatestTime account) (a .time) ≡ v
-        → _≡_ {A = ℕ} (cond t 11 (cond (not u) 6 (cond v 7 0))) 0
-        → Accepted k account a
-    go true u v et eu ev e = absurd (omega arith)
-    go false false v et eu ev e = absurd (omega arith)
-    go false true true et eu ev e = absurd (omega arith)
-    go false true false et eu ev e =
-        let w = within-true 1 k (a .number) eu in
-        record {
-          room = eqb-false _ _ et;
-          numbered = record { low = w .0; high = w .1 };
-        }
+    let f = first-none (inCase (eqb (length account) arrivalsMost) stateFull) (judgeOne k (greatestTime account) a ∷ []) e in
+    let w = one-split k (greatestTime account) a (first-none (judgeOne k (greatestTime account) a) [] (f .1) .0) .0 in
+    record {
+      room = eqb-false _ _ (case-none (eqb (length account) arrivalsMost) stateFull (lit< tt) (f .0));
+      numbered = record { low = w .0; high = w .1 };
+    }
 
 -- the account's arrivals are of the packets 1 to K, at most 4,096
 pub record Sound (k : ℕ) (account : List Arrival) : Type 0 where
   pub numbered : All (OfPackets k) account
-  pub short : length account ≤ packets
+  pub short : length account ≤ arrivalsMost
 
 -- an accepted arrival keeps it so
 sound-more : (k : ℕ) (account : List Arrival) (a : Arrival) → Sound k account → Accepted k account a → Sound k (account ++ (a ∷ []))

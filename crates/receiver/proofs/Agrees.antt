@@ -13,10 +13,11 @@ use Rattle.rfc4737.specs.declared.Arrival.{Arrival}
 use Rattle.rfc4737.specs.declared.Answer.{Answer}
 use Rattle.rfc4737.specs.declared.Answer.the-variants as answer
 use Rattle.rfc4737.specs.Arrivals.{has, firsts, firstRecord, count}
-use Rattle.rfc4737.specs.Order.{Placed, nextAfter, nextExp, jumpSize, isInOrder, isJump, placeAfter, jumpAfter, jumps}
+use Rattle.rfc4737.specs.Order.{FirstArrival, nextAfter, nextExp, jumpSize, isInOrder, isJump, placeAfter, jumpAfter, jumps}
 use Rattle.rfc4737.specs.Extent.{firstAbove, discontinuity}
 use Rattle.rfc4737.specs.Answer.{inOrderAnswer, reorderedAnswer}
 use Rattle.rfc4737.specs.Runs.{isDuplicate, isInOrderAnswer, runsAfter, runs}
+use Rattle.rfc4737.specs.Judge.{sentMost}
 use Rattle.rfc4737.proofs.Lists.{all-weaken}
 use Rattle.rfc4737.proofs.Arrivals.{count-more, has-firsts, firsts-more, with-duplicate, with-first}
 use Rattle.rfc4737.proofs.Folds.{next-more, answers-more, runs-more, answer-duplicate, answer-first, first-in-order, first-reordered}
@@ -28,9 +29,9 @@ use Rattle.receiver.specs.declared.Receiver.{Receiver}
 use Rattle.receiver.specs.declared.ReceiverAnswer.{ReceiverAnswer}
 use Rattle.receiver.specs.declared.ReceiverAnswer.the-variants.{Duplicate, Exact, Beyond}
 use Rattle.receiver.specs.declared.Outcome.{Outcome}
-use Rattle.receiver.specs.Limits.{window, packets}
+use Rattle.receiver.specs.Limits.{window}
 use Rattle.receiver.specs.Marks.{markAt, withMark}
-use Rattle.receiver.specs.Outcomes.{refusedOutcome, acceptedOutcome}
+use Rattle.receiver.specs.Outcomes.{acceptedOutcome}
 use Rattle.receiver.specs.Kept.{Held, withJump, heldAfter}
 use Rattle.receiver.specs.Step.{stepRefusal, latenessFrom, reorderedOutcome, firstOutcome, lookedAt, outcomeOf, duplicateStream, inOrderStream, reorderedStream, inOrderState, reorderedState, notedState, stepWith}
 use Rattle.receiver.specs.Account.{standsIn, accountRefusal, accountWith, jumpIn, answerIn, answersIn, isIn, inWindow, beyondFigures, inForm, outcomeIn}
@@ -101,7 +102,7 @@ unfolding jumpAfter isJump isInOrder
 no-jump fs a h = rw (lt-leb _ _ h)
 
 -- there is no new jump or one
-pub jump-cases : (P : List Placed → Type 0) → P [] → ((p : Placed) → P (p ∷ [])) → (k : ℕ) (account : List Arrival) (a : Arrival) → P (jumpIn k account a)
+pub jump-cases : (P : List FirstArrival → Type 0) → P [] → ((p : FirstArrival) → P (p ∷ [])) → (k : ℕ) (account : List Arrival) (a : Arrival) → P (jumpIn k account a)
 unfolding jumpIn jumpAfter
 jump-cases P none one k account a = go (eqb (accountRefusal k account a) 0) (has (a .number) account) (isJump (firsts account) (a .number))
   where
@@ -126,7 +127,7 @@ jumps-with k account a = go (eqb (accountRefusal k account a) 0) (has (a .number
 -- ---- what is said
 
 -- a reordered packet in the receiver's forms, exact or not, d being its discontinuity
-lateForm : List Placed → List Arrival → Arrival → Bool → Option Placed → ReceiverAnswer
+lateForm : List FirstArrival → List Arrival → Arrival → Bool → Option FirstArrival → ReceiverAnswer
 lateForm ws account a t d =
     cond t (Exact (latenessFrom (length (firsts account) + 1) (a .time) d))
     (Beyond (beyondFigures ws account a))
@@ -150,21 +151,21 @@ unfolding answerIn
 answer-again account a e = answer-duplicate (λ _. 0) account a e
 
 -- the form of a reordered packet over the account
-form-late : (ws : List Placed) (account : List Arrival) (a : Arrival) (d : Option Placed)
+form-late : (ws : List FirstArrival) (account : List Arrival) (a : Arrival) (d : Option FirstArrival)
     → inForm ws account a (reorderedAnswer (λ _. 0) (firsts account) a d) ≡ lateForm ws account a (inWindow ws account (a .number)) d
 unfolding inForm reorderedAnswer latenessFrom lateForm
 form-late ws account a d = refl
 
 -- whether the discontinuity is in the window, by its position
-pub search-window : (account : List Arrival) (ds ws : List Placed) (a : Arrival) (s : WindowSearch account ds ws (a .number))
+pub search-window : (account : List Arrival) (ds ws : List FirstArrival) (a : Arrival) (s : WindowSearch account ds ws (a .number))
     → inWindow ws account (a .number) ≡ standsIn (s .at .position) ws
 unfolding inWindow isIn
 search-window account ds ws a s = rw (s .is)
 
 -- what the rule says of a reordered packet, over kept jumps and the last dropped number
-module _ (k : ℕ) (account : List Arrival) (a : Arrival) (ds ws : List Placed) (sp : Split account ds ws) where
+module _ (k : ℕ) (account : List Arrival) (a : Arrival) (ds ws : List FirstArrival) (sp : Split account ds ws) where
   -- exact or not, d being the oldest kept jump of a greater number
-  said-late : (d : Placed) (t : Bool) → ltb (a .number) (lastNumber ds) ≡ not t
+  said-late : (d : FirstArrival) (t : Bool) → ltb (a .number) (lastNumber ds) ≡ not t
       → reorderedOutcome ws (lastNumber ds) (length (firsts account) + 1) (a .number) (a .time) (some d) ≡ acceptedOutcome (lateForm ws account a t (some d))
   unfolding reorderedOutcome lateForm latenessFrom beyondFigures
   said-late d true e = rw e
@@ -183,7 +184,7 @@ module _ (k : ℕ) (account : List Arrival) (a : Arrival) (ds ws : List Placed) 
       formed : inForm ws account a (answerIn account a) ≡ lateForm ws account a (inWindow ws account (a .number)) (discontinuity (firsts account) (a .number))
       formed = ap (inForm ws account a) (answer-late account a e g) ∙ form-late ws account a (discontinuity (firsts account) (a .number))
 
-      said : (d : Placed) (t : Bool) → ltb (a .number) (lastNumber ds) ≡ not t → firstAbove (a .number) ws ≡ some d
+      said : (d : FirstArrival) (t : Bool) → ltb (a .number) (lastNumber ds) ≡ not t → firstAbove (a .number) ws ≡ some d
           → lateForm ws account a t (some d) ≡ inForm ws account a (answerIn account a)
           → reorderedOutcome ws (lastNumber ds) (length (firsts account) + 1) (a .number) (a .time) (firstAbove (a .number) ws)
           ≡ acceptedOutcome (inForm ws account a (answerIn account a))
@@ -280,8 +281,8 @@ module _ (room : Bool) (h : Held) (k : ℕ) (account : List Arrival) (a : Arriva
 
 -- ---- any arrival
 
-module _ (k : ℕ) (low : 1 ≤ k) (high : k ≤ packets) (account : List Arrival) (a : Arrival) (sound : Sound k account)
-    (ds ws : List Placed) (sp : Split account ds ws) (h : Held) (o : Holds ds ws h) (few : length ws ≤ window) (room : Bool) where
+module _ (k : ℕ) (low : 1 ≤ k) (high : k ≤ sentMost) (account : List Arrival) (a : Arrival) (sound : Sound k account)
+    (ds ws : List FirstArrival) (sp : Split account ds ws) (h : Held) (o : Holds ds ws h) (few : length ws ≤ window) (room : Bool) where
   -- the refusals agree
   refusal-agrees : stepRefusal (stateWith k account h) (a .number) (a .time) ≡ accountRefusal k account a
   unfolding stepRefusal accountRefusal stateWith
@@ -321,7 +322,7 @@ module _ (k : ℕ) (low : 1 ≤ k) (high : k ≤ packets) (account : List Arriva
       go false e = ap looked (mark-agrees (n .numbered) ∙ e) ∙ order (leb (nextExp (firsts account)) (a .number)) refl e
 
   -- what is noted of a reordered packet makes one state
-  late-noted : (t : Bool) (d : Option Placed) → notedState room before (a .number) (a .time) (lateForm ws account a t d) ≡ reorderedState before (a .number) (a .time)
+  late-noted : (t : Bool) (d : Option FirstArrival) → notedState room before (a .number) (a .time) (lateForm ws account a t d) ≡ reorderedState before (a .number) (a .time)
   unfolding notedState lateForm
   late-noted true d = refl
   late-noted false d = refl
@@ -344,7 +345,7 @@ module _ (k : ℕ) (low : 1 ≤ k) (high : k ≤ packets) (account : List Arriva
           ∙ ap (notedState room before (a .number) (a .time)) (form-late ws account a (discontinuity (firsts account) (a .number)))
           ∙ late-noted (inWindow ws account (a .number)) (discontinuity (firsts account) (a .number))
           ∙ late-state room h k account a e (leb-false _ _ t)
-          ∙ ap (λ (js : List Placed). stateWith k (account ++ (a ∷ [])) (foldl (withJump room) h js)) (sym (no-jump (firsts account) a (leb-false _ _ t)))
+          ∙ ap (λ (js : List FirstArrival). stateWith k (account ++ (a ∷ [])) (foldl (withJump room) h js)) (sym (no-jump (firsts account) a (leb-false _ _ t)))
 
   -- of any arrival
   noted-agrees : after (answerIn account a)

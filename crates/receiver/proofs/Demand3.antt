@@ -2,39 +2,39 @@
 -- Assumes nothing.
 use Prim.Native.Nat.{ℕ, _+_, _-_, _≤_, _<_}
 use mathlib.Core.Path.{_≡_, refl, sym, ap, subst, _∙_}
-use mathlib.Core.Bool.{Bool, true, false, not, cond, true≢false}
+use mathlib.Core.Bool.{Bool, true, false, cond, true≢false}
 use mathlib.Core.List.{List, [], _∷_, _++_, append-nil, foldl, flatten, head?}
 use mathlib.Core.Option.{some}
 use native.Mathlib.Omega.{arith}
 use lib.Dec.{eqb, ltb, leb}
 use lib.ListN.{length, length-drop}
-use borrow.Author.Tests.{ltb-true, ltb-false, leb-true, leb-false, le-leb}
+use borrow.Author.Tests.{ltb-true, ltb-false, leb-true, leb-false}
 use Rattle.rfc4737.specs.declared.Arrival.{Arrival}
 use Rattle.rfc4737.specs.declared.ReorderedFigures.{ReorderedFigures}
 use Rattle.rfc4737.specs.declared.Answer.{Answer}
 use Rattle.rfc4737.specs.declared.Answer.the-variants as answer
 use Rattle.rfc4737.specs.Arrivals.{has, firsts, each, eachAfter, count}
-use Rattle.rfc4737.specs.Order.{Placed, nextExp, jumps}
+use Rattle.rfc4737.specs.Order.{FirstArrival, nextExp, jumps}
 use Rattle.rfc4737.specs.Extent.{discontinuity, extentFrom}
 use Rattle.rfc4737.specs.Times.{tooEarly, greatestTime}
 use Rattle.rfc4737.specs.Answer.{reorderedAnswer, inOrderAnswer}
 use Rattle.rfc4737.specs.Runs.{counts, arrived, isDuplicate, isInOrderAnswer}
-use Rattle.rfc4737.specs.Refusals.{within, sentOutside, numberOutside, timeBack, stateUnfit, stateFull}
+use Rattle.rfc4737.specs.Refusals.{outside, inCase, firstOf, numberOutside, timeBack, stateUnfit, stateFull}
+use Rattle.rfc4737.specs.Judge.{sentMost, arrivalsMost, judgeOne}
 use Rattle.rfc4737.proofs.Lists.{snoc-ind, each-same}
 use Rattle.rfc4737.proofs.Arrivals.{fold-more, count-each}
+use Rattle.rfc4737.proofs.Due.{between, not-outside}
 use Rattle.rfc4737.proofs.Folds.{answer-duplicate, answer-first, first-in-order, in-order-or-reordered}
 use Rattle.receiver.specs.declared.Receiver.{Receiver}
 use Rattle.receiver.specs.declared.Outcome.{Outcome}
-use Rattle.receiver.specs.declared.Stepped.{Stepped}
-use Rattle.receiver.specs.declared.Started.{Started}
-use Rattle.receiver.specs.Limits.{window, packets}
+use Rattle.receiver.specs.declared.StepAnswer.{StepAnswer}
+use Rattle.receiver.specs.Limits.{window}
 use Rattle.receiver.specs.Outcomes.{refusedOutcome, acceptedOutcome}
 use Rattle.receiver.specs.Kept.{Held, hasRoom, withJump}
 use Rattle.receiver.specs.Step.{freshStream, madeFor, freshOf}
 use Rattle.receiver.specs.Account.{accountRefusal, accountWith, accountOf, jumpIn, answerIn, answersIn, windowIn, inWindow, beyondFigures, inForm, outcomeIn, accountOutcomes}
 use Rattle.receiver.specs.Demand3.{fedTo, stateAfter, outcomeAfter, receiverOutcomes, Answered, Demand3}
 use Rattle.receiver.proofs.Window.{lastNumber}
-use Rattle.receiver.proofs.Fits.{within-true}
 use Rattle.receiver.proofs.Accepted.{Sound, accepted-arrival, account-sound}
 use Rattle.receiver.proofs.ReorderedInWindow.{droppedIn, Split, split-window, WindowSearch, search-late}
 use Rattle.receiver.proofs.State.{stateWith, state-fresh}
@@ -44,17 +44,18 @@ use Rattle.receiver.proofs.HeldJumps.{heldFrom, held-more, Holds, held-
 
 -- no refusal over the account is 10
 refusal-fit : (k : ℕ) (account : List Arrival) (a : Arrival) → eqb (accountRefusal k account a) stateUnfit ≡ false
-unfolding accountRefusal
-refusal-fit k account a = go (eqb (length account) packets) (within 1 k (a .number)) (tooEarly (greatestTime account) (a .time))
+unfolding accountRefusal judgeOne
+refusal-fit k account a = go (eqb (length account) arrivalsMost) (outside 1 k (a .number)) (tooEarly (greatestTime account) (a .time))
   where
-    go : (t u v : Bool) → eqb (cond t stateFull (cond (not u) numberOutside (cond v timeBack 0))) stateUnfit ≡ false
+    go : (t u v : Bool)
+        → eqb (firstOf (inCase t stateFull ∷ firstOf (inCase u numberOutside ∷ inCase v timeBack ∷ []) ∷ [])) stateUnfit ≡ false
     go true u v = refl
-    go false false v = refl
-    go false true true = refl
-    go false true false = refl
+    go false true v = refl
+    go false false true = refl
+    go false false false = refl
 
 -- the account never says 10
-pub outcome-fit : (ws : List Placed) (k : ℕ) (account : List Arrival) (a : Arrival) → eqb (outcomeIn ws k account a .refusal) stateUnfit ≡ false
+pub outcome-fit : (ws : List FirstArrival) (k : ℕ) (account : List Arrival) (a : Arrival) → eqb (outcomeIn ws k account a .refusal) stateUnfit ≡ false
 unfolding outcomeIn
 outcome-fit ws k account a = go (eqb (accountRefusal k account a) 0)
   where
@@ -67,7 +68,7 @@ outcome-fit ws k account a = go (eqb (accountRefusal k account a) 0)
     go false = refusal-fit k account a
 
 -- what the account says of an arrival that is added
-outcome-added : (ws : List Placed) (k : ℕ) (account : List Arrival) (a : Arrival) → accountRefusal k account a ≡ 0 → outcomeIn ws k account a .noted ≡ inForm ws account a (answerIn account a)
+outcome-added : (ws : List FirstArrival) (k : ℕ) (account : List Arrival) (a : Arrival) → accountRefusal k account a ≡ 0 → outcomeIn ws k account a .noted ≡ inForm ws account a (answerIn account a)
 unfolding outcomeIn
 outcome-added ws k account a e = rw e
 
@@ -102,7 +103,7 @@ module _ (account : List Arrival) (a : Arrival) (d : ReorderedFigures) (q : answ
       go false e = leb-false _ _ e
 
   -- its extent is that from its discontinuity p
-  late-extent : (p : Placed) → discontinuity (firsts account) (a .number) ≡ some p
+  late-extent : (p : FirstArrival) → discontinuity (firsts account) (a .number) ≡ some p
       → d .extent ≡ length (firsts account) + 1 - p .position
   unfolding reorderedAnswer extentFrom
   late-extent p e =
@@ -110,7 +111,7 @@ module _ (account : List Arrival) (a : Arrival) (d : ReorderedFigures) (q : answ
       ap (λ (f : ReorderedFigures). f .extent) (ap (figuresOf d) w)
 
   -- beyond the window its true extent is above the figure
-  late-above : (ds ws : List Placed) → Split account ds ws → 1 ≤ a .number → inWindow ws account (a .number) ≡ false
+  late-above : (ds ws : List FirstArrival) → Split account ds ws → 1 ≤ a .number → inWindow ws account (a .number) ≡ false
       → beyondFigures ws account a .extent < d .extent
   unfolding beyondFigures extentFrom
   late-above ds ws sp low w = go (ltb (a .number) (lastNumber ds)) refl
@@ -123,7 +124,7 @@ module _ (account : List Arrival) (a : Arrival) (d : ReorderedFigures) (q : answ
           let k = search .dropped (ltb-true _ _ t) in
           let f = late-extent (search .at) (search .is) in
           let x : beyondFigures ws account a .extent ≡ length (firsts account) + 1 - search .oldest .position =
-          ap (λ (ws : List Placed). extentFrom (length (firsts account) + 1) (head? ws)) (search .window) in
+          ap (λ (ws : List FirstArrival). extentFrom (length (firsts account) + 1) (head? ws)) (search .window) in
           let i : search .at .position < search .oldest .position = k .position in
           let m : search .oldest .position ≤ length (firsts account) = search .high in
           omega arith
@@ -132,7 +133,7 @@ module _ (account : List Arrival) (a : Arrival) (d : ReorderedFigures) (q : answ
           absurd (true≢false (sym (k .among) ∙ sym (search-window account ds ws a search) ∙ w))
 
 -- how a reordered packet that is added is answered, over any split of the jumps
-pub late-answered : (k : ℕ) (account : List Arrival) (ds ws : List Placed) → Split account ds ws
+pub late-answered : (k : ℕ) (account : List Arrival) (ds ws : List FirstArrival) → Split account ds ws
     → (a : Arrival) → accountRefusal k account a ≡ 0 → (d : ReorderedFigures) → answerIn account a ≡ answer.Reordered d
     → Answered ws account a d (outcomeIn ws k account a .noted)
 unfolding inForm
@@ -170,11 +171,11 @@ window-few account = simp length-drop (omega arith)
 held-with : (k : ℕ) (account : List Arrival) (a : Arrival)
     → foldl (withJump (hasRoom window (heldIn account))) (heldIn account) (jumpIn k account a) ≡ heldIn (accountWith k account a)
 held-with k account a =
-    jump-cases (λ (l : List Placed). foldl (withJump (hasRoom window (heldIn account))) (heldIn account) l ≡ heldFrom (jumps (firsts account) ++ l))
+    jump-cases (λ (l : List FirstArrival). foldl (withJump (hasRoom window (heldIn account))) (heldIn account) l ≡ heldFrom (jumps (firsts account) ++ l))
     (rw append-nil) (λ p. sym (held-more (jumps (firsts account)) p)) k account a
     ∙ sym (ap heldFrom (jumps-with k account a))
 
-module _ (k : ℕ) (low : 1 ≤ k) (high : k ≤ packets) where
+module _ (k : ℕ) (low : 1 ≤ k) (high : k ≤ sentMost) where
   -- the step from the state of an account
   step-of : (account : List Arrival) (a : Arrival) → Sound k account
       → fedTo (stateOf k account) a
@@ -189,7 +190,7 @@ module _ (k : ℕ) (low : 1 ≤ k) (high : k ≤ packets) where
   -- fresh, it is made for K
   fresh-state : freshOf k .state ≡ stateOf k []
   unfolding freshOf stateOf heldFrom firsts jumps flatten each eachAfter
-  fresh-state = rw (le-leb _ _ low, le-leb _ _ high) (state-fresh k)
+  fresh-state = rw (not-outside 1 sentMost k low high) (state-fresh k)
 
   -- after any list the state is that of the account
   state-after : (fed : List Arrival) → stateAfter k fed ≡ stateOf k (accountOf k fed)
@@ -201,7 +202,7 @@ module _ (k : ℕ) (low : 1 ≤ k) (high : k ≤ packets) where
       more fed a e =
           fold-more _ _ fed a
           ∙ ap (λ (r : Receiver). fedTo r a .state) e
-          ∙ ap (λ (s : Stepped). s .state) (step-of (accountOf k fed) a (account-sound k fed))
+          ∙ ap (λ (s : StepAnswer). s .state) (step-of (accountOf k fed) a (account-sound k fed))
           ∙ ap (stateOf k) (sym (fold-more (accountWith k) [] fed a))
 
   -- so NextExp is the account's
@@ -214,7 +215,7 @@ module _ (k : ℕ) (low : 1 ≤ k) (high : k ≤ packets) where
   unfolding outcomeAfter
   outcome-after earlier a =
       ap (λ (r : Receiver). fedTo r a .outcome) (state-after earlier)
-      ∙ ap (λ (s : Stepped). s .outcome) (step-of (accountOf k earlier) a (account-sound k earlier))
+      ∙ ap (λ (s : StepAnswer). s .outcome) (step-of (accountOf k earlier) a (account-sound k earlier))
 
   -- demand 3
   pub demand3 : (fed : List Arrival) → Demand3 k fed
@@ -246,12 +247,8 @@ module _ (k : ℕ) (low : 1 ≤ k) (high : k ≤ packets) where
 -- as `fresh` carries it: of the receiver that it hands back, which is always made for 1 to 4,096 packets
 pub demand3-fresh : (k : ℕ) (fed : List Arrival) → Demand3 (freshOf k .state .stream .sent) fed
 unfolding freshOf madeFor freshStream
-demand3-fresh k = go (within 1 packets k) refl
+demand3-fresh k = go (outside 1 sentMost k) refl
   where
-    go : (t : Bool) → within 1 packets k ≡ t
-        → (fed : List Arrival)
-        → Demand3
-        (cond {A = Started} t (record { refusal = 0; state = madeFor k }) (record { refusal = sentOutside; state = madeFor 1 }) .state .stream .sent)
-        fed
-    go true w = let h = within-true 1 packets k w in demand3 k (h .0) (h .1)
-    go false w = demand3 1 (omega arith) (omega arith)
+    go : (t : Bool) → outside 1 sentMost k ≡ t → (fed : List Arrival) → Demand3 (cond t 1 k) fed
+    go true e = demand3 1 (omega arith) (omega arith)
+    go false e = let h = between 1 sentMost k e in demand3 k (h .0) (h .1)

@@ -2,14 +2,14 @@
 -- kept places, taken apart by position, number and time. Assumes nothing.
 use Prim.Native.Nat.{ℕ, zero, suc, _+_, _<_, _≤_}
 use mathlib.Core.Bool.{Bool, true, false, _&&_}
-use mathlib.Core.List.{List, [], map}
+use mathlib.Core.List.{List, map}
 use mathlib.Core.Path.{_≡_, refl, sym, ap, subst, _∙_}
 use native.Mathlib.Numerals.{add-one}
 use native.Mathlib.Omega.{arith}
 use lib.Dec.{ltb}
 use lib.ListN.{getD}
 use borrow.Author.Tests.{le-leb, leb-true, ltb-true, ltb-false}
-use Rattle.rfc4737.specs.Order.{Placed}
+use Rattle.rfc4737.specs.Order.{FirstArrival}
 use Rattle.rfc4737.specs.Refusals.{within}
 use Rattle.receiver.specs.declared.Stream.{Stream}
 use Rattle.receiver.specs.declared.Places.{Places}
@@ -58,7 +58,7 @@ module _ (t : ℕ → Bool) (l : List ℕ) where
   pass-all (suc n) p = both (pass-all n (λ k h. p k (omega arith))) (p n (omega arith))
 
 -- if each place passes a test, all do
-all-pass : (places : Places) (f : Placed → Bool) (n at : ℕ) → ((k : ℕ) → k < n → f (placeAt places (at + k)) ≡ true)
+all-pass : (places : Places) (f : FirstArrival → Bool) (n at : ℕ) → ((k : ℕ) → k < n → f (placeAt places (at + k)) ≡ true)
     → every (map f (placesFrom places at n)) ≡ true
 unfolding every placesFrom
 all-pass places f zero at p = refl

@@ -1,4 +1,5 @@
--- Every state of an account is fit. Assumes nothing.
+-- Every state of an account is fit: each of its numbers is a count over at most 4,096 answers, and its kept jumps are the last of the
+-- account's jumps, which stand in 1 to L, have numbers of 1 to K and times up to the greatest. Assumes nothing.
 use Prim.Native.Nat.{ℕ, _+_, _≤_}
 use mathlib.Core.Path.{_≡_, refl}
 use mathlib.Core.Bool.{true}
@@ -7,7 +8,7 @@ use native.Mathlib.Omega.{arith}
 use lib.ListN.{length}
 use Rattle.rfc4737.specs.declared.Arrival.{Arrival}
 use Rattle.rfc4737.specs.Arrivals.{firsts, count}
-use Rattle.rfc4737.specs.Order.{Placed, nextExp, jumps}
+use Rattle.rfc4737.specs.Order.{FirstArrival, nextExp, jumps}
 use Rattle.rfc4737.specs.Times.{greatestTime}
 use Rattle.rfc4737.specs.Answer.{answers}
 use Rattle.rfc4737.specs.Runs.{isDuplicate, arrived}
@@ -16,7 +17,8 @@ use Rattle.rfc4737.proofs.Folds.{next-positive, length-answers, arrived-answers
 use Rattle.rfc4737.proofs.Times.{until-greatest}
 use Rattle.rfc4737.proofs.Jumps.{Within, jumps-within, jumps-until}
 use Rattle.rfc4737.proofs.Packets.{all-firsts, next-high, firsts-most}
-use Rattle.receiver.specs.Limits.{window, packets}
+use Rattle.rfc4737.specs.Judge.{sentMost, arrivalsMost}
+use Rattle.receiver.specs.Limits.{window}
 use Rattle.receiver.specs.declared.Stream.{Stream}
 use Rattle.receiver.specs.Kept.{Held}
 use Rattle.receiver.specs.Fit.{every, jumpFit, placesFit, fit}
@@ -30,21 +32,21 @@ use Rattle.receiver.proofs.State.{stateWith}
 use Rattle.receiver.proofs.ReorderedInWindow.{Split}
 
 -- fit kept jumps pass the test
-pub jumps-pass : (s : Stream) (l : List Placed) → All (JumpFit s) l → every (map (jumpFit s) l) ≡ true
+pub jumps-pass : (s : Stream) (l : List FirstArrival) → All (JumpFit s) l → every (map (jumpFit s) l) ≡ true
 unfolding every
 jumps-pass s [] h = refl
 jumps-pass s (p ∷ l) h = both (jump-passes s p (h .0)) (jumps-pass s l (h .1))
 
 -- the last number is at most k where all are
-last-most : (k : ℕ) (l : List Placed) → All (λ (p : Placed). p .number ≤ k) l → lastNumber l ≤ k
+last-most : (k : ℕ) (l : List FirstArrival) → All (λ (p : FirstArrival). p .number ≤ k) l → lastNumber l ≤ k
 unfolding lastNumber
-last-most k = snoc-ind (λ (l : List Placed). All (λ (p : Placed). p .number ≤ k) l → lastNumber l ≤ k) more (λ h. omega arith)
+last-most k = snoc-ind (λ (l : List FirstArrival). All (λ (p : FirstArrival). p .number ≤ k) l → lastNumber l ≤ k) more (λ h. omega arith)
   where
-    more : (l : List Placed) (p : Placed)
-        → (All (λ (p : Placed). p .number ≤ k) l → lastNumber l ≤ k)
-        → All (λ (p : Placed). p .number ≤ k) (l ++ (p ∷ []))
+    more : (l : List FirstArrival) (p : FirstArrival)
+        → (All (λ (p : FirstArrival). p .number ≤ k) l → lastNumber l ≤ k)
+        → All (λ (p : FirstArrival). p .number ≤ k) (l ++ (p ∷ []))
         → lastNumber (l ++ (p ∷ [])) ≤ k
-    more l p h g = rw last-more (all-right (λ (p : Placed). p .number ≤ k) l (p ∷ []) g .0)
+    more l p h g = rw last-more (all-right (λ (p : FirstArrival). p .number ≤ k) l (p ∷ []) g .0)
 
 -- L over the account's answers
 pub arrived-in : (account : List Arrival) → arrived (answersIn account) ≡ length (firsts account)
@@ -58,8 +60,8 @@ accepted-count account =
     omega
     (arith, duplicate-or-first (answers (λ _. 0) account), arrived-answers (λ _. 0) account, length-answers (λ _. 0) account)
 
-module _ (k : ℕ) (low : 1 ≤ k) (high : k ≤ packets) (account : List Arrival) (h : Sound k account)
-    (ds ws : List Placed) (sp : Split account ds ws) (held : Held) (o : Holds ds ws held) (few : length ws ≤ window) where
+module _ (k : ℕ) (low : 1 ≤ k) (high : k ≤ sentMost) (account : List Arrival) (h : Sound k account)
+    (ds ws : List FirstArrival) (sp : Split account ds ws) (held : Held) (o : Holds ds ws held) (few : length ws ≤ window) where
   -- the numbers of its stream
   abbrev stream : Stream
   stream = stateWith k account held .stream
@@ -70,13 +72,13 @@ module _ (k : ℕ) (low : 1 ≤ k) (high : k ≤ packets) (account : List Arriva
   stream-fit =
       let l : length (firsts account) ≤ k = firsts-most k account (h .numbered) in
       let s : length (firsts account) + count isDuplicate (answersIn account) ≡ length account = accepted-count account in
-      let t : length account ≤ packets = h .short in
+      let t : length account ≤ arrivalsMost = h .short in
       let a : arrived (answersIn account) ≡ length (firsts account) = arrived-in account in
       let i = in-order-or-reordered (answersIn account) in
       let c = current-le (answersIn account) in
       let d = closed-reordered (answersIn account) in
-      let m : arrived (answersIn account) ≤ 4096 = omega arith in
-      let q = squares-le 4096 (answersIn account) m in
+      let m : arrived (answersIn account) ≤ sentMost = omega arith in
+      let q = squares-le sentMost (answersIn account) m in
       record {
         sent-low = low;
         sent-high = high;
@@ -96,7 +98,7 @@ module _ (k : ℕ) (low : 1 ≤ k) (high : k ≤ packets) (account : List Arriva
   jumps-fit =
       let n : nextExp (firsts account) ≤ k + 1 = next-high k (firsts account) (all-firsts _ account (h .numbered)) in
       all-both
-      (λ (p : Placed) (w : Within (firsts account) p) (t : p .time ≤ greatestTime account).
+      (λ (p : FirstArrival) (w : Within (firsts account) p) (t : p .time ≤ greatestTime account).
       record {
         position-low = w .position-low;
         position-high = w .position-high;
@@ -115,7 +117,7 @@ module _ (k : ℕ) (low : 1 ≤ k) (high : k ≤ packets) (account : List Arriva
       let parts : All (JumpFit stream) (ds ++ ws) = rw (sp .parts) jumps-fit in
       let late = all-right _ ds ws parts in
       let early = all-left _ ds ws parts in
-      let d : lastNumber ds ≤ k = last-most k ds (all-weaken (λ (p : Placed) (f : JumpFit stream p). f .number-high) ds early) in
+      let d : lastNumber ds ≤ k = last-most k ds (all-weaken (λ (p : FirstArrival) (f : JumpFit stream p). f .number-high) ds early) in
       places-pass stream (held .places)
       (record {
         kept-high = omega arith;

@@ -1,15 +1,16 @@
--- The fit test against the records of what it says. Assumes nothing.
+-- The fit test and the records of what it says are the same: a test that holds gives the record, a record the test, and where the
+-- record cannot be the test is false. Assumes nothing.
 use Prim.Native.Nat.{ℕ, _+_, _≤_}
 use mathlib.Core.Bool.{Bool, true, false, _&&_}
 use mathlib.Core.List.{List, _∷_}
 use mathlib.Core.Path.{_≡_, refl, sym}
 use lib.Dec.{leb}
 use borrow.Author.Tests.{leb-true, le-leb}
-use Rattle.rfc4737.specs.Order.{Placed}
+use Rattle.rfc4737.specs.Order.{FirstArrival}
 use Rattle.rfc4737.specs.Refusals.{within}
 use Rattle.receiver.specs.declared.Stream.{Stream}
 use Rattle.receiver.specs.declared.Places.{Places}
-use Rattle.receiver.specs.Limits.{packets}
+use Rattle.rfc4737.specs.Judge.{sentMost}
 use Rattle.receiver.specs.Fit.{every, streamFit, jumpFit, placesFit}
 use Rattle.receiver.specs.Private.Facts.{StreamFit, JumpFit, PlacesFit}
 
@@ -46,7 +47,7 @@ module _ (s : Stream) where
       let h = every-true _ _ (g .1) in
       let i = every-true _ _ (h .1) in
       let j = every-true _ _ (i .1) in
-      let k = within-true 1 packets (s .sent) (a .0) in
+      let k = within-true 1 sentMost (s .sent) (a .0) in
       let n = within-true 1 (s .sent + 1) (s .next) (j .0) in
       record {
         sent-low = k .0;
@@ -81,7 +82,7 @@ module _ (s : Stream) where
       go true e = absurd (h (stream-facts e))
       go false e = sym e
 
-module _ (s : Stream) (p : Placed) where
+module _ (s : Stream) (p : FirstArrival) where
   -- what a fit jump says
   pub jump-facts : jumpFit s p ≡ true → JumpFit s p
   unfolding jumpFit

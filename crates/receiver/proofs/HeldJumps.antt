@@ -12,7 +12,7 @@ use lib.Dec.{ltb}
 use lib.ListN.{length, getD, take, drop, replicate, length-append, length-drop, length-set, List·getD-append}
 use lib.Seq.{getD-set-same, getD-set-other, getD-take, getD-drop, getD-at, getD-append-add, length-take-le, drop-append-le, take-append-le, take-suc, drop-cons}
 use borrow.Author.Tests.{ltb-true, ltb-false}
-use Rattle.rfc4737.specs.Order.{Placed}
+use Rattle.rfc4737.specs.Order.{FirstArrival}
 use Rattle.rfc4737.proofs.Lists.{snoc-ind}
 use Rattle.rfc4737.proofs.Arrivals.{fold-more}
 use Rattle.receiver.specs.declared.Places.{Places}
@@ -32,7 +32,7 @@ unfolding placesFrom
 places-same l m at to zero h = refl
 places-same l m at to (suc n) h =
     let e : placeAt l at ≡ placeAt m to = simp add-zero at (h 0 (omega arith)) in
-    ap₂ {C = List Placed} _∷_ e (places-same l m (suc at) (suc to) n (λ k g. simp (suc-add, ← add-suc) (h (suc k) (omega arith))))
+    ap₂ {C = List FirstArrival} _∷_ e (places-same l m (suc at) (suc to) n (λ k g. simp (suc-add, ← add-suc) (h (suc k) (omega arith))))
 
 -- one place more
 places-more : (l : Places) (at n : ℕ) → placesFrom l at (suc n) ≡ placesFrom l at n ++ (placeAt l (at + n) ∷ [])
@@ -41,21 +41,21 @@ places-more l at zero = rw add-zero
 places-more l at (suc n) =
     let e : suc at + n ≡ at + suc n = omega arith in
     let k : placesFrom l (suc at) (suc n) ≡ placesFrom l (suc at) n ++ (placeAt l (at + suc n) ∷ []) = rw e at (places-more l (suc at) n) in
-    ap {B = List Placed} (λ t. placeAt l at ∷ t) k
+    ap {B = List FirstArrival} (λ t. placeAt l at ∷ t) k
 
 -- a jump, by its fields
-pub placed-path : (p q : Placed) → p .position ≡ q .position → p .number ≡ q .number → p .time ≡ q .time → p ≡ q
+pub placed-path : (p q : FirstArrival) → p .position ≡ q .position → p .number ≡ q .number → p .time ≡ q .time → p ≡ q
 placed-path p q e f g = λ i. record { position = e i; number = f i; time = g i }
 
 -- ---- with room: the new jump stands after the kept ones
 
 -- one place more is kept
-appended-places : (h : Held) (p : Placed) → keptOf (withJump true h p) ≡ placesFrom (withJump true h p .places) 0 (suc (h .kept))
+appended-places : (h : Held) (p : FirstArrival) → keptOf (withJump true h p) ≡ placesFrom (withJump true h p .places) 0 (suc (h .kept))
 unfolding keptOf withJump
 appended-places h p = ap (placesFrom (withJump true h p .places) 0) (add-one (h .kept))
 
 -- the kept jumps with a new one after them
-kept-appended : (h : Held) (p : Placed)
+kept-appended : (h : Held) (p : FirstArrival)
     → h .kept < length (h .places .positions)
     → h .kept < length (h .places .numbers)
     → h .kept < length (h .places .times)
@@ -63,7 +63,7 @@ kept-appended : (h : Held) (p : Placed)
 unfolding keptOf placeAt withJump pushed
 kept-appended h p a b c =
     appended-places h p ∙ places-more (withJump true h p .places) 0 (h .kept)
-    ∙ ap₂ {C = List Placed} (λ l q. l ++ (q ∷ [])) (places-same (withJump true h p .places) (h .places) 0 0 (h .kept) before) last
+    ∙ ap₂ {C = List FirstArrival} (λ l q. l ++ (q ∷ [])) (places-same (withJump true h p .places) (h .places) 0 0 (h .kept) before) last
   where
     before : (k : ℕ) → k < h .kept → placeAt (withJump true h p .places) (0 + k) ≡ placeAt (h .places) (0 + k)
     before k g =
@@ -129,7 +129,7 @@ module _ (xs : List ℕ) (x n : ℕ) (long : n < length xs) where
       ∙ ap (λ (m : ℕ). getD xs m 0) f
 
 -- as many places are kept as before
-shifted-places : (h : Held) (p : Placed) (n : ℕ) → h .kept ≡ suc n → keptOf (withJump false h p) ≡ placesFrom (withJump false h p .places) 0 (suc n)
+shifted-places : (h : Held) (p : FirstArrival) (n : ℕ) → h .kept ≡ suc n → keptOf (withJump false h p) ≡ placesFrom (withJump false h p .places) 0 (suc n)
 unfolding keptOf withJump
 shifted-places h p n e = ap (placesFrom (withJump false h p .places) 0) e
 
@@ -139,12 +139,12 @@ unfolding keptOf placesFrom
 later-places h n e = ap (λ (m : ℕ). drop 1 (placesFrom (h .places) 0 m)) e
 
 -- the oldest stands in the first place
-first-place : (h : Held) (n : ℕ) (q : Placed) → h .kept ≡ suc n → getD (keptOf h) 0 q ≡ placeAt (h .places) 0
+first-place : (h : Held) (n : ℕ) (q : FirstArrival) → h .kept ≡ suc n → getD (keptOf h) 0 q ≡ placeAt (h .places) 0
 unfolding keptOf placesFrom
 first-place h n q e = ap (λ (m : ℕ). getD (placesFrom (h .places) 0 m) 0 q) e
 
 -- the kept jumps but the oldest, with a new one after them
-kept-shifted : (h : Held) (p : Placed) (n : ℕ)
+kept-shifted : (h : Held) (p : FirstArrival) (n : ℕ)
     → h .kept ≡ suc n
     → n < length (h .places .positions)
     → n < length (h .places .numbers)
@@ -153,8 +153,8 @@ kept-shifted : (h : Held) (p : Placed) (n : ℕ)
 unfolding placeAt withJump
 kept-shifted h p n e a b c =
     shifted-places h p n e ∙ places-more (withJump false h p .places) 0 n
-    ∙ ap₂ {C = List Placed} (λ l q. l ++ (q ∷ [])) (places-same (withJump false h p .places) (h .places) 0 1 n before) last
-    ∙ ap {B = List Placed} (λ l. l ++ (p ∷ [])) (sym (later-places h n e))
+    ∙ ap₂ {C = List FirstArrival} (λ l q. l ++ (q ∷ [])) (places-same (withJump false h p .places) (h .places) 0 1 n before) last
+    ∙ ap {B = List FirstArrival} (λ l. l ++ (p ∷ [])) (sym (later-places h n e))
   where
     before : (k : ℕ) → k < n → placeAt (withJump false h p .places) (0 + k) ≡ placeAt (h .places) (1 + k)
     before k g =
@@ -181,18 +181,18 @@ pub record Long (l : Places) : Type 0 where
   pub times : length (l .times) ≡ window
 
 -- of some jumps, those dropped and then those kept, this is held
-pub record Holds (ds ws : List Placed) (h : Held) : Type 0 where
+pub record Holds (ds ws : List FirstArrival) (h : Held) : Type 0 where
   pub long : Long (h .places)
   pub kept : keptOf h ≡ ws
   pub dropped : h .dropped ≡ lastNumber ds
 
 -- how many are kept
-pub holds-count : (ds ws : List Placed) (h : Held) → Holds ds ws h → h .kept ≡ length ws
+pub holds-count : (ds ws : List FirstArrival) (h : Held) → Holds ds ws h → h .kept ≡ length ws
 unfolding keptOf
 holds-count ds ws h o = sym (length-places (h .places) 0 (h .kept)) ∙ ap length (o .kept)
 
 -- under one jump more, for which there is room
-pub holds-appended : (ds ws : List Placed) (h : Held) (p : Placed) → Holds ds ws h → length ws < window → Holds ds (ws ++ (p ∷ [])) (withJump true h p)
+pub holds-appended : (ds ws : List FirstArrival) (h : Held) (p : FirstArrival) → Holds ds ws h → length ws < window → Holds ds (ws ++ (p ∷ [])) (withJump true h p)
 unfolding withJump pushed
 holds-appended ds ws h p o lt =
     let n : h .kept ≡ length ws = holds-count ds ws h o in
@@ -205,12 +205,12 @@ holds-appended ds ws h p o lt =
         numbers = simp length-set (o .long .numbers);
         times = simp length-set (o .long .times);
       };
-      kept = kept-appended h p a b c ∙ ap {B = List Placed} (λ l. l ++ (p ∷ [])) (o .kept);
+      kept = kept-appended h p a b c ∙ ap {B = List FirstArrival} (λ l. l ++ (p ∷ [])) (o .kept);
       dropped = o .dropped;
     }
 
 -- under one jump more, for which there is none: the oldest is dropped
-pub holds-shifted : (ds : List Placed) (q : Placed) (ws : List Placed) (h : Held) (p : Placed) → Holds ds (q ∷ ws) h → length (q ∷ ws) ≤ window
+pub holds-shifted : (ds : List FirstArrival) (q : FirstArrival) (ws : List FirstArrival) (h : Held) (p : FirstArrival) → Holds ds (q ∷ ws) h → length (q ∷ ws) ≤ window
     → Holds (ds ++ (q ∷ [])) (ws ++ (p ∷ [])) (withJump false h p)
 unfolding withJump placeAt
 holds-shifted ds q ws h p o le =
@@ -218,19 +218,19 @@ holds-shifted ds q ws h p o le =
     let a : length ws < length (h .places .positions) = omega (arith, o .long .positions) in
     let b : length ws < length (h .places .numbers) = omega (arith, o .long .numbers) in
     let c : length ws < length (h .places .times) = omega (arith, o .long .times) in
-    let oldest : placeAt (h .places) 0 ≡ q = sym (first-place h (length ws) p n) ∙ ap (λ (l : List Placed). getD l 0 p) (o .kept) in
+    let oldest : placeAt (h .places) 0 ≡ q = sym (first-place h (length ws) p n) ∙ ap (λ (l : List FirstArrival). getD l 0 p) (o .kept) in
     record {
       long = record {
         positions = rw n (moved-long (h .places .positions) (p .position) (length ws) a ∙ o .long .positions);
         numbers = rw n (moved-long (h .places .numbers) (p .number) (length ws) b ∙ o .long .numbers);
         times = rw n (moved-long (h .places .times) (p .time) (length ws) c ∙ o .long .times);
       };
-      kept = kept-shifted h p (length ws) n a b c ∙ ap {B = List Placed} (λ l. drop 1 l ++ (p ∷ [])) (o .kept);
-      dropped = rw last-more (ap (λ (q : Placed). q .number) oldest);
+      kept = kept-shifted h p (length ws) n a b c ∙ ap {B = List FirstArrival} (λ l. drop 1 l ++ (p ∷ [])) (o .kept);
+      dropped = rw last-more (ap (λ (q : FirstArrival). q .number) oldest);
     }
 
 -- under one jump more the places after the kept ones hold what they held
-pub jump-frame : (room : Bool) (h : Held) (p : Placed) → Long (h .places) → (room ≡ false → (1 ≤ h .kept) × (h .kept ≤ window))
+pub jump-frame : (room : Bool) (h : Held) (p : FirstArrival) → Long (h .places) → (room ≡ false → (1 ≤ h .kept) × (h .kept ≤ window))
     → (k : ℕ) → withJump room h p .kept ≤ k → placeAt (withJump room h p .places) k ≡ placeAt (h .places) k
 unfolding withJump pushed placeAt
 jump-frame true h p l g k le =
@@ -262,19 +262,19 @@ noneHeld =
     }
 
 -- what is held after some jumps, one after the other
-unfoldable pub heldFrom : List Placed → Held
-heldFrom js = foldl (λ (h : Held) (p : Placed). withJump (hasRoom window h) h p) noneHeld js
+unfoldable pub heldFrom : List FirstArrival → Held
+heldFrom js = foldl (λ (h : Held) (p : FirstArrival). withJump (hasRoom window h) h p) noneHeld js
 
 -- under one jump more
-pub held-more : (js : List Placed) (p : Placed) → heldFrom (js ++ (p ∷ [])) ≡ withJump (hasRoom window (heldFrom js)) (heldFrom js) p
+pub held-more : (js : List FirstArrival) (p : FirstArrival) → heldFrom (js ++ (p ∷ [])) ≡ withJump (hasRoom window (heldFrom js)) (heldFrom js) p
 unfolding heldFrom
-held-more js p = fold-more (λ (h : Held) (p : Placed). withJump (hasRoom window h) h p) noneHeld js p
+held-more js p = fold-more (λ (h : Held) (p : FirstArrival). withJump (hasRoom window h) h p) noneHeld js p
 
 -- of these the last are kept
-abbrev HoldsLast : List Placed → Held → Type 0
+abbrev HoldsLast : List FirstArrival → Held → Type 0
 HoldsLast js h = Holds (take (length js - window) js) (drop (length js - window) js) h
 
-holds-more : (js : List Placed) (h : Held) (p : Placed) → HoldsLast js h → HoldsLast (js ++ (p ∷ [])) (withJump (hasRoom window h) h p)
+holds-more : (js : List FirstArrival) (h : Held) (p : FirstArrival) → HoldsLast js h → HoldsLast (js ++ (p ∷ [])) (withJump (hasRoom window h) h p)
 holds-more js h p o = go (ltb (h .kept) window) refl
   where
     c : h .kept ≡ length js - (length js - window)
@@ -306,11 +306,11 @@ holds-more js h p o = go (ltb (h .kept) window) refl
         (holds-shifted (take n js) (getD js n p) (drop (suc n) js) h p k (omega arith))
 
 -- so it is after any jumps
-pub held-last : (js : List Placed) → HoldsLast js (heldFrom js)
+pub held-last : (js : List FirstArrival) → HoldsLast js (heldFrom js)
 unfolding heldFrom noneHeld keptOf placesFrom lastNumber
 held-last =
-    snoc-ind (λ (js : List Placed). HoldsLast js (heldFrom js)) more
+    snoc-ind (λ (js : List FirstArrival). HoldsLast js (heldFrom js)) more
     (record { long = record { positions = refl; numbers = refl; times = refl }; kept = refl; dropped = refl })
   where
-    more : (js : List Placed) (p : Placed) → HoldsLast js (heldFrom js) → HoldsLast (js ++ (p ∷ [])) (heldFrom (js ++ (p ∷ [])))
+    more : (js : List FirstArrival) (p : FirstArrival) → HoldsLast js (heldFrom js) → HoldsLast (js ++ (p ∷ [])) (heldFrom (js ++ (p ∷ [])))
     more js p o = rw held-more (holds-more js (heldFrom js) p o)

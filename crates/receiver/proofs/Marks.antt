@@ -18,6 +18,7 @@ use Rattle.rfc4737.specs.Arrivals.{has}
 use Rattle.rfc4737.proofs.Lists.{snoc-ind, All, all-left, all-right}
 use Rattle.rfc4737.proofs.Arrivals.{fold-more, has-more}
 use Rattle.rfc4737.proofs.Packets.{OfPackets}
+use Rattle.rfc4737.specs.Judge.{sentMost}
 use Rattle.receiver.specs.Marks.{wordOf, bitOf, markAt, withMark}
 
 -- two tests that hold together are equal
@@ -115,17 +116,17 @@ length-marks = snoc-ind (λ (fs : List Arrival). length (marksOf fs) ≡ 64) mor
     more fs a e = rw marks-more (simp length-set e)
 
 -- a packet is marked exactly if it is among the arrivals
-pub marked-is-arrived : (fs : List Arrival) → All (OfPackets 4096) fs → (s : ℕ) → 1 ≤ s → markAt (marksOf fs) s ≡ has s fs
+pub marked-is-arrived : (fs : List Arrival) → All (OfPackets sentMost) fs → (s : ℕ) → 1 ≤ s → markAt (marksOf fs) s ≡ has s fs
 unfolding marksOf has
-marked-is-arrived = snoc-ind (λ (fs : List Arrival). All (OfPackets 4096) fs → (s : ℕ) → 1 ≤ s → markAt (marksOf fs) s ≡ has s fs) more (λ h s l. marked-none s)
+marked-is-arrived = snoc-ind (λ (fs : List Arrival). All (OfPackets sentMost) fs → (s : ℕ) → 1 ≤ s → markAt (marksOf fs) s ≡ has s fs) more (λ h s l. marked-none s)
   where
     more : (fs : List Arrival) (a : Arrival)
-        → (All (OfPackets 4096) fs → (s : ℕ) → 1 ≤ s → markAt (marksOf fs) s ≡ has s fs)
-        → All (OfPackets 4096) (fs ++ (a ∷ []))
+        → (All (OfPackets sentMost) fs → (s : ℕ) → 1 ≤ s → markAt (marksOf fs) s ≡ has s fs)
+        → All (OfPackets sentMost) (fs ++ (a ∷ []))
         → (s : ℕ) → 1 ≤ s → markAt (marksOf (fs ++ (a ∷ []))) s ≡ has s (fs ++ (a ∷ []))
     more fs a h g s l =
-        let n : OfPackets 4096 a = all-right (OfPackets 4096) fs (a ∷ []) g .0 in
+        let n : OfPackets sentMost a = all-right (OfPackets sentMost) fs (a ∷ []) g .0 in
         let w : wordOf (a .number) < length (marksOf fs) = rw (length-marks fs) (omega arith) in
         rw (has-more, marks-more)
         (mark-with (marksOf fs) (a .number) s (n .low) l w
-        ∙ ap (λ (t : Bool). t || eqb (a .number) s) (h (all-left (OfPackets 4096) fs (a ∷ []) g) s l))
+        ∙ ap (λ (t : Bool). t || eqb (a .number) s) (h (all-left (OfPackets sentMost) fs (a ∷ []) g) s l))

@@ -11,9 +11,10 @@ use Rattle.rfc4737.specs.declared.Arrival.{Arrival}
 use Rattle.rfc4737.specs.declared.Answer.{Answer}
 use Rattle.rfc4737.specs.declared.Answer.the-variants as answer
 use Rattle.rfc4737.specs.Arrivals.{firsts}
-use Rattle.rfc4737.specs.Order.{Placed, jumps}
+use Rattle.rfc4737.specs.Order.{FirstArrival, jumps}
 use Rattle.rfc4737.specs.Extent.{discontinuity}
 use Rattle.rfc4737.specs.Moved.{movedOne, moved}
+use Rattle.rfc4737.specs.Judge.{judgeOne}
 use Rattle.rfc4737.proofs.Lists.{fold-map, drop-map, each-map}
 use Rattle.rfc4737.proofs.Moved.{early-greatest, firsts-moved, movedPlace, jumps-moved, discontinuity-moved, extent-moved, late-moved, answer-moved}
 use Rattle.receiver.specs.declared.Outcome.{Outcome}
@@ -29,7 +30,7 @@ module _ (c : ℕ) where
   module _ (k : ℕ) where
     -- the refusal of an arrival
     refusal-moved : (account : List Arrival) (a : Arrival) → accountRefusal k (moved c account) (movedOne c a) ≡ accountRefusal k account a
-    unfolding accountRefusal
+    unfolding accountRefusal judgeOne
     refusal-moved account a = rw (length-map account (movedOne c), early-greatest c account (a .time))
 
     -- after an arrival
@@ -48,7 +49,7 @@ module _ (c : ℕ) where
 
   -- ---- the window
 
-  abbrev movedPlaces : List Placed → List Placed
+  abbrev movedPlaces : List FirstArrival → List FirstArrival
   movedPlaces ps = map (movedPlace c) ps
 
   -- the jumps of an account
@@ -60,36 +61,36 @@ module _ (c : ℕ) where
   unfolding windowIn
   window-moved account =
       let js = jumps (firsts account) in
-      ap (λ (js : List Placed). drop (length js - window) js) (jumps-in account)
+      ap (λ (js : List FirstArrival). drop (length js - window) js) (jumps-in account)
       ∙ ap (λ (n : ℕ). drop (n - window) (movedPlaces js)) (length-map js (movedPlace c))
       ∙ drop-map (movedPlace c) (length js - window) js
 
   -- whether one stands at a position
-  stands-moved : (p : ℕ) (qs : List Placed) → standsIn p (movedPlaces qs) ≡ standsIn p qs
+  stands-moved : (p : ℕ) (qs : List FirstArrival) → standsIn p (movedPlaces qs) ≡ standsIn p qs
   unfolding standsIn
   stands-moved p [] = refl
   stands-moved p (q ∷ qs) = ap (λ (b : Bool). eqb (q .position) p || b) (stands-moved p qs)
 
   -- whether a discontinuity is one of them
-  in-moved : (d : Option Placed) (qs : List Placed) → isIn (Option·map (movedPlace c) d) (movedPlaces qs) ≡ isIn d qs
+  in-moved : (d : Option FirstArrival) (qs : List FirstArrival) → isIn (Option·map (movedPlace c) d) (movedPlaces qs) ≡ isIn d qs
   unfolding isIn
   in-moved none qs = refl
   in-moved (some d) qs = stands-moved (d .position) qs
 
   -- the oldest
-  head-moved : (qs : List Placed) → head? (movedPlaces qs) ≡ Option·map (movedPlace c) (head? qs)
+  head-moved : (qs : List FirstArrival) → head? (movedPlaces qs) ≡ Option·map (movedPlace c) (head? qs)
   head-moved [] = refl
   head-moved (q ∷ qs) = refl
 
   -- ---- what the account says
 
-  module _ (kept : List Placed) (account : List Arrival) (a : Arrival) where
+  module _ (kept : List FirstArrival) (account : List Arrival) (a : Arrival) where
     -- whether the discontinuity is in the window
     inside-moved : inWindow (movedPlaces kept) (moved c account) (a .number) ≡ inWindow kept account (a .number)
     unfolding inWindow
     inside-moved =
         ap (λ (fs : List Arrival). isIn (discontinuity fs (a .number)) (movedPlaces kept)) (firsts-moved c account)
-        ∙ ap (λ (d : Option Placed). isIn d (movedPlaces kept)) (discontinuity-moved c (firsts account) (a .number))
+        ∙ ap (λ (d : Option FirstArrival). isIn d (movedPlaces kept)) (discontinuity-moved c (firsts account) (a .number))
         ∙ in-moved (discontinuity (firsts account) (a .number)) kept
 
     -- the figures beyond the window
@@ -122,7 +123,7 @@ module _ (c : ℕ) where
       same : (earlier : List Arrival) (a : Arrival) → said (moved c earlier) (movedOne c a) ≡ said earlier a
       same earlier a =
           ap (λ (account : List Arrival). outcomeIn (windowIn account) k account (movedOne c a)) (account-moved k earlier)
-          ∙ ap (λ (kept : List Placed). outcomeIn kept k (moved c (accountOf k earlier)) (movedOne c a)) (window-moved (accountOf k earlier))
+          ∙ ap (λ (kept : List FirstArrival). outcomeIn kept k (moved c (accountOf k earlier)) (movedOne c a)) (window-moved (accountOf k earlier))
           ∙ outcome-moved (windowIn (accountOf k earlier)) (accountOf k earlier) a k
 
 -- as `fresh` carries it: of the receiver that it hands back

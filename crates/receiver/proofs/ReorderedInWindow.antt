@@ -9,7 +9,7 @@ use lib.ListN.{length, take, length-drop, take-append-drop}
 use borrow.Author.Tests.{lt-leb}
 use Rattle.rfc4737.specs.declared.Arrival.{Arrival}
 use Rattle.rfc4737.specs.Arrivals.{has, firsts}
-use Rattle.rfc4737.specs.Order.{Placed, nextExp, isInOrder, jumps}
+use Rattle.rfc4737.specs.Order.{FirstArrival, nextExp, isInOrder, jumps}
 use Rattle.rfc4737.specs.Extent.{discontinuity}
 use Rattle.rfc4737.proofs.Lists.{All, Ordered, all-right}
 use Rattle.rfc4737.proofs.Arrivals.{has-firsts}
@@ -19,7 +19,7 @@ use Rattle.receiver.specs.Account.{windowIn}
 use Rattle.receiver.proofs.Window.{lastNumber, IsDropped, IsKept, discontinuity-before-window, discontinuity-in-window}
 
 -- the account's jumps before the window
-unfoldable pub droppedIn : List Arrival → List Placed
+unfoldable pub droppedIn : List Arrival → List FirstArrival
 droppedIn account = take (length (jumps (firsts account)) - window) (jumps (firsts account))
 
 -- they and the window are all the jumps
@@ -28,12 +28,12 @@ unfolding droppedIn windowIn
 split account = take-append-drop (length (jumps (firsts account)) - window) (jumps (firsts account))
 
 -- a list with an element is not empty
-member-length : {p : Placed} {l : List Placed} → List·Memᴰ p l → 1 ≤ length l
+member-length : {p : FirstArrival} {l : List FirstArrival} → List·Memᴰ p l → 1 ≤ length l
 member-length (List·Memᴰ.List·Memᴰ·head e) = omega arith
 member-length (List·Memᴰ.List·Memᴰ·tail m) = omega arith
 
 -- the jumps of an account as those dropped and those kept, of which there is one where there is a jump
-pub record Split (account : List Arrival) (ds ws : List Placed) : Type 0 where
+pub record Split (account : List Arrival) (ds ws : List FirstArrival) : Type 0 where
   pub parts : ds ++ ws ≡ jumps (firsts account)
   pub some : 1 ≤ length (jumps (firsts account)) → 1 ≤ length ws
 
@@ -43,18 +43,18 @@ unfolding windowIn
 split-window account = record { parts = split account; some = λ h. simp length-drop (omega arith) }
 
 -- the discontinuity of a packet s, the window's oldest jump, and what the search in the window finds
-pub record WindowSearch (account : List Arrival) (ds ws : List Placed) (s : ℕ) : Type 0 where
-  pub at : Placed
+pub record WindowSearch (account : List Arrival) (ds ws : List FirstArrival) (s : ℕ) : Type 0 where
+  pub at : FirstArrival
   pub is : discontinuity (firsts account) s ≡ some at
-  pub oldest : Placed
-  pub later : List Placed
+  pub oldest : FirstArrival
+  pub later : List FirstArrival
   pub window : ws ≡ oldest ∷ later
   pub high : oldest .position ≤ length (firsts account)
   pub dropped : s < lastNumber ds → IsDropped s ws oldest at
   pub kept : lastNumber ds ≤ s → IsKept s ws at
 
 -- of a reordered packet
-pub search-late : (account : List Arrival) (ds ws : List Placed)
+pub search-late : (account : List Arrival) (ds ws : List FirstArrival)
     → Split account ds ws
     → (s : ℕ)
     → 1 ≤ s
@@ -67,11 +67,11 @@ search-late account ds ws sp s low new late = go ws refl
     found : DiscontinuityJump s (firsts account)
     found = reordered-discontinuity s low (firsts account) (has-firsts s account ∙ new) (lt-leb (nextExp (firsts account)) s late)
 
-    go : (vs : List Placed) → ws ≡ vs → WindowSearch account ds ws s
+    go : (vs : List FirstArrival) → ws ≡ vs → WindowSearch account ds ws s
     go [] e = absurd (omega (arith, sp .some (member-length (found .jump)), ap length e))
     go (o ∷ later) e =
         let parts : jumps (firsts account) ≡ ds ++ (o ∷ later) =
-        sym (sp .parts) ∙ ap (λ (l : List Placed). ds ++ l) e in
+        sym (sp .parts) ∙ ap (λ (l : List FirstArrival). ds ++ l) e in
         let rise = subst (Ordered Rises) parts (jumps-rise (firsts account)) in
         let first = rw parts at (found .first) in
         let inside = all-right (Within (firsts account)) ds (o ∷ later) (subst (All (Within (firsts account))) parts (jumps-within (firsts account))) in

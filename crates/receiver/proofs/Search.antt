@@ -10,7 +10,7 @@ use native.Mathlib.Omega.{arith}
 use lib.Dec.{ltb}
 use lib.ListN.{getD}
 use borrow.Author.Tests.{lt-ltb}
-use Rattle.rfc4737.specs.Order.{Placed}
+use Rattle.rfc4737.specs.Order.{FirstArrival}
 use Rattle.rfc4737.specs.Extent.{firstAbove}
 use Rattle.receiver.specs.declared.Places.{Places}
 use Rattle.receiver.specs.Fit.{every}
@@ -32,7 +32,7 @@ places-end places n at h =
     let e : n - at ≡ zero = omega arith in
     rw e
 
-module _ (places : Places) (f : Placed → Bool) where
+module _ (places : Places) (f : FirstArrival → Bool) where
   -- if all pass, each does
   pub all-at : (n at k : ℕ) → every (map f (placesFrom places at n)) ≡ true → k < n → f (placeAt places (at + k)) ≡ true
   unfolding placesFrom

@@ -1,8 +1,9 @@
--- The square of a run. Assumes nothing.
+-- The square of a run of the receiver fits the sum of squares: both factors are at most 4,096. Assumes nothing.
 use Prim.Native.Nat.{ℕ, _*_, _≤_}
 use native.Mathlib.Nat.{mul-le-mul}
-use Rattle.receiver.specs.Limits.{packets, squaresMost}
+use Rattle.rfc4737.specs.Judge.{sentMost}
+use Rattle.rfc4737.specs.Runs.{squaresMost}
 
 -- a run of at most 4,096 has a square of at most 16,777,216
-pub square-high : (run : ℕ) → run ≤ packets → run * run ≤ squaresMost
+pub square-high : (run : ℕ) → run ≤ sentMost → run * run ≤ squaresMost
 square-high run h = mul-le-mul h h

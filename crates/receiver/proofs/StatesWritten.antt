@@ -10,7 +10,7 @@ use denote.Enum.Declared.{tagOf}
 use lib.Dec.{eqb, ltb}
 use lib.ListN.{getD}
 use types.Run.{OneOf}
-use Rattle.rfc4737.specs.Order.{Placed}
+use Rattle.rfc4737.specs.Order.{FirstArrival}
 use Rattle.receiver.specs.declared.Stream.{Stream}
 use Rattle.receiver.specs.declared.Receiver.{Receiver}
 use Rattle.receiver.specs.declared.ReceiverAnswer.{ReceiverAnswer}
@@ -21,7 +21,7 @@ use Rattle.receiver.specs.Step.{placedAt, duplicateStream, inOrderStream
 use Rattle.receiver.specs.Private.Parts.{placesOf, whole}
 use Rattle.receiver.proofs.ReceiverAnswer.{the-type}
 
-module _ (room : Bool) (h : Held) (size : ℕ) (p : Placed) where
+module _ (room : Bool) (h : Held) (size : ℕ) (p : FirstArrival) where
   -- how many jumps are kept after an in-order arrival
   pub kept-counted : heldAfter room h size p .kept ≡ cond (eqb size 0) (h .kept) (cond room (h .kept + 1) (h .kept))
   unfolding heldAfter withJump

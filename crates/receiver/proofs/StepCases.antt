@@ -1,35 +1,34 @@
 -- What is said of an arrival, case by case, and the step that it makes. Assumes nothing.
 use Prim.Native.Nat.{ℕ, zero, suc, _+_, _-_, _<_, _≤_}
-use mathlib.Core.Bool.{Bool, true, false, not, cond}
-use mathlib.Core.List.{head?}
+use mathlib.Core.Bool.{Bool, true, false, not}
+use mathlib.Core.List.{[], _∷_, head?}
 use mathlib.Core.Option.{none, some}
 use mathlib.Core.Path.{_≡_, refl, sym, ap, _∙_}
 use native.Mathlib.Omega.{arith}
 use lib.Dec.{eqb, lit<}
+use lib.ListN.{getD}
 use borrow.Author.Tests.{ne-eqb, lt-ltb, le-ltb, le-leb, lt-leb, eqb-true, not-false}
-use Rattle.rfc4737.specs.Order.{Placed}
+use Rattle.rfc4737.specs.declared.Arrival.{Arrival}
+use Rattle.rfc4737.specs.Order.{FirstArrival}
 use Rattle.rfc4737.specs.Extent.{firstAbove}
-use Rattle.rfc4737.specs.Times.{tooEarly}
-use Rattle.rfc4737.specs.Refusals.{within, numberOutside, timeBack, stateUnfit, stateFull}
+use Rattle.rfc4737.specs.Refusals.{inCase, stateUnfit, stateFull}
+use Rattle.rfc4737.specs.Judge.{arrivalsMost, judgeOne}
+use Rattle.rfc4737.proofs.Due.{first-none, case-none}
+use Rattle.rfc4737.proofs.Judged.{one-split}
 use Rattle.receiver.specs.declared.Receiver.{Receiver}
 use Rattle.receiver.specs.declared.Lateness.{Lateness}
 use Rattle.receiver.specs.declared.ReceiverAnswer.the-variants.{Duplicate, InOrder, Exact, Beyond}
 use Rattle.receiver.specs.declared.Outcome.{Outcome}
-use Rattle.receiver.specs.declared.Stepped.{Stepped}
-use Rattle.receiver.specs.Limits.{packets}
+use Rattle.receiver.specs.declared.StepAnswer.{StepAnswer}
+use Rattle.receiver.specs.Limits.{window}
 use Rattle.receiver.specs.Outcomes.{refusedOutcome, acceptedOutcome}
 use Rattle.receiver.specs.Marks.{markAt}
 use Rattle.receiver.specs.Kept.{placeAt, placesFrom, Held, heldOf, keptOf}
 use Rattle.receiver.specs.Fit.{fit, jumpFit}
 use Rattle.receiver.specs.Step.{stepRefusal, latenessFrom, reorderedOutcome, lateOutcome, firstOutcome, lookedAt, outcomeOf, notedState, stepWith}
-use Rattle.receiver.specs.Private.Decision.{Unrefused, After}
-use Rattle.receiver.proofs.Fits.{and-true, within-true, stream-facts, places-facts, jump-facts}
+use Rattle.receiver.specs.Private.Decision.{Unrefused}
+use Rattle.receiver.proofs.Fits.{and-true, stream-facts, places-facts, jump-facts}
 use Rattle.receiver.proofs.Search.{all-at}
-
--- a choice that comes to 0 with a first number that is not 0
-cond-zero : (b : Bool) (k m : ℕ) → 0 < k → cond b k m ≡ 0 → (b ≡ false) × (m ≡ 0)
-cond-zero true k m h e = absurd (omega arith)
-cond-zero false k m h e = (refl, e)
 
 -- ---- a reordered packet
 
@@ -40,14 +39,14 @@ module _ (h : Held) (position number time : ℕ) where
   late-none e = rw e
 
   -- beyond the window
-  pub late-beyond : (p q : Placed) (l : Lateness) → firstAbove number (keptOf h) ≡ some p → number < h .dropped
+  pub late-beyond : (p q : FirstArrival) (l : Lateness) → firstAbove number (keptOf h) ≡ some p → number < h .dropped
       → head? (keptOf h) ≡ some q → l ≡ latenessFrom position time (some q)
       → acceptedOutcome (Beyond l) ≡ lateOutcome h position number time
   unfolding reorderedOutcome
   late-beyond p q l e d o k = simp (e, lt-ltb _ _ d, o, k)
 
   -- within it
-  pub late-exact : (p : Placed) (l : Lateness) → firstAbove number (keptOf h) ≡ some p → h .dropped ≤ number
+  pub late-exact : (p : FirstArrival) (l : Lateness) → firstAbove number (keptOf h) ≡ some p → h .dropped ≤ number
       → l ≡ latenessFrom position time (some p) → acceptedOutcome (Exact l) ≡ lateOutcome h position number time
   unfolding reorderedOutcome
   late-exact p l e d k = simp (e, le-ltb _ _ d, k)
@@ -68,15 +67,12 @@ module _ (r : Receiver) (number time : ℕ) where
   pub accepted-facts : stepRefusal r number time ≡ 0 → Unrefused r number
   unfolding stepRefusal fit
   accepted-facts e =
-      let s = r .stream in
-      let early = cond (tooEarly (s .greatest) time) timeBack 0 in
-      let wrong = cond (not (within 1 (s .sent) number)) numberOutside early in
-      let full = cond (eqb (s .arrived + s .duplicates) packets) stateFull wrong in
-      let a = cond-zero (not (fit r)) stateUnfit full (lit< tt) e in
-      let b = cond-zero (eqb (s .arrived + s .duplicates) packets) stateFull wrong (lit< tt) (a .1) in
-      let d = cond-zero (not (within 1 (s .sent) number)) numberOutside early (lit< tt) (b .1) in
-      let g = and-true _ _ (not-false _ (a .0)) in
-      let n = within-true 1 (s .sent) number (not-false _ (d .0)) in
+      let arrival : Arrival = record { number = number; time = time } in
+      let one = judgeOne (r .stream .sent) (r .stream .greatest) arrival in
+      let full = inCase (eqb (r .stream .arrived + r .stream .duplicates) arrivalsMost) stateFull in
+      let a = first-none (inCase (not (fit r)) stateUnfit) (full ∷ one ∷ []) e in
+      let g = and-true _ _ (not-false _ (case-none (not (fit r)) stateUnfit (lit< tt) (a .0))) in
+      let n = one-split _ _ arrival (first-none one [] (first-none full (one ∷ []) (a .1) .1) .0) .0 in
       record {
         stream = stream-facts _ (g .0);
         places = places-facts _ _ (g .1);
@@ -86,13 +82,13 @@ module _ (r : Receiver) (number time : ℕ) where
 
   -- what is known of the jump in a kept place
   pub after-place : Unrefused r number → (place : ℕ) → place < r .stream .kept
-      → After (r .places .positions) place (r .stream .arrived + 1)
+      → (place < window) × (getD (r .places .positions) place 0 ≤ r .stream .arrived + 1)
   unfolding keptOf placeAt
   after-place a place h =
       let e : 0 + place ≡ place = omega arith in
       let k = all-at (r .places) (jumpFit (r .stream)) (r .stream .kept) 0 place (a .places .jumps-fit) h in
       let j = jump-facts (r .stream) (placeAt (r .places) place) (rw e at k) in
-      omega arith
+      (omega (arith, a .places .kept-high), omega (arith, j .position-high))
 
   -- refused before it is looked at
   pub outcome-refused : (x : ℕ) → (x ≡ 0 → ⊥) → x ≡ stepRefusal r number time → refusedOutcome x ≡ outcomeOf r number time
@@ -131,13 +127,13 @@ module _ (r : Receiver) (number time : ℕ) where
         opened false q p = rw q at p
 
     -- a refusal hands the state back
-    pub step-refused : (o .refusal ≡ 0 → ⊥) → _≡_ {A = Stepped} (record { outcome = o; state = r }) (stepWith room r number time)
+    pub step-refused : (o .refusal ≡ 0 → ⊥) → _≡_ {A = StepAnswer} (record { outcome = o; state = r }) (stepWith room r number time)
     unfolding stepWith
     step-refused h = simp (sym e, ne-eqb (o .refusal) 0 h)
 
     -- what is noted makes the state
     pub step-noted : (s : Receiver) → o .refusal ≡ 0 → s ≡ notedState room r number time (o .noted)
-        → _≡_ {A = Stepped} (record { outcome = o; state = s }) (stepWith room r number time)
+        → _≡_ {A = StepAnswer} (record { outcome = o; state = s }) (stepWith room r number time)
     unfolding stepWith
     step-noted s z k = simp (sym e, z, k)
 

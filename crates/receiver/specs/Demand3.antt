@@ -11,11 +11,11 @@ use Rattle.rfc4737.specs.declared.ReorderedFigures.{ReorderedFigures}
 use Rattle.rfc4737.specs.declared.Answer.the-variants as answer
 use Rattle.rfc4737.specs.declared.Counts.{Counts}
 use Rattle.rfc4737.specs.Arrivals.{each, count}
-use Rattle.rfc4737.specs.Order.{Placed}
+use Rattle.rfc4737.specs.Order.{FirstArrival}
 use Rattle.rfc4737.specs.Runs.{counts}
 use Rattle.rfc4737.specs.Refusals.{stateUnfit}
 use Rattle.receiver.specs.declared.Receiver.{Receiver}
-use Rattle.receiver.specs.declared.Stepped.{Stepped}
+use Rattle.receiver.specs.declared.StepAnswer.{StepAnswer}
 use Rattle.receiver.specs.declared.ReceiverAnswer.{ReceiverAnswer}
 use Rattle.receiver.specs.declared.Outcome.{Outcome}
 use Rattle.receiver.specs.declared.ReceiverAnswer.the-variants.{Exact, Beyond}
@@ -23,7 +23,7 @@ use Rattle.receiver.specs.Step.{freshOf, stepOf}
 use Rattle.receiver.specs.Account.{accountRefusal, accountOf, answerIn, answersIn, windowIn, inWindow, trueFigures, beyondFigures, accountOutcomes}
 
 -- the step with an arrival
-abbrev pub fedTo : Receiver → Arrival → Stepped
+abbrev pub fedTo : Receiver → Arrival → StepAnswer
 fedTo r a = stepOf r (a .number) (a .time)
 
 -- the state of a fresh receiver for K after the arrivals fed
@@ -39,7 +39,7 @@ unfoldable pub receiverOutcomes : ℕ → List Arrival → List Outcome
 receiverOutcomes k fed = each (outcomeAfter k) fed
 
 -- how a reordered packet a is answered over a window and an account: so it is noted, and d has its true figures
-pub record Answered (kept : List Placed) (account : List Arrival) (a : Arrival) (d : ReorderedFigures) (noted : ReceiverAnswer) : Type 0 where
+pub record Answered (kept : List FirstArrival) (account : List Arrival) (a : Arrival) (d : ReorderedFigures) (noted : ReceiverAnswer) : Type 0 where
   -- its discontinuity is in the window: exact, with the true figures
   pub exact : inWindow kept account (a .number) ≡ true → noted ≡ Exact (trueFigures d)
   -- it is not: beyond the window,

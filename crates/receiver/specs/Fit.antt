@@ -6,12 +6,14 @@ use Prim.Native.Nat.{_+_}
 use mathlib.Core.Bool.{Bool, true, _&&_}
 use mathlib.Core.List.{List, [], _∷_, map}
 use lib.Dec.{leb}
-use Rattle.rfc4737.specs.Order.{Placed}
+use Rattle.rfc4737.specs.Order.{FirstArrival}
 use Rattle.rfc4737.specs.Refusals.{within}
+use Rattle.rfc4737.specs.Judge.{sentMost, arrivalsMost}
+use Rattle.rfc4737.specs.Runs.{squaresMost}
 use Rattle.receiver.specs.declared.Stream.{Stream}
 use Rattle.receiver.specs.declared.Places.{Places}
 use Rattle.receiver.specs.declared.Receiver.{Receiver}
-use Rattle.receiver.specs.Limits.{window, packets, squaresMost}
+use Rattle.receiver.specs.Limits.{window}
 use Rattle.receiver.specs.Kept.{heldOf, keptOf}
 
 -- whether every one of some tests holds
@@ -23,9 +25,9 @@ every (b ∷ bs) = b && every bs
 unfoldable pub streamFit : Stream → Bool
 streamFit s =
     every
-    (within 1 packets (s .sent)
+    (within 1 sentMost (s .sent)
     ∷ leb (s .arrived) (s .sent)
-    ∷ leb (s .arrived + s .duplicates) packets
+    ∷ leb (s .arrived + s .duplicates) arrivalsMost
     ∷ leb (s .inorder) (s .arrived)
     ∷ leb (s .runs .current) (s .inorder)
     ∷ leb (s .runs .closed) (s .arrived)
@@ -34,7 +36,7 @@ streamFit s =
     ∷ [])
 
 -- whether a kept jump is fit, under K, L and the greatest time
-unfoldable pub jumpFit : Stream → Placed → Bool
+unfoldable pub jumpFit : Stream → FirstArrival → Bool
 jumpFit s p =
     every (within 1 (s .arrived) (p .position) ∷ within 1 (s .sent) (p .number) ∷ leb (p .time) (s .greatest) ∷ [])
 

@@ -4,12 +4,12 @@ use mathlib.Core.Bool.{Bool, cond}
 use mathlib.Core.List.{List, [], _∷_, _++_}
 use lib.Dec.{eqb, ltb}
 use lib.ListN.{getD, set, take, drop}
-use Rattle.rfc4737.specs.Order.{Placed}
+use Rattle.rfc4737.specs.Order.{FirstArrival}
 use Rattle.receiver.specs.declared.Stream.{Stream}
 use Rattle.receiver.specs.declared.Places.{Places}
 
 -- the jump that stands in a place
-unfoldable pub placeAt : Places → ℕ → Placed
+unfoldable pub placeAt : Places → ℕ → FirstArrival
 placeAt places at =
     record {
       position = getD (places .positions) at 0;
@@ -18,7 +18,7 @@ placeAt places at =
     }
 
 -- the jumps of n places, from a place on
-unfoldable pub placesFrom : Places → ℕ → ℕ → List Placed
+unfoldable pub placesFrom : Places → ℕ → ℕ → List FirstArrival
 placesFrom places at zero = []
 placesFrom places at (suc n) = placeAt places at ∷ placesFrom places (suc at) n
 
@@ -33,7 +33,7 @@ abbrev pub heldOf : Stream → Places → Held
 heldOf s places = record { kept = s .kept; dropped = s .dropped; places = places }
 
 -- the kept jumps, the oldest first
-unfoldable pub keptOf : Held → List Placed
+unfoldable pub keptOf : Held → List FirstArrival
 keptOf h = placesFrom (h .places) 0 (h .kept)
 
 -- values under a new one: it stands after the n kept ones; where there is no room for it, these move one place
@@ -42,7 +42,7 @@ pushed room n l v = cond room (set l n v) (drop 1 (take n l) ++ (v ∷ drop n l)
 
 -- what is held under a new jump p: it goes after the kept ones; where there is no room for it, the oldest is dropped and the
 -- others move one place. The other places are not written
-unfoldable pub withJump : Bool → Held → Placed → Held
+unfoldable pub withJump : Bool → Held → FirstArrival → Held
 withJump room h p =
     record {
       kept = cond room (h .kept + 1) (h .kept);
@@ -60,5 +60,5 @@ abbrev pub hasRoom : ℕ → Held → Bool
 hasRoom most h = ltb (h .kept) most
 
 -- what is held after an in-order arrival p with a jump size: it is a jump if this is not 0
-unfoldable pub heldAfter : Bool → Held → ℕ → Placed → Held
+unfoldable pub heldAfter : Bool → Held → ℕ → FirstArrival → Held
 heldAfter room h size p = cond (eqb size 0) h (withJump room h p)

@@ -2,24 +2,25 @@
 -- Assumes nothing.
 use Prim.Native.Nat.{ℕ, _+_, _-_, min, max}
 use mathlib.Core.Bool.{Bool, not, cond}
-use mathlib.Core.List.{List, head?}
+use mathlib.Core.List.{List, [], _∷_, head?}
 use mathlib.Core.Option.{Option, none, some}
 use lib.Dec.{leb, ltb, eqb}
 use lib.ListN.{replicate}
-use Rattle.rfc4737.specs.Order.{Placed, nextAfter}
+use Rattle.rfc4737.specs.Order.{FirstArrival, nextAfter}
 use Rattle.rfc4737.specs.Extent.{firstAbove, extentFrom, lateFrom}
 use Rattle.rfc4737.specs.Runs.{lengthened, ended}
-use Rattle.rfc4737.specs.Times.{tooEarly, nextReference}
-use Rattle.rfc4737.specs.Refusals.{within, sentOutside, numberOutside, timeBack, stateUnfit, stateFull}
+use Rattle.rfc4737.specs.Times.{nextReference}
+use Rattle.rfc4737.specs.Refusals.{outside, inCase, firstOf, stateUnfit, stateFull}
+use Rattle.rfc4737.specs.Judge.{sentMost, arrivalsMost, judgeSent, judgeOne}
 use Rattle.receiver.specs.declared.Stream.{Stream}
 use Rattle.receiver.specs.declared.Receiver.{Receiver}
 use Rattle.receiver.specs.declared.Lateness.{Lateness}
 use Rattle.receiver.specs.declared.ReceiverAnswer.{ReceiverAnswer}
 use Rattle.receiver.specs.declared.ReceiverAnswer.the-variants.{Duplicate, InOrder, Exact, Beyond}
 use Rattle.receiver.specs.declared.Outcome.{Outcome}
-use Rattle.receiver.specs.declared.Stepped.{Stepped}
-use Rattle.receiver.specs.declared.Started.{Started}
-use Rattle.receiver.specs.Limits.{window, packets}
+use Rattle.receiver.specs.declared.StepAnswer.{StepAnswer}
+use Rattle.receiver.specs.declared.FreshAnswer.{FreshAnswer}
+use Rattle.receiver.specs.Limits.{window}
 use Rattle.receiver.specs.Outcomes.{refusedOutcome, acceptedOutcome}
 use Rattle.receiver.specs.Marks.{markAt, withMark}
 use Rattle.receiver.specs.Kept.{Held, heldOf, keptOf, hasRoom, heldAfter}
@@ -50,29 +51,28 @@ madeFor k =
     }
 
 -- a fresh receiver for K; refused by 4 it is one made for K = 1
-unfoldable pub freshOf : ℕ → Started
-freshOf k =
-    cond (within 1 packets k) (record { refusal = 0; state = madeFor k })
-    (record { refusal = sentOutside; state = madeFor 1 })
+unfoldable pub freshOf : ℕ → FreshAnswer
+freshOf k = record { refusal = judgeSent k; state = madeFor (cond (outside 1 sentMost k) 1 k) }
 
 -- ---- what is said of an arrival
 
 -- the refusal that an arrival meets before it is looked at, 0 for none: unfit state 10, then 11, 6, 7
 unfoldable pub stepRefusal : Receiver → ℕ → ℕ → ℕ
 stepRefusal r number time =
-    cond (not (fit r)) stateUnfit
-    (cond (eqb (r .stream .arrived + r .stream .duplicates) packets) stateFull
-    (cond (not (within 1 (r .stream .sent) number)) numberOutside
-    (cond (tooEarly (r .stream .greatest) time) timeBack 0)))
+    firstOf
+    (inCase (not (fit r)) stateUnfit
+    ∷ inCase (eqb (r .stream .arrived + r .stream .duplicates) arrivalsMost) stateFull
+    ∷ judgeOne (r .stream .sent) (r .stream .greatest) (record { number = number; time = time })
+    ∷ [])
 
 -- extent and late time of the packet that arrives at a position and a time, from a jump
-unfoldable pub latenessFrom : ℕ → ℕ → Option Placed → Lateness
+unfoldable pub latenessFrom : ℕ → ℕ → Option FirstArrival → Lateness
 latenessFrom position time d = record { extent = extentFrom position d; late = lateFrom time d }
 
 -- what is said of a reordered packet that arrives at a position and a time, over the kept jumps and the number of the last
 -- one dropped, d being the oldest kept jump of a greater number. With none it is refused. It is beyond the window if its
 -- number is below the dropped one, and the oldest kept jump gives the figures; if not, d gives the exact figures
-unfoldable pub reorderedOutcome : List Placed → ℕ → ℕ → ℕ → ℕ → Option Placed → Outcome
+unfoldable pub reorderedOutcome : List FirstArrival → ℕ → ℕ → ℕ → ℕ → Option FirstArrival → Outcome
 reorderedOutcome kept dropped position number time none = refusedOutcome stateUnfit
 reorderedOutcome kept dropped position number time (some d) =
     acceptedOutcome
@@ -146,7 +146,7 @@ reorderedStream s number time =
     }
 
 -- the place of a first arrival
-abbrev pub placedAt : Stream → ℕ → ℕ → Placed
+abbrev pub placedAt : Stream → ℕ → ℕ → FirstArrival
 placedAt s number time = record { position = s .arrived + 1; number = number; time = time }
 
 -- the state after an in-order arrival with a jump size, where there is room for a new jump or not
@@ -173,15 +173,15 @@ notedState room r number time (Exact l) = reorderedState r number time
 notedState room r number time (Beyond l) = reorderedState r number time
 
 -- the step where there is room for a new jump or not: what is said, and the state after it; with a refusal it stays
-unfoldable pub stepWith : Bool → Receiver → ℕ → ℕ → Stepped
+unfoldable pub stepWith : Bool → Receiver → ℕ → ℕ → StepAnswer
 stepWith room r number time =
     let o = outcomeOf r number time in
     record { outcome = o; state = cond (eqb (o .refusal) 0) (notedState room r number time (o .noted)) r }
 
 -- the step of a receiver that keeps at most so many jumps: at least 1, and at most 64
-abbrev pub stepWithin : ℕ → Receiver → ℕ → ℕ → Stepped
+abbrev pub stepWithin : ℕ → Receiver → ℕ → ℕ → StepAnswer
 stepWithin most r number time = stepWith (hasRoom (max 1 (min most window)) (heldOf (r .stream) (r .places))) r number time
 
 -- the receiver's step, for every state and arrival: it keeps at most 64 jumps
-abbrev pub stepOf : Receiver → ℕ → ℕ → Stepped
+abbrev pub stepOf : Receiver → ℕ → ℕ → StepAnswer
 stepOf r number time = stepWithin window r number time

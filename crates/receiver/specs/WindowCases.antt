@@ -88,9 +88,9 @@ case3 =
     }
 
 -- the table
-unfoldable pub table : List WindowCase
-table = case1 ∷ case2 ∷ case3 ∷ []
+unfoldable pub windowCases : List WindowCase
+windowCases = case1 ∷ case2 ∷ case3 ∷ []
 
 -- each comes out as it is to
 abbrev pub WindowCasesHold : Type 0
-WindowCasesHold = map computed table ≡ map outcomeDue table
+WindowCasesHold = map computed windowCases ≡ map outcomeDue windowCases

@@ -16,10 +16,10 @@ use crate::numbers::after_reordered;
 ghost use mathlib.Core.Path.{_≡_};
 ghost use lib.Dec.{ltb};
 ghost use Rattle.receiver.specs.Step.{stepWith, stepOf};
-ghost use Rattle.receiver.specs.Private.Parts.{Most, Full, whole, steppedOf};
+ghost use Rattle.receiver.specs.Private.Parts.{Most, Full, whole, stepAnswerOf};
 
 // What is said of an arrival, and the stream's numbers after it.
-pub struct Advanced {
+pub struct StreamStep {
     pub outcome: Outcome,
     pub stream: Stream,
 }
@@ -35,18 +35,18 @@ pub(crate) fn advance_within<'a>(
     times: &'a mut [u64; Receiver::WINDOW],
     number: u32,
     time: u64,
-) -> Advanced
+) -> StreamStep
     requires { ⌜ Most most × Full (now positions) (now numbers) (now times) ⌝ }
-    ensures { λ a. ⌜ steppedOf a (now (marks .exit)) (now (positions .exit)) (now (numbers .exit)) (now (times .exit))
+    ensures { λ a. ⌜ stepAnswerOf a (now (marks .exit)) (now (positions .exit)) (now (numbers .exit)) (now (times .exit))
         ≡ stepWith (ltb (s .kept) most) (whole s (now (marks .entry)) (now (positions .entry)) (now (numbers .entry)) (now (times .entry))) number time ⌝ }
 {
     let outcome = decide(s, marks, positions, numbers, times, number, time);
     if outcome.refusal != 0 {
-        return Advanced { outcome, stream: s };
+        return StreamStep { outcome, stream: s };
     }
     let noted = outcome.noted;
     match noted {
-        ReceiverAnswer::Duplicate => Advanced {
+        ReceiverAnswer::Duplicate => StreamStep {
             outcome,
             stream: after_duplicate(s, time),
         },
@@ -65,11 +65,11 @@ pub(crate) fn advance_within<'a>(
                     time,
                 );
             }
-            Advanced { outcome, stream }
+            StreamStep { outcome, stream }
         }
         _ => {
             mark(marks, number);
-            Advanced {
+            StreamStep {
                 outcome,
                 stream: after_reordered(s, number, time),
             }
@@ -86,9 +86,9 @@ pub(crate) fn advance<'a>(
     times: &'a mut [u64; Receiver::WINDOW],
     number: u32,
     time: u64,
-) -> Advanced
+) -> StreamStep
     requires { ⌜ Full (now positions) (now numbers) (now times) ⌝ }
-    ensures { λ a. ⌜ steppedOf a (now (marks .exit)) (now (positions .exit)) (now (numbers .exit)) (now (times .exit))
+    ensures { λ a. ⌜ stepAnswerOf a (now (marks .exit)) (now (positions .exit)) (now (numbers .exit)) (now (times .exit))
         ≡ stepOf (whole s (now (marks .entry)) (now (positions .entry)) (now (numbers .entry)) (now (times .entry))) number time ⌝ }
 {
     advance_within(s, MOST, marks, positions, numbers, times, number, time)

@@ -10,18 +10,19 @@ use crate::fit::places_fit;
 use crate::fit::stream_fit;
 use crate::kept::place_above;
 use crate::marking::is_marked;
+use rfc4737::judge::judge_one;
 use rfc4737::refusal;
 use rfc4737::time::elapsed;
-use rfc4737::time::too_early;
 ghost use mathlib.Core.Path.{_≡_};
 ghost use mathlib.Core.List.{[]};
 ghost use mathlib.Core.Option.{some};
-ghost use Prim.Native.Nat.{ℕ, _+_};
+ghost use Prim.Native.Nat.{ℕ, _+_, _<_, _≤_};
 ghost use lib.ListN.{getD};
 ghost use Rattle.receiver.specs.Step.{stepRefusal, latenessFrom, lateOutcome, outcomeOf};
 ghost use Rattle.receiver.specs.Kept.{heldOf};
+ghost use Rattle.receiver.specs.Limits.{window};
 ghost use Rattle.receiver.specs.Private.Parts.{placesOf, whole};
-ghost use Rattle.receiver.specs.Private.Decision.{Unrefused, After};
+ghost use Rattle.receiver.specs.Private.Decision.{Unrefused};
 
 // The refusal that an arrival meets before it is looked at, 0 for none.
 fn refusal_of<'a>(
@@ -43,16 +44,7 @@ fn refusal_of<'a>(
     if s.arrived + s.duplicates == Receiver::PACKETS {
         return refusal::STATE_FULL;
     }
-    if number == 0 {
-        return refusal::NUMBER_OUTSIDE;
-    }
-    if s.sent < number {
-        return refusal::NUMBER_OUTSIDE;
-    }
-    if too_early(s.greatest, time) {
-        return refusal::TIME_BACK;
-    }
-    0
+    judge_one(s.sent as u64, s.greatest, number as u64, time)
 }
 
 // Extent and late time of the packet that arrives at a position and a time, from the jump in a place.
@@ -63,7 +55,7 @@ fn lateness_from<'a>(
     position: u32,
     time: u64,
 ) -> Lateness
-    requires { ⌜ After (now positions) place position ⌝ }
+    requires { ⌜ (place < window) × (getD (now positions) place 0 ≤ position) ⌝ }
     ensures { λ r. ⌜ ((s : ℕ) → r ≡ latenessFrom position time (some (record { position = getD (now (positions .entry)) place 0; number = s; time = getD (now (times .entry)) place 0 }))) ⌝ }
 {
     Lateness {

@@ -6,7 +6,8 @@ ghost use mathlib.Core.Path.{_≡_};
 ghost use mathlib.Core.Bool.{_&&_};
 ghost use Prim.Native.Nat.{_≤_};
 ghost use Rattle.rfc4737.specs.Refusals.{within};
-ghost use Rattle.receiver.specs.Limits.{window, packets};
+ghost use Rattle.rfc4737.specs.Judge.{sentMost};
+ghost use Rattle.receiver.specs.Limits.{window};
 ghost use Rattle.receiver.specs.Fit.{streamFit, placesFit};
 ghost use Rattle.receiver.specs.Private.Parts.{placesOf};
 ghost use Rattle.receiver.specs.Private.Decision.{firstPass, notAfter};
@@ -103,7 +104,7 @@ pub(crate) fn places_fit<'a>(
     numbers: &'a [u16; Receiver::WINDOW],
     times: &'a [u64; Receiver::WINDOW],
 ) -> bool
-    requires { ⌜ (s .sent ≤ packets) × (s .arrived ≤ packets) ⌝ }
+    requires { ⌜ (s .sent ≤ sentMost) × (s .arrived ≤ sentMost) ⌝ }
     ensures { λ r. ⌜ r ≡ placesFit s (placesOf (now (positions .entry)) (now (numbers .entry)) (now (times .entry))) ⌝ }
 {
     let kept = s.kept as usize;

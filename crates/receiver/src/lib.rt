@@ -15,6 +15,8 @@ use fit::places_fit;
 use fit::stream_fit;
 use rfc4737::LateTime;
 use rfc4737::Runs;
+use rfc4737::judge::SENT_MOST;
+use rfc4737::judge::outside;
 use rfc4737::refusal;
 ghost use mathlib.Core.Path.{_≡_};
 ghost use mathlib.Core.List.{List};
@@ -82,14 +84,14 @@ pub struct Outcome {
 }
 
 // The answer of a step: what is said of the arrival, and the state after it.
-pub struct Stepped {
+pub struct StepAnswer {
     pub outcome: Outcome,
     pub state: Receiver,
 }
 
 // A receiver at its start: the refusal (0 for none), and the state.
 #[repr(C)]
-pub struct Started {
+pub struct FreshAnswer {
     pub refusal: u32,
     pub state: Receiver,
 }
@@ -101,42 +103,36 @@ impl Receiver {
     // How many jumps are kept.
     pub const WINDOW: usize = 64;
     // How many packets a receiver is made for at most, and how many arrivals it accepts.
-    pub const PACKETS: u32 = 4096;
+    pub const PACKETS: u32 = SENT_MOST as u32;
 
     // A fresh receiver for k packets; where k is refused, one for a single packet.
-    pub fn fresh(k: u32) -> Started
+    pub fn fresh(k: u32) -> FreshAnswer
         ensures fresh { λ r. ⌜ r ≡ freshOf k ⌝ }
         ensures demand3 { λ r. ⌜ ((fed : List Arrival) → Demand3 (r .state .stream .sent) fed) ⌝ }
         ensures windowcases { λ _. ⌜ WindowCasesHold ⌝ }
         ensures moved { λ r. ⌜ MovedAnswers (r .state .stream .sent) ⌝ }
     {
-        if k == 0 {
-            return Started {
+        if outside(1, SENT_MOST, k as u64) {
+            return FreshAnswer {
                 refusal: refusal::SENT_OUTSIDE,
                 state: made_for(1),
             };
         }
-        if Receiver::PACKETS < k {
-            return Started {
-                refusal: refusal::SENT_OUTSIDE,
-                state: made_for(1),
-            };
-        }
-        Started {
+        FreshAnswer {
             refusal: 0,
             state: made_for(k),
         }
     }
 
     // The answer to an arrival, and the state after it.
-    pub fn step(self, number: u32, time: u64) -> Stepped
+    pub fn step(self, number: u32, time: u64) -> StepAnswer
         ensures { λ r. ⌜ r ≡ stepOf self number time ⌝ }
     {
         self.step_within(MOST, number, time)
     }
 
     // The same for a receiver that keeps at most so many jumps: the state's parts are taken out, advanced, and put back.
-    pub fn step_within(mut self, most: u32, number: u32, time: u64) -> Stepped
+    pub fn step_within(mut self, most: u32, number: u32, time: u64) -> StepAnswer
         ensures { λ r. ⌜ r ≡ stepWithin most self number time ⌝ }
     {
         let kept = at_most(most);
@@ -163,7 +159,7 @@ impl Receiver {
         places.numbers = numbers;
         places.times = times;
         self.places = places;
-        Stepped {
+        StepAnswer {
             outcome,
             state: self,
         }

@@ -3,12 +3,12 @@
 use crate::MARK_WORDS;
 ghost use mathlib.Core.Path.{_≡_};
 ghost use Prim.Native.Nat.{_≤_};
-ghost use Rattle.receiver.specs.Limits.{packets};
+ghost use Rattle.rfc4737.specs.Judge.{sentMost};
 ghost use Rattle.receiver.specs.Marks.{markAt, withMark};
 
 // Whether the packet is marked.
 pub(crate) fn is_marked(marks: &[u64; MARK_WORDS], number: u32) -> bool
-    requires { ⌜ (1 ≤ number) × (number ≤ packets) ⌝ }
+    requires { ⌜ (1 ≤ number) × (number ≤ sentMost) ⌝ }
     ensures { λ r. ⌜ r ≡ markAt (now (marks .entry)) number ⌝ }
 {
     let at = ((number - 1) / 64) as usize;
@@ -17,7 +17,7 @@ pub(crate) fn is_marked(marks: &[u64; MARK_WORDS], number: u32) -> bool
 
 // The marks with that of the packet.
 pub(crate) fn mark(marks: &mut [u64; MARK_WORDS], number: u32)
-    requires { ⌜ (1 ≤ number) × (number ≤ packets) ⌝ }
+    requires { ⌜ (1 ≤ number) × (number ≤ sentMost) ⌝ }
     ensures { λ _. ⌜ now (marks .exit) ≡ withMark (now (marks .entry)) number ⌝ }
 {
     let at = ((number - 1) / 64) as usize;

@@ -10,9 +10,9 @@ ghost use mathlib.Core.Path.{_≡_};
 ghost use mathlib.Core.List.{List};
 ghost use Prim.Native.Nat.{ℕ, _≤_};
 ghost use lib.Dec.{ltb};
+ghost use Rattle.rfc4737.specs.Judge.{sentMost};
 ghost use Rattle.rfc4737.specs.Order.{nextAfter};
-ghost use Rattle.rfc4737.specs.Runs.{lengthened, ended};
-ghost use Rattle.receiver.specs.Limits.{window, packets, squaresMost};
+ghost use Rattle.rfc4737.specs.Runs.{lengthened, ended, squaresMost};
 ghost use Rattle.receiver.specs.Kept.{heldOf, heldAfter};
 ghost use Rattle.receiver.specs.Step.{placedAt, duplicateStream, inOrderStream, reorderedStream};
 ghost use Rattle.receiver.specs.Private.Parts.{placesOf};
@@ -20,7 +20,7 @@ ghost use Rattle.receiver.specs.Private.Decision.{NoOverflow};
 
 // The numbers after a duplicate.
 pub(crate) fn after_duplicate(s: Stream, time: u64) -> Stream
-    requires { ⌜ s .duplicates ≤ packets ⌝ }
+    requires { ⌜ s .duplicates ≤ sentMost ⌝ }
     ensures { λ r. ⌜ r ≡ duplicateStream s time ⌝ }
 {
     let runs = s.runs;
@@ -46,7 +46,7 @@ pub(crate) fn after_in_order(
     number: u32,
     time: u64,
 ) -> Stream
-    requires { ⌜ NoOverflow s × (number ≤ packets) ⌝ }
+    requires { ⌜ NoOverflow s × (number ≤ sentMost) ⌝ }
     ensures { λ r. ⌜ ((positions times : List ℕ) → r ≡ inOrderStream s (heldAfter (ltb (s .kept) most) (heldOf s (placesOf positions (now (numbers .entry)) times)) size (placedAt s number time)) number time) ⌝ }
 {
     let runs = lengthened(s.runs);
@@ -65,7 +65,7 @@ pub(crate) fn after_in_order(
 
 // The numbers after a reordered packet.
 pub(crate) fn after_reordered(s: Stream, number: u32, time: u64) -> Stream
-    requires { ⌜ NoOverflow s × (number ≤ packets) ⌝ }
+    requires { ⌜ NoOverflow s × (number ≤ sentMost) ⌝ }
     ensures { λ r. ⌜ r ≡ reorderedStream s number time ⌝ }
 {
     let runs = closed(s.runs);
@@ -84,7 +84,7 @@ pub(crate) fn after_reordered(s: Stream, number: u32, time: u64) -> Stream
 
 // The runs after an in-order packet.
 fn lengthened(runs: Runs) -> Runs
-    requires { ⌜ runs .current ≤ packets ⌝ }
+    requires { ⌜ runs .current ≤ sentMost ⌝ }
     ensures { λ r. ⌜ r ≡ lengthened runs ⌝ }
 {
     Runs {
@@ -96,7 +96,7 @@ fn lengthened(runs: Runs) -> Runs
 
 // NextExp after a first arrival of a number.
 fn next_after(next: u32, number: u32) -> u32
-    requires { ⌜ number ≤ packets ⌝ }
+    requires { ⌜ number ≤ sentMost ⌝ }
     ensures { λ r. ⌜ r ≡ nextAfter next number ⌝ }
 {
     if next <= number {
@@ -107,7 +107,7 @@ fn next_after(next: u32, number: u32) -> u32
 
 // The runs after a reordered packet.
 fn closed(runs: Runs) -> Runs
-    requires { ⌜ (runs .current ≤ packets) × ((runs .closed ≤ packets) × (runs .squares ≤ squaresMost)) ⌝ }
+    requires { ⌜ (runs .current ≤ sentMost) × ((runs .closed ≤ sentMost) × (runs .squares ≤ squaresMost)) ⌝ }
     ensures { λ r. ⌜ r ≡ ended runs ⌝ }
 {
     Runs {

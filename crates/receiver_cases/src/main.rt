@@ -1,15 +1,30 @@
-// Runs the scope's cases on the receiver: the window, the edges of K, number and time, clocks that step back, and each refusal,
-// where the receiver that comes back is compared with the one handed in. A line is written for each case.
-mod print;
-mod same;
-
-use print::write_answer;
-use print::write_either;
-use print::write_number;
-use print::write_word;
+// Runs the scope's cases on the receiver that stand on standard input: the window, the edges of K, number and time, clocks that step
+// back, and each refusal, where the receiver that comes back is compared with the one handed in. A line is written for each case. A
+// line there begins with what it is, and those up to the next `new` are about one receiver:
+//   new: K of a fresh receiver;
+//   feed: the first number, how far each is above the one before, how many, and the same of the times;
+//   set: NextExp, how many jumps are kept, and the greatest time that the receiver is to have;
+//   case: the name of the case, and number and time of one arrival more, after which the receiver is what it was before;
+//   made: the name of the case, K of a fresh receiver, and K of the one that it must be the same as.
+use cases::fields::field;
+use cases::fields::first_octet;
+use cases::fields::number_in;
+use cases::fields::number_in_32;
+use cases::lists::first_8;
+use cases::print::write_either;
+use cases::print::write_number;
+use cases::print::write_word;
+use cases::text::count;
+use cases::text::part;
+use libc::STDIN_FILENO;
 use receiver::Receiver;
-use same::same;
-ghost use Prim.Native.Nat.{_≤_};
+use receiver_text::same::same;
+use receiver_text::write_outcome;
+use std::num::wrapping_add_u32;
+use std::num::wrapping_add_u64;
+
+// How many octets of cases are read at most.
+const MOST: usize = 4096;
 
 // A fresh receiver for k packets.
 fn receiver_for(k: u32) -> Receiver {
@@ -17,192 +32,100 @@ fn receiver_for(k: u32) -> Receiver {
     start.state
 }
 
-// The receiver after `count` arrivals more: the numbers start at `first` and rise by `rise`, the times are 10, 20
-// and so on.
-fn fed(start: Receiver, first: u32, rise: u32, count: u32) -> Receiver
-    requires { ⌜ (first ≤ 4) × ((rise ≤ 2) × (count ≤ 4096)) ⌝ }
-{
+// The receiver after the arrivals of a line.
+fn fed(start: Receiver, line: &[u8]) -> Receiver {
+    let rise = number_in_32(line, 2);
+    let apart = number_in(line, 5);
     let mut r = start;
-    let mut number = first;
-    let mut i: u32 = 0;
-    while i < count {
-        i += 1;
-        let s = r.step(number, 10 * i as u64);
+    let mut number = number_in_32(line, 1);
+    let mut time = number_in(line, 4);
+    for _ in 0..number_in_32(line, 3) {
+        let s = r.step(number, time);
         let next = s.state;
         r = next;
-        number += rise;
+        number = wrapping_add_u32(number, rise);
+        time = wrapping_add_u64(time, apart);
     }
     r
 }
 
-// The receiver after one arrival more.
-fn after(r: Receiver, number: u32, time: u64) -> Receiver {
-    let s = r.step(number, time);
-    s.state
+// The receiver with what a line sets.
+fn changed(r: Receiver, line: &[u8]) -> Receiver {
+    let next = number_in_32(line, 1);
+    let kept = number_in_32(line, 2);
+    let greatest = number_in(line, 3);
+    let mut other = r;
+    other.stream.next = next;
+    other.stream.kept = kept;
+    other.stream.greatest = greatest;
+    other
 }
 
-// Feeds one arrival, and writes the case's name, the answer, and where it is refused whether the receiver came
-// back equal.
-fn one_more(name: &[u8], r: Receiver, number: u32, time: u64) {
-    let s = r.step(number, time);
+// Feeds the arrival of a line, and writes the case's name, what is said, and where that is a refusal whether the receiver came back the
+// same.
+fn arrives(r: Receiver, line: &[u8]) {
+    let s = r.step(number_in_32(line, 2), number_in(line, 3));
     let outcome = s.outcome;
-    let noted = outcome.noted;
     let after = s.state;
-    write_word(name);
-    write_answer(outcome.refusal, noted);
+    write_word(field(line, 1));
+    write_word(b": ");
+    write_outcome(outcome);
     if outcome.refusal != 0 {
         write_either(same(r, after), b", receiver equal", b", receiver CHANGED");
     }
     write_word(b"\n");
 }
 
-// Makes a receiver for k packets, and writes the refusal, and whether it is the one for `expected` packets.
-fn made(name: &[u8], k: u32, expected: u32) {
-    let start = Receiver::fresh(k);
+// Makes the receiver of a line, and writes the case's name, the refusal, and whether it is the same as the other.
+fn made(line: &[u8]) {
+    let start = Receiver::fresh(number_in_32(line, 2));
     let state = start.state;
-    write_word(name);
-    write_number(b"refused ", start.refusal as u64);
+    let expected = receiver_for(number_in_32(line, 3));
+    write_word(field(line, 1));
+    write_number(b": refused ", start.refusal as u64);
     write_number(b", K ", state.stream.sent as u64);
     write_number(b", NextExp ", state.stream.next as u64);
     write_either(
-        same(state, receiver_for(expected)),
+        same(state, expected),
         b", as fresh for K ",
         b", NOT as fresh for K ",
     );
-    write_number(b"", expected as u64);
+    write_number(b"", number_in(line, 3));
     write_word(b"\n");
 }
 
-// The window, K being 130: record r arrives at 10 times r.
-fn window() {
-    let start = receiver_for(130);
-    one_more(
-        b"window: 2, 4 .. 128, then 1: ",
-        fed(start, 2, 2, 64),
-        1,
-        650,
-    );
-    one_more(
-        b"window: 2, 4 .. 130, then 1: ",
-        fed(start, 2, 2, 65),
-        1,
-        660,
-    );
-    one_more(
-        b"window: 2, 4 .. 130, then 3: ",
-        fed(start, 2, 2, 65),
-        3,
-        660,
-    );
+// Does what a line says, and gives the receiver after it.
+fn run(r: Receiver, line: &[u8]) -> Receiver {
+    let kind = first_octet(line);
+    if kind == b'n' {
+        return receiver_for(number_in_32(line, 1));
+    }
+    if kind == b'f' {
+        return fed(r, line);
+    }
+    if kind == b's' {
+        return changed(r, line);
+    }
+    if kind == b'm' {
+        made(line);
+    } else {
+        arrives(r, line);
+    }
+    r
 }
 
-// The edges of K.
-fn edges_of_k() {
-    made(b"fresh for K of 0: ", 0, 1);
-    made(b"fresh for K of 1: ", 1, 1);
-    made(b"fresh for K of 4096: ", 4096, 4096);
-    made(b"fresh for K of 4097: ", 4097, 1);
-}
-
-// The window under clocks that step back, K being 130: its oldest jump is 4, at 20; then at 10, where 2 is at 1010.
-fn window_clocks() {
-    let r = fed(receiver_for(130), 2, 2, 65);
-    one_more(b"window: 2, 4 .. 130, then 1 at 20: ", r, 1, 20);
-    one_more(b"window: 2, 4 .. 130, then 1 at 19: ", r, 1, 19);
-    one_more(b"window: 2, 4 .. 130, then 1 at 0: ", r, 1, 0);
-    one_more(b"window: 2, 4 .. 130, then 3 at 0: ", r, 3, 0);
-    let r = after(receiver_for(130), 2, 1010);
-    let r = fed(r, 4, 2, 64);
-    one_more(b"window: 2 at 1010, 4 .. 130, then 1 at 510: ", r, 1, 510);
-    one_more(b"window: 2 at 1010, 4 .. 130, then 1 at 9: ", r, 1, 9);
-}
-
-// The edges of number and time, after 1 at 10 and 2 at 2000, K being 5.
-fn edges_of_arrival() {
-    let r = after(fed(receiver_for(5), 1, 1, 1), 2, 2000);
-    one_more(b"number 0: ", r, 0, 2010);
-    one_more(b"number K: ", r, 5, 2010);
-    one_more(b"number K + 1: ", r, 6, 2010);
-    one_more(b"equal times: ", r, 3, 2000);
-    one_more(b"time less by 1000: ", r, 3, 1000);
-    one_more(b"time less by 1001: ", r, 3, 999);
-    one_more(b"number K + 1, and time less by 1001: ", r, 6, 999);
-    one_more(b"number 2 again: ", r, 2, 2010);
-}
-
-// The reference is the greatest time so far, K being 5: that of an earlier arrival, and that of a copy.
-fn references() {
-    let r = after(receiver_for(5), 1, 2000);
-    let back = after(r, 2, 1500);
-    one_more(b"1 at 2000, 2 at 1500, then 3 at 1000: ", back, 3, 1000);
-    one_more(b"1 at 2000, 2 at 1500, then 3 at 999: ", back, 3, 999);
-    let copied = after(r, 1, 3000);
-    one_more(b"1 at 2000, 1 at 3000, then 2 at 2000: ", copied, 2, 2000);
-    one_more(b"1 at 2000, 1 at 3000, then 2 at 1999: ", copied, 2, 1999);
-    let low = after(r, 1, 1500);
-    one_more(b"1 at 2000, 1 at 1500, then 2 at 1000: ", low, 2, 1000);
-    one_more(b"1 at 2000, 1 at 1500, then 2 at 999: ", low, 2, 999);
-}
-
-// Late packets before and after their discontinuity's arrival, K being 5.
-fn late_times() {
-    let r = after(receiver_for(5), 2, 2000);
-    one_more(b"2 at 2000, then 1 at 2001: ", r, 1, 2001);
-    one_more(b"2 at 2000, then 1 at 2000: ", r, 1, 2000);
-    one_more(b"2 at 2000, then 1 at 1999: ", r, 1, 1999);
-    one_more(b"2 at 2000, then 1 at 1000: ", r, 1, 1000);
-    one_more(b"2 at 2000, then 1 at 999: ", r, 1, 999);
-    let back = after(r, 3, 1500);
-    one_more(b"2 at 2000, 3 at 1500, then 1 at 1500: ", back, 1, 1500);
-}
-
-// The state that is unfit, and the fit one that no run reaches, K being 5.
-fn odd_states() {
-    let mut unfit = receiver_for(5);
-    unfit.stream.next = 7;
-    one_more(b"NextExp K + 2: ", unfit, 1, 10);
-    let mut many = receiver_for(5);
-    many.stream.kept = 65;
-    one_more(b"65 kept jumps: ", many, 1, 10);
-    let mut early = after(receiver_for(5), 2, 2000);
-    early.stream.greatest = 1999;
-    one_more(b"a kept jump after the greatest time: ", early, 3, 2000);
-    let mut odd = receiver_for(5);
-    odd.stream.next = 4;
-    one_more(b"NextExp 4 and no kept jump, number 3: ", odd, 3, 10);
-    one_more(b"NextExp 4 and no kept jump, number 4: ", odd, 4, 10);
-}
-
-// The last arrival that is accepted, and the first that is not.
-fn full() {
-    one_more(
-        b"arrival 4096, of 1 to 4096: ",
-        fed(receiver_for(4096), 1, 1, 4095),
-        4096,
-        40960,
-    );
-    one_more(
-        b"arrival 4097, after 1 to 4096: ",
-        fed(receiver_for(4096), 1, 1, 4096),
-        1,
-        40970,
-    );
-    one_more(
-        b"arrival 4097, after 1 and 4095 copies: ",
-        fed(receiver_for(1), 1, 0, 4096),
-        2,
-        0,
-    );
+// Does what all lines say.
+fn run_all(text: &[u8]) {
+    let mut r = receiver_for(1);
+    for i in 0..count(text, b'\n') {
+        let next = run(r, part(text, b'\n', i));
+        r = next;
+    }
 }
 
 // Runs all cases.
 fn main() {
-    window();
-    window_clocks();
-    edges_of_k();
-    edges_of_arrival();
-    references();
-    late_times();
-    odd_states();
-    full();
+    let mut text = [0u8; MOST];
+    let n = io::read_full(STDIN_FILENO, &mut text);
+    run_all(first_8(&text, n));
 }

@@ -11,9 +11,9 @@ use Rattle.octets.specs.Memory.{over, put}
 use Rattle.octets.proofs.Memory.{put-none, put-over}
 use Rattle.rfc4737.specs.Refusals.{inCase, firstOf, outputShort}
 use Rattle.listing.specs.Lines.{refusedLine}
-use Rattle.metrics.specs.Report.{sampleText, listingRefusal, listingInto, ListedTo}
-use Rattle.metrics.specs.declared.SampleListing.{SampleListing}
-use Rattle.sample.specs.Calls.{unlessRefused}
+use Rattle.metrics.specs.Report.{sampleText, ListedTo}
+use Rattle.sample.specs.declared.WriteAnswer.{WriteAnswer}
+use Rattle.sample.specs.Output.{outputRefusal, unlessRefused, octetsInto}
 use Rattle.sample.specs.Decode.{Decoded, refused, accepted, decodedRefusal}
 use Rattle.sample.specs.Format.{Sample}
 use Rattle.report.specs.Text.{reportText, fitting, PutWhole}
@@ -47,13 +47,13 @@ none-but-short true text = refl
 none-but-short false text = refl
 
 -- what a listing of an accepted sample leaves is its text
-pub listed-text : (d : Decoded) (old : List ℕ) {r : SampleListing} {new : List ℕ} → 0 ≡ decodedRefusal d → reportText d ≡ sampleText d → ListedTo d old r new
+pub listed-text : (d : Decoded) (old : List ℕ) {r : WriteAnswer} {new : List ℕ} → 0 ≡ decodedRefusal d → reportText d ≡ sampleText d → ListedTo d old r new
     → PutWhole (reportText d) old (r .length) new
-unfolding listingRefusal
+unfolding outputRefusal
 listed-text d old {r} {new} own text l =
-    let so : listingInto d (length old) ≡ fitting (length old) (reportText d) =
+    let so : octetsInto (decodedRefusal d) (sampleText d) (length old) ≡ fitting (length old) (reportText d) =
     rw (← own, text) (none-but-short (ltb (length old) (length (sampleText d))) (sampleText d)) in
     record {
-      answer = ap (λ (s : SampleListing). s .length) (l .answer) ∙ ap length so;
-      memory = l .memory ∙ ap (λ (t : List ℕ). over t old) so;
+      answer = l .octets ∙ ap length so;
+      memory = l .filled ∙ ap (λ (t : List ℕ). over t old) so;
     }

@@ -1,10 +1,10 @@
 -- NextExp, byte offset, largest n, the answers and what is said over them, under one more at the end; what the counts add up
 -- to; and the bounds of the figures. The law of any fold over the first i + 1 elements is `fold-take` of Arrivals.
 -- Assumes nothing.
-use mathlib.Core.Path.{_≡_, refl, sym, ap, ap₂, subst, _∙_}
+use mathlib.Core.Path.{_≡_, refl, sym, ap, _∙_}
 use mathlib.Core.Bool.{Bool, true, false, cond, not}
-use mathlib.Core.List.{List, [], _∷_, _++_, foldl}
-use Prim.Native.Nat.{ℕ, zero, suc, _+_, _-_, _*_, _≤_, _<_}
+use mathlib.Core.List.{List, [], _∷_, _++_}
+use Prim.Native.Nat.{ℕ, zero, suc, _+_, _*_, _≤_, _<_}
 use native.Mathlib.Nat.{mul-add, mul-one, mul-zero, mul-le-mul-right, le-of-eq}
 use native.Mathlib.Omega.{arith}
 use lib.Dec.{leb, ltb, eqb}
@@ -20,7 +20,7 @@ use Rattle.rfc4737.specs.Order.{nextAfter, nextExp, isInOrder}
 use Rattle.rfc4737.specs.Extent.{byteOffset, largestN, discontinuity}
 use Rattle.rfc4737.specs.Answer.{inOrderAnswer, reorderedAnswer, firstAnswer, answerTo, answers}
 use Rattle.rfc4737.specs.Runs.{isDuplicate, isInOrderAnswer, isReordered, arrived, lengthened, ended, runsAfter, runs}
-use Rattle.rfc4737.specs.Tally.{tallyPlace, oneMoreAt, tallyAfter, tally}
+use Rattle.rfc4737.specs.Tally.{tallyPlace, oneMoreAt, tallyAfter, tally, tallyMost, tallyPlaces}
 use Rattle.rfc4737.proofs.Lists.{snoc-ind, each-more}
 use Rattle.rfc4737.proofs.Arrivals.{fold-more, each-take, count-more, length-each, firsts-more, has-firsts, with-duplicate, with-first}
 
@@ -267,25 +267,25 @@ squares-le m l = snoc-ind Bounded more (λ h. omega arith) l
 -- ---- the tally
 
 -- an extent's place is one of the tally's
-pub place-lt : (extent : ℕ) → tallyPlace extent < 101
+pub place-lt : (extent : ℕ) → tallyPlace extent < tallyPlaces
 unfolding tallyPlace
-place-lt extent = go (leb extent 100) refl
+place-lt extent = go (leb extent tallyMost) refl
   where
-    go : (t : Bool) → leb extent 100 ≡ t → cond t extent 0 < 101
-    go true e = omega (arith, leb-true extent 100 e)
+    go : (t : Bool) → leb extent tallyMost ≡ t → cond t extent 0 < tallyPlaces
+    go true e = omega (arith, leb-true extent tallyMost e)
     go false e = omega arith
 
 -- a tally has 101 counts
-pub length-tally : (l : List Answer) → length (tally l) ≡ 101
+pub length-tally : (l : List Answer) → length (tally l) ≡ tallyPlaces
 unfolding tally tallyAfter oneMoreAt
-length-tally l = snoc-ind (λ (l : List Answer). length (tally l) ≡ 101) more refl l
+length-tally l = snoc-ind (λ (l : List Answer). length (tally l) ≡ tallyPlaces) more refl l
   where
-    go : (t : List ℕ) (a : Answer) → length t ≡ 101 → length (tallyAfter t a) ≡ 101
+    go : (t : List ℕ) (a : Answer) → length t ≡ tallyPlaces → length (tallyAfter t a) ≡ tallyPlaces
     go t (Duplicate d) e = e
     go t (InOrder d) e = e
     go t (Reordered d) e = length-set t _ _ ∙ e
 
-    more : (l : List Answer) (a : Answer) → length (tally l) ≡ 101 → length (tally (l ++ (a ∷ []))) ≡ 101
+    more : (l : List Answer) (a : Answer) → length (tally l) ≡ tallyPlaces → length (tally (l ++ (a ∷ []))) ≡ tallyPlaces
     more l a e = ap length (tally-more l a) ∙ go (tally l) a e
 
 -- one more at a place is at most one more at any
@@ -304,7 +304,7 @@ one-more-le at t k = here (eqb k at) refl
 -- no count of a tally is above the number of the answers
 pub tally-le : (l : List Answer) (k : ℕ) → getD (tally l) k 0 ≤ length l
 unfolding tally tallyAfter
-tally-le l k = snoc-ind (λ (l : List Answer). getD (tally l) k 0 ≤ length l) more (zeros 101 k) l
+tally-le l k = snoc-ind (λ (l : List Answer). getD (tally l) k 0 ≤ length l) more (zeros tallyPlaces k) l
   where
     zeros : (n k : ℕ) → getD (replicate n 0) k 0 ≤ 0
     zeros zero k = omega arith

@@ -11,7 +11,7 @@ use lib.ListN.{length, length-append}
 use borrow.Author.Tests.{ltb-true, ltb-false, leb-true, leb-false, eqb-false, lt-ltb, le-ltb, le-leb, ne-eqb}
 use Rattle.rfc4737.specs.declared.Arrival.{Arrival}
 use Rattle.rfc4737.specs.Arrivals.{has, each, eachAfter}
-use Rattle.rfc4737.specs.Order.{nextAfter, nextExp, isInOrder, jumpSize, isJump, Placed, placeAfter, placed, jumpAfter, jumps}
+use Rattle.rfc4737.specs.Order.{nextAfter, nextExp, isInOrder, jumpSize, isJump, FirstArrival, placeAfter, placed, jumpAfter, jumps}
 use Rattle.rfc4737.specs.Extent.{firstAbove, discontinuity}
 use Rattle.rfc4737.proofs.Arrivals.{has-more}
 use Rattle.rfc4737.proofs.Folds.{next-more}
@@ -37,12 +37,12 @@ unfolding jumps
 jumps-more fs a = rw each-more (flatten-more _ _)
 
 -- the first of two searches that finds
-abbrev pub orElse : Option Placed → Option Placed → Option Placed
+abbrev pub orElse : Option FirstArrival → Option FirstArrival → Option FirstArrival
 orElse none r = r
 orElse (some p) r = some p
 
 -- the first above s of two lists, one after the other
-pub firstAbove-append : (s : ℕ) (l m : List Placed) → firstAbove s (l ++ m) ≡ orElse (firstAbove s l) (firstAbove s m)
+pub firstAbove-append : (s : ℕ) (l m : List FirstArrival) → firstAbove s (l ++ m) ≡ orElse (firstAbove s l) (firstAbove s m)
 unfolding firstAbove
 firstAbove-append s [] m = refl
 firstAbove-append s (q ∷ l) m = go (ltb s (q .number)) (firstAbove-append s l m)
@@ -54,7 +54,7 @@ firstAbove-append s (q ∷ l) m = go (ltb s (q .number)) (firstAbove-append s l 
     go false e = e
 
 -- what a search finds is one of the list, and its number is above s
-pub firstAbove-member : (s : ℕ) (l : List Placed) (p : Placed) → firstAbove s l ≡ some p → List·Memᴰ p l × (s < p .number)
+pub firstAbove-member : (s : ℕ) (l : List FirstArrival) (p : FirstArrival) → firstAbove s l ≡ some p → List·Memᴰ p l × (s < p .number)
 unfolding firstAbove
 firstAbove-member s [] p e = absurd (Option·some-ne-none p (sym e))
 firstAbove-member s (q ∷ l) p e = go (ltb s (q .number)) refl e (firstAbove-member s l p)
@@ -70,7 +70,7 @@ firstAbove-member s (q ∷ l) p e = go (ltb s (q .number)) refl e (firstAbove-me
     go false et e h = (List·Memᴰ.List·Memᴰ·tail (h e .0), h e .1)
 
 -- no search finds where no number is above s
-pub firstAbove-none : (s : ℕ) (l : List Placed) → All (λ (p : Placed). p .number ≤ s) l → firstAbove s l ≡ none
+pub firstAbove-none : (s : ℕ) (l : List FirstArrival) → All (λ (p : FirstArrival). p .number ≤ s) l → firstAbove s l ≡ none
 unfolding firstAbove
 firstAbove-none s [] h = refl
 firstAbove-none s (q ∷ l) h = rw (le-ltb _ _ (h .0)) (firstAbove-none s l (h .1))
@@ -159,7 +159,7 @@ search-agrees-more s fs a h other = go (firstAbove s (jumps fs)) refl
           next = λ n. rw next-more (nextAfter-below _ _ _ (h .next e) lt);
         }
 
-    go : (o : Option Placed) → firstAbove s (jumps fs) ≡ o → SearchAgrees s (fs ++ (a ∷ []))
+    go : (o : Option FirstArrival) → firstAbove s (jumps fs) ≡ o → SearchAgrees s (fs ++ (a ∷ []))
     go (some p) e =
         let found : firstAbove s (jumps (fs ++ (a ∷ []))) ≡ some p = rw e at jumped in
         record { same = (rw e at all) ∙ sym found; next = λ n. absurd (Option·some-ne-none _ (sym found ∙ n)) }
@@ -175,7 +175,7 @@ search-agrees s h = snoc-ind (λ (fs : List Arrival). has s fs ≡ false → Sea
 
 -- the discontinuity of a reordered packet s, which has not arrived: it exists, is a jump, the first of a greater number
 pub record DiscontinuityJump (s : ℕ) (fs : List Arrival) : Type 0 where
-  pub at : Placed
+  pub at : FirstArrival
   pub is : discontinuity fs s ≡ some at
   pub first : firstAbove s (jumps fs) ≡ some at
   pub jump : List·Memᴰ at (jumps fs)
@@ -189,14 +189,14 @@ reordered-discontinuity s h fs new late = go (firstAbove s (jumps fs)) refl
     k : SearchAgrees s fs
     k = search-agrees s h fs new
 
-    go : (o : Option Placed) → firstAbove s (jumps fs) ≡ o → DiscontinuityJump s fs
+    go : (o : Option FirstArrival) → firstAbove s (jumps fs) ≡ o → DiscontinuityJump s fs
     go none e = let n = k .next e in let m : s < nextExp fs = leb-false _ _ late in absurd (omega arith)
     go (some p) e =
         let m = firstAbove-member s (jumps fs) p e in
         record { at = p; is = k .same ∙ e; first = e; jump = m .0; above = m .1 }
 
 -- what holds of an arrival wherever it is a jump holds of the jump that it is, if it is one
-all-jumpAfter : (P : Placed → Type 0) (fs : List Arrival) (a : Arrival) → (isJump fs (a .number) ≡ true → P (placeAfter fs a)) → All P (jumpAfter fs a)
+all-jumpAfter : (P : FirstArrival → Type 0) (fs : List Arrival) (a : Arrival) → (isJump fs (a .number) ≡ true → P (placeAfter fs a)) → All P (jumpAfter fs a)
 unfolding jumpAfter
 all-jumpAfter P fs a h = go (isJump fs (a .number)) h
   where
@@ -205,21 +205,21 @@ all-jumpAfter P fs a h = go (isJump fs (a .number)) h
     go false h = tt
 
 -- jumps stay ordered by R under one first arrival more, if it comes after them wherever it is a jump
-ordered-jumps-more : (R : Placed → Placed → Type 0) (fs : List Arrival) (a : Arrival)
+ordered-jumps-more : (R : FirstArrival → FirstArrival → Type 0) (fs : List Arrival) (a : Arrival)
     → Ordered R (jumps fs)
-    → (isJump fs (a .number) ≡ true → All (λ (p : Placed). R p (placeAfter fs a)) (jumps fs))
+    → (isJump fs (a .number) ≡ true → All (λ (p : FirstArrival). R p (placeAfter fs a)) (jumps fs))
     → Ordered R (jumps (fs ++ (a ∷ [])))
 unfolding jumpAfter
 ordered-jumps-more R fs a h g = rw jumps-more (go (isJump fs (a .number)) g)
   where
     go : (t : Bool)
-        → (t ≡ true → All (λ (p : Placed). R p (placeAfter fs a)) (jumps fs))
+        → (t ≡ true → All (λ (p : FirstArrival). R p (placeAfter fs a)) (jumps fs))
         → Ordered R (jumps fs ++ cond t (placeAfter fs a ∷ []) [])
     go true g = ordered-more R (jumps fs) (placeAfter fs a) h (g refl)
     go false g = rw append-nil h
 
 -- a jump is one of the first arrivals, and its number is below NextExp
-pub record Within (fs : List Arrival) (p : Placed) : Type 0 where
+pub record Within (fs : List Arrival) (p : FirstArrival) : Type 0 where
   pub position-low : 1 ≤ p .position
   pub position-high : p .position ≤ length fs
   pub number-low : 1 ≤ p .number
@@ -237,11 +237,11 @@ jumps-within = snoc-ind (λ (fs : List Arrival). All (Within fs) (jumps fs)) mor
         let b = nextAfter-above (nextExp fs) (a .number) in
         rw jumps-more
         (all-append (Within (fs ++ (a ∷ []))) (jumps fs) (jumpAfter fs a)
-        (all-weaken (λ (p : Placed) (w : Within fs p). omega arith) (jumps fs) h)
+        (all-weaken (λ (p : FirstArrival) (w : Within fs p). omega arith) (jumps fs) h)
         (all-jumpAfter (Within (fs ++ (a ∷ []))) fs a (λ j. let g = jump-above fs (a .number) j in omega arith)))
 
 -- one jump before another: of a lower position and a lower number
-pub record Rises (p q : Placed) : Type 0 where
+pub record Rises (p q : FirstArrival) : Type 0 where
   pub position : p .position < q .position
   pub number : p .number < q .number
 
@@ -254,41 +254,41 @@ jumps-rise = snoc-ind (λ (fs : List Arrival). Ordered Rises (jumps fs)) more tt
     more fs a h =
         ordered-jumps-more Rises fs a h
         (λ j. let g = jump-above fs (a .number) j in
-        all-weaken (λ (p : Placed) (w : Within fs p). omega arith) (jumps fs) (jumps-within fs))
+        all-weaken (λ (p : FirstArrival) (w : Within fs p). omega arith) (jumps fs) (jumps-within fs))
 
 -- jumps among arrivals up to a time are up to that time
-pub jumps-until : (t : ℕ) (fs : List Arrival) → All (λ (a : Arrival). a .time ≤ t) fs → All (λ (p : Placed). p .time ≤ t) (jumps fs)
+pub jumps-until : (t : ℕ) (fs : List Arrival) → All (λ (a : Arrival). a .time ≤ t) fs → All (λ (p : FirstArrival). p .time ≤ t) (jumps fs)
 unfolding jumps each eachAfter flatten
-jumps-until t = snoc-ind (λ (fs : List Arrival). All (λ (a : Arrival). a .time ≤ t) fs → All (λ (p : Placed). p .time ≤ t) (jumps fs)) more (λ n. tt)
+jumps-until t = snoc-ind (λ (fs : List Arrival). All (λ (a : Arrival). a .time ≤ t) fs → All (λ (p : FirstArrival). p .time ≤ t) (jumps fs)) more (λ n. tt)
   where
     more : (fs : List Arrival) (a : Arrival)
-        → (All (λ (a : Arrival). a .time ≤ t) fs → All (λ (p : Placed). p .time ≤ t) (jumps fs))
+        → (All (λ (a : Arrival). a .time ≤ t) fs → All (λ (p : FirstArrival). p .time ≤ t) (jumps fs))
         → All (λ (a : Arrival). a .time ≤ t) (fs ++ (a ∷ []))
-        → All (λ (p : Placed). p .time ≤ t) (jumps (fs ++ (a ∷ [])))
+        → All (λ (p : FirstArrival). p .time ≤ t) (jumps (fs ++ (a ∷ [])))
     more fs a h g =
         let r = all-right (λ (a : Arrival). a .time ≤ t) fs (a ∷ []) g in
         rw jumps-more
-        (all-append (λ (p : Placed). p .time ≤ t) (jumps fs) (jumpAfter fs a)
+        (all-append (λ (p : FirstArrival). p .time ≤ t) (jumps fs) (jumpAfter fs a)
         (h (all-left (λ (a : Arrival). a .time ≤ t) fs (a ∷ []) g))
-        (all-jumpAfter (λ (p : Placed). p .time ≤ t) fs a (λ j. r .0)))
+        (all-jumpAfter (λ (p : FirstArrival). p .time ≤ t) fs a (λ j. r .0)))
 
 -- first arrivals up to a time are up to that time at their positions
-placed-until : (t : ℕ) (fs : List Arrival) → All (λ (a : Arrival). a .time ≤ t) fs → All (λ (p : Placed). p .time ≤ t) (placed fs)
+placed-until : (t : ℕ) (fs : List Arrival) → All (λ (a : Arrival). a .time ≤ t) fs → All (λ (p : FirstArrival). p .time ≤ t) (placed fs)
 unfolding placed each eachAfter
-placed-until t = snoc-ind (λ (fs : List Arrival). All (λ (a : Arrival). a .time ≤ t) fs → All (λ (p : Placed). p .time ≤ t) (placed fs)) more (λ n. tt)
+placed-until t = snoc-ind (λ (fs : List Arrival). All (λ (a : Arrival). a .time ≤ t) fs → All (λ (p : FirstArrival). p .time ≤ t) (placed fs)) more (λ n. tt)
   where
     more : (fs : List Arrival) (a : Arrival)
-        → (All (λ (a : Arrival). a .time ≤ t) fs → All (λ (p : Placed). p .time ≤ t) (placed fs))
+        → (All (λ (a : Arrival). a .time ≤ t) fs → All (λ (p : FirstArrival). p .time ≤ t) (placed fs))
         → All (λ (a : Arrival). a .time ≤ t) (fs ++ (a ∷ []))
-        → All (λ (p : Placed). p .time ≤ t) (placed (fs ++ (a ∷ [])))
+        → All (λ (p : FirstArrival). p .time ≤ t) (placed (fs ++ (a ∷ [])))
     more fs a h g =
         rw placed-more
-        (all-append (λ (p : Placed). p .time ≤ t) (placed fs) (placeAfter fs a ∷ [])
+        (all-append (λ (p : FirstArrival). p .time ≤ t) (placed fs) (placeAfter fs a ∷ [])
         (h (all-left (λ (a : Arrival). a .time ≤ t) fs (a ∷ []) g)) (all-right (λ (a : Arrival). a .time ≤ t) fs (a ∷ []) g .0, tt))
 
 -- so is a discontinuity among them
-pub discontinuity-until : (t : ℕ) (fs : List Arrival) → All (λ (a : Arrival). a .time ≤ t) fs → (s : ℕ) (p : Placed)
+pub discontinuity-until : (t : ℕ) (fs : List Arrival) → All (λ (a : Arrival). a .time ≤ t) fs → (s : ℕ) (p : FirstArrival)
     → discontinuity fs s ≡ some p → p .time ≤ t
 unfolding discontinuity
 discontinuity-until t fs h s p e =
-    all-member (λ (q : Placed). q .time ≤ t) (firstAbove-member s (placed fs) p e .0) (placed-until t fs h)
+    all-member (λ (q : FirstArrival). q .time ≤ t) (firstAbove-member s (placed fs) p e .0) (placed-until t fs h)

@@ -12,7 +12,7 @@ use borrow.Author.Tests.{ltb-true, ltb-false, lt-ltb, le-ltb}
 use Rattle.rfc4737.specs.declared.Arrival.{Arrival}
 use Rattle.rfc4737.specs.Arrivals.{has, withArrival, firsts, recordFrom, firstRecord, each}
 use Rattle.rfc4737.specs.Times.{backMost, tooEarly, nextReference, greatestTime, elapsed}
-use Rattle.rfc4737.specs.Order.{Placed, nextAfter, nextExp, isInOrder, jumpSize, isJump, placeAfter, placed, jumpAfter, jumps}
+use Rattle.rfc4737.specs.Order.{FirstArrival, nextAfter, nextExp, isInOrder, jumpSize, isJump, placeAfter, placed, jumpAfter, jumps}
 use Rattle.rfc4737.specs.Extent.{firstAbove, discontinuity, extentFrom, lateFrom, byteOffset, largestN}
 use Rattle.rfc4737.specs.Answer.{inOrderAnswer, reorderedAnswer, firstAnswer, answerTo, answers}
 use Rattle.rfc4737.specs.Judge.{judgeOne, judge}
@@ -159,7 +159,7 @@ module _ (c : ℕ) where
   -- ---- first arrivals with their positions
 
   -- one with c added to its time
-  abbrev pub movedPlace : Placed → Placed
+  abbrev pub movedPlace : FirstArrival → FirstArrival
   movedPlace p = record { position = p .position; number = p .number; time = p .time + c }
 
   place-moved : (fs : List Arrival) (a : Arrival) → placeAfter (moved c fs) (movedOne c a) ≡ movedPlace (placeAfter fs a)
@@ -192,7 +192,7 @@ module _ (c : ℕ) where
   -- ---- what is measured from another arrival
 
   -- the earliest with a greater number
-  above-moved : (s : ℕ) (ps : List Placed) → firstAbove s (map movedPlace ps) ≡ Option·map movedPlace (firstAbove s ps)
+  above-moved : (s : ℕ) (ps : List FirstArrival) → firstAbove s (map movedPlace ps) ≡ Option·map movedPlace (firstAbove s ps)
   unfolding firstAbove
   above-moved s [] = refl
   above-moved s (p ∷ ps) = rw (above-moved s ps) (go (ltb s (p .number)))
@@ -207,13 +207,13 @@ module _ (c : ℕ) where
   discontinuity-moved fs s = ap (firstAbove s) (placed-moved fs) ∙ above-moved s (placed fs)
 
   -- the extent
-  pub extent-moved : (i : ℕ) (d : Option Placed) → extentFrom i (Option·map movedPlace d) ≡ extentFrom i d
+  pub extent-moved : (i : ℕ) (d : Option FirstArrival) → extentFrom i (Option·map movedPlace d) ≡ extentFrom i d
   unfolding extentFrom
   extent-moved i none = refl
   extent-moved i (some j) = refl
 
   -- the late time
-  pub late-moved : (t : ℕ) (d : Option Placed) → lateFrom (t + c) (Option·map movedPlace d) ≡ lateFrom t d
+  pub late-moved : (t : ℕ) (d : Option FirstArrival) → lateFrom (t + c) (Option·map movedPlace d) ≡ lateFrom t d
   unfolding lateFrom
   late-moved t none = refl
   late-moved t (some j) = elapsed-moved c (j .time) t

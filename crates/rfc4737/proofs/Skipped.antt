@@ -9,13 +9,13 @@ use lib.Dec.{ltb}
 use borrow.Author.Tests.{ltb-true}
 use Rattle.rfc4737.specs.declared.Arrival.{Arrival}
 use Rattle.rfc4737.specs.Arrivals.{has, each, eachAfter}
-use Rattle.rfc4737.specs.Order.{Placed, nextExp, placeAfter, placed}
+use Rattle.rfc4737.specs.Order.{FirstArrival, nextExp, placeAfter, placed}
 use Rattle.rfc4737.specs.Extent.{firstAbove, discontinuity}
 use Rattle.rfc4737.proofs.Lists.{snoc-ind}
 use Rattle.rfc4737.proofs.Jumps.{has-more-false, placed-more, orElse, firstAbove-append, search-agrees}
 
 -- the packet s was skipped where d stands: the arrival there is above s, and NextExp before it was at most s
-pub record SkippedAt (s : ℕ) (fs : List Arrival) (d : Placed) : Type 0 where
+pub record SkippedAt (s : ℕ) (fs : List Arrival) (d : FirstArrival) : Type 0 where
   pub before : List Arrival
   pub arrival : Arrival
   pub after : List Arrival
@@ -25,7 +25,7 @@ pub record SkippedAt (s : ℕ) (fs : List Arrival) (d : Placed) : Type 0 where
   pub high : s < arrival .number
 
 -- one arrival more does not change where it was skipped
-skipped-more : (s : ℕ) (fs : List Arrival) (a : Arrival) (d : Placed) → SkippedAt s fs d → SkippedAt s (fs ++ (a ∷ [])) d
+skipped-more : (s : ℕ) (fs : List Arrival) (a : Arrival) (d : FirstArrival) → SkippedAt s fs d → SkippedAt s (fs ++ (a ∷ [])) d
 skipped-more s fs a d k =
     record {
       before = k .before;
@@ -38,16 +38,16 @@ skipped-more s fs a d k =
     }
 
 -- of a packet that has not arrived, the discontinuity is the jump that skipped it
-pub discontinuity-skipped : (s : ℕ) → 1 ≤ s → (fs : List Arrival) → has s fs ≡ false → (d : Placed) → discontinuity fs s ≡ some d → SkippedAt s fs d
+pub discontinuity-skipped : (s : ℕ) → 1 ≤ s → (fs : List Arrival) → has s fs ≡ false → (d : FirstArrival) → discontinuity fs s ≡ some d → SkippedAt s fs d
 unfolding discontinuity firstAbove placed each eachAfter
 discontinuity-skipped s h =
-    snoc-ind (λ (fs : List Arrival). has s fs ≡ false → (d : Placed) → discontinuity fs s ≡ some d → SkippedAt s fs d) more
+    snoc-ind (λ (fs : List Arrival). has s fs ≡ false → (d : FirstArrival) → discontinuity fs s ≡ some d → SkippedAt s fs d) more
     (λ n d e. absurd (Option·some-ne-none d (sym e)))
   where
     more : (fs : List Arrival) (a : Arrival)
-        → (has s fs ≡ false → (d : Placed) → discontinuity fs s ≡ some d → SkippedAt s fs d)
+        → (has s fs ≡ false → (d : FirstArrival) → discontinuity fs s ≡ some d → SkippedAt s fs d)
         → has s (fs ++ (a ∷ [])) ≡ false
-        → (d : Placed)
+        → (d : FirstArrival)
         → discontinuity (fs ++ (a ∷ [])) s ≡ some d
         → SkippedAt s (fs ++ (a ∷ [])) d
     more fs a k n d e =
@@ -57,7 +57,7 @@ discontinuity-skipped s h =
         new : has s fs ≡ false
         new = has-more-false s fs a n .0
 
-        found : (o : Option Placed) (t : Bool) → firstAbove s (placed fs) ≡ o → ltb s (a .number) ≡ t
+        found : (o : Option FirstArrival) (t : Bool) → firstAbove s (placed fs) ≡ o → ltb s (a .number) ≡ t
             → orElse (firstAbove s (placed fs)) (cond (ltb s (a .number)) (some (placeAfter fs a)) none) ≡ some d
             → SkippedAt s (fs ++ (a ∷ [])) d
         found (some p) t q l e = skipped-more s fs a d (k new d (q ∙ (rw q at e)))

@@ -9,7 +9,7 @@ use Rattle.rfc4737.specs.declared.Arrival.{Arrival}
 use Rattle.rfc4737.specs.declared.Answer.{Answer}
 use Rattle.rfc4737.specs.declared.Answer.the-variants.{Duplicate, InOrder, Reordered}
 use Rattle.rfc4737.specs.Arrivals.{has, firsts, firstRecord, each}
-use Rattle.rfc4737.specs.Order.{Placed, isInOrder, jumpSize}
+use Rattle.rfc4737.specs.Order.{FirstArrival, isInOrder, jumpSize}
 use Rattle.rfc4737.specs.Extent.{discontinuity, extentFrom, lateFrom, byteOffset, largestN}
 
 -- of an in-order packet a, after the first arrivals fs
@@ -17,7 +17,7 @@ unfoldable pub inOrderAnswer : List Arrival → Arrival → Answer
 inOrderAnswer fs a = InOrder (record { position = length fs + 1; jump = jumpSize fs (a .number) })
 
 -- of a reordered packet a with the discontinuity d, after the first arrivals fs
-unfoldable pub reorderedAnswer : (ℕ → ℕ) → List Arrival → Arrival → Option Placed → Answer
+unfoldable pub reorderedAnswer : (ℕ → ℕ) → List Arrival → Arrival → Option FirstArrival → Answer
 reorderedAnswer size fs a d =
     Reordered
     (record {

@@ -96,7 +96,7 @@ noGaps n = replicate n None
 
 -- the tally with these counts at these places and 0 at all others
 unfoldable pub tallied : List (ℕ × ℕ) → List ℕ
-tallied places = foldl (λ (t : List ℕ) (p : ℕ × ℕ). set t (p .0) (p .1)) (replicate 101 0) places
+tallied places = foldl (λ (t : List ℕ) (p : ℕ × ℕ). set t (p .0) (p .1)) (replicate tallying.tallyPlaces 0) places
 
 abbrev totals : ℕ → ℕ → ℕ → ℕ → ℕ → ℕ → ℕ → Counts
 totals arrived reordered duplicates inorder closed squares current =
@@ -331,9 +331,9 @@ p11 =
           };
     }
 
-unfoldable pub table : List Case
-table = p1 ∷ p2 ∷ p3 ∷ p4 ∷ p5 ∷ p6 ∷ p7 ∷ p8 ∷ p9 ∷ p10 ∷ p11 ∷ []
+unfoldable pub workedCases : List Case
+workedCases = p1 ∷ p2 ∷ p3 ∷ p4 ∷ p5 ∷ p6 ∷ p7 ∷ p8 ∷ p9 ∷ p10 ∷ p11 ∷ []
 
 -- every case of the table has the figures given for it
 abbrev pub CasesHold : Type 0
-CasesHold = map measured table ≡ map (λ (c : Case). c .given) table
+CasesHold = map measured workedCases ≡ map (λ (c : Case). c .given) workedCases

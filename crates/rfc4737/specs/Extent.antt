@@ -9,25 +9,25 @@ use lib.ListN.{getD}
 use Rattle.rfc4737.specs.declared.Arrival.{Arrival}
 use Rattle.rfc4737.specs.declared.LateTime.{LateTime}
 use Rattle.rfc4737.specs.declared.LateTime.the-variants.{After}
-use Rattle.rfc4737.specs.Order.{Placed, placed}
+use Rattle.rfc4737.specs.Order.{FirstArrival, placed}
 use Rattle.rfc4737.specs.Times.{elapsed}
 
 -- the earliest of some first arrivals, in order of position, with a number greater than s
-unfoldable pub firstAbove : ℕ → List Placed → Option Placed
+unfoldable pub firstAbove : ℕ → List FirstArrival → Option FirstArrival
 firstAbove s [] = none
 firstAbove s (p ∷ ps) = cond (ltb s (p .number)) (some p) (firstAbove s ps)
 
 -- the discontinuity of a reordered packet: the arrival at the smallest j with s[j] > s
-unfoldable pub discontinuity : List Arrival → ℕ → Option Placed
+unfoldable pub discontinuity : List Arrival → ℕ → Option FirstArrival
 discontinuity fs s = firstAbove s (placed fs)
 
 -- the extent of a packet at position i: i - j
-unfoldable pub extentFrom : ℕ → Option Placed → ℕ
+unfoldable pub extentFrom : ℕ → Option FirstArrival → ℕ
 extentFrom i none = 0
 extentFrom i (some j) = i - j .position
 
 -- the late time of a packet that arrives at time t: after or before the arrival time of j, and by how much
-unfoldable pub lateFrom : ℕ → Option Placed → LateTime
+unfoldable pub lateFrom : ℕ → Option FirstArrival → LateTime
 lateFrom t none = After 0
 lateFrom t (some j) = elapsed (j .time) t
 

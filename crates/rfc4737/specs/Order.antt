@@ -28,23 +28,23 @@ unfoldable pub isJump : List Arrival → ℕ → Bool
 isJump fs s = isInOrder fs s && not (eqb (jumpSize fs s) 0)
 
 -- a first arrival with its position
-pub record Placed : Type 0 where
+pub record FirstArrival : Type 0 where
   pub position : ℕ
   pub number : ℕ
   pub time : ℕ
 
 -- a first arrival at its position, after the first arrivals before it
-abbrev pub placeAfter : List Arrival → Arrival → Placed
+abbrev pub placeAfter : List Arrival → Arrival → FirstArrival
 placeAfter fs a = record { position = length fs + 1; number = a .number; time = a .time }
 
 -- the first arrivals with their positions
-unfoldable pub placed : List Arrival → List Placed
+unfoldable pub placed : List Arrival → List FirstArrival
 placed fs = each placeAfter fs
 
 -- the jump that an arrival is, if it is one
-unfoldable pub jumpAfter : List Arrival → Arrival → List Placed
+unfoldable pub jumpAfter : List Arrival → Arrival → List FirstArrival
 jumpAfter fs a = cond (isJump fs (a .number)) (placeAfter fs a ∷ []) []
 
 -- the jumps among the first arrivals, in order of position
-unfoldable pub jumps : List Arrival → List Placed
+unfoldable pub jumps : List Arrival → List FirstArrival
 jumps fs = flatten (each jumpAfter fs)

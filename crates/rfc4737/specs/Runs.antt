@@ -8,6 +8,10 @@ use Rattle.rfc4737.specs.declared.Runs.{Runs}
 use Rattle.rfc4737.specs.declared.Counts.{Counts}
 use Rattle.rfc4737.specs.Arrivals.{count}
 
+-- the greatest sum of squares: that of one run of all arrivals
+abbrev pub squaresMost : ℕ
+squaresMost = 16777216
+
 abbrev pub isDuplicate : Answer → Bool
 isDuplicate (Duplicate d) = true
 isDuplicate (InOrder d) = false

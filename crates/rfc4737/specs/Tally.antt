@@ -8,9 +8,17 @@ use lib.ListN.{getD, set, replicate}
 use Rattle.rfc4737.specs.declared.Answer.{Answer}
 use Rattle.rfc4737.specs.declared.Answer.the-variants.{Duplicate, InOrder, Reordered}
 
+-- the greatest extent that has a place of its own
+abbrev pub tallyMost : ℕ
+tallyMost = 100
+
+-- the places of a tally
+abbrev pub tallyPlaces : ℕ
+tallyPlaces = 101
+
 -- the place of an extent
 unfoldable pub tallyPlace : ℕ → ℕ
-tallyPlace extent = cond (leb extent 100) extent 0
+tallyPlace extent = cond (leb extent tallyMost) extent 0
 
 -- one more at a place
 unfoldable pub oneMoreAt : ℕ → List ℕ → List ℕ
@@ -24,4 +32,4 @@ tallyAfter t (Reordered d) = oneMoreAt (tallyPlace (d .extent)) t
 
 -- the tally of a sample
 unfoldable pub tally : List Answer → List ℕ
-tally l = foldl tallyAfter (replicate 101 0) l
+tally l = foldl tallyAfter (replicate tallyPlaces 0) l

@@ -11,10 +11,10 @@ use Rattle.octets.specs.BigEndian.{beValue}
 use Rattle.octets.specs.Memory.{part}
 use Rattle.rfc4737.specs.declared.Arrival.{Arrival}
 use Rattle.rfc4737.specs.Times.{backMost}
-use Rattle.sample.specs.Format.{Sample, fileOf, longest}
+use Rattle.sample.specs.Format.{Sample, longest, sizeWidth, arrivalWidth, itemsAt, lastEnd, fileOf}
 use Rattle.sample.specs.Judge.{FitSample}
 use Rattle.sample.specs.Decode.{labelCount, sentAt, sentCount, arrivedAt, arrivalCount, arrivalIn, sampleIn, decode, accepted, sampleOf, layoutOf}
-use Rattle.sample.specs.Places.{sizeFound, arrivalFound, arrivalsAt}
+use Rattle.sample.specs.Places.{sizesAt, arrivalsAt, sizeFound, arrivalFound}
 use Rattle.sample.specs.declared.Layout.{Layout}
 use Rattle.sample.proofs.Items.{items-stand}
 use Rattle.rfc4737.proofs.Judged.{judged-number, judged-times}
@@ -49,13 +49,13 @@ module _ (file : List ℕ) (s : Sample) (e : decode file ≡ accepted s) where
     unfolding sizeFound sampleIn
     size-found j h =
         let c = counts in
-        let p : 4 + y .label + 2 * j ≡ sentAt file + 2 + 2 * j = omega arith in
-        ap (λ (n : ℕ). beValue (part n 2 file)) p
-        ∙ sym (items-stand 2 beValue (sentCount file) (sentAt file + 2) file j 0 (omega arith))
+        let p : sizesAt y + sizeWidth * j ≡ itemsAt (sentAt file) + sizeWidth * j = omega arith in
+        ap (λ (n : ℕ). beValue (part n sizeWidth file)) p
+        ∙ sym (items-stand sizeWidth beValue (sentCount file) (itemsAt (sentAt file)) file j 0 (omega arith))
         ∙ ap (λ (x : Sample). getD (x .sizes) j 0) (accepted-decode file s e .1)
 
     -- the octets of record i + 1 are there
-    pub octets-inside : (i : ℕ) → i < y .arrivals → arrivalsAt y + 12 * i + 12 ≤ length file
+    pub octets-inside : (i : ℕ) → i < y .arrivals → arrivalsAt y + arrivalWidth * i + arrivalWidth ≤ length file
     octets-inside i h =
         let c = counts in
         let w = refused-none file (accepted-decode file s e .0) .ends in
@@ -66,10 +66,10 @@ module _ (file : List ℕ) (s : Sample) (e : decode file ≡ accepted s) where
     unfolding arrivalFound sampleIn
     arrival-found i z h =
         let c = counts in
-        let p : arrivalsAt y + 12 * i ≡ arrivedAt file + 2 + 12 * i = omega arith in
-        rw (le-ltb (length file) (arrivalsAt y + 12 * i + 12) (octets-inside i h))
-        (ap (λ (n : ℕ). arrivalIn (part n 12 file)) p
-        ∙ sym (items-stand 12 arrivalIn (arrivalCount file) (arrivedAt file + 2) file i z (omega arith))
+        let p : arrivalsAt y + arrivalWidth * i ≡ itemsAt (arrivedAt file) + arrivalWidth * i = omega arith in
+        rw (le-ltb (length file) (arrivalsAt y + arrivalWidth * i + arrivalWidth) (octets-inside i h))
+        (ap (λ (n : ℕ). arrivalIn (part n arrivalWidth file)) p
+        ∙ sym (items-stand arrivalWidth arrivalIn (arrivalCount file) (itemsAt (arrivedAt file)) file i z (omega arith))
         ∙ ap (λ (x : Sample). getD (x .arrivals) i z) (accepted-decode file s e .1))
 
   -- ---- what the sample satisfies, for a file of octets
@@ -88,7 +88,7 @@ module _ (file : List ℕ) (s : Sample) (e : decode file ≡ accepted s) where
     accepted-limits = limits s (accepted-fit .judged)
 
     -- the length of the file
-    pub accepted-length : length file ≡ 6 + length (s .label) + 2 * length (s .sizes) + 12 * length (s .arrivals)
+    pub accepted-length : length file ≡ lastEnd (length (s .label)) (length (s .sizes)) (length (s .arrivals))
     accepted-length = ap length accepted-file ∙ file-length s
 
     -- which is at most that of the longest sample

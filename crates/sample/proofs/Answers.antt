@@ -4,7 +4,7 @@ use native.Mathlib.Omega.{arith}
 use mathlib.Core.Bool.{true, false, _||_}
 use mathlib.Core.Path.{_≡_, sym, ap, _∙_, subst}
 use mathlib.Core.List.{List, [], _∷_, _++_, append-assoc}
-use borrow.Author.Tests.{le-ltb, lt-ltb, ltb-false}
+use borrow.Author.Tests.{ltb-false}
 use lib.Dec.{ltb}
 use lib.ListN.{length, drop, length-append}
 use Rattle.octets.specs.BigEndian.{beValue}
@@ -12,16 +12,17 @@ use Rattle.octets.specs.Memory.{over, splice}
 use Rattle.octets.proofs.Memory.{splice-next, over-splice}
 use Rattle.rfc4737.specs.Refusals.{inCase, firstOf, outputShort}
 use Rattle.rfc4737.specs.Judge.{numbersOf, timesOf, arrivalsFrom}
-use Rattle.sample.specs.Format.{section, sizeOctets, arrivalOctets, itemOctets, itemsIn, fileOf}
+use Rattle.sample.specs.Format.{sizeWidth, arrivalWidth, itemsAt, sentStart, arrivedStart, lastEnd, section, sizeOctets, arrivalOctets, itemOctets, itemsIn, fileOf}
 use Rattle.sample.specs.Decode.{labelCount, sentAt, sentCount, arrivedAt, arrivalCount, arrivalIn, sampleIn, fileRefusal, Decoded, refused, accepted, decode, sampleOf, layoutOf}
 use Rattle.sample.specs.Places.{sizesAt, arrivalsAt}
-use Rattle.sample.specs.Calls.{listsShort, decodeInto, ReadFrom, sampleFrom, sampleRefusal, writeRefusal, octetsInto, unlessRefused, WrittenTo}
+use Rattle.sample.specs.Calls.{listsShort, decodeInto, ReadFrom, sampleFrom, sampleRefusal, WrittenTo}
 use Rattle.sample.specs.declared.Layout.{Layout}
 use Rattle.rfc4737.proofs.Due.{first-due, or-false}
 use Rattle.rfc4737.proofs.Pairs.{arrivals-length}
 use Rattle.sample.proofs.Items.{size-long, octets-many}
 use Rattle.sample.proofs.Decoded.{refused-none, decided-refusal, decode-accepted, decode-refused, layout-accepted}
 use Rattle.sample.proofs.Exact.{section-length, file-length}
+use Rattle.sample.proofs.Output.{output-refused, output-short, output-written}
 
 -- ---- what was found, y, is the layout of the file
 
@@ -48,8 +49,8 @@ module _ (file : List ℕ) (y : Layout) (e : y ≡ layoutOf (decode file)) where
 
 -- the values that were found lie within the file, and the lists have places for them
 pub record Room (file sizes numbers times : List ℕ) (y : Layout) : Type 0 where
-  pub sizesStand : sizesAt y + 2 * y .sent ≤ length file
-  pub arrivalsStand : arrivalsAt y + 12 * y .arrivals ≤ length file
+  pub sizesStand : sizesAt y + sizeWidth * y .sent ≤ length file
+  pub arrivalsStand : arrivalsAt y + arrivalWidth * y .arrivals ≤ length file
   pub sizesRoom : y .sent ≤ length sizes
   pub numbersRoom : y .arrivals ≤ length numbers
   pub timesRoom : y .arrivals ≤ length times
@@ -115,9 +116,9 @@ module _ (file sizes numbers times : List ℕ) where
 
       -- the lists are filled
       pub read-filled : (sizes′ numbers′ times′ : List ℕ) → listsShort y (length sizes) (length numbers) (length times) ≡ false
-          → sizes′ ≡ over (itemsIn 2 beValue (y .sent) (drop (sizesAt y) file)) sizes
-          → numbers′ ≡ over (numbersOf (itemsIn 12 arrivalIn (y .arrivals) (drop (arrivalsAt y) file))) numbers
-          → times′ ≡ over (timesOf (itemsIn 12 arrivalIn (y .arrivals) (drop (arrivalsAt y) file))) times
+          → sizes′ ≡ over (itemsIn sizeWidth beValue (y .sent) (drop (sizesAt y) file)) sizes
+          → numbers′ ≡ over (numbersOf (itemsIn arrivalWidth arrivalIn (y .arrivals) (drop (arrivalsAt y) file))) numbers
+          → times′ ≡ over (timesOf (itemsIn arrivalWidth arrivalIn (y .arrivals) (drop (arrivalsAt y) file))) times
           → ReadFrom file sizes numbers times y sizes′ numbers′ times′
       unfolding decodeInto sampleIn
       read-filled sizes′ numbers′ times′ t p q r =
@@ -128,77 +129,56 @@ module _ (file sizes numbers times : List ℕ) where
           let k = ap (λ (x : Layout). x .sent) c in
           let l = ap (λ (x : Layout). x .label) c in
           let a = ap (λ (x : Layout). x .arrivals) c in
-          let u : sizesAt y ≡ sentAt file + 2 = omega arith in
-          let v : arrivalsAt y ≡ arrivedAt file + 2 = omega arith in
+          let u : sizesAt y ≡ itemsAt (sentAt file) = omega arith in
+          let v : arrivalsAt y ≡ itemsAt (arrivedAt file) = omega arith in
           record {
             layout = e ∙ ap layoutOf (found-accepted file y e z ∙ sym d);
-            filledSizes = p ∙ (λ i. over (itemsIn 2 beValue (k i) (drop (u i) file)) sizes) ∙ sym (ap (λ (x : Decoded). over (sampleOf x .sizes) sizes) d);
-            filledNumbers = q ∙ (λ i. over (numbersOf (itemsIn 12 arrivalIn (a i) (drop (v i) file))) numbers) ∙ sym (ap (λ (x : Decoded). over (numbersOf (sampleOf x .arrivals)) numbers) d);
-            filledTimes = r ∙ (λ i. over (timesOf (itemsIn 12 arrivalIn (a i) (drop (v i) file))) times) ∙ sym (ap (λ (x : Decoded). over (timesOf (sampleOf x .arrivals)) times) d);
+            filledSizes = p ∙ (λ i. over (itemsIn sizeWidth beValue (k i) (drop (u i) file)) sizes) ∙ sym (ap (λ (x : Decoded). over (sampleOf x .sizes) sizes) d);
+            filledNumbers = q ∙ (λ i. over (numbersOf (itemsIn arrivalWidth arrivalIn (a i) (drop (v i) file))) numbers) ∙ sym (ap (λ (x : Decoded). over (numbersOf (sampleOf x .arrivals)) numbers) d);
+            filledTimes = r ∙ (λ i. over (timesOf (itemsIn arrivalWidth arrivalIn (a i) (drop (v i) file))) times) ∙ sym (ap (λ (x : Decoded). over (timesOf (sampleOf x .arrivals)) times) d);
           }
 
 -- ---- the writer
 
 module _ (label sizes numbers times out : List ℕ) where
-  -- a refusal: the lent octets are as they were
-  refused-written : (n : ℕ) → 0 < n → writeRefusal (length out) label sizes numbers times ≡ n
-      → WrittenTo label sizes numbers times out (record { refusal = n; length = 0 }) out
-  refused-written zero h e = absurd (omega arith)
-  refused-written (suc n) h e =
-      let o : octetsInto (length out) label sizes numbers times ≡ [] = ap (λ (k : ℕ). unlessRefused k (fileOf (sampleFrom label sizes numbers times))) e in
-      record { refusal = sym e; octets = sym (ap length o); filled = sym (ap (λ (os : List ℕ). over os out) o) }
-
   -- the label or a list is refused
-  pub write-refused : (n : ℕ) → 0 < n → n ≡ sampleRefusal label sizes numbers times → WrittenTo label sizes numbers times out (record { refusal = n; length = 0 }) out
-  unfolding writeRefusal
-  write-refused n h e =
-      refused-written n h
-      (rw (← e) (first-due n (inCase (ltb (length out) (length (fileOf (sampleFrom label sizes numbers times)))) outputShort ∷ []) h))
+  pub write-refused : (n : ℕ) → (n ≡ 0 → ⊥) → n ≡ sampleRefusal label sizes numbers times → WrittenTo label sizes numbers times out (record { refusal = n; length = 0 }) out
+  write-refused n h e = output-refused (sampleRefusal label sizes numbers times) (fileOf (sampleFrom label sizes numbers times)) out n e h
 
-  module _ (e : 0 ≡ sampleRefusal label sizes numbers times) (same : length times ≡ length numbers) where
+  module _ (e : 0 ≡ sampleRefusal label sizes numbers times) (same : length times ≡ length numbers)
+      (end : ℕ) (ends : end ≡ lastEnd (length label) (length sizes) (length numbers)) where
     -- the file's length
-    octets-long : length (fileOf (sampleFrom label sizes numbers times)) ≡ 2 + length label + 2 + 2 * length sizes + 2 + 12 * length numbers
+    octets-long : length (fileOf (sampleFrom label sizes numbers times)) ≡ end
     octets-long =
         let n = arrivals-length numbers times same in
         let f = file-length (sampleFrom label sizes numbers times) in
         omega arith
 
     -- the lent octets are too few
-    pub write-short : length out < 2 + length label + 2 + 2 * length sizes + 2 + 12 * length numbers
-        → WrittenTo label sizes numbers times out (record { refusal = outputShort; length = 0 }) out
-    unfolding writeRefusal
+    pub write-short : length out < end → WrittenTo label sizes numbers times out (record { refusal = outputShort; length = 0 }) out
     write-short h =
         let l = octets-long in
-        let t : ltb (length out) (length (fileOf (sampleFrom label sizes numbers times))) ≡ true = lt-ltb (length out) (length (fileOf (sampleFrom label sizes numbers times))) (omega arith) in
-        refused-written outputShort (omega arith) (simp (sym e, t))
+        output-short (sampleRefusal label sizes numbers times) (fileOf (sampleFrom label sizes numbers times)) out (sym e) (omega arith)
 
     -- the file is written
-    pub write-filled : (out′ : List ℕ) → 2 + length label + 2 + 2 * length sizes + 2 + 12 * length numbers ≤ length out
-        → out′ ≡ splice (2 + length label + 2 + 2 * length sizes) (section (length numbers) (itemOctets arrivalOctets (arrivalsFrom numbers times)))
-        (splice (2 + length label) (section (length sizes) (itemOctets sizeOctets sizes)) (splice 0 (section (length label) label) out))
-        → WrittenTo label sizes numbers times out (record { refusal = 0; length = 2 + length label + 2 + 2 * length sizes + 2 + 12 * length numbers }) out′
-    unfolding writeRefusal fileOf
-    write-filled out′ h w =
+    pub write-filled : (sent arrived : ℕ) → sent ≡ sentStart (length label) → arrived ≡ arrivedStart (length label) (length sizes) → (out′ : List ℕ) → end ≤ length out
+        → out′ ≡ splice arrived (section (length numbers) (itemOctets arrivalOctets (arrivalsFrom numbers times)))
+        (splice sent (section (length sizes) (itemOctets sizeOctets sizes)) (splice 0 (section (length label) label) out))
+        → WrittenTo label sizes numbers times out (record { refusal = 0; length = end }) out′
+    unfolding fileOf
+    write-filled sent arrived f g out′ h w =
         let l = octets-long in
         let n = arrivals-length numbers times same in
-        let t : ltb (length out) (length (fileOf (sampleFrom label sizes numbers times))) ≡ false = le-ltb (length out) (length (fileOf (sampleFrom label sizes numbers times))) (omega arith) in
-        let r : writeRefusal (length out) label sizes numbers times ≡ 0 = simp (sym e, t) in
-        let o : octetsInto (length out) label sizes numbers times ≡ fileOf (sampleFrom label sizes numbers times) =
-        ap (λ (k : ℕ). unlessRefused k (fileOf (sampleFrom label sizes numbers times))) r in
         let a = section (length label) label in
         let b = section (length sizes) (itemOctets sizeOctets sizes) in
         let c = section (length numbers) (itemOctets arrivalOctets (arrivalsFrom numbers times)) in
         let m = section-length (length label) label in
         let k = section-length (length sizes) (itemOctets sizeOctets sizes) in
-        let s = octets-many sizeOctets 2 size-long sizes in
-        let p : 0 + length a ≡ 2 + length label = omega arith in
-        let q : 0 + length (a ++ b) ≡ 2 + length label + 2 + 2 * length sizes = simp length-append (omega arith) in
-        record {
-          refusal = sym r;
-          octets = sym (ap length o ∙ l);
-          filled = w ∙ ap (splice (2 + length label + 2 + 2 * length sizes) c) (splice-next 0 (2 + length label) a b out p zero-le)
-              ∙ splice-next 0 (2 + length label + 2 + 2 * length sizes) (a ++ b) c out q zero-le
-              ∙ ap (λ (os : List ℕ). splice 0 os out) (append-assoc a b c ∙ ap (λ (j : ℕ). a ++ (b ++ section j (itemOctets arrivalOctets (arrivalsFrom numbers times)))) (sym n))
-              ∙ sym (over-splice (fileOf (sampleFrom label sizes numbers times)) out)
-              ∙ sym (ap (λ (os : List ℕ). over os out) o);
-        }
+        let s = octets-many sizeOctets sizeWidth size-long sizes in
+        let p : 0 + length a ≡ sent = omega arith in
+        let q : 0 + length (a ++ b) ≡ arrived = simp length-append (omega arith) in
+        output-written (sampleRefusal label sizes numbers times) (fileOf (sampleFrom label sizes numbers times)) out (sym e) (omega arith) (sym l)
+        (w ∙ ap (splice arrived c) (splice-next 0 sent a b out p zero-le)
+        ∙ splice-next 0 arrived (a ++ b) c out q zero-le
+        ∙ ap (λ (os : List ℕ). splice 0 os out) (append-assoc a b c ∙ ap (λ (j : ℕ). a ++ (b ++ section j (itemOctets arrivalOctets (arrivalsFrom numbers times)))) (sym n))
+        ∙ sym (over-splice (fileOf (sampleFrom label sizes numbers times)) out))

@@ -5,14 +5,14 @@ use mathlib.Core.List.{List, map}
 use Rattle.octets.specs.BigEndian.{beValue, beOctets}
 use Rattle.rfc4737.specs.Refusals.{outside}
 use Rattle.rfc4737.specs.Times.{tooEarly, nextReference}
-use Rattle.rfc4737.specs.Judge.{judgeOne, judge}
+use Rattle.rfc4737.specs.Judge.{arrivalsFrom, judgeOne, judge}
 use Rattle.sample.specs.Format.{section, arrivalOctets, itemOctets, itemsIn, fileOf}
 use Rattle.sample.specs.Judge.{someUnshown}
-use Rattle.sample.specs.Decode.{countAt, arrivalIn, sectionStage, fileRefusal, decode, decodedRefusal}
-use Rattle.sample.specs.Cases.{table, RefusalsInOrder}
+use Rattle.sample.specs.Decode.{countAt, arrivalIn, sampleIn, sectionStage, fileRefusal, decode, decodedRefusal}
+use Rattle.sample.specs.Cases.{refusalCases, RefusalsInOrder}
 
-computed : map (λ (c : List ℕ × ℕ). decodedRefusal (decode (c .0))) table ≡ map (λ (c : List ℕ × ℕ). c .1) table
-unfolding beValue beOctets outside section arrivalOctets itemOctets itemsIn fileOf tooEarly nextReference judgeOne judge someUnshown countAt arrivalIn sectionStage fileRefusal decode
+computed : map (λ (c : List ℕ × ℕ). decodedRefusal (decode (c .0))) refusalCases ≡ map (λ (c : List ℕ × ℕ). c .1) refusalCases
+unfolding beValue beOctets outside section arrivalOctets itemOctets itemsIn fileOf tooEarly nextReference arrivalsFrom judgeOne judge someUnshown countAt arrivalIn sampleIn sectionStage fileRefusal decode
 computed = refl
 
 pub in-order : RefusalsInOrder

@@ -1,90 +1,114 @@
 -- Decoding: what it says of a file that nothing is refused, and when that is so. Assumes nothing.
-use Prim.Native.Nat.{ℕ, zero, suc, _+_, _≤_, _<_}
+use Prim.Native.Nat.{ℕ, zero, suc, _≤_, _<_}
 use native.Mathlib.Omega.{arith}
 use mathlib.Core.Bool.{true, false}
 use mathlib.Core.Path.{_≡_, refl, ap, _∙_}
 use mathlib.Core.List.{List, [], _∷_}
 use borrow.Author.Tests.{le-ltb, ltb-false}
 use lib.Dec.{ltb}
-use lib.ListN.{length}
+use lib.ListN.{length, getD}
 use Rattle.octets.specs.BigEndian.{beValue}
 use Rattle.octets.proofs.Memory.{part-length}
-use Rattle.rfc4737.specs.Refusals.{outside, endsEarly, octetsFollow, longLabel, octetOutside, sentOutside, manyArrivals}
+use Rattle.rfc4737.specs.Refusals.{outside, inCase, firstOf, endsEarly, octetsFollow, longLabel, octetOutside, sentOutside, manyArrivals}
 use Rattle.rfc4737.specs.Judge.{sentMost, arrivalsMost, judgeSent, judgeArrivals, judge}
-use Rattle.sample.specs.Format.{Sample, labelMost}
-use Rattle.sample.specs.Judge.{judgeLabel, someUnshown}
-use Rattle.sample.specs.Decode.{countAt, endOf, labelCount, sentAt, sentCount, arrivedAt, arrivalCount, fileEnd, arrivalIn, labelIn, arrivalsIn, sampleIn, countStage, lengthStage, sectionStage, labelStage, octetsStage, sentStage, arrivedStage, endStage, arrivalsStage, fileRefusal, refused, accepted, decided, decode, decodedRefusal, layoutOf}
+use Rattle.sample.specs.Format.{Sample, labelMost, octetWidth, sizeWidth, arrivalWidth, itemsAt, endOf}
+use Rattle.sample.specs.Judge.{judgeLabel, someUnshown, judgeOctets}
+use Rattle.sample.specs.Decode.{countAt, labelCount, sentAt, sentCount, arrivedAt, arrivalCount, fileEnd, arrivalIn, sampleIn, sectionStage, fileRefusal, refused, accepted, decided, decode, decodedRefusal, layoutOf}
 use Rattle.rfc4737.proofs.Due.{first-none, first-due, first-one, case-none, between, not-outside}
 use Rattle.sample.proofs.Items.{items-length}
 
+-- ---- none of some refusals is due
+
+-- each of them is 0
+pub each-none : (rs : List ℕ) → firstOf rs ≡ 0 → (i : ℕ) → getD rs i 0 ≡ 0
+each-none [] e i = refl
+each-none (r ∷ rs) e zero = first-none r rs e .0
+each-none (r ∷ rs) e (suc i) = each-none rs (first-none r rs e .1) i
+
+-- one for a number outside its limits: it lies between them
+pub limit-none : (least most n r : ℕ) → 0 < r → inCase (outside least most n) r ≡ 0 → (least ≤ n) × (n ≤ most)
+limit-none least most n r h e = between least most n (case-none (outside least most n) r h e)
+
+-- one for a number below another: it is not
+below-none : (m n r : ℕ) → 0 < r → inCase (ltb m n) r ≡ 0 → n ≤ m
+below-none m n r h e = ltb-false m n (case-none (ltb m n) r h e)
+
 -- ---- a section
+
+-- what its stage judges
+abbrev sectionStages : ℕ → ℕ → (ℕ → ℕ) → List ℕ → List ℕ
+sectionStages at width judged file =
+    inCase (ltb (length file) (itemsAt at)) endsEarly ∷ judged (countAt at file) ∷ inCase (ltb (length file) (endOf at width (countAt at file))) endsEarly ∷ []
 
 -- nothing of it is refused: its count is there, is not refused, and its items are all there
 pub stage-none : (at width : ℕ) (judged : ℕ → ℕ) (file : List ℕ) → sectionStage at width judged file ≡ 0
-    → (at + 2 ≤ length file) × (judged (countAt at file) ≡ 0) × (endOf at width (countAt at file) ≤ length file)
+    → (itemsAt at ≤ length file) × (judged (countAt at file) ≡ 0) × (endOf at width (countAt at file) ≤ length file)
 unfolding sectionStage
 stage-none at width judged file e =
-    let p = first-none (countStage at file) (judged (countAt at file) ∷ lengthStage at width file ∷ []) e in
-    let q = first-none (judged (countAt at file)) (lengthStage at width file ∷ []) (p .1) in
-    let r = first-none (lengthStage at width file) [] (q .1) in (
-      ltb-false (length file) (at + 2) (case-none (ltb (length file) (at + 2)) endsEarly (omega arith) (p .0)),
-      q .0,
-      ltb-false (length file) (endOf at width (countAt at file)) (case-none (ltb (length file) (endOf at width (countAt at file))) endsEarly (omega arith) (r .0)),
-    )
+    let s = each-none (sectionStages at width judged file) e in
+    (below-none (length file) (itemsAt at) endsEarly (omega arith) (s 0), s 1, below-none (length file) (endOf at width (countAt at file)) endsEarly (omega arith) (s 2))
 
 -- and when that is so
 pub none-stage : (at width : ℕ) (judged : ℕ → ℕ) (file : List ℕ) → judged (countAt at file) ≡ 0 → endOf at width (countAt at file) ≤ length file
     → sectionStage at width judged file ≡ 0
 unfolding sectionStage
 none-stage at width judged file e h =
-    let p : at + 2 ≤ length file = omega arith in
-    simp (le-ltb (length file) (at + 2) p, le-ltb (length file) (endOf at width (countAt at file)) h, e)
+    let p : itemsAt at ≤ length file = omega arith in
+    simp (le-ltb (length file) (itemsAt at) p, le-ltb (length file) (endOf at width (countAt at file)) h, e)
 
 -- ---- a file
+
+-- the stage of the label's section
+abbrev pub labelStage : List ℕ → ℕ
+labelStage file = sectionStage 0 octetWidth judgeLabel file
+
+-- of the section of sent packets
+abbrev pub sentStage : List ℕ → ℕ
+sentStage file = sectionStage (sentAt file) sizeWidth judgeSent file
+
+-- of the section of arrivals
+abbrev pub arrivedStage : List ℕ → ℕ
+arrivedStage file = sectionStage (arrivedAt file) arrivalWidth judgeArrivals file
+
+-- of the file's end
+abbrev pub endStage : List ℕ → ℕ
+endStage file = inCase (ltb (fileEnd file) (length file)) octetsFollow
+
+-- of the arrivals in turn
+abbrev pub arrivalsStage : List ℕ → ℕ
+arrivalsStage file = judge (sentCount file) 0 (sampleIn file .arrivals)
 
 -- what holds of a file of which nothing is refused
 pub record WholeFile (file : List ℕ) : Type 0 where
   pub labelFits : labelCount file ≤ labelMost
-  pub shown : someUnshown (labelIn file) ≡ false
+  pub shown : someUnshown (sampleIn file .label) ≡ false
   pub sentSome : 1 ≤ sentCount file
   pub sentFits : sentCount file ≤ sentMost
   pub arrivalsFit : arrivalCount file ≤ arrivalsMost
   pub ends : fileEnd file ≡ length file
-  pub judged : judge (sentCount file) 0 (arrivalsIn file) ≡ 0
-
--- each stage refuses nothing
-pub none-stages : (file : List ℕ) → fileRefusal file ≡ 0
-    → (labelStage file ≡ 0) × (octetsStage file ≡ 0) × (sentStage file ≡ 0) × (arrivedStage file ≡ 0) × (endStage file ≡ 0) × (arrivalsStage file ≡ 0)
-unfolding fileRefusal
-none-stages file e =
-    let a = first-none (labelStage file) (octetsStage file ∷ sentStage file ∷ arrivedStage file ∷ endStage file ∷ arrivalsStage file ∷ []) e in
-    let o = first-none (octetsStage file) (sentStage file ∷ arrivedStage file ∷ endStage file ∷ arrivalsStage file ∷ []) (a .1) in
-    let b = first-none (sentStage file) (arrivedStage file ∷ endStage file ∷ arrivalsStage file ∷ []) (o .1) in
-    let c = first-none (arrivedStage file) (endStage file ∷ arrivalsStage file ∷ []) (b .1) in
-    let d = first-none (endStage file) (arrivalsStage file ∷ []) (c .1) in
-    let f = first-none (arrivalsStage file) [] (d .1) in
-    (a .0, o .0, b .0, c .0, d .0, f .0)
+  pub judged : judge (sentCount file) 0 (sampleIn file .arrivals) ≡ 0
 
 -- nothing is refused: all of that holds
 pub refused-none : (file : List ℕ) → fileRefusal file ≡ 0 → WholeFile file
+unfolding fileRefusal
 refused-none file e =
-    let s = none-stages file e in
-    let l = stage-none 0 1 judgeLabel file (s .0) in
-    let k = stage-none (sentAt file) 2 judgeSent file (s .2) in
-    let a = stage-none (arrivedAt file) 12 judgeArrivals file (s .3) in
-    let p = between 0 labelMost (labelCount file) (case-none (outside 0 labelMost (labelCount file)) longLabel (omega arith) (l .1)) in
-    let q = between 1 sentMost (sentCount file) (case-none (outside 1 sentMost (sentCount file)) sentOutside (omega arith) (k .1)) in
-    let r = between 0 arrivalsMost (arrivalCount file) (case-none (outside 0 arrivalsMost (arrivalCount file)) manyArrivals (omega arith) (a .1)) in
-    let t : length file ≤ fileEnd file = ltb-false (fileEnd file) (length file) (case-none (ltb (fileEnd file) (length file)) octetsFollow (omega arith) (s .4)) in
+    let s = each-none (labelStage file ∷ judgeOctets (sampleIn file .label) ∷ sentStage file ∷ arrivedStage file ∷ endStage file ∷ arrivalsStage file ∷ []) e in
+    let l = stage-none 0 octetWidth judgeLabel file (s 0) in
+    let k = stage-none (sentAt file) sizeWidth judgeSent file (s 2) in
+    let a = stage-none (arrivedAt file) arrivalWidth judgeArrivals file (s 3) in
+    let p = limit-none 0 labelMost (labelCount file) longLabel (omega arith) (l .1) in
+    let q = limit-none 1 sentMost (sentCount file) sentOutside (omega arith) (k .1) in
+    let r = limit-none 0 arrivalsMost (arrivalCount file) manyArrivals (omega arith) (a .1) in
+    let t : length file ≤ fileEnd file = below-none (fileEnd file) (length file) octetsFollow (omega arith) (s 4) in
     let u : fileEnd file ≤ length file = a .2 in
     record {
       labelFits = p .1;
-      shown = case-none (someUnshown (labelIn file)) octetOutside (omega arith) (s .1);
+      shown = case-none (someUnshown (sampleIn file .label)) octetOutside (omega arith) (s 1);
       sentSome = q .0;
       sentFits = q .1;
       arrivalsFit = r .1;
       ends = omega arith;
-      judged = s .5;
+      judged = s 5;
     }
 
 -- all of that holds: nothing is refused
@@ -92,9 +116,9 @@ pub none-refused : (file : List ℕ) → WholeFile file → fileRefusal file ≡
 unfolding fileRefusal
 none-refused file w =
     let e = w .ends in
-    let p : labelStage file ≡ 0 = none-stage 0 1 judgeLabel file (simp (not-outside 0 labelMost (labelCount file) (omega arith) (w .labelFits))) (omega arith) in
-    let q : sentStage file ≡ 0 = none-stage (sentAt file) 2 judgeSent file (simp (not-outside 1 sentMost (sentCount file) (w .sentSome) (w .sentFits))) (omega arith) in
-    let r : arrivedStage file ≡ 0 = none-stage (arrivedAt file) 12 judgeArrivals file (simp (not-outside 0 arrivalsMost (arrivalCount file) (omega arith) (w .arrivalsFit))) (omega arith) in
+    let p : labelStage file ≡ 0 = none-stage 0 octetWidth judgeLabel file (simp (not-outside 0 labelMost (labelCount file) (omega arith) (w .labelFits))) (omega arith) in
+    let q : sentStage file ≡ 0 = none-stage (sentAt file) sizeWidth judgeSent file (simp (not-outside 1 sentMost (sentCount file) (w .sentSome) (w .sentFits))) (omega arith) in
+    let r : arrivedStage file ≡ 0 = none-stage (arrivedAt file) arrivalWidth judgeArrivals file (simp (not-outside 0 arrivalsMost (arrivalCount file) (omega arith) (w .arrivalsFit))) (omega arith) in
     let f : ltb (fileEnd file) (length file) ≡ false = le-ltb (fileEnd file) (length file) (omega arith) in
     simp (p, w .shown, q, r, f, w .judged)
 
@@ -131,17 +155,17 @@ pub label-length : (file : List ℕ) → WholeFile file → length (sampleIn fil
 unfolding sampleIn
 label-length file w =
     let e = w .ends in
-    part-length 2 (labelCount file) file (omega arith)
+    part-length (itemsAt 0) (labelCount file) file (omega arith)
 
 -- of the sizes
 pub sizes-length : (file : List ℕ) → length (sampleIn file .sizes) ≡ sentCount file
 unfolding sampleIn
-sizes-length file = items-length 2 beValue (sentCount file) _
+sizes-length file = items-length sizeWidth beValue (sentCount file) _
 
 -- of the arrivals
 pub arrivals-number : (file : List ℕ) → length (sampleIn file .arrivals) ≡ arrivalCount file
 unfolding sampleIn
-arrivals-number file = items-length 12 arrivalIn (arrivalCount file) _
+arrivals-number file = items-length arrivalWidth arrivalIn (arrivalCount file) _
 
 -- the layout of a file of which nothing is refused
 pub layout-accepted : (file : List ℕ) → fileRefusal file ≡ 0
@@ -155,7 +179,7 @@ layout-accepted file e =
 -- ---- a refusal, by the stage that refuses
 
 module _ (file : List ℕ) (p : labelStage file ≡ 0) where
-  module _ (o : someUnshown (labelIn file) ≡ false) where
+  module _ (o : someUnshown (sampleIn file .label) ≡ false) where
     module _ (q : sentStage file ≡ 0) where
       module _ (r : arrivedStage file ≡ 0) where
         -- octets follow the last section
@@ -179,11 +203,11 @@ module _ (file : List ℕ) (p : labelStage file ≡ 0) where
     refused-sent n h e = simp (p, o, e) (first-due n (arrivedStage file ∷ endStage file ∷ arrivalsStage file ∷ []) h)
 
   -- an octet of the label cannot be shown
-  pub refused-octets : someUnshown (labelIn file) ≡ true → fileRefusal file ≡ octetOutside
+  pub refused-octets : someUnshown (sampleIn file .label) ≡ true → fileRefusal file ≡ octetOutside
   unfolding fileRefusal
   refused-octets o = simp (p, o)
 
 -- the section of the label is refused
 pub refused-label : (file : List ℕ) (n : ℕ) → 0 < n → labelStage file ≡ n → fileRefusal file ≡ n
 unfolding fileRefusal
-refused-label file n h e = simp e (first-due n (octetsStage file ∷ sentStage file ∷ arrivedStage file ∷ endStage file ∷ arrivalsStage file ∷ []) h)
+refused-label file n h e = simp e (first-due n (judgeOctets (sampleIn file .label) ∷ sentStage file ∷ arrivedStage file ∷ endStage file ∷ arrivalsStage file ∷ []) h)

@@ -7,7 +7,7 @@ use mathlib.Core.Path.{_≡_, refl, sym, ap, ap₂, _∙_, subst}
 use mathlib.Core.List.{List, [], _∷_, _++_, append-assoc, append-nil}
 use borrow.Author.Tests.{ltb-true, ltb-false}
 use lib.Dec.{ltb}
-use lib.ListN.{length, getD, take, drop, length-append, length-drop, List·getD-map, List·getD-eq-default}
+use lib.ListN.{length, getD, take, drop, length-append, length-drop, length-map, List·getD-map, List·getD-eq-default}
 use lib.Seq.{take-at, drop-at, drop-drop, take-all}
 use Rattle.octets.specs.Below.{Octets}
 use Rattle.octets.specs.BigEndian.{beValue, beOctets}
@@ -16,20 +16,18 @@ use Rattle.octets.proofs.Below.{below-part, below-drop}
 use Rattle.octets.proofs.BigEndian.{octets-length, value-octets}
 use Rattle.octets.proofs.Memory.{part-length, part-append}
 use Rattle.rfc4737.specs.declared.Arrival.{Arrival}
-use Rattle.rfc4737.specs.Refusals.{outside, longLabel, octetOutside, sentOutside, manyArrivals}
-use Rattle.rfc4737.specs.Judge.{sentMost, arrivalsMost, judgeSent, judgeArrivals, judge}
-use Rattle.sample.specs.Format.{Sample, section, sizeOctets, arrivalOctets, itemOctets, itemsIn, fileOf, labelMost}
-use Rattle.sample.specs.Judge.{judgeLabel, someUnshown, judgeOctets, judgeSample, FitSample}
-use Rattle.sample.specs.Decode.{countAt, endOf, labelCount, sentAt, sentCount, arrivedAt, arrivalCount, arrivalIn, labelIn, sizesIn, arrivalsIn, sampleIn, decode, accepted}
+use Rattle.rfc4737.specs.Refusals.{longLabel, octetOutside}
+use Rattle.rfc4737.specs.Judge.{sentMost, arrivalsMost, numbersOf, timesOf, arrivalsFrom, judge, refusalOfLists}
+use Rattle.sample.specs.Format.{Sample, labelMost, countWidth, octetWidth, sizeWidth, numberWidth, timeWidth, arrivalWidth, itemsAt, endOf, lastEnd, section, sizeOctets, arrivalOctets, itemOctets, itemsIn, fileOf}
+use Rattle.sample.specs.Judge.{judgeLabel, someUnshown, judgeOctets, sampleRefusal, FitSample}
+use Rattle.sample.specs.Decode.{countAt, labelCount, sentAt, sentCount, arrivedAt, arrivalCount, arrivalIn, sampleIn, decode, accepted}
+use Rattle.sample.specs.Places.{noArrival}
 use Rattle.sample.specs.RoundTrip.{ExactFile}
-use Rattle.rfc4737.proofs.Due.{first-none, case-none, between, not-outside}
-use Rattle.sample.proofs.Items.{items-length, items-stand, part-fits, octets-many, read-written, written-read, arrival-long, arrival-read, arrival-back, time-stands, size-long, size-back}
-use Rattle.rfc4737.proofs.Judged.{judged-number}
-use Rattle.sample.proofs.Decoded.{WholeFile, refused-none, none-refused, decode-accepted, accepted-decode, label-length, sizes-length, arrivals-number}
-
--- what stands past the last arrival
-abbrev none : Arrival
-none = record { number = 0; time = 0 }
+use Rattle.rfc4737.proofs.Due.{case-none, not-outside}
+use Rattle.sample.proofs.Items.{items-length, items-stand, part-fits, octets-many, read-written, written-read, arrival-long, arrival-read, arrival-back, time-stands, size-long, value-back}
+use Rattle.rfc4737.proofs.Judged.{ListsFit, lists-fit, fit-lists, judged-number}
+use Rattle.rfc4737.proofs.Pairs.{numbers-back, times-back, arrivals-back}
+use Rattle.sample.proofs.Decoded.{each-none, limit-none, WholeFile, refused-none, none-refused, decode-accepted, accepted-decode, label-length, sizes-length, arrivals-number}
 
 -- ---- limits of a sample
 
@@ -42,29 +40,38 @@ pub record Limits (s : Sample) : Type 0 where
   pub arrivalsFit : length (s .arrivals) ≤ arrivalsMost
   pub judged : judge (length (s .sizes)) 0 (s .arrivals) ≡ 0
 
--- nothing is refused: all of that holds
-pub limits : (s : Sample) → judgeSample s ≡ 0 → Limits s
-unfolding judgeSample
+-- of a label and lists nothing is refused: the label has at most 64 octets, which can be shown, and K and the lists are fit
+pub label-fit : (label sizes numbers times : List ℕ) → sampleRefusal label sizes numbers times ≡ 0
+    → (length label ≤ labelMost) × (someUnshown label ≡ false) × ListsFit (length sizes) numbers times
+unfolding sampleRefusal
+label-fit label sizes numbers times e =
+    let n = each-none (judgeLabel (length label) ∷ judgeOctets label ∷ refusalOfLists (length sizes) numbers times ∷ []) e in
+    (limit-none 0 labelMost (length label) longLabel (omega arith) (n 0) .1, case-none (someUnshown label) octetOutside (omega arith) (n 1), lists-fit (length sizes) numbers times (n 2))
+
+-- nothing of their sample's is refused
+pub from-none : (label sizes numbers times : List ℕ) → sampleRefusal label sizes numbers times ≡ 0
+    → sampleRefusal label sizes (numbersOf (arrivalsFrom numbers times)) (timesOf (arrivalsFrom numbers times)) ≡ 0
+from-none label sizes numbers times e =
+    let q = label-fit label sizes numbers times e .2 .same in
+    rw (numbers-back numbers times q, times-back numbers times q) e
+
+-- nothing of a sample is refused: all of that holds
+pub limits : (s : Sample) → sampleRefusal (s .label) (s .sizes) (numbersOf (s .arrivals)) (timesOf (s .arrivals)) ≡ 0 → Limits s
 limits s e =
-    let a = first-none (judgeLabel (length (s .label))) (judgeOctets (s .label) ∷ judgeSent (length (s .sizes)) ∷ judgeArrivals (length (s .arrivals)) ∷ judge (length (s .sizes)) 0 (s .arrivals) ∷ []) e in
-    let o = first-none (judgeOctets (s .label)) (judgeSent (length (s .sizes)) ∷ judgeArrivals (length (s .arrivals)) ∷ judge (length (s .sizes)) 0 (s .arrivals) ∷ []) (a .1) in
-    let b = first-none (judgeSent (length (s .sizes))) (judgeArrivals (length (s .arrivals)) ∷ judge (length (s .sizes)) 0 (s .arrivals) ∷ []) (o .1) in
-    let c = first-none (judgeArrivals (length (s .arrivals))) (judge (length (s .sizes)) 0 (s .arrivals) ∷ []) (b .1) in
-    let d = first-none (judge (length (s .sizes)) 0 (s .arrivals)) [] (c .1) in
-    let p = between 0 labelMost (length (s .label)) (case-none (outside 0 labelMost (length (s .label))) longLabel (omega arith) (a .0)) in
-    let q = between 1 sentMost (length (s .sizes)) (case-none (outside 1 sentMost (length (s .sizes))) sentOutside (omega arith) (b .0)) in
-    let r = between 0 arrivalsMost (length (s .arrivals)) (case-none (outside 0 arrivalsMost (length (s .arrivals))) manyArrivals (omega arith) (c .0)) in
-    let t = case-none (someUnshown (s .label)) octetOutside (omega arith) (o .0) in
-    record { labelFits = p .1; shown = t; sentSome = q .0; sentFits = q .1; arrivalsFit = r .1; judged = d .0 }
+    let f = label-fit (s .label) (s .sizes) (numbersOf (s .arrivals)) (timesOf (s .arrivals)) e in
+    let n = length-map (s .arrivals) (λ (a : Arrival). a .number) in
+    let j = ap (judge (length (s .sizes)) 0) (sym (arrivals-back (s .arrivals))) ∙ f .2 .judged in
+    record { labelFits = f .0; shown = f .1; sentSome = f .2 .least; sentFits = f .2 .most; arrivalsFit = rw (← n) (f .2 .few); judged = j }
 
 -- all of that holds: nothing is refused
-pub within-limits : (s : Sample) → Limits s → judgeSample s ≡ 0
-unfolding judgeSample
+pub within-limits : (s : Sample) → Limits s → sampleRefusal (s .label) (s .sizes) (numbersOf (s .arrivals)) (timesOf (s .arrivals)) ≡ 0
+unfolding sampleRefusal
 within-limits s l =
+    let n = length-map (s .arrivals) (λ (a : Arrival). a .number) in
+    let t = length-map (s .arrivals) (λ (a : Arrival). a .time) in
     let p = not-outside 0 labelMost (length (s .label)) (omega arith) (l .labelFits) in
-    let q = not-outside 1 sentMost (length (s .sizes)) (l .sentSome) (l .sentFits) in
-    let r = not-outside 0 arrivalsMost (length (s .arrivals)) (omega arith) (l .arrivalsFit) in
-    simp (p, l .shown, q, r, l .judged)
+    let j : judge (length (s .sizes)) 0 (arrivalsFrom (numbersOf (s .arrivals)) (timesOf (s .arrivals))) ≡ 0 = rw (arrivals-back (s .arrivals)) (l .judged) in
+    simp (p, l .shown, fit-lists (length (s .sizes)) (numbersOf (s .arrivals)) (timesOf (s .arrivals)) (l .sentSome) (l .sentFits) (rw n (l .arrivalsFit)) (t ∙ sym n) j)
 
 -- ---- an accepted file is the file of its sample
 
@@ -79,18 +86,18 @@ items-below n width item value z e p count at file h i = go (ltb i count) refl w
       let k : length (itemsIn width item count (drop at file)) ≤ i = rw (items-length width item count (drop at file)) (ltb-false i count q) in
       rw (List·getD-eq-default (itemsIn width item count (drop at file)) z k, e) p
 
--- the count of a section, written back, is the section's first two octets
-count-back : (at : ℕ) (file : List ℕ) → Octets file → at + 2 ≤ length file → beOctets 2 (countAt at file) ≡ part at 2 file
+-- the count of a section, written back
+count-back : (at : ℕ) (file : List ℕ) → Octets file → itemsAt at ≤ length file → beOctets countWidth (countAt at file) ≡ part at countWidth file
 unfolding countAt
-count-back at file o h = size-back (part at 2 file) (below-part 256 at 2 file o) (part-length at 2 file h)
+count-back at file o h = value-back countWidth (part at countWidth file) (below-part 256 at countWidth file o) (part-length at countWidth file h)
 
 -- a section whose items' octets are those of the file is that part of the file
-section-back : (at width : ℕ) (os file : List ℕ) → Octets file → endOf at width (countAt at file) ≤ length file → os ≡ part (at + 2) (width * countAt at file) file
-    → section (countAt at file) os ≡ part at (2 + width * countAt at file) file
+section-back : (at width : ℕ) (os file : List ℕ) → Octets file → endOf at width (countAt at file) ≤ length file → os ≡ part (itemsAt at) (width * countAt at file) file
+    → section (countAt at file) os ≡ part at (countWidth + width * countAt at file) file
 unfolding section
 section-back at width os file o h e =
-    let p : at + 2 ≤ length file = omega arith in
-    ap₂ (λ (a b : List ℕ). a ++ b) (count-back at file o p) e ∙ sym (part-append at 2 (width * countAt at file) file)
+    let p : itemsAt at ≤ length file = omega arith in
+    ap₂ (λ (a b : List ℕ). a ++ b) (count-back at file o p) e ∙ sym (part-append at countWidth (width * countAt at file) file)
 
 module _ (file : List ℕ) (o : Octets file) (w : WholeFile file) where
   -- where the section of sent packets begins
@@ -102,37 +109,37 @@ module _ (file : List ℕ) (o : Octets file) (w : WholeFile file) where
   arrived-within = let e = w .ends in omega arith
 
   -- the label, written back
-  label-back : section (length (sampleIn file .label)) (sampleIn file .label) ≡ part 0 (2 + 1 * labelCount file) file
+  label-back : section (length (sampleIn file .label)) (sampleIn file .label) ≡ part 0 (countWidth + octetWidth * labelCount file) file
   unfolding sampleIn
   label-back =
-      ap (λ (n : ℕ). section n (labelIn file)) (label-length file w)
-      ∙ section-back 0 1 (labelIn file) file o sent-within (let e : labelCount file ≡ 1 * labelCount file = omega arith in ap (λ (n : ℕ). part 2 n file) e)
+      ap (λ (n : ℕ). section n (sampleIn file .label)) (label-length file w)
+      ∙ section-back 0 octetWidth (sampleIn file .label) file o sent-within (let e : labelCount file ≡ octetWidth * labelCount file = omega arith in ap (λ (n : ℕ). part (itemsAt 0) n file) e)
 
   -- the sent packets, written back
-  sizes-back : section (length (sampleIn file .sizes)) (itemOctets sizeOctets (sampleIn file .sizes)) ≡ part (sentAt file) (2 + 2 * sentCount file) file
+  sizes-back : section (length (sampleIn file .sizes)) (itemOctets sizeOctets (sampleIn file .sizes)) ≡ part (sentAt file) (countWidth + sizeWidth * sentCount file) file
   unfolding sampleIn
   sizes-back =
-      let h : 2 * sentCount file ≤ length (drop (sentAt file + 2) file) = simp length-drop (let e = w .ends in omega arith) in
-      ap (λ (n : ℕ). section n (itemOctets sizeOctets (sizesIn file))) (sizes-length file)
-      ∙ section-back (sentAt file) 2 (itemOctets sizeOctets (sizesIn file)) file o arrived-within
-      (written-read sizeOctets 2 size-long beValue size-back (sentCount file) (drop (sentAt file + 2) file) (below-drop 256 (sentAt file + 2) file o) h)
+      let h : sizeWidth * sentCount file ≤ length (drop (itemsAt (sentAt file)) file) = simp length-drop (let e = w .ends in omega arith) in
+      ap (λ (n : ℕ). section n (itemOctets sizeOctets (sampleIn file .sizes))) (sizes-length file)
+      ∙ section-back (sentAt file) sizeWidth (itemOctets sizeOctets (sampleIn file .sizes)) file o arrived-within
+      (written-read sizeOctets sizeWidth size-long beValue (value-back sizeWidth) (sentCount file) (drop (itemsAt (sentAt file)) file) (below-drop 256 (itemsAt (sentAt file)) file o) h)
 
   -- the arrivals, written back
-  arrivals-part : section (length (sampleIn file .arrivals)) (itemOctets arrivalOctets (sampleIn file .arrivals)) ≡ part (arrivedAt file) (2 + 12 * arrivalCount file) file
+  arrivals-part : section (length (sampleIn file .arrivals)) (itemOctets arrivalOctets (sampleIn file .arrivals)) ≡ part (arrivedAt file) (countWidth + arrivalWidth * arrivalCount file) file
   unfolding sampleIn
   arrivals-part =
-      let h : 12 * arrivalCount file ≤ length (drop (arrivedAt file + 2) file) = simp length-drop (let e = w .ends in omega arith) in
-      ap (λ (n : ℕ). section n (itemOctets arrivalOctets (arrivalsIn file))) (arrivals-number file)
-      ∙ section-back (arrivedAt file) 12 (itemOctets arrivalOctets (arrivalsIn file)) file o (let e = w .ends in omega arith)
-      (written-read arrivalOctets 12 arrival-long arrivalIn arrival-back (arrivalCount file) (drop (arrivedAt file + 2) file) (below-drop 256 (arrivedAt file + 2) file o) h)
+      let h : arrivalWidth * arrivalCount file ≤ length (drop (itemsAt (arrivedAt file)) file) = simp length-drop (let e = w .ends in omega arith) in
+      ap (λ (n : ℕ). section n (itemOctets arrivalOctets (sampleIn file .arrivals))) (arrivals-number file)
+      ∙ section-back (arrivedAt file) arrivalWidth (itemOctets arrivalOctets (sampleIn file .arrivals)) file o (let e = w .ends in omega arith)
+      (written-read arrivalOctets arrivalWidth arrival-long arrivalIn arrival-back (arrivalCount file) (drop (itemsAt (arrivedAt file)) file) (below-drop 256 (itemsAt (arrivedAt file)) file o) h)
 
   -- the three sections make up the file
   pub file-back : file ≡ fileOf (sampleIn file)
   unfolding fileOf
   file-back =
-      let a = 2 + 1 * labelCount file in
-      let b = 2 + 2 * sentCount file in
-      let c = 2 + 12 * arrivalCount file in
+      let a = countWidth + octetWidth * labelCount file in
+      let b = countWidth + sizeWidth * sentCount file in
+      let c = countWidth + arrivalWidth * arrivalCount file in
       let p : 0 + a ≡ sentAt file = omega arith in
       let q : sentAt file + b ≡ arrivedAt file = omega arith in
       let r : length file ≤ a + (b + c) = let e = w .ends in omega arith in
@@ -159,10 +166,10 @@ module _ (file : List ℕ) (o : Octets file) (w : WholeFile file) where
           arrivalsFit = rw a (w .arrivalsFit);
           judged = rw k (w .judged);
         });
-        sizes = items-below (2 ^ 16) 2 beValue (λ (n : ℕ). n) 0 refl (omega arith) (sentCount file) (sentAt file + 2) file (λ i. part-fits 2 (sentAt file + 2 + 2 * i) file o);
-        times = λ i. rw (List·getD-map (λ (x : Arrival). x .time) (arrivalsIn file) i none)
-            (items-below (2 ^ 64) 12 arrivalIn (λ (x : Arrival). x .time) none refl (omega arith) (arrivalCount file) (arrivedAt file + 2) file
-            (λ j. rw (time-stands (arrivedAt file + 2 + 12 * j) file) (part-fits 8 (arrivedAt file + 2 + 12 * j + 4) file o)) i);
+        sizes = items-below (2 ^ 16) sizeWidth beValue (λ (n : ℕ). n) 0 refl (omega arith) (sentCount file) (itemsAt (sentAt file)) file (λ i. part-fits sizeWidth (itemsAt (sentAt file) + sizeWidth * i) file o);
+        times = λ i. rw (List·getD-map (λ (x : Arrival). x .time) (sampleIn file .arrivals) i noArrival)
+            (items-below (2 ^ 64) arrivalWidth arrivalIn (λ (x : Arrival). x .time) noArrival refl (omega arith) (arrivalCount file) (itemsAt (arrivedAt file)) file
+            (λ j. rw (time-stands (itemsAt (arrivedAt file) + arrivalWidth * j) file) (part-fits timeWidth (itemsAt (arrivedAt file) + arrivalWidth * j + numberWidth) file o)) i);
       }
 
 -- ---- the file of a fit sample decodes to it
@@ -171,21 +178,22 @@ module _ (file : List ℕ) (o : Octets file) (w : WholeFile file) where
 section-count : (p os rest : List ℕ) (n at : ℕ) → length p ≡ at → n < 2 ^ 16 → countAt at (p ++ (section n os ++ rest)) ≡ n
 unfolding countAt section
 section-count p os rest n at e h =
-    rw (drop-at p ((beOctets 2 n ++ os) ++ rest) at e, append-assoc (beOctets 2 n) os rest, take-at (beOctets 2 n) (os ++ rest) 2 (octets-length 2 n))
-    (value-octets 2 n h)
+    let c = beOctets countWidth n in
+    rw (drop-at p ((c ++ os) ++ rest) at e, append-assoc c os rest, take-at c (os ++ rest) countWidth (octets-length countWidth n)) (value-octets countWidth n h)
 
 -- and its items
-section-items : (p os rest : List ℕ) (n at : ℕ) → length p ≡ at → drop (at + 2) (p ++ (section n os ++ rest)) ≡ os ++ rest
+section-items : (p os rest : List ℕ) (n at : ℕ) → length p ≡ at → drop (itemsAt at) (p ++ (section n os ++ rest)) ≡ os ++ rest
 unfolding section
 section-items p os rest n at e =
-    sym (drop-drop 2 at (p ++ ((beOctets 2 n ++ os) ++ rest)))
-    ∙ ap (drop 2) (drop-at p ((beOctets 2 n ++ os) ++ rest) at e ∙ append-assoc (beOctets 2 n) os rest)
-    ∙ drop-at (beOctets 2 n) (os ++ rest) 2 (octets-length 2 n)
+    let c = beOctets countWidth n in
+    sym (drop-drop countWidth at (p ++ ((c ++ os) ++ rest)))
+    ∙ ap (drop countWidth) (drop-at p ((c ++ os) ++ rest) at e ∙ append-assoc c os rest)
+    ∙ drop-at c (os ++ rest) countWidth (octets-length countWidth n)
 
 -- its length
-pub section-length : (n : ℕ) (os : List ℕ) → length (section n os) ≡ 2 + length os
+pub section-length : (n : ℕ) (os : List ℕ) → length (section n os) ≡ countWidth + length os
 unfolding section
-section-length n os = length-append (beOctets 2 n) os ∙ ap (λ (k : ℕ). k + length os) (octets-length 2 n)
+section-length n os = length-append (beOctets countWidth n) os ∙ ap (λ (k : ℕ). k + length os) (octets-length countWidth n)
 
 -- the octets of the sizes
 abbrev sizesPart : Sample → List ℕ
@@ -213,16 +221,16 @@ unfolding fileOf
 sections s = rw (append-nil (arrivedSection s), append-assoc (labelSection s) (sentSection s) (arrivedSection s))
 
 -- its length
-pub file-length : (s : Sample) → length (fileOf s) ≡ 6 + length (s .label) + 2 * length (s .sizes) + 12 * length (s .arrivals)
+pub file-length : (s : Sample) → length (fileOf s) ≡ lastEnd (length (s .label)) (length (s .sizes)) (length (s .arrivals))
 unfolding fileOf
 file-length s =
     let a = section-length (length (s .label)) (s .label) in
     let b = section-length (length (s .sizes)) (sizesPart s) in
     let c = section-length (length (s .arrivals)) (arrivalsPart s) in
-    let d = octets-many sizeOctets 2 size-long (s .sizes) in
-    let e = octets-many arrivalOctets 12 arrival-long (s .arrivals) in
+    let d = octets-many sizeOctets sizeWidth size-long (s .sizes) in
+    let e = octets-many arrivalOctets arrivalWidth arrival-long (s .arrivals) in
     length-append (labelSection s) (sentSection s ++ arrivedSection s) ∙ ap (λ (n : ℕ). length (labelSection s) + n) (length-append (sentSection s) (arrivedSection s))
-    ∙ (let g : length (labelSection s) + (length (sentSection s) + length (arrivedSection s)) ≡ 6 + length (s .label) + 2 * length (s .sizes) + 12 * length (s .arrivals) = omega arith in g)
+    ∙ (let g : length (labelSection s) + (length (sentSection s) + length (arrivedSection s)) ≡ lastEnd (length (s .label)) (length (s .sizes)) (length (s .arrivals)) = omega arith in g)
 
 module _ (s : Sample) (f : FitSample s) where
   -- the count of the label
@@ -251,7 +259,7 @@ module _ (s : Sample) (f : FitSample s) where
   arrived-begins =
       let a = sent-begins in
       let b = section-length (length (s .sizes)) (sizesPart s) in
-      let c = octets-many sizeOctets 2 size-long (s .sizes) in
+      let c = octets-many sizeOctets sizeWidth size-long (s .sizes) in
       let d = sent-count in
       length-append (labelSection s) (sentSection s) ∙ (let g : length (labelSection s) + length (sentSection s) ≡ arrivedAt (fileOf s) = omega arith in g)
 
@@ -263,31 +271,32 @@ module _ (s : Sample) (f : FitSample s) where
       ∙ section-count (labelSection s ++ sentSection s) (arrivalsPart s) [] (length (s .arrivals)) (arrivedAt (fileOf s)) arrived-begins (omega arith)
 
   -- the label
-  label-found : labelIn (fileOf s) ≡ s .label
-  unfolding fileOf
+  label-found : sampleIn (fileOf s) .label ≡ s .label
+  unfolding fileOf sampleIn
   label-found =
-      ap (λ (n : ℕ). take n (drop 2 (fileOf s))) label-count
+      ap (λ (n : ℕ). part (itemsAt 0) n (fileOf s)) label-count
       ∙ ap (take (length (s .label))) (section-items [] (s .label) (sentSection s ++ arrivedSection s) (length (s .label)) 0 refl)
       ∙ take-at (s .label) (sentSection s ++ arrivedSection s) (length (s .label)) refl
 
   -- the sizes
-  sizes-found : sizesIn (fileOf s) ≡ s .sizes
-  unfolding fileOf
+  sizes-found : sampleIn (fileOf s) .sizes ≡ s .sizes
+  unfolding fileOf sampleIn
   sizes-found =
-      ap₂ (itemsIn 2 beValue) sent-count (section-items (labelSection s) (sizesPart s) (arrivedSection s) (length (s .sizes)) (sentAt (fileOf s)) sent-begins)
-      ∙ read-written sizeOctets 2 size-long beValue (s .sizes) 0 (arrivedSection s) (λ i h. value-octets 2 (getD (s .sizes) i 0) (f .sizes i))
+      ap₂ (itemsIn sizeWidth beValue) sent-count (section-items (labelSection s) (sizesPart s) (arrivedSection s) (length (s .sizes)) (sentAt (fileOf s)) sent-begins)
+      ∙ read-written sizeOctets sizeWidth size-long beValue (s .sizes) 0 (arrivedSection s) (λ i h. value-octets sizeWidth (getD (s .sizes) i 0) (f .sizes i))
 
   -- the arrivals
-  arrivals-found : arrivalsIn (fileOf s) ≡ s .arrivals
+  arrivals-found : sampleIn (fileOf s) .arrivals ≡ s .arrivals
+  unfolding sampleIn
   arrivals-found =
       let l = limits s (f .judged) in
-      ap₂ (itemsIn 12 arrivalIn) arrival-count
-      (ap (drop (arrivedAt (fileOf s) + 2)) (sections s)
+      ap₂ (itemsIn arrivalWidth arrivalIn) arrival-count
+      (ap (drop (itemsAt (arrivedAt (fileOf s)))) (sections s)
       ∙ section-items (labelSection s ++ sentSection s) (arrivalsPart s) [] (length (s .arrivals)) (arrivedAt (fileOf s)) arrived-begins)
-      ∙ read-written arrivalOctets 12 arrival-long arrivalIn (s .arrivals) none [] (λ i h.
-      let p = judged-number (length (s .sizes)) 0 (s .arrivals) (l .judged) i none h in
-      let q : getD (s .arrivals) i none .number < 2 ^ 32 = omega arith in
-      arrival-read (getD (s .arrivals) i none) q (subst (λ (n : ℕ). n < 2 ^ 64) (List·getD-map (λ (x : Arrival). x .time) (s .arrivals) i none) (f .times i)))
+      ∙ read-written arrivalOctets arrivalWidth arrival-long arrivalIn (s .arrivals) noArrival [] (λ i h.
+      let p = judged-number (length (s .sizes)) 0 (s .arrivals) (l .judged) i noArrival h in
+      let q : getD (s .arrivals) i noArrival .number < 2 ^ 32 = omega arith in
+      arrival-read (getD (s .arrivals) i noArrival) q (subst (λ (n : ℕ). n < 2 ^ 64) (List·getD-map (λ (x : Arrival). x .time) (s .arrivals) i noArrival) (f .times i)))
 
   -- the sample that they make
   sample-found : sampleIn (fileOf s) ≡ s

@@ -4,8 +4,8 @@ use Prim.Native.Nat.{ℕ, zero, suc, _+_, _*_, _^_, _-_, _≤_, _<_}
 use native.Mathlib.Nat.{mul-zero, mul-suc}
 use native.Mathlib.Omega.{arith}
 use mathlib.Core.Path.{_≡_, refl, sym, ap, ap₂, _∙_, subst}
-use mathlib.Core.List.{List, [], _∷_, _++_, append-assoc, append-nil}
-use lib.ListN.{length, getD, take, drop, length-append, length-take, length-drop, take-append-drop, List·getD-map}
+use mathlib.Core.List.{List, [], _∷_, _++_, map, append-assoc, append-nil}
+use lib.ListN.{length, getD, take, drop, length-append, length-take, length-drop, length-map, take-append-drop, List·getD-map}
 use lib.Seq.{take-all, take-at, drop-at, drop-drop, take-add, length-take-le}
 use Rattle.octets.specs.Below.{Octets}
 use Rattle.octets.specs.BigEndian.{beValue, beOctets}
@@ -14,9 +14,9 @@ use Rattle.octets.proofs.Below.{below-take, below-drop, below-part}
 use Rattle.octets.proofs.BigEndian.{octets-length, value-octets, octets-value, value-fits}
 use Rattle.octets.proofs.Memory.{take-snoc, part-part, part-most, taken, taken-part}
 use Rattle.rfc4737.specs.declared.Arrival.{Arrival}
-use Rattle.rfc4737.specs.Judge.{numbersOf, timesOf}
-use Rattle.sample.specs.Format.{itemOctets, itemsIn, arrivalOctets}
+use Rattle.sample.specs.Format.{sizeWidth, numberWidth, timeWidth, arrivalWidth, itemOctets, itemsIn, sizeOctets, arrivalOctets}
 use Rattle.sample.specs.Decode.{arrivalIn}
+use Rattle.sample.specs.Places.{noArrival}
 
 -- the value of so many octets of a file
 pub part-fits : (width at : ℕ) (file : List ℕ) → Octets file → beValue (part at width file) < 256 ^ width
@@ -30,6 +30,10 @@ taken-fits start width from n file o e = rw e (part-fits n from (taken start wid
 taken-stands : (start width from n at : ℕ) (file : List ℕ) {v : ℕ} → from + n ≤ width → start + from ≡ at → v ≡ beValue (part from n (taken start width file))
     → v ≡ beValue (part at n file)
 taken-stands start width from n at file h p e = e ∙ ap beValue (taken-part start width from n file h ∙ ap (λ (k : ℕ). part k n file) p)
+
+-- so many octets are written back as themselves
+pub value-back : (width : ℕ) (os : List ℕ) → Octets os → length os ≡ width → beOctets width (beValue os) ≡ os
+value-back width os o h = subst (λ (n : ℕ). beOctets n (beValue os) ≡ os) h (octets-value os o)
 
 module _ {ℓ} {A : Type ℓ} (width : ℕ) (item : List ℕ → A) where
   -- as many as asked
@@ -99,8 +103,8 @@ module _ {ℓ} {A : Type ℓ} (octets : A → List ℕ) where
 
 -- ---- an arrival
 
--- twelve octets
-pub arrival-long : (a : Arrival) → length (arrivalOctets a) ≡ 12
+-- its octets
+pub arrival-long : (a : Arrival) → length (arrivalOctets a) ≡ arrivalWidth
 unfolding arrivalOctets
 arrival-long a = simp (length-append, octets-length)
 
@@ -108,63 +112,57 @@ arrival-long a = simp (length-append, octets-length)
 pub arrival-read : (a : Arrival) → a .number < 2 ^ 32 → a .time < 2 ^ 64 → arrivalIn (arrivalOctets a) ≡ a
 unfolding arrivalIn arrivalOctets
 arrival-read a h k =
-    let e : take 4 (beOctets 4 (a .number) ++ beOctets 8 (a .time)) ≡ beOctets 4 (a .number) = take-at (beOctets 4 (a .number)) (beOctets 8 (a .time)) 4 (octets-length 4 (a .number)) in
-    let f : drop 4 (beOctets 4 (a .number) ++ beOctets 8 (a .time)) ≡ beOctets 8 (a .time) = drop-at (beOctets 4 (a .number)) (beOctets 8 (a .time)) 4 (octets-length 4 (a .number)) in
-    let g : take 8 (beOctets 8 (a .time)) ≡ beOctets 8 (a .time) = take-all 8 (beOctets 8 (a .time)) (omega (arith, octets-length 8 (a .time))) in
-    rw (e, f, g, value-octets 4 (a .number) h, value-octets 8 (a .time) k)
+    let n = beOctets numberWidth (a .number) in
+    let t = beOctets timeWidth (a .time) in
+    let l = octets-length numberWidth (a .number) in
+    let g : take timeWidth t ≡ t = take-all timeWidth t (omega (arith, octets-length timeWidth (a .time))) in
+    rw (take-at n t numberWidth l, drop-at n t numberWidth l, g, value-octets numberWidth (a .number) h, value-octets timeWidth (a .time) k)
 
--- twelve octets are written back as themselves
-pub arrival-back : (os : List ℕ) → Octets os → length os ≡ 12 → arrivalOctets (arrivalIn os) ≡ os
+-- as many octets are written back as themselves
+pub arrival-back : (os : List ℕ) → Octets os → length os ≡ arrivalWidth → arrivalOctets (arrivalIn os) ≡ os
 unfolding arrivalIn arrivalOctets
 arrival-back os o h =
-    let p : length (take 4 os) ≡ 4 = simp length-take (omega arith) in
-    let q : length (drop 4 os) ≡ 8 = simp length-drop (omega arith) in
-    let a : beOctets 4 (beValue (take 4 os)) ≡ take 4 os = subst (λ (n : ℕ). beOctets n (beValue (take 4 os)) ≡ take 4 os) p (octets-value (take 4 os) (below-take 256 4 os o)) in
-    let g : take 8 (drop 4 os) ≡ drop 4 os = take-all 8 (drop 4 os) (omega arith) in
-    let b : beOctets 8 (beValue (drop 4 os)) ≡ drop 4 os = subst (λ (n : ℕ). beOctets n (beValue (drop 4 os)) ≡ drop 4 os) q (octets-value (drop 4 os) (below-drop 256 4 os o)) in
-    rw (g, a, b) (take-append-drop 4 os)
+    let n = take numberWidth os in
+    let t = drop numberWidth os in
+    let p : length n ≡ numberWidth = simp length-take (omega arith) in
+    let q : length t ≡ timeWidth = simp length-drop (omega arith) in
+    let g : take timeWidth t ≡ t = take-all timeWidth t (omega arith) in
+    rw (g, value-back numberWidth n (below-take 256 numberWidth os o) p, value-back timeWidth t (below-drop 256 numberWidth os o) q) (take-append-drop numberWidth os)
 
 -- its time, where it stands
-pub time-stands : (at : ℕ) (file : List ℕ) → arrivalIn (part at 12 file) .time ≡ beValue (part (at + 4) 8 file)
+pub time-stands : (at : ℕ) (file : List ℕ) → arrivalIn (part at arrivalWidth file) .time ≡ beValue (part (at + numberWidth) timeWidth file)
 unfolding arrivalIn
-time-stands at file = ap beValue (part-part at 12 4 8 file (omega arith))
+time-stands at file = ap beValue (part-part at arrivalWidth numberWidth timeWidth file (omega arith))
 
--- the arrival that stands at a place, as it is taken
-pub arrival-taken : (count at : ℕ) (file : List ℕ) (i : ℕ) (z : Arrival) {a : Arrival} → i < count → a ≡ arrivalIn (taken (at + 12 * i) 12 file)
-    → a ≡ getD (itemsIn 12 arrivalIn count (drop at file)) i z
-arrival-taken count at file i z h e =
-    let start : ℕ = at + 12 * i in
-    let w : start + 12 - start ≡ 12 = omega arith in
-    e ∙ ap (λ (n : ℕ). arrivalIn (part start n file)) w ∙ sym (items-stand 12 arrivalIn count at file i z h)
+-- the arrival in its octets as they are taken
+pub arrival-taken : (start : ℕ) (file : List ℕ) {a : Arrival} → a ≡ arrivalIn (taken start arrivalWidth file) → a ≡ arrivalIn (part start arrivalWidth file)
+arrival-taken start file e =
+    let w : start + arrivalWidth - start ≡ arrivalWidth = omega arith in
+    e ∙ ap (λ (n : ℕ). arrivalIn (part start n file)) w
 
--- its number, as one of the numbers
-pub number-found : (count at : ℕ) (file : List ℕ) (i : ℕ) {a : Arrival} → i < count → a ≡ arrivalIn (taken (at + 12 * i) 12 file)
-    → a .number ≡ getD (numbersOf (itemsIn 12 arrivalIn count (drop at file))) i 0
-number-found count at file i h e =
-    let z : Arrival = record { number = 0; time = 0 } in
-    ap (λ (a : Arrival). a .number) (arrival-taken count at file i z h e)
-    ∙ sym (List·getD-map (λ (a : Arrival). a .number) (itemsIn 12 arrivalIn count (drop at file)) i z)
+module _ (value : Arrival → ℕ) (count at : ℕ) (file : List ℕ) where
+  -- a value of each of so many arrivals, which stand from a place on
+  abbrev pub valuesFrom : List ℕ
+  valuesFrom = map value (itemsIn arrivalWidth arrivalIn count (drop at file))
 
--- its time, as one of the times
-pub time-found : (count at : ℕ) (file : List ℕ) (i : ℕ) {a : Arrival} → i < count → a ≡ arrivalIn (taken (at + 12 * i) 12 file)
-    → a .time ≡ getD (timesOf (itemsIn 12 arrivalIn count (drop at file))) i 0
-time-found count at file i h e =
-    let z : Arrival = record { number = 0; time = 0 } in
-    ap (λ (a : Arrival). a .time) (arrival-taken count at file i z h e)
-    ∙ sym (List·getD-map (λ (a : Arrival). a .time) (itemsIn 12 arrivalIn count (drop at file)) i z)
+  -- as many
+  pub values-many : length valuesFrom ≡ count
+  values-many = length-map (itemsIn arrivalWidth arrivalIn count (drop at file)) value ∙ items-length arrivalWidth arrivalIn count (drop at file)
+
+  -- that of the arrival that is read at i
+  pub value-found : (i : ℕ) {a : Arrival} → i < count → a ≡ arrivalIn (part (at + arrivalWidth * i) arrivalWidth file) → value a ≡ getD valuesFrom i (value noArrival)
+  value-found i h e =
+      ap value (e ∙ sym (items-stand arrivalWidth arrivalIn count at file i noArrival h))
+      ∙ sym (List·getD-map value (itemsIn arrivalWidth arrivalIn count (drop at file)) i noArrival)
 
 -- ---- a size
 
 -- a size in its octets as they are taken, as one of the sizes
-pub size-found : (count at : ℕ) (file : List ℕ) (i n : ℕ) → i < count → n ≡ beValue (part 0 2 (taken (at + 2 * i) 2 file))
-    → n ≡ getD (itemsIn 2 beValue count (drop at file)) i 0
+pub size-found : (count at : ℕ) (file : List ℕ) (i n : ℕ) → i < count → n ≡ beValue (part 0 sizeWidth (taken (at + sizeWidth * i) sizeWidth file))
+    → n ≡ getD (itemsIn sizeWidth beValue count (drop at file)) i 0
 size-found count at file i n h e =
-    taken-stands (at + 2 * i) 2 0 2 (at + 2 * i) file (omega arith) (omega arith) e ∙ sym (items-stand 2 beValue count at file i 0 h)
+    taken-stands (at + sizeWidth * i) sizeWidth 0 sizeWidth (at + sizeWidth * i) file (omega arith) (omega arith) e ∙ sym (items-stand sizeWidth beValue count at file i 0 h)
 
--- two octets
-pub size-long : (size : ℕ) → length (beOctets 2 size) ≡ 2
-size-long size = octets-length 2 size
-
--- two octets are written back as themselves
-pub size-back : (os : List ℕ) → Octets os → length os ≡ 2 → beOctets 2 (beValue os) ≡ os
-size-back os o h = subst (λ (n : ℕ). beOctets n (beValue os) ≡ os) h (octets-value os o)
+-- its octets
+pub size-long : (size : ℕ) → length (sizeOctets size) ≡ sizeWidth
+size-long size = octets-length sizeWidth size

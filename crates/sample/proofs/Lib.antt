@@ -7,6 +7,7 @@ pub mod Writing
 pub mod Decoded
 pub mod Exact
 pub mod RoundTrips
+pub mod Output
 pub mod Answers
 pub mod Accepted
 pub mod Longer

@@ -1,12 +1,13 @@
 -- Files beside the longest sample: an accepted one is not longer, one is as long, and a longer one is refused as its first 57,415 octets are,
 -- one more than the longest sample has.
 -- Assumes nothing.
-use Prim.Native.Nat.{ℕ, zero, suc, _+_, _*_, _-_, _^_, _≤_, _<_}
+use Prim.Native.Nat.{ℕ, zero, suc, _+_, _-_, _^_, _≤_, _<_}
 use native.Mathlib.Omega.{arith}
 use mathlib.Core.Bool.{Bool, true, false}
 use mathlib.Core.Path.{_≡_, refl, sym, ap, _∙_}
 use mathlib.Core.List.{List, [], _∷_}
 use borrow.Author.Tests.{le-ltb, lt-ltb}
+use lib.Dec.{ltb}
 use lib.ListN.{length, take, drop, length-take, replicate, length-replicate}
 use lib.Seq.{take-take}
 use Rattle.octets.specs.Below.{Below, Octets}
@@ -16,23 +17,23 @@ use Rattle.octets.proofs.Below.{below-nil, below-cons}
 use Rattle.octets.proofs.Memory.{drop-take}
 use Rattle.rfc4737.specs.declared.Arrival.{Arrival}
 use Rattle.rfc4737.specs.Times.{tooEarly, nextReference}
-use Rattle.rfc4737.specs.Refusals.{outside, inCase, octetsFollow, longLabel, octetOutside, sentOutside, manyArrivals}
+use Rattle.rfc4737.specs.Refusals.{outside, inCase, endsEarly, octetsFollow, longLabel, octetOutside, sentOutside, manyArrivals}
 use Rattle.rfc4737.specs.Judge.{sentMost, arrivalsMost, timesOf, judgeSent, judgeArrivals, judgeOne, judge}
-use Rattle.sample.specs.Format.{fileOf, labelMost, shownLeast, longest}
+use Rattle.sample.specs.Format.{fileOf, labelMost, shownLeast, longest, countWidth, octetWidth, sizeWidth, arrivalWidth, itemsAt, endOf, lastEnd}
 use Rattle.sample.specs.Judge.{judgeLabel, someUnshown, FitSample}
-use Rattle.sample.specs.Decode.{countAt, endOf, lengthStage, labelCount, sentAt, sentCount, arrivedAt, arrivalCount, fileEnd, labelIn, sectionStage, labelStage, sentStage, fileRefusal, Decoded, decode, decodedRefusal}
+use Rattle.sample.specs.Decode.{countAt, labelCount, sentAt, sentCount, arrivedAt, arrivalCount, fileEnd, sampleIn, sectionStage, fileRefusal, Decoded, decode, decodedRefusal}
 use Rattle.sample.specs.RoundTrip.{filled, among, Lengths}
 use Rattle.rfc4737.proofs.Due.{between, not-outside, first-due}
-use Rattle.sample.proofs.Decoded.{none-stage, decode-refused, refused-label, refused-octets, refused-sent, refused-arrived, refused-end}
+use Rattle.sample.proofs.Decoded.{labelStage, sentStage, none-stage, decode-refused, refused-label, refused-octets, refused-sent, refused-arrived, refused-end}
 use Rattle.sample.proofs.Exact.{within-limits, file-length, decode-file}
 use Rattle.sample.proofs.Shown.{spaces-shown}
 use Rattle.sample.proofs.Accepted.{accepted-most}
 
 -- a count that is refused
-stage-judged : (at width : ℕ) (judged : ℕ → ℕ) (file : List ℕ) (r : ℕ) → at + 2 ≤ length file → 0 < r → judged (countAt at file) ≡ r → sectionStage at width judged file ≡ r
+stage-judged : (at width : ℕ) (judged : ℕ → ℕ) (file : List ℕ) (r : ℕ) → itemsAt at ≤ length file → 0 < r → judged (countAt at file) ≡ r → sectionStage at width judged file ≡ r
 unfolding sectionStage
 stage-judged at width judged file r h p e =
-    simp (le-ltb (length file) (at + 2) h, e) (first-due r (lengthStage at width file ∷ []) p)
+    simp (le-ltb (length file) (itemsAt at) h, e) (first-due r (inCase (ltb (length file) (endOf at width (countAt at file))) endsEarly ∷ []) p)
 
 -- a count that is not refused, of a section that the file has
 stage-passed : (at width least most r : ℕ) (file : List ℕ) → outside least most (countAt at file) ≡ false → endOf at width (countAt at file) ≤ length file
@@ -45,26 +46,26 @@ stage-passed at width least most r file e h =
 module _ (f : List ℕ) (h : longest < length f) where
   -- a long label
   three : outside 0 labelMost (labelCount f) ≡ true → fileRefusal f ≡ longLabel
-  three t = refused-label f longLabel (omega arith) (stage-judged 0 1 judgeLabel f longLabel (omega arith) (omega arith) (ap (λ (b : Bool). inCase b longLabel) t))
+  three t = refused-label f longLabel (omega arith) (stage-judged 0 octetWidth judgeLabel f longLabel (omega arith) (omega arith) (ap (λ (b : Bool). inCase b longLabel) t))
 
   module _ (a : outside 0 labelMost (labelCount f) ≡ false) where
     -- the label is there
     label-passed : (labelCount f ≤ labelMost) × (labelStage f ≡ 0)
     label-passed =
         let p = between 0 labelMost (labelCount f) a in
-        (p .1, stage-passed 0 1 0 labelMost longLabel f a (omega arith))
+        (p .1, stage-passed 0 octetWidth 0 labelMost longLabel f a (omega arith))
 
     -- a label octet that cannot be shown
-    thirteen : someUnshown (labelIn f) ≡ true → fileRefusal f ≡ octetOutside
+    thirteen : someUnshown (sampleIn f .label) ≡ true → fileRefusal f ≡ octetOutside
     thirteen t = refused-octets f (label-passed .1) t
 
-    module _ (o : someUnshown (labelIn f) ≡ false) where
+    module _ (o : someUnshown (sampleIn f .label) ≡ false) where
       -- a wrong K
       four : outside 1 sentMost (sentCount f) ≡ true → fileRefusal f ≡ sentOutside
       four t =
           let p = label-passed in
           refused-sent f (p .1) o sentOutside (omega arith)
-          (stage-judged (sentAt f) 2 judgeSent f sentOutside (omega arith) (omega arith) (ap (λ (b : Bool). inCase b sentOutside) t))
+          (stage-judged (sentAt f) sizeWidth judgeSent f sentOutside (omega arith) (omega arith) (ap (λ (b : Bool). inCase b sentOutside) t))
 
       module _ (b : outside 1 sentMost (sentCount f) ≡ false) where
         -- the sizes are there
@@ -72,7 +73,7 @@ module _ (f : List ℕ) (h : longest < length f) where
         sent-passed =
             let p = label-passed in
             let q = between 1 sentMost (sentCount f) b in
-            (q .1, stage-passed (sentAt f) 2 1 sentMost sentOutside f b (omega arith))
+            (q .1, stage-passed (sentAt f) sizeWidth 1 sentMost sentOutside f b (omega arith))
 
         -- too many arrivals
         five : outside 0 arrivalsMost (arrivalCount f) ≡ true → fileRefusal f ≡ manyArrivals
@@ -80,7 +81,7 @@ module _ (f : List ℕ) (h : longest < length f) where
             let p = label-passed in
             let q = sent-passed in
             refused-arrived f (p .1) o (q .1) manyArrivals (omega arith)
-            (stage-judged (arrivedAt f) 12 judgeArrivals f manyArrivals (omega arith) (omega arith) (ap (λ (c : Bool). inCase c manyArrivals) t))
+            (stage-judged (arrivedAt f) arrivalWidth judgeArrivals f manyArrivals (omega arith) (omega arith) (ap (λ (c : Bool). inCase c manyArrivals) t))
 
         -- octets that follow
         two : outside 0 arrivalsMost (arrivalCount f) ≡ false → fileRefusal f ≡ octetsFollow
@@ -88,7 +89,7 @@ module _ (f : List ℕ) (h : longest < length f) where
             let p = label-passed in
             let q = sent-passed in
             let r = between 0 arrivalsMost (arrivalCount f) t in
-            refused-end f (p .1) o (q .1) (stage-passed (arrivedAt f) 12 0 arrivalsMost manyArrivals f t (omega arith)) octetsFollow (omega arith)
+            refused-end f (p .1) o (q .1) (stage-passed (arrivedAt f) arrivalWidth 0 arrivalsMost manyArrivals f t (omega arith)) octetsFollow (omega arith)
             (ap (λ (c : Bool). inCase c octetsFollow) (lt-ltb (fileEnd f) (length f) (omega arith)))
 
 -- ---- its first octets
@@ -98,9 +99,9 @@ part-within : (at n m : ℕ) (file : List ℕ) → at + n ≤ m → part at n (t
 part-within at n m file h = ap (take n) (drop-take at m file) ∙ take-take n (m - at) (drop at file) (omega arith)
 
 -- a count that stands within them
-count-within : (at m : ℕ) (file : List ℕ) → at + 2 ≤ m → countAt at (take m file) ≡ countAt at file
+count-within : (at m : ℕ) (file : List ℕ) → itemsAt at ≤ m → countAt at (take m file) ≡ countAt at file
 unfolding countAt
-count-within at m file h = ap beValue (part-within at 2 m file h)
+count-within at m file h = ap beValue (part-within at countWidth m file h)
 
 -- one octet more than the longest sample has
 abbrev pub begin : List ℕ → List ℕ
@@ -119,6 +120,7 @@ record Refused (file : List ℕ) : Type 0 where
   pub start : fileRefusal (begin file) ≡ with
 
 longer-refused : (file : List ℕ) → longest < length file → Refused file
+unfolding sampleIn
 longer-refused f h = first (outside 0 labelMost (labelCount f)) refl where
   -- the beginning is longer than the longest sample too
   k : longest < length (begin f)
@@ -130,8 +132,8 @@ longer-refused f h = first (outside 0 labelMost (labelCount f)) refl where
 
   -- by the count of arrivals
   fourth : (t : Bool) → outside 0 arrivalsMost (arrivalCount f) ≡ t
-      → outside 0 labelMost (labelCount f) ≡ false → someUnshown (labelIn f) ≡ false → outside 1 sentMost (sentCount f) ≡ false
-      → labelIn (begin f) ≡ labelIn f → sentCount (begin f) ≡ sentCount f → arrivalCount (begin f) ≡ arrivalCount f
+      → outside 0 labelMost (labelCount f) ≡ false → someUnshown (sampleIn f .label) ≡ false → outside 1 sentMost (sentCount f) ≡ false
+      → sampleIn (begin f) .label ≡ sampleIn f .label → sentCount (begin f) ≡ sentCount f → arrivalCount (begin f) ≡ arrivalCount f
       → Refused f
   fourth true e a o b n s r =
       record { with = manyArrivals; due = omega arith; one = refl; whole = five f h a o b e; start = five (begin f) k (ap (outside 0 labelMost) l ∙ a) (ap someUnshown n ∙ o) (ap (outside 1 sentMost) s ∙ b) (ap (outside 0 arrivalsMost) r ∙ e) }
@@ -139,8 +141,8 @@ longer-refused f h = first (outside 0 labelMost (labelCount f)) refl where
       record { with = octetsFollow; due = omega arith; one = refl; whole = two f h a o b e; start = two (begin f) k (ap (outside 0 labelMost) l ∙ a) (ap someUnshown n ∙ o) (ap (outside 1 sentMost) s ∙ b) (ap (outside 0 arrivalsMost) r ∙ e) }
 
   -- by the count of sent packets
-  third : (t : Bool) → outside 1 sentMost (sentCount f) ≡ t → outside 0 labelMost (labelCount f) ≡ false → someUnshown (labelIn f) ≡ false
-      → labelIn (begin f) ≡ labelIn f → sentCount (begin f) ≡ sentCount f
+  third : (t : Bool) → outside 1 sentMost (sentCount f) ≡ t → outside 0 labelMost (labelCount f) ≡ false → someUnshown (sampleIn f .label) ≡ false
+      → sampleIn (begin f) .label ≡ sampleIn f .label → sentCount (begin f) ≡ sentCount f
       → Refused f
   third true e a o n s =
       record { with = sentOutside; due = omega arith; one = refl; whole = four f h a o e; start = four (begin f) k (ap (outside 0 labelMost) l ∙ a) (ap someUnshown n ∙ o) (ap (outside 1 sentMost) s ∙ e) }
@@ -152,7 +154,7 @@ longer-refused f h = first (outside 0 labelMost (labelCount f)) refl where
       (ap (λ (n : ℕ). countAt n (begin f)) u ∙ count-within (arrivedAt f) (longest + 1) f (omega arith))
 
   -- by the octets of the label
-  second : (t : Bool) → someUnshown (labelIn f) ≡ t → outside 0 labelMost (labelCount f) ≡ false → labelIn (begin f) ≡ labelIn f → Refused f
+  second : (t : Bool) → someUnshown (sampleIn f .label) ≡ t → outside 0 labelMost (labelCount f) ≡ false → sampleIn (begin f) .label ≡ sampleIn f .label → Refused f
   second true e a n =
       record { with = octetOutside; due = omega arith; one = refl; whole = thirteen f h a e; start = thirteen (begin f) k (ap (outside 0 labelMost) l ∙ a) (ap someUnshown n ∙ e) }
   second false e a n =
@@ -166,8 +168,8 @@ longer-refused f h = first (outside 0 labelMost (labelCount f)) refl where
   first true e = record { with = longLabel; due = omega arith; one = refl; whole = three f h e; start = three (begin f) k (ap (outside 0 labelMost) l ∙ e) }
   first false e =
       let p = between 0 labelMost (labelCount f) e in
-      second (someUnshown (labelIn f)) refl e
-      (ap (λ (n : ℕ). part 2 n (begin f)) l ∙ part-within 2 (labelCount f) (longest + 1) f (omega arith))
+      second (someUnshown (sampleIn f .label)) refl e
+      (ap (λ (n : ℕ). part (itemsAt 0) n (begin f)) l ∙ part-within (itemsAt 0) (labelCount f) (longest + 1) f (omega arith))
 
 -- ---- a sample that is filled
 
@@ -206,7 +208,7 @@ filled-fit label sent arrivals l p s a =
     }
 
 -- its length
-filled-length : (label sent arrivals : ℕ) → length (fileOf (filled label sent arrivals)) ≡ 6 + label + 2 * sent + 12 * arrivals
+filled-length : (label sent arrivals : ℕ) → length (fileOf (filled label sent arrivals)) ≡ lastEnd label sent arrivals
 unfolding filled
 filled-length label sent arrivals =
     file-length (record { label = replicate label shownLeast; sizes = replicate sent 0; arrivals = replicate arrivals again })

@@ -1,5 +1,5 @@
 -- The readings of a file: what an answer says of the tests behind it, and the section that they make. Assumes nothing.
-use Prim.Native.Nat.{ℕ, zero, suc, _+_, _*_, _^_, _≤_, _<_}
+use Prim.Native.Nat.{ℕ, zero, suc, _*_, _^_, _≤_, _<_}
 use native.Mathlib.Nat.{mul-le-mul}
 use native.Mathlib.Omega.{arith}
 use mathlib.Core.Bool.{Bool, true, false, cond}
@@ -9,7 +9,8 @@ use lib.Dec.{ltb}
 use lib.ListN.{length}
 use Rattle.octets.specs.Below.{Octets}
 use Rattle.rfc4737.specs.Refusals.{outside, inCase, firstOf, endsEarly}
-use Rattle.sample.specs.Decode.{countAt, endOf, sectionStage}
+use Rattle.sample.specs.Format.{countWidth, arrivalWidth, itemsAt, endOf}
+use Rattle.sample.specs.Decode.{countAt, sectionStage}
 use Rattle.sample.specs.Private.Readings.{countReading, placeReading, settled, sectionReading, refusalOfSection}
 use Rattle.sample.specs.declared.sections.Reading.the-variants.{Value, Ended}
 use Rattle.sample.specs.declared.sections.Section.the-variants.{Whole, Refused}
@@ -28,14 +29,14 @@ valued true n v e = absurd (let z : _≡_ {A = ℕ} 0 1 = cc in omega arith)
 valued false n v e = (refl, cc)
 
 -- no count: the file ends before it
-pub count-ended : (at : ℕ) (file : List ℕ) → countReading at file ≡ Ended → ltb (length file) (at + 2) ≡ true
+pub count-ended : (at : ℕ) (file : List ℕ) → countReading at file ≡ Ended → ltb (length file) (itemsAt at) ≡ true
 unfolding countReading
-count-ended at file e = ended (ltb (length file) (at + 2)) (countAt at file) e
+count-ended at file e = ended (ltb (length file) (itemsAt at)) (countAt at file) e
 
 -- a count: the file has it, and it is that count
-pub count-valued : (at : ℕ) (file : List ℕ) {v : ℕ} → countReading at file ≡ Value v → (ltb (length file) (at + 2) ≡ false) × (v ≡ countAt at file)
+pub count-valued : (at : ℕ) (file : List ℕ) {v : ℕ} → countReading at file ≡ Value v → (ltb (length file) (itemsAt at) ≡ false) × (v ≡ countAt at file)
 unfolding countReading
-count-valued at file {v} e = valued (ltb (length file) (at + 2)) (countAt at file) v e
+count-valued at file {v} e = valued (ltb (length file) (itemsAt at)) (countAt at file) v e
 
 -- no place: the file ends before it
 pub place-ended : (place : ℕ) (file : List ℕ) → placeReading place file ≡ Ended → ltb (length file) place ≡ true
@@ -49,13 +50,13 @@ place-valued place file {v} e = valued (ltb (length file) place) place v e
 
 -- ---- bounds
 
--- a count of two octets
+-- a count
 pub count-fits : (at : ℕ) (file : List ℕ) → Octets file → countAt at file < 2 ^ 16
 unfolding countAt
-count-fits at file o = part-fits 2 at file o
+count-fits at file o = part-fits countWidth at file o
 
--- a section of items of at most twelve octets
-pub section-fits : (width count : ℕ) → width ≤ 12 → count < 2 ^ 16 → width * count ≤ 12 * 65535
+-- the items of a section
+pub section-fits : (width count : ℕ) → width ≤ arrivalWidth → count < 2 ^ 16 → width * count ≤ arrivalWidth * 65535
 section-fits width count h k =
     let p : count ≤ 65535 = omega arith in
     mul-le-mul h p
@@ -64,11 +65,11 @@ section-fits width count h k =
 
 module _ (at width least most refusal : ℕ) (file : List ℕ) where
   -- its count is missing
-  pub section-ended : ltb (length file) (at + 2) ≡ true → Refused endsEarly ≡ sectionReading at width least most refusal file
+  pub section-ended : ltb (length file) (itemsAt at) ≡ true → Refused endsEarly ≡ sectionReading at width least most refusal file
   unfolding sectionReading sectionStage
   section-ended e = simp e
 
-  module _ (e : ltb (length file) (at + 2) ≡ false) where
+  module _ (e : ltb (length file) (itemsAt at) ≡ false) where
     -- its count is refused
     pub section-judged : 0 < refusal → outside least most (countAt at file) ≡ true → Refused refusal ≡ sectionReading at width least most refusal file
     unfolding sectionReading sectionStage

@@ -1,30 +1,28 @@
 -- Both round trips: what was read is written back as the same octets, and what was written is read back as the same lists. Assumes nothing.
 use Prim.Native.Nat.{ℕ, _^_, _≤_}
 use native.Mathlib.Omega.{arith}
-use mathlib.Core.Bool.{false}
 use mathlib.Core.Path.{_≡_, sym, ap, ap₂, _∙_, subst}
 use mathlib.Core.List.{List, [], _∷_}
 use borrow.Author.Tests.{le-ltb}
-use lib.Dec.{ltb}
 use lib.ListN.{length, take, length-map}
 use Rattle.octets.specs.Below.{Below, Octets}
 use Rattle.octets.specs.Memory.{over}
 use Rattle.octets.proofs.Memory.{over-read}
 use Rattle.rfc4737.specs.declared.Arrival.{Arrival}
-use Rattle.rfc4737.specs.Refusals.{outside, inCase, firstOf, longLabel, octetOutside, outputShort}
-use Rattle.rfc4737.specs.Judge.{arrivalsMost, numbersOf, timesOf, arrivalsFrom, judge, refusalOfLists}
-use Rattle.sample.specs.Format.{Sample, fileOf, labelMost}
-use Rattle.sample.specs.Judge.{judgeLabel, someUnshown, judgeOctets, judgeSample, FitSample}
+use Rattle.rfc4737.specs.Refusals.{inCase, firstOf, outputShort}
+use Rattle.rfc4737.specs.Judge.{numbersOf, timesOf}
+use Rattle.sample.specs.Format.{Sample, fileOf}
+use Rattle.sample.specs.Judge.{sampleRefusal, FitSample}
 use Rattle.sample.specs.Decode.{fileRefusal, sampleIn, decided, decode, accepted, sampleOf, decodedRefusal, layoutOf}
-use Rattle.sample.specs.Calls.{listsShort, decodeInto, sampleFrom, sampleRefusal, writeRefusal, octetsInto, unlessRefused, WrittenTo}
+use Rattle.sample.specs.Calls.{listsShort, decodeInto, sampleFrom, WrittenTo}
 use Rattle.sample.specs.RoundTrip.{WrittenAgain, ReadAgain}
 use Rattle.sample.specs.declared.Layout.{Layout}
-use Rattle.sample.specs.declared.Written.{Written}
-use Rattle.rfc4737.proofs.Due.{first-none, case-none, between, not-outside}
-use Rattle.rfc4737.proofs.Judged.{ListsFit, lists-fit, fit-lists}
+use Rattle.sample.specs.declared.WriteAnswer.{WriteAnswer}
+use Rattle.rfc4737.proofs.Due.{first-none}
 use Rattle.rfc4737.proofs.Pairs.{arrivals-length, numbers-back, times-back, arrivals-back}
 use Rattle.sample.proofs.Decoded.{refused-none, decided-refusal, decode-accepted, accepted-decode}
-use Rattle.sample.proofs.Exact.{limits, sample-fit, file-back, decode-file}
+use Rattle.sample.proofs.Output.{own-none, output-read, output-whole}
+use Rattle.sample.proofs.Exact.{sample-fit, file-back, decode-file, label-fit, from-none}
 
 -- ---- the reader
 
@@ -46,63 +44,15 @@ into-room a b c file s e p q r =
 
 -- ---- the writer
 
--- of a label and lists nothing is refused: the label has at most 64 octets, which can be shown, and K and the lists are fit
-pub label-fit : (label sizes numbers times : List ℕ) → sampleRefusal label sizes numbers times ≡ 0
-    → (length label ≤ labelMost) × (someUnshown label ≡ false) × ListsFit (length sizes) numbers times
-unfolding sampleRefusal
-label-fit label sizes numbers times e =
-    let r = refusalOfLists (length sizes) numbers times in
-    let p = first-none (judgeLabel (length label)) (judgeOctets label ∷ r ∷ []) e in
-    let q = first-none (judgeOctets label) (r ∷ []) (p .1) in
-    let l = between 0 labelMost (length label) (case-none (outside 0 labelMost (length label)) longLabel (omega arith) (p .0)) in
-    (l .1, case-none (someUnshown label) octetOutside (omega arith) (q .0), lists-fit (length sizes) numbers times (first-none r [] (q .1) .0))
-
--- nothing of their sample is refused
-pub from-none : (label sizes numbers times : List ℕ) → sampleRefusal label sizes numbers times ≡ 0 → judgeSample (sampleFrom label sizes numbers times) ≡ 0
-unfolding judgeSample
-from-none label sizes numbers times e =
-    let f = label-fit label sizes numbers times e in
-    let n = arrivals-length numbers times (f .2 .same) in
-    let p = not-outside 0 labelMost (length label) (omega arith) (f .0) in
-    let q = not-outside 0 arrivalsMost (length numbers) (omega arith) (f .2 .few) in
-    simp (p, f .1, f .2 .sent, n, q, f .2 .judged)
-
--- nothing of a sample is refused: nothing of its lists is
-pub none-from : (s : Sample) → judgeSample s ≡ 0 → sampleRefusal (s .label) (s .sizes) (numbersOf (s .arrivals)) (timesOf (s .arrivals)) ≡ 0
-unfolding sampleRefusal
-none-from s e =
-    let l = limits s e in
-    let n = length-map (s .arrivals) (λ (a : Arrival). a .number) in
-    let t = length-map (s .arrivals) (λ (a : Arrival). a .time) in
-    let p = not-outside 0 labelMost (length (s .label)) (omega arith) (l .labelFits) in
-    let j : judge (length (s .sizes)) 0 (arrivalsFrom (numbersOf (s .arrivals)) (timesOf (s .arrivals))) ≡ 0 = rw (arrivals-back (s .arrivals)) (l .judged) in
-    simp (p, l .shown, fit-lists (length (s .sizes)) (numbersOf (s .arrivals)) (timesOf (s .arrivals)) (l .sentSome) (l .sentFits) (rw n (l .arrivalsFit)) (t ∙ sym n) j)
-
--- nothing is refused where there is room
-pub written-into : (room : ℕ) (label sizes numbers times : List ℕ) → sampleRefusal label sizes numbers times ≡ 0
-    → length (fileOf (sampleFrom label sizes numbers times)) ≤ room → writeRefusal room label sizes numbers times ≡ 0
-unfolding writeRefusal
-written-into room label sizes numbers times e h = simp (e, le-ltb room (length (fileOf (sampleFrom label sizes numbers times))) h)
-
--- nothing is refused: nothing of the lists is
-into-written : (room : ℕ) (label sizes numbers times : List ℕ) → writeRefusal room label sizes numbers times ≡ 0 → sampleRefusal label sizes numbers times ≡ 0
-unfolding writeRefusal
-into-written room label sizes numbers times e =
-    first-none (sampleRefusal label sizes numbers times) (inCase (ltb room (length (fileOf (sampleFrom label sizes numbers times)))) outputShort ∷ []) e .0
-
 -- the octets of a sample, from its lists, where there is room
-written-sample : (s : Sample) → judgeSample s ≡ 0 → (out out′ : List ℕ) (written : Written) → length (fileOf s) ≤ length out
+written-sample : (s : Sample) → sampleRefusal (s .label) (s .sizes) (numbersOf (s .arrivals)) (timesOf (s .arrivals)) ≡ 0 → (out out′ : List ℕ) (written : WriteAnswer) → length (fileOf s) ≤ length out
     → WrittenTo (s .label) (s .sizes) (numbersOf (s .arrivals)) (timesOf (s .arrivals)) out written out′
     → (written ≡ record { refusal = 0; length = length (fileOf s) }) × (out′ ≡ over (fileOf s) out)
 written-sample s e out out′ written room w =
     let same : fileOf (sampleFrom (s .label) (s .sizes) (numbersOf (s .arrivals)) (timesOf (s .arrivals))) ≡ fileOf s =
     ap (λ (l : List Arrival). fileOf (record { label = s .label; sizes = s .sizes; arrivals = l })) (arrivals-back (s .arrivals)) in
-    let r = written-into (length out) (s .label) (s .sizes) (numbersOf (s .arrivals)) (timesOf (s .arrivals)) (none-from s e) (rw same room) in
-    let os : octetsInto (length out) (s .label) (s .sizes) (numbersOf (s .arrivals)) (timesOf (s .arrivals)) ≡ fileOf s =
-    ap (λ (n : ℕ). unlessRefused n (fileOf (sampleFrom (s .label) (s .sizes) (numbersOf (s .arrivals)) (timesOf (s .arrivals))))) r ∙ same in
-    let p = w .refusal ∙ r in
-    let q = w .octets ∙ ap length os in
-    ((λ i. record { refusal = p i; length = q i }), w .filled ∙ ap (λ (l : List ℕ). over l out) os)
+    rw same at (output-whole (sampleRefusal (s .label) (s .sizes) (numbersOf (s .arrivals)) (timesOf (s .arrivals)))
+    (fileOf (sampleFrom (s .label) (s .sizes) (numbersOf (s .arrivals)) (timesOf (s .arrivals)))) out w e (rw same room))
 
 -- ---- read, then written
 
@@ -132,13 +82,10 @@ written-again file o sizes numbers times sizes′ numbers′ times′ out out′
 pub read-again : (label sizes numbers times : List ℕ) → Below (2 ^ 16) sizes → Below (2 ^ 64) times → ReadAgain label sizes numbers times
 read-again label sizes numbers times fs ft out out′ sizes₀ numbers₀ times₀ sizes′ numbers′ times′ written read w z ps pn pt h =
     let s = sampleFrom label sizes numbers times in
-    let r = sym (w .refusal) ∙ z in
-    let e = into-written (length out) label sizes numbers times r in
+    let e = own-none (sampleRefusal label sizes numbers times) (fileOf s) out w z in
     let q = label-fit label sizes numbers times e .2 .same in
     let n = arrivals-length numbers times q in
-    let os : octetsInto (length out) label sizes numbers times ≡ fileOf s = ap (λ (k : ℕ). unlessRefused k (fileOf s)) r in
-    let file : take (written .length) out′ ≡ fileOf s =
-    ap₂ take (w .octets ∙ ap length os) (w .filled ∙ ap (λ (l : List ℕ). over l out) os) ∙ over-read (fileOf s) out in
+    let file = output-read (sampleRefusal label sizes numbers times) (fileOf s) out w z in
     let fit : FitSample s = record { judged = from-none label sizes numbers times e; sizes = fs; times = rw (times-back numbers times q) ft } in
     let d : decode (take (written .length) out′) ≡ accepted s = ap decode file ∙ decode-file s fit in
     let i = into-room (length sizes₀) (length numbers₀) (length times₀) (take (written .length) out′) s d ps (omega arith) (omega arith) in

@@ -7,23 +7,23 @@ use mathlib.Core.List.{List}
 use lib.ListN.{length, getD, drop, drop-of-length-le, replicate}
 use lib.Seq.{drop-cons}
 use Rattle.rfc4737.specs.Refusals.{outside}
-use Rattle.sample.specs.Format.{shownLeast}
-use Rattle.sample.specs.Judge.{unshown, someUnshown}
+use Rattle.sample.specs.Format.{shownLeast, shownMost}
+use Rattle.sample.specs.Judge.{someUnshown}
 
 -- ---- a loop over octets l, before the one at i: the whole is as what is left, `someUnshown l ≡ someUnshown (drop i l)`
 
 module _ (l : List ℕ) (i : ℕ) (h : i < length l) (inv : someUnshown l ≡ someUnshown (drop i l)) where
   -- what is left, as its first and the rest
-  left : someUnshown l ≡ (unshown (getD l i 0) || someUnshown (drop (suc i) l))
+  left : someUnshown l ≡ (outside shownLeast shownMost (getD l i 0) || someUnshown (drop (suc i) l))
   unfolding someUnshown
   left = inv ∙ ap someUnshown (drop-cons l i 0 h)
 
   -- it cannot be shown
-  pub unshown-stop : unshown (getD l i 0) ≡ true → true ≡ someUnshown l
+  pub unshown-stop : outside shownLeast shownMost (getD l i 0) ≡ true → true ≡ someUnshown l
   unshown-stop e = sym (left ∙ ap (λ (t : Bool). t || someUnshown (drop (suc i) l)) e)
 
   -- it can
-  pub unshown-next : unshown (getD l i 0) ≡ false → someUnshown l ≡ someUnshown (drop (i + 1) l)
+  pub unshown-next : outside shownLeast shownMost (getD l i 0) ≡ false → someUnshown l ≡ someUnshown (drop (i + 1) l)
   unshown-next e =
       left ∙ ap (λ (t : Bool). t || someUnshown (drop (suc i) l)) e ∙ ap (λ (n : ℕ). someUnshown (drop n l)) (sym (add-one i))
 

@@ -13,7 +13,7 @@ use Rattle.octets.proofs.BigEndian.{octets-length}
 use Rattle.octets.proofs.Memory.{splice-nil, splice-length, splice-next, taken, put-room, put-next, put-lent}
 use Rattle.rfc4737.specs.declared.Arrival.{Arrival}
 use Rattle.rfc4737.specs.Judge.{arrivalsFrom}
-use Rattle.sample.specs.Format.{itemOctets, section, arrivalOctets}
+use Rattle.sample.specs.Format.{countWidth, numberWidth, timeWidth, arrivalWidth, itemsAt, section, arrivalOctets, itemOctets}
 use Rattle.rfc4737.proofs.Pairs.{arrivals-getD}
 use Rattle.sample.proofs.Items.{octets-snoc, octets-many}
 
@@ -63,25 +63,25 @@ module _ {ℓ} {A : Type ℓ} (octets : A → List ℕ) (width : ℕ) (long : (x
     write-done h = inv ∙ ap (λ (l : List A). splice at (itemOctets octets l) old) (take-all i xs h)
 
 -- a section: its count, and its items' octets after it
-pub section-done : (at n : ℕ) (os old : List ℕ) {old′ d : List ℕ} → at + 2 + length os ≤ length old → old′ ≡ put at (beOctets 2 n) old
-    → d ≡ splice (at + 2) os old′ → d ≡ splice at (section n os) old
+pub section-done : (at n : ℕ) (os old : List ℕ) {old′ d : List ℕ} → itemsAt at + length os ≤ length old → old′ ≡ put at (beOctets countWidth n) old
+    → d ≡ splice (itemsAt at) os old′ → d ≡ splice at (section n os) old
 unfolding section
 section-done at n os old room e f =
-    let l : length (beOctets 2 n) ≡ 2 = octets-length 2 n in
-    let p : at + length (beOctets 2 n) ≤ length old = omega arith in
-    let q : at + length (beOctets 2 n) ≡ at + 2 = ap (λ (k : ℕ). at + k) l in
-    let r : at ≤ length old = omega arith in
-    f ∙ ap (splice (at + 2) os) (e ∙ put-room at (beOctets 2 n) old p) ∙ splice-next at (at + 2) (beOctets 2 n) os old q r
+    let c = beOctets countWidth n in
+    let l : length c ≡ countWidth = octets-length countWidth n in
+    let q : at + length c ≡ itemsAt at = ap (λ (k : ℕ). at + k) l in
+    f ∙ ap (splice (itemsAt at) os) (e ∙ put-room at c old (omega arith)) ∙ splice-next at (itemsAt at) c os old q (omega arith)
 
--- an arrival, of a list of numbers and a list of times, put into twelve octets: its number, then its time
-pub arrival-put : (ns ts : List ℕ) (i : ℕ) (z : Arrival) (old : List ℕ) {d d′ : List ℕ} → length ts ≡ length ns → i < length ns → 12 ≤ length old
-    → d ≡ put 0 (beOctets 4 (getD ns i 0)) old → d′ ≡ put 4 (beOctets 8 (getD ts i 0)) d → d′ ≡ put 0 (arrivalOctets (getD (arrivalsFrom ns ts) i z)) old
+-- an arrival, of a list of numbers and a list of times, put into its octets: its number, then its time
+pub arrival-put : (ns ts : List ℕ) (i : ℕ) (z : Arrival) (old : List ℕ) {d d′ : List ℕ} → length ts ≡ length ns → i < length ns → arrivalWidth ≤ length old
+    → d ≡ put 0 (beOctets numberWidth (getD ns i 0)) old → d′ ≡ put numberWidth (beOctets timeWidth (getD ts i 0)) d
+    → d′ ≡ put 0 (arrivalOctets (getD (arrivalsFrom ns ts) i z)) old
 unfolding arrivalOctets
 arrival-put ns ts i z old l h room e f =
-    let number : List ℕ = beOctets 4 (getD ns i 0) in
-    let time : List ℕ = beOctets 8 (getD ts i 0) in
-    let m : length number ≡ 4 = octets-length 4 (getD ns i 0) in
-    let n : length time ≡ 8 = octets-length 8 (getD ts i 0) in
-    let p : 0 + length number ≡ 4 = omega arith in
-    let q : 4 + length time ≤ length old = omega arith in
-    f ∙ ap (put 4 time) e ∙ put-next 0 4 number time old p q ∙ ap (λ (x : Arrival). put 0 (arrivalOctets x) old) (arrivals-getD ns ts i z l h)
+    let number : List ℕ = beOctets numberWidth (getD ns i 0) in
+    let time : List ℕ = beOctets timeWidth (getD ts i 0) in
+    let m : length number ≡ numberWidth = octets-length numberWidth (getD ns i 0) in
+    let n : length time ≡ timeWidth = octets-length timeWidth (getD ts i 0) in
+    let p : 0 + length number ≡ numberWidth = omega arith in
+    let q : numberWidth + length time ≤ length old = omega arith in
+    f ∙ ap (put numberWidth time) e ∙ put-next 0 numberWidth number time old p q ∙ ap (λ (x : Arrival). put 0 (arrivalOctets x) old) (arrivals-getD ns ts i z l h)

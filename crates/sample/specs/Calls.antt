@@ -1,5 +1,5 @@
 -- What the calls answer, and what lent memory holds after them. Assumes nothing.
-use Prim.Native.Nat.{ℕ, zero, suc}
+use Prim.Native.Nat.{ℕ}
 use mathlib.Core.Bool.{Bool, _||_}
 use mathlib.Core.List.{List, [], _∷_}
 use mathlib.Core.Path.{_≡_}
@@ -7,19 +7,20 @@ use lib.Dec.{ltb}
 use lib.ListN.{length}
 use Rattle.octets.specs.Memory.{over}
 use Rattle.rfc4737.specs.Refusals.{inCase, firstOf, outputShort}
-use Rattle.rfc4737.specs.Judge.{numbersOf, timesOf, arrivalsFrom, refusalOfLists}
-use Rattle.sample.specs.Format.{Sample, fileOf}
-use Rattle.sample.specs.Judge.{judgeLabel, judgeOctets}
+use Rattle.rfc4737.specs.Judge.{numbersOf, timesOf, arrivalsFrom}
+use Rattle.sample.specs.Format.{Sample, itemsAt, fileOf}
+unfoldable pub use Rattle.sample.specs.Judge.{sampleRefusal}
 use Rattle.sample.specs.Decode.{Decoded, refused, accepted, fileRefusal, sampleIn, decided, decode, sampleOf, layoutOf}
+use Rattle.sample.specs.Output.{Output}
 use Rattle.sample.specs.declared.Layout.{Layout}
-use Rattle.sample.specs.declared.Written.{Written}
+use Rattle.sample.specs.declared.WriteAnswer.{WriteAnswer}
 
 -- ---- the label
 
 -- where the part of the file begins that is shown as the label: after the count, or with a refusal at the file's start
 abbrev pub labelPlace : Decoded → ℕ
 labelPlace (refused r) = 0
-labelPlace (accepted s) = 2
+labelPlace (accepted s) = itemsAt 0
 
 -- ---- the reader
 
@@ -45,30 +46,7 @@ pub record ReadFrom (file sizes numbers times : List ℕ) (answer : Layout) (siz
 abbrev pub sampleFrom : List ℕ → List ℕ → List ℕ → List ℕ → Sample
 sampleFrom label sizes numbers times = record { label = label; sizes = sizes; arrivals = arrivalsFrom numbers times }
 
--- the first refusal that is due of a label and lists: 3, 13, then those of K, the number of sizes, and the lists
-unfoldable pub sampleRefusal : List ℕ → List ℕ → List ℕ → List ℕ → ℕ
-sampleRefusal label sizes numbers times = firstOf (judgeLabel (length label) ∷ judgeOctets label ∷ refusalOfLists (length sizes) numbers times ∷ [])
-
--- the same where so many octets can be written: 8 comes last
-unfoldable pub writeRefusal : ℕ → List ℕ → List ℕ → List ℕ → List ℕ → ℕ
-writeRefusal room label sizes numbers times =
-    firstOf
-    (sampleRefusal label sizes numbers times
-    ∷ inCase (ltb room (length (fileOf (sampleFrom label sizes numbers times)))) outputShort
-    ∷ [])
-
--- octets, or none with a refusal
-abbrev pub unlessRefused : ℕ → List ℕ → List ℕ
-unlessRefused zero os = os
-unlessRefused (suc r) os = []
-
--- the octets that are written where there is room for so many: those of the sample's file, or none with a refusal
-abbrev pub octetsInto : ℕ → List ℕ → List ℕ → List ℕ → List ℕ → List ℕ
-octetsInto room label sizes numbers times =
-    unlessRefused (writeRefusal room label sizes numbers times) (fileOf (sampleFrom label sizes numbers times))
-
--- the writer's answer, and the lent octets after it: those of the file from their start, all else as it was
-pub record WrittenTo (label sizes numbers times out : List ℕ) (answer : Written) (out′ : List ℕ) : Type 0 where
-  pub refusal : answer .refusal ≡ writeRefusal (length out) label sizes numbers times
-  pub octets : answer .length ≡ length (octetsInto (length out) label sizes numbers times)
-  pub filled : out′ ≡ over (octetsInto (length out) label sizes numbers times) out
+-- the writer's answer, and the lent octets after it: those of the sample's file
+abbrev pub WrittenTo : (label sizes numbers times out : List ℕ) → WriteAnswer → List ℕ → Type 0
+WrittenTo label sizes numbers times out answer out′ =
+    Output (sampleRefusal label sizes numbers times) (fileOf (sampleFrom label sizes numbers times)) out answer out′

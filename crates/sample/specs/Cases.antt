@@ -4,20 +4,15 @@ use mathlib.Core.List.{List, [], _∷_, _++_, map}
 use mathlib.Core.Path.{_≡_}
 use Rattle.sample.specs.Format.{fileOf}
 use Rattle.sample.specs.Decode.{decode, decodedRefusal}
+use Rattle.sample.specs.Calls.{sampleFrom}
 
--- a file of two sent packets with two arrivals, by their numbers and times
-abbrev pub twoArrivals : ℕ → ℕ → ℕ → ℕ → List ℕ
-twoArrivals n t m u =
-    fileOf (record { label = []; sizes = 100 ∷ 100 ∷ []; arrivals = record { number = n; time = t } ∷ record { number = m; time = u } ∷ [] })
-
--- a file of two sent packets with packet 1 and two copies of it, by their times
-abbrev pub threeTimes : ℕ → ℕ → ℕ → List ℕ
-threeTimes t u v =
-    fileOf (record { label = []; sizes = 100 ∷ 100 ∷ []; arrivals = record { number = 1; time = t } ∷ record { number = 1; time = u } ∷ record { number = 1; time = v } ∷ [] })
+-- a file of two sent packets, and of arrivals by their numbers and times
+abbrev pub twoSent : List ℕ → List ℕ → List ℕ
+twoSent numbers times = fileOf (sampleFrom [] (100 ∷ 100 ∷ []) numbers times)
 
 -- files, each with the refusal that it is due
-abbrev pub table : List (List ℕ × ℕ)
-table =
+abbrev pub refusalCases : List (List ℕ × ℕ)
+refusalCases =
     -- no count, half of one, a label that is not there
     ([], 1) ∷ (0 ∷ [], 1) ∷ (0 ∷ 1 ∷ [], 1)
     -- a label of 65 octets, of which none is there; no packets, of 4,097 of which none is there
@@ -33,14 +28,15 @@ table =
     -- no arrivals; and an octet that follows
     ∷ (0 ∷ 0 ∷ 0 ∷ 1 ∷ 0 ∷ 100 ∷ 0 ∷ 0 ∷ [], 0) ∷ (0 ∷ 0 ∷ 0 ∷ 1 ∷ 0 ∷ 100 ∷ 0 ∷ 0 ∷ 9 ∷ [], 2)
     -- arrivals: fit with equal times, a number that is 0 or over K, a time that goes back by 1,000 and by 1,001
-    ∷ (twoArrivals 1 10 2 10, 0) ∷ (twoArrivals 1 10 0 10, 6) ∷ (twoArrivals 1 10 3 10, 6)
-    ∷ (twoArrivals 1 2000 2 1000, 0) ∷ (twoArrivals 1 2000 2 999, 7)
+    ∷ (twoSent (1 ∷ 2 ∷ []) (10 ∷ 10 ∷ []), 0) ∷ (twoSent (1 ∷ 0 ∷ []) (10 ∷ 10 ∷ []), 6) ∷ (twoSent (1 ∷ 3 ∷ []) (10 ∷ 10 ∷ []), 6)
+    ∷ (twoSent (1 ∷ 2 ∷ []) (2000 ∷ 1000 ∷ []), 0) ∷ (twoSent (1 ∷ 2 ∷ []) (2000 ∷ 999 ∷ []), 7)
     -- a time is held to the greatest earlier one, and not to the one before; it may be that of a copy
-    ∷ (threeTimes 2000 1500 1000, 0) ∷ (threeTimes 2000 1500 999, 7) ∷ (threeTimes 1500 2000 999, 7)
+    ∷ (twoSent (1 ∷ 1 ∷ 1 ∷ []) (2000 ∷ 1500 ∷ 1000 ∷ []), 0) ∷ (twoSent (1 ∷ 1 ∷ 1 ∷ []) (2000 ∷ 1500 ∷ 999 ∷ []), 7)
+    ∷ (twoSent (1 ∷ 1 ∷ 1 ∷ []) (1500 ∷ 2000 ∷ 999 ∷ []), 7)
     -- 6 before 7 in one arrival; 2 before both
-    ∷ (twoArrivals 1 2000 3 999, 6) ∷ (twoArrivals 1 2000 3 999 ++ (0 ∷ []), 2)
+    ∷ (twoSent (1 ∷ 3 ∷ []) (2000 ∷ 999 ∷ []), 6) ∷ (twoSent (1 ∷ 3 ∷ []) (2000 ∷ 999 ∷ []) ++ (0 ∷ []), 2)
     ∷ []
 
 -- each is refused as it is due
 pub record RefusalsInOrder : Type 0 where
-  pub due : map (λ (c : List ℕ × ℕ). decodedRefusal (decode (c .0))) table ≡ map (λ (c : List ℕ × ℕ). c .1) table
+  pub due : map (λ (c : List ℕ × ℕ). decodedRefusal (decode (c .0))) refusalCases ≡ map (λ (c : List ℕ × ℕ). c .1) refusalCases

@@ -1,6 +1,6 @@
 -- Decoding a file by stages. Order in the file: each count is read (1), judged (3, 4 or 5), then its section's length (1), and after
 -- the label's its octets (13); then 2; then the arrivals in turn, 6 before 7. Assumes nothing.
-use Prim.Native.Nat.{ℕ, zero, suc, _+_, _*_}
+use Prim.Native.Nat.{ℕ, zero, suc}
 use mathlib.Core.List.{List, [], _∷_}
 use lib.Dec.{ltb}
 use lib.ListN.{length, drop}
@@ -8,20 +8,16 @@ use Rattle.octets.specs.BigEndian.{beValue}
 use Rattle.octets.specs.Memory.{part}
 use Rattle.rfc4737.specs.declared.Arrival.{Arrival}
 use Rattle.rfc4737.specs.Refusals.{inCase, firstOf, endsEarly, octetsFollow}
-use Rattle.sample.specs.Format.{Sample, itemsIn}
+use Rattle.sample.specs.Format.{Sample, countWidth, octetWidth, sizeWidth, numberWidth, timeWidth, arrivalWidth, itemsAt, endOf, sentStart, arrivedStart, lastEnd, itemsIn}
 use Rattle.rfc4737.specs.Judge.{judgeSent, judgeArrivals, judge}
 use Rattle.sample.specs.Judge.{judgeLabel, judgeOctets}
 use Rattle.sample.specs.declared.Layout.{Layout}
 
--- ---- where the sections stand
+-- ---- the counts of a file, and where its sections stand by them
 
 -- the count that stands at a place
 unfoldable pub countAt : ℕ → List ℕ → ℕ
-countAt at file = beValue (part at 2 file)
-
--- where a section ends that begins at a place, with so many items of so many octets each
-abbrev pub endOf : ℕ → ℕ → ℕ → ℕ
-endOf at width count = at + 2 + width * count
+countAt at file = beValue (part at countWidth file)
 
 -- the octets of the label
 abbrev pub labelCount : List ℕ → ℕ
@@ -29,7 +25,7 @@ labelCount file = countAt 0 file
 
 -- where the section of sent packets begins
 abbrev pub sentAt : List ℕ → ℕ
-sentAt file = endOf 0 1 (labelCount file)
+sentAt file = sentStart (labelCount file)
 
 -- K
 abbrev pub sentCount : List ℕ → ℕ
@@ -37,7 +33,7 @@ sentCount file = countAt (sentAt file) file
 
 -- where the section of arrivals begins
 abbrev pub arrivedAt : List ℕ → ℕ
-arrivedAt file = endOf (sentAt file) 2 (sentCount file)
+arrivedAt file = arrivedStart (labelCount file) (sentCount file)
 
 -- A
 abbrev pub arrivalCount : List ℕ → ℕ
@@ -45,72 +41,46 @@ arrivalCount file = countAt (arrivedAt file) file
 
 -- where the last section ends
 abbrev pub fileEnd : List ℕ → ℕ
-fileEnd file = endOf (arrivedAt file) 12 (arrivalCount file)
+fileEnd file = lastEnd (labelCount file) (sentCount file) (arrivalCount file)
 
 -- ---- what the sections hold
 
--- an arrival of twelve octets: four of its number, eight of its time
+-- an arrival in its octets: its number, then its time
 unfoldable pub arrivalIn : List ℕ → Arrival
-arrivalIn os = record { number = beValue (part 0 4 os); time = beValue (part 4 8 os) }
-
--- the label
-abbrev pub labelIn : List ℕ → List ℕ
-labelIn file = part 2 (labelCount file) file
-
--- the payload sizes
-abbrev pub sizesIn : List ℕ → List ℕ
-sizesIn file = itemsIn 2 beValue (sentCount file) (drop (sentAt file + 2) file)
-
--- the arrivals
-abbrev pub arrivalsIn : List ℕ → List Arrival
-arrivalsIn file = itemsIn 12 arrivalIn (arrivalCount file) (drop (arrivedAt file + 2) file)
+arrivalIn os = record { number = beValue (part 0 numberWidth os); time = beValue (part numberWidth timeWidth os) }
 
 -- the sample
 unfoldable pub sampleIn : List ℕ → Sample
 sampleIn file =
-    record { label = labelIn file; sizes = sizesIn file; arrivals = arrivalsIn file }
+    record {
+      label = part (itemsAt 0) (labelCount file) file;
+      sizes = itemsIn sizeWidth beValue (sentCount file) (drop (itemsAt (sentAt file)) file);
+      arrivals = itemsIn arrivalWidth arrivalIn (arrivalCount file) (drop (itemsAt (arrivedAt file)) file);
+    }
 
 -- ---- what is refused
 
--- a count that stands at a place is read
-abbrev pub countStage : ℕ → List ℕ → ℕ
-countStage at file = inCase (ltb (length file) (at + 2)) endsEarly
-
--- the length of the section that begins at a place, with items of so many octets each
-abbrev pub lengthStage : ℕ → ℕ → List ℕ → ℕ
-lengthStage at width file = inCase (ltb (length file) (endOf at width (countAt at file))) endsEarly
-
--- a section that begins at a place: its count is read (1), judged, then its length (1)
+-- a section that begins at a place, with items of so many octets each: its count is read (1), judged, then its length (1)
 unfoldable pub sectionStage : ℕ → ℕ → (ℕ → ℕ) → List ℕ → ℕ
-sectionStage at width judged file = firstOf (countStage at file ∷ judged (countAt at file) ∷ lengthStage at width file ∷ [])
+sectionStage at width judged file =
+    firstOf
+    (inCase (ltb (length file) (itemsAt at)) endsEarly
+    ∷ judged (countAt at file)
+    ∷ inCase (ltb (length file) (endOf at width (countAt at file))) endsEarly
+    ∷ [])
 
--- the label
-abbrev pub labelStage : List ℕ → ℕ
-labelStage file = sectionStage 0 1 judgeLabel file
-
--- the octets of the label
-abbrev pub octetsStage : List ℕ → ℕ
-octetsStage file = judgeOctets (labelIn file)
-
--- the sent packets
-abbrev pub sentStage : List ℕ → ℕ
-sentStage file = sectionStage (sentAt file) 2 judgeSent file
-
--- the arrivals' section
-abbrev pub arrivedStage : List ℕ → ℕ
-arrivedStage file = sectionStage (arrivedAt file) 12 judgeArrivals file
-
--- the end of the file
-abbrev pub endStage : List ℕ → ℕ
-endStage file = inCase (ltb (fileEnd file) (length file)) octetsFollow
-
--- the arrivals in turn
-abbrev pub arrivalsStage : List ℕ → ℕ
-arrivalsStage file = judge (sentCount file) 0 (arrivalsIn file)
-
--- the first refusal that is due of a file, by the stages in their order; 0 if none is
+-- the first refusal that is due of a file, 0 if none is: of the label's section, its octets, the sent packets' section, the arrivals'
+-- section, the end of the file, the arrivals in turn
 unfoldable pub fileRefusal : List ℕ → ℕ
-fileRefusal file = firstOf (labelStage file ∷ octetsStage file ∷ sentStage file ∷ arrivedStage file ∷ endStage file ∷ arrivalsStage file ∷ [])
+fileRefusal file =
+    firstOf
+    (sectionStage 0 octetWidth judgeLabel file
+    ∷ judgeOctets (sampleIn file .label)
+    ∷ sectionStage (sentAt file) sizeWidth judgeSent file
+    ∷ sectionStage (arrivedAt file) arrivalWidth judgeArrivals file
+    ∷ inCase (ltb (fileEnd file) (length file)) octetsFollow
+    ∷ judge (sentCount file) 0 (sampleIn file .arrivals)
+    ∷ [])
 
 -- ---- the answer
 

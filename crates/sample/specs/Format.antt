@@ -1,6 +1,6 @@
 -- The sample file: three sections in a fixed order, each after its count of two octets. All numbers are big-endian.
 -- Assumes nothing.
-use Prim.Native.Nat.{ℕ, zero, suc}
+use Prim.Native.Nat.{ℕ, zero, suc, _+_, _*_}
 use mathlib.Core.List.{List, [], _∷_, _++_}
 use lib.ListN.{length, take, drop}
 use Rattle.octets.specs.BigEndian.{beOctets}
@@ -29,19 +29,65 @@ shownMost = 0x7E
 abbrev pub longest : ℕ
 longest = 57414
 
+-- ---- the layout: how many octets each field has, and where the sections stand by their counts alone
+
+-- the count of a section
+abbrev pub countWidth : ℕ
+countWidth = 2
+
+-- one octet of the label
+abbrev pub octetWidth : ℕ
+octetWidth = 1
+
+-- a payload size
+abbrev pub sizeWidth : ℕ
+sizeWidth = 2
+
+-- a sequence number
+abbrev pub numberWidth : ℕ
+numberWidth = 4
+
+-- an arrival time, in microseconds
+abbrev pub timeWidth : ℕ
+timeWidth = 8
+
+-- an arrival: its number, then its time
+abbrev pub arrivalWidth : ℕ
+arrivalWidth = numberWidth + timeWidth
+
+-- where the items of a section begin that begins at a place
+abbrev pub itemsAt : ℕ → ℕ
+itemsAt at = at + countWidth
+
+-- where a section ends that begins at a place, with so many items of so many octets each
+abbrev pub endOf : ℕ → ℕ → ℕ → ℕ
+endOf at width count = itemsAt at + width * count
+
+-- where the section of sent packets begins: the label's, before it, begins at 0
+abbrev pub sentStart : ℕ → ℕ
+sentStart label = endOf 0 octetWidth label
+
+-- where the section of arrivals begins
+abbrev pub arrivedStart : ℕ → ℕ → ℕ
+arrivedStart label sent = endOf (sentStart label) sizeWidth sent
+
+-- where the last section ends
+abbrev pub lastEnd : ℕ → ℕ → ℕ → ℕ
+lastEnd label sent arrivals = endOf (arrivedStart label sent) arrivalWidth arrivals
+
 -- ---- the octets of a sample
 
--- a section: the count of its items in two octets, then its items' octets
+-- a section: the count of its items, then its items' octets
 unfoldable pub section : ℕ → List ℕ → List ℕ
-section count octets = beOctets 2 count ++ octets
+section count octets = beOctets countWidth count ++ octets
 
--- a payload size: two octets
+-- a payload size
 abbrev pub sizeOctets : ℕ → List ℕ
-sizeOctets size = beOctets 2 size
+sizeOctets size = beOctets sizeWidth size
 
--- an arrival: a sequence number of four octets and an arrival time of eight, in microseconds
+-- an arrival
 unfoldable pub arrivalOctets : Arrival → List ℕ
-arrivalOctets a = beOctets 4 (a .number) ++ beOctets 8 (a .time)
+arrivalOctets a = beOctets numberWidth (a .number) ++ beOctets timeWidth (a .time)
 
 module _ {ℓ} {A : Type ℓ} where
   -- the octets of items, one item after the other

@@ -3,6 +3,7 @@ pub mod Format
 pub mod Judge
 pub mod Decode
 pub mod Places
+pub mod Output
 pub mod Calls
 pub mod RoundTrip
 pub mod Cases

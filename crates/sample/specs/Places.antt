@@ -7,22 +7,28 @@ use lib.ListN.{length}
 use Rattle.octets.specs.BigEndian.{beValue}
 use Rattle.octets.specs.Memory.{part}
 use Rattle.rfc4737.specs.declared.Arrival.{Arrival}
+use Rattle.sample.specs.Format.{sizeWidth, arrivalWidth, itemsAt, sentStart, arrivedStart}
 use Rattle.sample.specs.Decode.{arrivalIn}
 use Rattle.sample.specs.declared.Layout.{Layout}
 
--- the first payload size: after two counts and the label
+-- the first payload size
 abbrev pub sizesAt : Layout → ℕ
-sizesAt y = 4 + y .label
+sizesAt y = itemsAt (sentStart (y .label))
 
--- the first arrival: after the payload sizes and one more count
+-- the first arrival
 abbrev pub arrivalsAt : Layout → ℕ
-arrivalsAt y = 6 + y .label + 2 * y .sent
+arrivalsAt y = itemsAt (arrivedStart (y .label) (y .sent))
 
 -- the payload size of packet j + 1
 unfoldable pub sizeFound : List ℕ → Layout → ℕ → ℕ
-sizeFound file y j = beValue (part (sizesAt y + 2 * j) 2 file)
+sizeFound file y j = beValue (part (sizesAt y + sizeWidth * j) sizeWidth file)
 
--- the arrival of record i + 1: what its twelve octets say, zeros where the file ends before them
+-- what stands where there is no arrival
+abbrev pub noArrival : Arrival
+noArrival = record { number = 0; time = 0 }
+
+-- the arrival of record i + 1: what its octets say, none where the file ends before them
 unfoldable pub arrivalFound : List ℕ → Layout → ℕ → Arrival
 arrivalFound file y i =
-    cond (ltb (length file) (arrivalsAt y + 12 * i + 12)) (record { number = 0; time = 0 }) (arrivalIn (part (arrivalsAt y + 12 * i) 12 file))
+    let at = arrivalsAt y + arrivalWidth * i in
+    cond (ltb (length file) (at + arrivalWidth)) noArrival (arrivalIn (part at arrivalWidth file))

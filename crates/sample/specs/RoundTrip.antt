@@ -15,7 +15,7 @@ use Rattle.sample.specs.Judge.{FitSample}
 use Rattle.sample.specs.Decode.{decode, accepted, sampleOf, decodedRefusal}
 use Rattle.sample.specs.Calls.{ReadFrom, WrittenTo}
 use Rattle.sample.specs.declared.Layout.{Layout}
-use Rattle.sample.specs.declared.Written.{Written}
+use Rattle.sample.specs.declared.WriteAnswer.{WriteAnswer}
 
 -- decoding accepts exactly the octets of fit samples
 abbrev pub ExactFile : List ℕ → Type 0
@@ -47,7 +47,7 @@ pub record Lengths (file : List ℕ) : Type 0 where
 -- an accepted file that is read and written again, its label with it, gives the same octets
 abbrev pub WrittenAgain : List ℕ → Type 0
 WrittenAgain file =
-    (sizes numbers times sizes′ numbers′ times′ out out′ : List ℕ) (read : Layout) (written : Written)
+    (sizes numbers times sizes′ numbers′ times′ out out′ : List ℕ) (read : Layout) (written : WriteAnswer)
     → ReadFrom file sizes numbers times read sizes′ numbers′ times′
     → read .refusal ≡ 0
     → length file ≤ length out
@@ -65,7 +65,7 @@ pub record SameLists (label sizes numbers times file sizes₀ numbers₀ times�
 -- an accepted label and lists that are written and read again, into lists that are long enough, are the same label and lists
 abbrev pub ReadAgain : (label sizes numbers times : List ℕ) → Type 0
 ReadAgain label sizes numbers times =
-    (out out′ sizes₀ numbers₀ times₀ sizes′ numbers′ times′ : List ℕ) (written : Written) (read : Layout)
+    (out out′ sizes₀ numbers₀ times₀ sizes′ numbers′ times′ : List ℕ) (written : WriteAnswer) (read : Layout)
     → WrittenTo label sizes numbers times out written out′
     → written .refusal ≡ 0
     → length sizes ≤ length sizes₀

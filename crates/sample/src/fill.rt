@@ -5,21 +5,23 @@ ghost use lib.ListN.{length, drop};
 ghost use Rattle.octets.specs.BigEndian.{beValue};
 ghost use Rattle.octets.specs.Memory.{over};
 ghost use Rattle.rfc4737.specs.Judge.{numbersOf, timesOf};
-ghost use Rattle.sample.specs.Format.{itemsIn};
+ghost use Rattle.sample.specs.Format.{sizeWidth, arrivalWidth, itemsIn};
 ghost use Rattle.sample.specs.Decode.{arrivalIn};
 use crate::arrival_of;
+use crate::sections::ARRIVAL_WIDTH;
+use crate::sections::SIZE_WIDTH;
 
 // Fills the payload sizes: so many, which stand from a place on.
 pub(crate) fn fill_sizes(file: &[u8], at: usize, count: usize, sizes: &mut [u16])
-    requires { ⌜ (at + 2 * count ≤ length (now file)) × (count ≤ length (now sizes)) ⌝ }
-    ensures { λ _. ⌜ now (sizes .exit) ≡ over (itemsIn 2 beValue count (drop at (now (file .entry)))) (now (sizes .entry)) ⌝ }
+    requires { ⌜ (at + sizeWidth * count ≤ length (now file)) × (count ≤ length (now sizes)) ⌝ }
+    ensures { λ _. ⌜ now (sizes .exit) ≡ over (itemsIn sizeWidth beValue count (drop at (now (file .entry)))) (now (sizes .entry)) ⌝ }
 {
     let mut i = 0;
     while i < count {
-        let start = at + 2 * i;
-        let end = start + 2;
+        let start = at + SIZE_WIDTH * i;
+        let end = start + SIZE_WIDTH;
         let size = &file[start..end];
-        sizes[i] = octets::number_at(size, 0, 2) as u16;
+        sizes[i] = octets::number_at(size, 0, SIZE_WIDTH) as u16;
         i += 1;
     }
 }
@@ -32,14 +34,14 @@ pub(crate) fn fill_arrivals(
     numbers: &mut [u32],
     times: &mut [u64],
 )
-    requires { ⌜ (at + 12 * count ≤ length (now file)) × (count ≤ length (now numbers)) × (count ≤ length (now times)) ⌝ }
-    ensures { λ _. ⌜ (now (numbers .exit) ≡ over (numbersOf (itemsIn 12 arrivalIn count (drop at (now (file .entry))))) (now (numbers .entry)))
-        × (now (times .exit) ≡ over (timesOf (itemsIn 12 arrivalIn count (drop at (now (file .entry))))) (now (times .entry))) ⌝ }
+    requires { ⌜ (at + arrivalWidth * count ≤ length (now file)) × (count ≤ length (now numbers)) × (count ≤ length (now times)) ⌝ }
+    ensures { λ _. ⌜ (now (numbers .exit) ≡ over (numbersOf (itemsIn arrivalWidth arrivalIn count (drop at (now (file .entry))))) (now (numbers .entry)))
+        × (now (times .exit) ≡ over (timesOf (itemsIn arrivalWidth arrivalIn count (drop at (now (file .entry))))) (now (times .entry))) ⌝ }
 {
     let mut i = 0;
     while i < count {
-        let start = at + 12 * i;
-        let end = start + 12;
+        let start = at + ARRIVAL_WIDTH * i;
+        let end = start + ARRIVAL_WIDTH;
         let twelve = &file[start..end];
         let arrival = arrival_of(twelve);
         numbers[i] = arrival.number;

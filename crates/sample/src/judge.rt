@@ -3,10 +3,11 @@ ghost use mathlib.Core.Path.{_≡_};
 ghost use Prim.Native.Nat.{_+_, _*_, _≤_};
 ghost use lib.ListN.{length, drop};
 ghost use Rattle.rfc4737.specs.Judge.{judge};
-ghost use Rattle.sample.specs.Format.{itemsIn};
+ghost use Rattle.sample.specs.Format.{arrivalWidth, itemsIn};
 ghost use Rattle.sample.specs.Judge.{someUnshown};
 ghost use Rattle.sample.specs.Decode.{arrivalIn};
 use crate::arrival_of;
+use crate::sections::ARRIVAL_WIDTH;
 use rfc4737::judge::judge_one;
 use rfc4737::judge::outside;
 use rfc4737::time::next_reference;
@@ -33,14 +34,14 @@ pub(crate) fn some_unshown(octets: &[u8]) -> bool
 
 // So many arrivals of a file, which stand from a place on, in turn.
 pub(crate) fn judge_file(file: &[u8], at: usize, sent: u64, count: usize) -> u32
-    requires { ⌜ at + 12 * count ≤ length (now file) ⌝ }
-    ensures { λ r. ⌜ r ≡ judge sent 0 (itemsIn 12 arrivalIn count (drop at (now (file .entry)))) ⌝ }
+    requires { ⌜ at + arrivalWidth * count ≤ length (now file) ⌝ }
+    ensures { λ r. ⌜ r ≡ judge sent 0 (itemsIn arrivalWidth arrivalIn count (drop at (now (file .entry)))) ⌝ }
 {
     let mut reference: u64 = 0;
     let mut i = 0;
     while i < count {
-        let start = at + 12 * i;
-        let end = start + 12;
+        let start = at + ARRIVAL_WIDTH * i;
+        let end = start + ARRIVAL_WIDTH;
         let twelve = &file[start..end];
         let arrival = arrival_of(twelve);
         let refusal = judge_one(sent, reference, arrival.number as u64, arrival.time);

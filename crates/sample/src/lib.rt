@@ -1,6 +1,6 @@
 // The sample file: checked, read and written. Every public call takes all input there is.
 ghost use mathlib.Core.Path.{_≡_};
-ghost use Prim.Native.Nat.{_+_};
+ghost use Prim.Native.Nat.{_+_, _*_};
 ghost use Rattle.sample.specs.Format.{longest};
 ghost use Rattle.sample.specs.Decode.{arrivalIn, decode, refused, sampleOf, layoutOf};
 ghost use Rattle.sample.specs.Places.{sizesAt, arrivalsAt, sizeFound, arrivalFound};
@@ -12,9 +12,6 @@ mod fill;
 mod judge;
 mod sections;
 
-use fill::fill_arrivals;
-use fill::fill_sizes;
-use judge::judge_file;
 use judge::some_unshown;
 use rfc4737::Arrival;
 use rfc4737::judge::ARRIVALS_MOST;
@@ -27,12 +24,16 @@ use rfc4737::refusal::OCTET_OUTSIDE;
 use rfc4737::refusal::OCTETS_FOLLOW;
 use rfc4737::refusal::OUTPUT_SHORT;
 use rfc4737::refusal::SENT_OUTSIDE;
+use sections::ARRIVAL_WIDTH;
+use sections::COUNT_WIDTH;
+use sections::NUMBER_WIDTH;
+use sections::OCTET_WIDTH;
+use sections::SIZE_WIDTH;
 use sections::Section;
-use sections::refusal_of;
+use sections::TIME_WIDTH;
+use sections::end_of;
+use sections::refusal_of_section;
 use sections::section_at;
-use sections::write_arrivals;
-use sections::write_label;
-use sections::write_sizes;
 
 // The greatest number of octets of a label.
 const LABEL_MOST: u64 = 64;
@@ -52,13 +53,13 @@ pub struct Layout {
 
 // What was written: the refusal (0 for none), and the octets of the file, 0 with a refusal.
 #[repr(C)]
-pub struct Written {
+pub struct WriteAnswer {
     pub refusal: u32,
     pub length: u32,
 }
 
 // The answer that a refusal has.
-fn refused_with(refusal: u32) -> Layout
+fn refused_layout(refusal: u32) -> Layout
     ensures { λ r. ⌜ r ≡ layoutOf (refused refusal) ⌝ }
 {
     Layout {
@@ -77,28 +78,36 @@ pub fn check(file: &[u8]) -> Layout
     ensures lengths { λ _. do ⌜ ((← ⟦LONGEST⟧ .entry) ≡ longest) × Lengths (now (file .entry)) ⌝ }
     ensures order { λ _. ⌜ RefusalsInOrder ⌝ }
 {
-    let label = section_at(file, 0, 1, 0, LABEL_MOST, LONG_LABEL);
+    let label = section_at(file, 0, OCTET_WIDTH, 0, LABEL_MOST, LONG_LABEL);
     let Section::Whole(label_count, sent_at) = label else {
-        return refused_with(refusal_of(label));
+        return refused_layout(refusal_of_section(label));
     };
-    let shown = &file[2..sent_at];
+    let shown = &file[COUNT_WIDTH..sent_at];
     if some_unshown(shown) {
-        return refused_with(OCTET_OUTSIDE);
+        return refused_layout(OCTET_OUTSIDE);
     }
-    let sent = section_at(file, sent_at, 2, 1, SENT_MOST, SENT_OUTSIDE);
+    let sent = section_at(file, sent_at, SIZE_WIDTH, 1, SENT_MOST, SENT_OUTSIDE);
     let Section::Whole(sent_count, arrived_at) = sent else {
-        return refused_with(refusal_of(sent));
+        return refused_layout(refusal_of_section(sent));
     };
-    let arrived = section_at(file, arrived_at, 12, 0, ARRIVALS_MOST, MANY_ARRIVALS);
+    let arrived = section_at(
+        file,
+        arrived_at,
+        ARRIVAL_WIDTH,
+        0,
+        ARRIVALS_MOST,
+        MANY_ARRIVALS,
+    );
     let Section::Whole(arrival_count, end) = arrived else {
-        return refused_with(refusal_of(arrived));
+        return refused_layout(refusal_of_section(arrived));
     };
     if end < file.len() {
-        return refused_with(OCTETS_FOLLOW);
+        return refused_layout(OCTETS_FOLLOW);
     }
-    let refusal = judge_file(file, arrived_at + 2, sent_count as u64, arrival_count);
+    let at = arrived_at + COUNT_WIDTH;
+    let refusal = judge::judge_file(file, at, sent_count as u64, arrival_count);
     if refusal != 0 {
-        return refused_with(refusal);
+        return refused_layout(refusal);
     }
     Layout {
         refusal: 0,
@@ -117,22 +126,23 @@ pub fn label(file: &[u8]) -> &[u8]
     if found.refusal != 0 {
         return &file[0..0];
     }
-    let end = 2 + found.label as usize;
-    &file[2..end]
+    let end = end_of(0, OCTET_WIDTH, found.label as usize);
+    &file[COUNT_WIDTH..end]
 }
 
 // Where the first payload size stands.
 fn sizes_at(found: Layout) -> usize
     ensures { λ r. ⌜ r ≡ sizesAt found ⌝ }
 {
-    4 + found.label as usize
+    end_of(0, OCTET_WIDTH, found.label as usize) + COUNT_WIDTH
 }
 
 // Where the first arrival of an accepted file stands.
 pub fn arrivals_at(found: Layout) -> usize
     ensures { λ r. ⌜ r ≡ arrivalsAt found ⌝ }
 {
-    6 + found.label as usize + 2 * (found.sent as usize)
+    let sent_at = end_of(0, OCTET_WIDTH, found.label as usize);
+    end_of(sent_at, SIZE_WIDTH, found.sent as usize) + COUNT_WIDTH
 }
 
 // Whether one of three lists, of so many places, is too short for what was found.
@@ -159,21 +169,16 @@ pub fn read(file: &[u8], sizes: &mut [u16], numbers: &mut [u32], times: &mut [u6
         return found;
     }
     if too_short(found, sizes.len(), numbers.len(), times.len()) {
-        return refused_with(OUTPUT_SHORT);
+        return refused_layout(OUTPUT_SHORT);
     }
-    fill_sizes(file, sizes_at(found), found.sent as usize, sizes);
-    fill_arrivals(
-        file,
-        arrivals_at(found),
-        found.arrivals as usize,
-        numbers,
-        times,
-    );
+    fill::fill_sizes(file, sizes_at(found), found.sent as usize, sizes);
+    let arrivals = found.arrivals as usize;
+    fill::fill_arrivals(file, arrivals_at(found), arrivals, numbers, times);
     found
 }
 
 // The first refusal that is due of a label and lists, 0 if none is.
-fn refusal_from(label: &[u8], sizes: &[u16], numbers: &[u32], times: &[u64]) -> u32
+fn refusal_of_sample(label: &[u8], sizes: &[u16], numbers: &[u32], times: &[u64]) -> u32
     ensures { λ r. ⌜ r ≡ sampleRefusal (now (label .entry)) (now (sizes .entry)) (now (numbers .entry)) (now (times .entry)) ⌝ }
 {
     if outside(0, LABEL_MOST, label.len() as u64) {
@@ -186,27 +191,33 @@ fn refusal_from(label: &[u8], sizes: &[u16], numbers: &[u32], times: &[u64]) -> 
 }
 
 // Writes the file of a label and lists from the start of `out`. With a refusal `out` stays as it was.
-pub fn write(label: &[u8], sizes: &[u16], numbers: &[u32], times: &[u64], out: &mut [u8]) -> Written
+pub fn write(
+    label: &[u8],
+    sizes: &[u16],
+    numbers: &[u32],
+    times: &[u64],
+    out: &mut [u8],
+) -> WriteAnswer
     ensures { λ r. ⌜ WrittenTo (now (label .entry)) (now (sizes .entry)) (now (numbers .entry)) (now (times .entry)) (now (out .entry)) r (now (out .exit)) ⌝ }
     ensures again { λ _. ⌜ ReadAgain (now (label .entry)) (now (sizes .entry)) (now (numbers .entry)) (now (times .entry)) ⌝ }
 {
-    let refusal = refusal_from(label, sizes, numbers, times);
+    let refusal = refusal_of_sample(label, sizes, numbers, times);
     if refusal != 0 {
-        return Written { refusal, length: 0 };
+        return WriteAnswer { refusal, length: 0 };
     }
-    let sent_at = 2 + label.len();
-    let arrived_at = sent_at + 2 + 2 * sizes.len();
-    let end = arrived_at + 2 + 12 * numbers.len();
+    let sent_at = end_of(0, OCTET_WIDTH, label.len());
+    let arrived_at = end_of(sent_at, SIZE_WIDTH, sizes.len());
+    let end = end_of(arrived_at, ARRIVAL_WIDTH, numbers.len());
     if out.len() < end {
-        return Written {
+        return WriteAnswer {
             refusal: OUTPUT_SHORT,
             length: 0,
         };
     }
-    write_label(label, out);
-    write_sizes(sizes, out, sent_at);
-    write_arrivals(numbers, times, out, arrived_at);
-    Written {
+    sections::write_label(label, out);
+    sections::write_sizes(sizes, out, sent_at);
+    sections::write_arrivals(numbers, times, out, arrived_at);
+    WriteAnswer {
         refusal: 0,
         length: end as u32,
     }
@@ -216,7 +227,8 @@ pub fn write(label: &[u8], sizes: &[u16], numbers: &[u32], times: &[u64], out: &
 pub fn payload_size(file: &[u8], found: Layout, j: u32) -> u16
     ensures { λ r. ⌜ r ≡ sizeFound (now (file .entry)) found j ⌝ }
 {
-    octets::number_at(file, sizes_at(found) + 2 * (j as usize), 2) as u16
+    let at = sizes_at(found) + SIZE_WIDTH * (j as usize);
+    octets::number_at(file, at, SIZE_WIDTH) as u16
 }
 
 // The arrival in twelve octets. It is a function by itself so that the compiler reads each number's octets as one wherever
@@ -224,8 +236,8 @@ pub fn payload_size(file: &[u8], found: Layout, j: u32) -> u16
 pub fn arrival_of(twelve: &[u8]) -> Arrival
     ensures { λ r. ⌜ r ≡ arrivalIn (now (twelve .entry)) ⌝ }
 {
-    let number = octets::number_at(twelve, 0, 4) as u32;
-    let time = octets::number_at(twelve, 4, 8);
+    let number = octets::number_at(twelve, 0, NUMBER_WIDTH) as u32;
+    let time = octets::number_at(twelve, NUMBER_WIDTH, TIME_WIDTH);
     Arrival { number, time }
 }
 
@@ -233,8 +245,8 @@ pub fn arrival_of(twelve: &[u8]) -> Arrival
 pub fn arrival(file: &[u8], found: Layout, i: u32) -> Arrival
     ensures { λ r. ⌜ r ≡ arrivalFound (now (file .entry)) found i ⌝ }
 {
-    let start = arrivals_at(found) + 12 * (i as usize);
-    let end = start + 12;
+    let start = arrivals_at(found) + ARRIVAL_WIDTH * (i as usize);
+    let end = start + ARRIVAL_WIDTH;
     if file.len() < end {
         return Arrival { number: 0, time: 0 };
     }

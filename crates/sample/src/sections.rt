@@ -1,13 +1,34 @@
-// The sections of a file, read and written: a count of two octets, then the items.
+// The sections of a file, read and written: a count, then the items.
 ghost use mathlib.Core.Path.{_≡_};
-ghost use Prim.Native.Nat.{_+_, _*_, _≤_, _<_};
+ghost use Prim.Native.Nat.{_^_, _≤_, _<_};
 ghost use lib.ListN.{length};
 ghost use Rattle.octets.specs.Memory.{splice};
 ghost use Rattle.rfc4737.specs.Judge.{arrivalsFrom};
-ghost use Rattle.sample.specs.Format.{section, sizeOctets, arrivalOctets, itemOctets};
+ghost use Rattle.sample.specs.Format.{octetWidth, sizeWidth, arrivalWidth, endOf, section, sizeOctets, arrivalOctets, itemOctets};
 ghost use Rattle.sample.specs.Private.Readings.{countReading, placeReading, sectionReading, refusalOfSection};
 use rfc4737::judge::outside;
 use rfc4737::refusal::ENDS_EARLY;
+
+// The octets of a section's count.
+pub(crate) const COUNT_WIDTH: usize = 2;
+// Of one octet of the label.
+pub(crate) const OCTET_WIDTH: usize = 1;
+// Of a payload size.
+pub(crate) const SIZE_WIDTH: usize = 2;
+// Of a sequence number.
+pub(crate) const NUMBER_WIDTH: usize = 4;
+// Of an arrival time.
+pub(crate) const TIME_WIDTH: usize = 8;
+// Of an arrival: its number, then its time.
+pub(crate) const ARRIVAL_WIDTH: usize = NUMBER_WIDTH + TIME_WIDTH;
+
+// Where a section ends that begins at a place, with so many items of so many octets each.
+pub(crate) fn end_of(at: usize, width: usize, count: usize) -> usize
+    requires { ⌜ endOf at width count < 2 ^ 64 ⌝ }
+    ensures { λ r. ⌜ r ≡ endOf at width count ⌝ }
+{
+    at + COUNT_WIDTH + width * count
+}
 
 // A number that was read, unless the file ends before it.
 enum Reading {
@@ -26,10 +47,10 @@ fn count_at(file: &[u8], at: usize) -> Reading
     requires { ⌜ at ≤ length (now file) ⌝ }
     ensures { λ r. ⌜ r ≡ countReading at (now (file .entry)) ⌝ }
 {
-    if file.len() < at + 2 {
+    if file.len() < at + COUNT_WIDTH {
         return Reading::Ended;
     }
-    Reading::Value(octets::number_at(file, at, 2) as usize)
+    Reading::Value(octets::number_at(file, at, COUNT_WIDTH) as usize)
 }
 
 // A place, where the file has as many octets.
@@ -51,7 +72,7 @@ pub(crate) fn section_at(
     most: u64,
     refusal: u32,
 ) -> Section
-    requires { ⌜ (at ≤ length (now file)) × (width ≤ 12) × (0 < refusal) ⌝ }
+    requires { ⌜ (at ≤ length (now file)) × (width ≤ arrivalWidth) × (0 < refusal) ⌝ }
     ensures { λ r. ⌜ r ≡ sectionReading at width least most refusal (now (file .entry)) ⌝ }
 {
     let Reading::Value(count) = count_at(file, at) else {
@@ -60,14 +81,14 @@ pub(crate) fn section_at(
     if outside(least, most, count as u64) {
         return Section::Refused(refusal);
     }
-    let Reading::Value(end) = place_in(file, at + 2 + width * count) else {
+    let Reading::Value(end) = place_in(file, end_of(at, width, count)) else {
         return Section::Refused(ENDS_EARLY);
     };
     Section::Whole(count, end)
 }
 
 // The refusal of a section, 0 for a whole one.
-pub(crate) fn refusal_of(s: Section) -> u32
+pub(crate) fn refusal_of_section(s: Section) -> u32
     ensures { λ r. ⌜ r ≡ refusalOfSection s ⌝ }
 {
     match s {
@@ -78,42 +99,42 @@ pub(crate) fn refusal_of(s: Section) -> u32
 
 // Writes the section of the label.
 pub(crate) fn write_label(label: &[u8], out: &mut [u8])
-    requires { ⌜ 2 + length (now label) ≤ length (now out) ⌝ }
+    requires { ⌜ endOf 0 octetWidth (length (now label)) ≤ length (now out) ⌝ }
     ensures { λ _. ⌜ now (out .exit) ≡ splice 0 (section (length (now (label .entry))) (now (label .entry))) (now (out .entry)) ⌝ }
 {
-    octets::put_number(out, 0, 2, label.len() as u64);
-    octets::put_octets(out, 2, label);
+    octets::put_number(out, 0, COUNT_WIDTH, label.len() as u64);
+    octets::put_octets(out, COUNT_WIDTH, label);
 }
 
 // Writes the section of sent packets from a place on.
 pub(crate) fn write_sizes(sizes: &[u16], out: &mut [u8], at: usize)
-    requires { ⌜ at + 2 + 2 * length (now sizes) ≤ length (now out) ⌝ }
+    requires { ⌜ endOf at sizeWidth (length (now sizes)) ≤ length (now out) ⌝ }
     ensures { λ _. ⌜ now (out .exit) ≡ splice at (section (length (now (sizes .entry))) (itemOctets sizeOctets (now (sizes .entry)))) (now (out .entry)) ⌝ }
 {
-    octets::put_number(out, at, 2, sizes.len() as u64);
+    octets::put_number(out, at, COUNT_WIDTH, sizes.len() as u64);
     let mut i = 0;
     while i < sizes.len() {
-        let start = at + 2 + 2 * i;
-        let end = start + 2;
+        let start = at + COUNT_WIDTH + SIZE_WIDTH * i;
+        let end = start + SIZE_WIDTH;
         let size = &mut out[start..end];
-        octets::put_number(size, 0, 2, sizes[i] as u64);
+        octets::put_number(size, 0, SIZE_WIDTH, sizes[i] as u64);
         i += 1;
     }
 }
 
 // Writes the section of arrivals from a place on.
 pub(crate) fn write_arrivals(numbers: &[u32], times: &[u64], out: &mut [u8], at: usize)
-    requires { ⌜ (length (now times) ≡ length (now numbers)) × (at + 2 + 12 * length (now numbers) ≤ length (now out)) ⌝ }
+    requires { ⌜ (length (now times) ≡ length (now numbers)) × (endOf at arrivalWidth (length (now numbers)) ≤ length (now out)) ⌝ }
     ensures { λ _. ⌜ now (out .exit) ≡ splice at (section (length (now (numbers .entry))) (itemOctets arrivalOctets (arrivalsFrom (now (numbers .entry)) (now (times .entry))))) (now (out .entry)) ⌝ }
 {
-    octets::put_number(out, at, 2, numbers.len() as u64);
+    octets::put_number(out, at, COUNT_WIDTH, numbers.len() as u64);
     let mut i = 0;
     while i < numbers.len() {
-        let start = at + 2 + 12 * i;
-        let end = start + 12;
+        let start = at + COUNT_WIDTH + ARRIVAL_WIDTH * i;
+        let end = start + ARRIVAL_WIDTH;
         let arrival = &mut out[start..end];
-        octets::put_number(arrival, 0, 4, numbers[i] as u64);
-        octets::put_number(arrival, 4, 8, times[i]);
+        octets::put_number(arrival, 0, NUMBER_WIDTH, numbers[i] as u64);
+        octets::put_number(arrival, NUMBER_WIDTH, TIME_WIDTH, times[i]);
         i += 1;
     }
 }

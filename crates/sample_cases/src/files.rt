@@ -1,29 +1,25 @@
 // The cases that read a file: each is checked, read into lent lists, its label shown, and written again.
-use crate::build::ROOM;
 use crate::build::put_file;
-use crate::fields::FIELD;
-use crate::fields::narrow;
-use crate::fields::number_in;
-use crate::fields::number_or;
 use crate::memory::NUMBER;
 use crate::memory::OCTET;
+use crate::memory::ROOM;
 use crate::memory::SIZE;
 use crate::memory::TIME;
-use crate::memory::numbers_kept;
-use crate::memory::same_octets;
-use crate::memory::sizes_kept;
-use crate::memory::times_kept;
-use crate::print::write_either;
-use crate::print::write_number;
-use crate::print::write_word;
+use cases::fields::field;
+use cases::fields::number_in_16;
 use cases::lists::first_8;
 use cases::lists::first_16;
 use cases::lists::first_32;
 use cases::lists::first_64;
+use cases::lists::least;
+use cases::print::write_either;
+use cases::print::write_number;
+use cases::print::write_word;
+use cases::same::kept_16;
+use cases::same::kept_32;
+use cases::same::kept_64;
 use cases::text::number;
-use cases::text::part;
 use sample::Layout;
-ghost use Prim.Native.Nat.{_≤_};
 
 // The most places of a short list.
 const PLACES: usize = 5;
@@ -44,7 +40,7 @@ fn write_again(file: &[u8], sizes: &[u16], numbers: &[u32], times: &[u64]) {
     let mut out = [OCTET; ROOM];
     let w = sample::write(sample::label(file), sizes, numbers, times, &mut out);
     write_either(
-        same_octets(first_8(&out, w.length as usize), file),
+        check::same(first_8(&out, w.length as usize), file),
         b"; written again the same",
         b"; written again ANOTHER",
     );
@@ -57,7 +53,10 @@ fn write_read(found: Layout, file: &[u8], sizes: &[u16], numbers: &[u32], times:
     let arrivals = found.arrivals as usize;
     write_word(b"; read ");
     write_layout(found);
-    if sizes_kept(sizes, sent) && numbers_kept(numbers, arrivals) && times_kept(times, arrivals) {
+    if kept_16(sizes, sent, SIZE)
+        && kept_32(numbers, arrivals, NUMBER)
+        && kept_64(times, arrivals, TIME)
+    {
         write_either(
             found.refusal == 0,
             b", the rest untouched",
@@ -95,38 +94,25 @@ fn read_all(name: &[u8], file: &[u8]) {
     write_word(b"\n");
 }
 
-// Puts a number of so many octets at a place of a file.
-fn change(file: &mut [u8], at: u64, width: u64, v: u64) {
-    octets::put_number(file, narrow(at) as usize, narrow(width) as usize, v);
+// Changes a number in a file, as three numbers from number n on say: its place, how many octets it has, and its value. One that is not
+// given has no octets.
+fn change(file: &mut [u8], changes: &[u8], n: u16) {
+    let at = number(changes, n as usize) % 65_536;
+    let width = number(changes, n as usize + 1) % 65_536;
+    octets::put_number(
+        file,
+        at as usize,
+        width as usize,
+        number(changes, n as usize + 2),
+    );
 }
 
-// Changes a file: up to four numbers, each given by its place, how many octets it has, and its value. One that is not given has no
-// octets.
-fn change_all(file: &mut [u8], changes: &[u8]) {
-    change(
-        file,
-        number(changes, 0),
-        number(changes, 1),
-        number(changes, 2),
-    );
-    change(
-        file,
-        number(changes, 3),
-        number(changes, 4),
-        number(changes, 5),
-    );
-    change(
-        file,
-        number(changes, 6),
-        number(changes, 7),
-        number(changes, 8),
-    );
-    change(
-        file,
-        number(changes, 9),
-        number(changes, 10),
-        number(changes, 11),
-    );
+// The number in field n of a line; another where the field is empty.
+fn number_or(line: &[u8], n: usize, other: usize) -> usize {
+    if field(line, n).len() == 0 {
+        return other;
+    }
+    number_in_16(line, n) as usize
 }
 
 // Runs the case of a file.
@@ -134,22 +120,16 @@ pub(crate) fn run(line: &[u8]) {
     let mut file = [b'x'; ROOM];
     let n = put_file(
         &mut file,
-        number_in(line, 2),
-        number_in(line, 3),
-        number_in(line, 4),
+        number_in_16(line, 2),
+        number_in_16(line, 3),
+        number_in_16(line, 4),
     );
-    change_all(&mut file, part(line, FIELD, 5));
-    read_all(part(line, FIELD, 1), first_8(&file, number_or(line, 6, n)));
-}
-
-// So many places: 5 at most.
-fn places(n: u16) -> usize
-    ensures { λ r. ⌜ r ≤ 5 ⌝ }
-{
-    if n < 5 {
-        return n as usize;
-    }
-    PLACES
+    let changes = field(line, 5);
+    change(&mut file, changes, 0);
+    change(&mut file, changes, 3);
+    change(&mut file, changes, 6);
+    change(&mut file, changes, 9);
+    read_all(field(line, 1), first_8(&file, number_or(line, 6, n)));
 }
 
 // Runs the case of the file of five arrivals that is read into lists of so many places.
@@ -159,10 +139,10 @@ pub(crate) fn run_into(line: &[u8]) {
     let mut sizes = [SIZE; PLACES];
     let mut numbers = [NUMBER; PLACES];
     let mut times = [TIME; PLACES];
-    let s = places(number_in(line, 2));
-    let n = places(number_in(line, 3));
-    let t = places(number_in(line, 4));
-    write_word(part(line, FIELD, 1));
+    let s = least(number_in_16(line, 2) as usize, PLACES);
+    let n = least(number_in_16(line, 3) as usize, PLACES);
+    let t = least(number_in_16(line, 4) as usize, PLACES);
+    write_word(field(line, 1));
     read_into(
         &file,
         &mut sizes[0..s],

@@ -8,17 +8,14 @@
 //   octet: how many octets of label and sizes, and the place of one octet in the label, and that octet;
 //   small: how many sizes, the numbers and the times, and how many octets are lent.
 mod build;
-mod fields;
 mod files;
 mod memory;
-mod print;
 mod writer;
 
+use cases::fields::first_octet;
 use cases::lists::first_8;
 use cases::text::count;
 use cases::text::part;
-use fields::FIELD;
-use fields::first_octet;
 use libc::STDIN_FILENO;
 
 // How many octets of cases are read at most.
@@ -26,31 +23,20 @@ const MOST: usize = 8192;
 
 // Runs the case of a line.
 fn run(line: &[u8]) {
-    let kind = first_octet(part(line, FIELD, 0));
-    if kind == b'f' {
-        files::run(line);
-    }
-    if kind == b'i' {
-        files::run_into(line);
-    }
-    if kind == b'l' {
-        writer::run_lists(line);
-    }
-    if kind == b'o' {
-        writer::run_octet(line);
-    }
-    if kind == b's' {
-        writer::run_small(line);
+    match first_octet(line) {
+        b'f' => files::run(line),
+        b'i' => files::run_into(line),
+        b'l' => writer::run_lists(line),
+        b'o' => writer::run_octet(line),
+        b's' => writer::run_small(line),
+        _ => {}
     }
 }
 
 // Runs the cases of all lines.
 fn run_all(text: &[u8]) {
-    let lines = count(text, b'\n');
-    let mut i: usize = 0;
-    while i < lines {
+    for i in 0..count(text, b'\n') {
         run(part(text, b'\n', i));
-        i += 1;
     }
 }
 

@@ -1,24 +1,22 @@
 // The cases that write a file from a label and lists.
-use crate::build::ROOM;
-use crate::build::numbers_in_turn;
 use crate::build::put_file;
-use crate::build::times_in_turn;
-use crate::fields::FIELD;
-use crate::fields::number_in;
 use crate::memory::OCTET;
-use crate::memory::octets_kept;
-use crate::memory::same_octets;
-use crate::print::write_either;
-use crate::print::write_number;
-use crate::print::write_word;
+use crate::memory::ROOM;
+use cases::fields::field;
+use cases::fields::number_in_16;
 use cases::lists::fill_32;
 use cases::lists::fill_64;
 use cases::lists::first_8;
 use cases::lists::first_16;
 use cases::lists::first_32;
 use cases::lists::first_64;
-use cases::text::part;
-ghost use Prim.Native.Nat.{_≤_};
+use cases::lists::least;
+use cases::print::write_either;
+use cases::print::write_number;
+use cases::print::write_word;
+use cases::same::kept_8;
+use cases::series::series_32;
+use cases::series::series_64;
 
 // The most octets that are lent for a small file.
 const SMALL: usize = 80;
@@ -36,26 +34,19 @@ fn write_into(
     let n = w.length as usize;
     if w.refusal != 0 {
         write_number(b": write refused ", w.refusal as u64);
-        write_either(
-            octets_kept(out, n),
-            b", output untouched",
-            b", output TOUCHED",
-        );
+        write_word(b", output");
     } else {
         write_number(b": written, octets ", w.length as u64);
-        write_either(
-            octets_kept(out, n),
-            b", the rest untouched",
-            b", the rest TOUCHED",
-        );
+        write_word(b", the rest");
     }
+    write_either(kept_8(out, n, OCTET), b" untouched", b" TOUCHED");
     n
 }
 
 // Writes whether a file that was written is the one that the format's rules build.
 fn write_same(written: &[u8], built: &[u8]) {
     write_either(
-        same_octets(written, built),
+        check::same(written, built),
         b", as the format has it",
         b", NOT as the format has it",
     );
@@ -65,13 +56,15 @@ fn write_same(written: &[u8], built: &[u8]) {
 fn write_lists(line: &[u8], out: &mut [u8]) -> usize {
     let text = [b'x'; 65];
     let sizes = [100u16; 4097];
-    let all_numbers = numbers_in_turn();
-    let all_times = times_in_turn();
+    let mut numbers = [0u32; 4097];
+    let mut times = [0u64; 4097];
+    series_32(&mut numbers, 1, 1);
+    series_64(&mut times, 10, 10);
     write_into(
-        first_8(&text, number_in(line, 2) as usize),
-        first_16(&sizes, number_in(line, 3) as usize),
-        first_32(&all_numbers, number_in(line, 4) as usize),
-        first_64(&all_times, number_in(line, 5) as usize),
+        first_8(&text, number_in_16(line, 2) as usize),
+        first_16(&sizes, number_in_16(line, 3) as usize),
+        first_32(&numbers, number_in_16(line, 4) as usize),
+        first_64(&times, number_in_16(line, 5) as usize),
         out,
     )
 }
@@ -81,9 +74,9 @@ fn compare_lists(line: &[u8], written: &[u8]) {
     let mut file = [b'x'; ROOM];
     let end = put_file(
         &mut file,
-        number_in(line, 2),
-        number_in(line, 3),
-        number_in(line, 4),
+        number_in_16(line, 2),
+        number_in_16(line, 3),
+        number_in_16(line, 4),
     );
     write_same(written, first_8(&file, end));
 }
@@ -91,7 +84,7 @@ fn compare_lists(line: &[u8], written: &[u8]) {
 // Runs the case of so many octets of label, sizes, numbers and times. Where a file is written it is compared.
 pub(crate) fn run_lists(line: &[u8]) {
     let mut out = [OCTET; ROOM];
-    write_word(part(line, FIELD, 1));
+    write_word(field(line, 1));
     let n = write_lists(line, &mut out);
     if n != 0 {
         compare_lists(line, first_8(&out, n));
@@ -105,15 +98,15 @@ pub(crate) fn run_octet(line: &[u8]) {
     let mut text = [b'x'; 65];
     let mut out = [OCTET; 30];
     let mut file = [b'x'; 30];
-    let at = number_in(line, 4) as usize;
-    let octet = number_in(line, 5) as u64;
-    let end = put_file(&mut file, number_in(line, 2), number_in(line, 3), 1);
+    let at = number_in_16(line, 4) as usize;
+    let octet = number_in_16(line, 5) as u64;
+    let end = put_file(&mut file, number_in_16(line, 2), number_in_16(line, 3), 1);
     octets::put_number(&mut text, at, 1, octet);
     octets::put_number(&mut file, 2 + at, 1, octet);
-    write_word(part(line, FIELD, 1));
+    write_word(field(line, 1));
     let n = write_into(
-        first_8(&text, number_in(line, 2) as usize),
-        first_16(&[100u16], number_in(line, 3) as usize),
+        first_8(&text, number_in_16(line, 2) as usize),
+        first_16(&[100u16], number_in_16(line, 3) as usize),
         &[1u32],
         &[10u64],
         &mut out,
@@ -124,28 +117,18 @@ pub(crate) fn run_octet(line: &[u8]) {
     write_word(b"\n");
 }
 
-// So many octets: 80 at most.
-fn room_for(n: u16) -> usize
-    ensures { λ r. ⌜ r ≤ 80 ⌝ }
-{
-    if n < 80 {
-        return n as usize;
-    }
-    SMALL
-}
-
 // Runs the case of no label, so many sizes and a few arrivals, written into so many octets.
 pub(crate) fn run_small(line: &[u8]) {
     let mut numbers = [0u32; 5];
     let mut times = [0u64; 5];
     let mut out = [OCTET; SMALL];
-    let n = fill_32(part(line, FIELD, 3), &mut numbers);
-    let t = fill_64(part(line, FIELD, 4), &mut times);
-    let room = room_for(number_in(line, 5));
-    write_word(part(line, FIELD, 1));
+    let n = fill_32(field(line, 3), &mut numbers);
+    let t = fill_64(field(line, 4), &mut times);
+    let room = least(number_in_16(line, 5) as usize, SMALL);
+    write_word(field(line, 1));
     write_into(
         b"",
-        first_16(&[100u16; 5], number_in(line, 2) as usize),
+        first_16(&[100u16; 5], number_in_16(line, 2) as usize),
         first_32(&numbers, n),
         first_64(&times, t),
         &mut out[0..room],

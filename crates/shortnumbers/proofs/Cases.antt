@@ -1,4 +1,4 @@
--- The tables of numbers found, by computation. Assumes nothing.
+-- The tables of short numbers and of the numbers found for them, by computation of the definitions that it opens. Assumes nothing.
 use mathlib.Core.Path.{refl}
 use Rattle.shortnumbers.specs.Number.{found}
 use Rattle.shortnumbers.specs.InTurn.{greatestOf, inTurn}

@@ -17,8 +17,7 @@ use Rattle.rfc4737.proofs.Pairs.{arrivals-getD, times-back}
 use Rattle.sample.specs.Format.{Sample}
 use Rattle.sample.specs.Judge.{FitSample}
 use Rattle.sample.specs.Calls.{sampleFrom}
-use Rattle.sample.proofs.Exact.{decode-file}
-use Rattle.sample.proofs.RoundTrips.{label-fit, from-none}
+use Rattle.sample.proofs.Exact.{label-fit, from-none, decode-file}
 use Rattle.shortnumbers.specs.Number.{rangeOf, shortOf, Near, found}
 use Rattle.shortnumbers.specs.InTurn.{greatestOf}
 use Rattle.shortnumbers.specs.Lists.{numbersFound, fillRefusal, FilledTo, TrueInLists, Demand2Reads, EveryList}

@@ -1,15 +1,15 @@
 -- The receiver's step with a short number: in a state whose NextExp is over 4,097 any number is refused alike; NextExp less 1 is the
 -- greatest number accepted; and a run of short numbers is a run of the numbers found. Assumes nothing.
-use Prim.Native.Nat.{ℕ, zero, suc, _+_, _-_, _≤_, _<_, max}
+use Prim.Native.Nat.{ℕ, _+_, _≤_, _<_, max}
 use native.Mathlib.Omega.{arith}
-use mathlib.Core.Bool.{Bool, true, false, cond, not, _&&_, _||_}
+use mathlib.Core.Bool.{Bool, true, false, cond, _||_}
 use mathlib.Core.Path.{_≡_, refl, sym, ap, ap₂, _∙_, subst}
 use mathlib.Core.List.{List, [], _∷_, _++_, foldl, append-nil, append-assoc, map-append}
 use borrow.Author.Tests.{ltb-true, ltb-false, leb-true, leb-false, eqb-true}
 use lib.Dec.{leb, ltb, eqb}
 use Rattle.rfc4737.specs.declared.Arrival.{Arrival}
 use Rattle.rfc4737.specs.Arrivals.{has, withArrival, firsts, each, eachAfter}
-use Rattle.rfc4737.specs.Judge.{numbersOf}
+use Rattle.rfc4737.specs.Judge.{sentMost, numbersOf}
 use Rattle.rfc4737.specs.Order.{nextAfter, nextExp}
 use Rattle.rfc4737.specs.Refusals.{stateUnfit}
 use Rattle.rfc4737.proofs.Lists.{snoc-ind}
@@ -17,25 +17,23 @@ use Rattle.rfc4737.proofs.Arrivals.{fold-more, has-more, firsts-more, has-first
 use Rattle.rfc4737.proofs.Folds.{next-more}
 use Rattle.receiver.specs.declared.Receiver.{Receiver}
 use Rattle.receiver.specs.declared.Outcome.{Outcome}
-use Rattle.receiver.specs.declared.Stepped.{Stepped}
-use Rattle.receiver.specs.Limits.{packets}
-use Rattle.receiver.specs.Fit.{streamFit, fit}
+use Rattle.receiver.specs.Fit.{fit}
 use Rattle.receiver.specs.Outcomes.{refusedOutcome}
-use Rattle.receiver.specs.Step.{freshOf, stepRefusal, outcomeOf, stepWith, stepOf}
+use Rattle.receiver.specs.Step.{stepRefusal, outcomeOf, stepWith, stepOf}
 use Rattle.receiver.specs.Account.{accountOf}
 use Rattle.receiver.specs.Demand3.{stateAfter, outcomeAfter, receiverOutcomes}
 use Rattle.receiver.specs.Private.Facts.{StreamFit}
 use Rattle.receiver.proofs.Fits.{stream-false}
 use Rattle.receiver.proofs.Demand3.{next-after, demand3}
 use Rattle.shortnumbers.specs.Number.{rangeOf, shortOf, Near, found}
-use Rattle.shortnumbers.specs.InTurn.{greatestOf, inTurn, EachKeeps}
+use Rattle.shortnumbers.specs.InTurn.{greatestOf, inTurn}
 use Rattle.shortnumbers.specs.Steps.{greatestBy, shortStep, shortStateAfter, shortOutcomeAfter, shortOutcomes, withFound, arrivalsFound, Demand3Reads, shortened, greatestAccepted, TrueByReceiver, EveryStep}
 use Rattle.shortnumbers.proofs.Numbers.{Even, even-width, only, exact}
 use Rattle.shortnumbers.proofs.InTurn.{turn-true}
 
 -- ---- a state whose NextExp no fit state has
 
-unfit : (s : Receiver) → packets + 1 < s .stream .next → fit s ≡ false
+unfit : (s : Receiver) → sentMost + 1 < s .stream .next → fit s ≡ false
 unfolding fit
 unfit s h = rw (sym (stream-false (s .stream) (λ (f : StreamFit (s .stream)). omega (arith, f .next-high, f .sent-high))))
 
@@ -44,19 +42,19 @@ unfolding stepWith outcomeOf stepRefusal
 unfit-step s n t e = rw e
 
 -- any number is refused alike
-same-unfit : (s : Receiver) (m n t : ℕ) → packets + 1 < s .stream .next → stepOf s m t ≡ stepOf s n t
+same-unfit : (s : Receiver) (m n t : ℕ) → sentMost + 1 < s .stream .next → stepOf s m t ≡ stepOf s n t
 same-unfit s m n t h = unfit-step s m t (unfit s h) ∙ sym (unfit-step s n t (unfit s h))
 
 -- the step with the number found from g, which is NextExp less 1 in a fit state
-pub step-found : (r : ℕ) (s : Receiver) (short time g n : ℕ) → (s .stream .next ≤ packets + 1 → g ≡ greatestBy s) → n ≡ found r g short
+pub step-found : (r : ℕ) (s : Receiver) (short time g n : ℕ) → (s .stream .next ≤ sentMost + 1 → g ≡ greatestBy s) → n ≡ found r g short
     → stepOf s n time ≡ shortStep r s short time
 unfolding shortStep
-step-found r s short time g n e f = go (ltb (packets + 1) (s .stream .next)) refl
+step-found r s short time g n e f = go (ltb (sentMost + 1) (s .stream .next)) refl
   where
-    go : (t : Bool) → ltb (packets + 1) (s .stream .next) ≡ t → stepOf s n time ≡ stepOf s (found r (greatestBy s) short) time
-    go true q = same-unfit s n (found r (greatestBy s) short) time (ltb-true (packets + 1) (s .stream .next) q)
+    go : (t : Bool) → ltb (sentMost + 1) (s .stream .next) ≡ t → stepOf s n time ≡ stepOf s (found r (greatestBy s) short) time
+    go true q = same-unfit s n (found r (greatestBy s) short) time (ltb-true (sentMost + 1) (s .stream .next) q)
     go false q =
-        ap (λ (m : ℕ). stepOf s m time) (f ∙ ap (λ (x : ℕ). found r x short) (e (ltb-false (packets + 1) (s .stream .next) q)))
+        ap (λ (m : ℕ). stepOf s m time) (f ∙ ap (λ (x : ℕ). found r x short) (e (ltb-false (sentMost + 1) (s .stream .next) q)))
 
 -- ---- NextExp less 1 is the greatest number
 
@@ -145,7 +143,7 @@ module _ (r k : ℕ) where
       ∙ state-from (done ++ (a ∷ [])) (before ++ (n ∷ [])) l (state-next done before a e)
       ∙ ap (stateAfter k) (append-assoc before (n ∷ []) (inTurn greatestFed (withFound r) (before ++ (n ∷ [])) l))
 
-  module _ (low : 1 ≤ k) (high : k ≤ packets) where
+  module _ (low : 1 ≤ k) (high : k ≤ sentMost) where
     -- NextExp less 1 is the greatest accepted
     greatest-same : (fed : List Arrival) → greatestAccepted k fed ≡ greatestFed fed
     greatest-same fed =

@@ -17,8 +17,8 @@ abbrev pub case : (width greatest short number : ℕ) → ShortCase
 case w g x n = record { width = w; greatest = g; short = x; number = n }
 
 -- the cases of one short number
-abbrev pub table : List ShortCase
-table =
+abbrev pub shortCases : List ShortCase
+shortCases =
     -- the first numbers after 0, and 128 and 200 of 8 bits, which are below 1
     case 8 0 1 1 ∷ case 8 0 127 127 ∷ case 8 0 128 0 ∷ case 8 0 200 0
     -- half the range below the greatest, and half above it, which is too far
@@ -32,6 +32,6 @@ table =
 -- what is found is what the tables say
 pub record FoundAsGiven : Type 0 where
   -- each number is found as its case says
-  pub one : map (λ (c : ShortCase). found (rangeOf (c .width)) (c .greatest) (c .short)) table ≡ map (λ (c : ShortCase). c .number) table
+  pub one : map (λ (c : ShortCase). found (rangeOf (c .width)) (c .greatest) (c .short)) shortCases ≡ map (λ (c : ShortCase). c .number) shortCases
   -- 100, 200, 255, 256, 259, then 254 late, then 346, by their lowest 8 bits
   pub list : numbersFound (rangeOf 8) (100 ∷ 200 ∷ 255 ∷ 0 ∷ 3 ∷ 254 ∷ 90 ∷ []) ≡ (100 ∷ 200 ∷ 255 ∷ 256 ∷ 259 ∷ 254 ∷ 346 ∷ [])

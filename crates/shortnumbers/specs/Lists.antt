@@ -10,7 +10,8 @@ use Rattle.rfc4737.specs.Judge.{refusalOfLists}
 use Rattle.rfc4737.specs.Refusals.{inCase, firstOf, outputShort}
 use Rattle.sample.specs.Format.{fileOf}
 use Rattle.sample.specs.Decode.{decode, accepted}
-use Rattle.sample.specs.Calls.{sampleFrom, sampleRefusal, unlessRefused}
+use Rattle.sample.specs.Calls.{sampleFrom, sampleRefusal}
+use Rattle.sample.specs.Output.{unlessRefused}
 use Rattle.shortnumbers.specs.Number.{rangeOf, shortOf, Near, found, ExactNumber}
 use Rattle.shortnumbers.specs.InTurn.{greatestOf, inTurn, EachKeeps}
 

@@ -1,6 +1,6 @@
 -- The full number of a short one, by the idea of RFC 4737, section 6. A short number has the lowest w bits of its full number; r is their
 -- range, 2 to the w, and g the greatest full number accepted so far, 0 at the start. Assumes nothing.
-use Prim.Native.Nat.{ℕ, _+_, _-_, _*_, _^_, _/_, _%_, _≤_, _<_}
+use Prim.Native.Nat.{ℕ, _+_, _-_, _^_, _/_, _%_, _≤_, _<_}
 use mathlib.Core.Bool.{cond}
 use mathlib.Core.Path.{_≡_}
 use lib.Dec.{ltb}

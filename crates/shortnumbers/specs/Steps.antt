@@ -5,11 +5,10 @@ use mathlib.Core.List.{List, [], map, foldl}
 use mathlib.Core.Path.{_≡_}
 use Rattle.rfc4737.specs.declared.Arrival.{Arrival}
 use Rattle.rfc4737.specs.Arrivals.{each}
-use Rattle.rfc4737.specs.Judge.{numbersOf}
+use Rattle.rfc4737.specs.Judge.{sentMost, numbersOf}
 use Rattle.receiver.specs.declared.Receiver.{Receiver}
 use Rattle.receiver.specs.declared.Outcome.{Outcome}
-use Rattle.receiver.specs.declared.Stepped.{Stepped}
-use Rattle.receiver.specs.Limits.{packets}
+use Rattle.receiver.specs.declared.StepAnswer.{StepAnswer}
 use Rattle.receiver.specs.Step.{freshOf, stepOf}
 use Rattle.receiver.specs.Account.{accountOf}
 use Rattle.receiver.specs.Demand3.{stateAfter, receiverOutcomes, Demand3}
@@ -21,7 +20,7 @@ abbrev pub greatestBy : Receiver → ℕ
 greatestBy s = s .stream .next - 1
 
 -- the step with a short number: the step with the number found
-unfoldable pub shortStep : (r : ℕ) (s : Receiver) (short time : ℕ) → Stepped
+unfoldable pub shortStep : (r : ℕ) (s : Receiver) (short time : ℕ) → StepAnswer
 shortStep r s short time = stepOf s (found r (greatestBy s) short) time
 
 -- ---- short numbers fed to a fresh receiver for K
@@ -71,8 +70,8 @@ TrueByReceiver r k =
 -- all of it, once over the width
 pub record StepsOfWidth (w : ℕ) : Type 0 where
   pub exact : ExactNumber (rangeOf w)
-  pub finds : (k : ℕ) → 1 ≤ k → k ≤ packets → TrueByReceiver (rangeOf w) k
-  pub demand3 : (k : ℕ) → 1 ≤ k → k ≤ packets → (shorts : List Arrival) → Demand3Reads (rangeOf w) k shorts
+  pub finds : (k : ℕ) → 1 ≤ k → k ≤ sentMost → TrueByReceiver (rangeOf w) k
+  pub demand3 : (k : ℕ) → 1 ≤ k → k ≤ sentMost → (shorts : List Arrival) → Demand3Reads (rangeOf w) k shorts
 
 -- what is said of the steps of a width, of every width
 abbrev pub EveryStep : Type 0

@@ -4,14 +4,14 @@ ghost use mathlib.Core.Path.{_≡_};
 ghost use Prim.Native.Nat.{_+_, _-_, _/_, _≤_, max};
 ghost use lib.ListN.{length};
 ghost use Rattle.octets.specs.Memory.{over};
-ghost use Rattle.rfc4737.specs.Judge.{arrivalsFrom, judge, refusalOfLists};
+ghost use Rattle.rfc4737.specs.Judge.{sentMost, arrivalsMost, arrivalsFrom, judge, refusalOfLists};
 ghost use Rattle.shortnumbers.specs.Number.{rangeOf, found};
 ghost use Rattle.shortnumbers.specs.Lists.{numbersFound, FilledTo, EveryList};
 ghost use Rattle.shortnumbers.specs.Steps.{shortStep, EveryStep};
 ghost use Rattle.shortnumbers.specs.Cases.{FoundAsGiven};
 ghost use Rattle.shortnumbers.specs.Private.Ranges.{Narrow};
 use receiver::Receiver;
-use receiver::Stepped;
+use receiver::StepAnswer;
 use rfc4737::judge::ARRIVALS_MOST;
 use rfc4737::judge::SENT_MOST;
 use rfc4737::judge::judge_one;
@@ -64,7 +64,7 @@ fn full_number(range: u32, greatest: u32, short: u16) -> u32
 
 // The arrivals with the numbers found, in turn.
 fn judge_found(range: u32, k: u64, shorts: &[u16], times: &[u64]) -> u32
-    requires { ⌜ Narrow range × (length (now shorts) ≤ 4096) × (length (now times) ≡ length (now shorts)) ⌝ }
+    requires { ⌜ Narrow range × (length (now shorts) ≤ arrivalsMost) × (length (now times) ≡ length (now shorts)) ⌝ }
     ensures { λ r. ⌜ r ≡ judge k 0 (arrivalsFrom (numbersFound range (now (shorts .entry))) (now (times .entry))) ⌝ }
 {
     let mut greatest: u32 = 0;
@@ -103,7 +103,7 @@ fn refusal_of_found(range: u32, k: u64, shorts: &[u16], times: &[u64]) -> u32
 
 // Fills a list with the numbers found.
 fn fill(range: u32, shorts: &[u16], numbers: &mut [u32])
-    requires { ⌜ Narrow range × (length (now shorts) ≤ 4096) × (length (now shorts) ≤ length (now numbers)) ⌝ }
+    requires { ⌜ Narrow range × (length (now shorts) ≤ arrivalsMost) × (length (now shorts) ≤ length (now numbers)) ⌝ }
     ensures { λ _. ⌜ now (numbers .exit) ≡ over (numbersFound range (now (shorts .entry))) (now (numbers .entry)) ⌝ }
 {
     let mut greatest: u32 = 0;
@@ -152,7 +152,7 @@ pub fn full_numbers_10(k: u32, shorts: &[u16], times: &[u64], numbers: &mut [u32
 
 // The greatest number accepted: NextExp less 1, and 0 for a NextExp that no fit state has.
 fn greatest_by(next: u32) -> u32
-    ensures { λ r. ⌜ (r ≤ 4096) × (next ≤ 4097 → r ≡ next - 1) ⌝ }
+    ensures { λ r. ⌜ (r ≤ sentMost) × (next ≤ sentMost + 1 → r ≡ next - 1) ⌝ }
 {
     if next == 0 {
         return 0;
@@ -164,7 +164,7 @@ fn greatest_by(next: u32) -> u32
 }
 
 // The receiver's step with a short number, over a range.
-fn step(range: u32, state: Receiver, short: u16, time: u64) -> Stepped
+fn step(range: u32, state: Receiver, short: u16, time: u64) -> StepAnswer
     requires { ⌜ Narrow range ⌝ }
     ensures { λ r. ⌜ r ≡ shortStep range state short time ⌝ }
 {
@@ -174,7 +174,7 @@ fn step(range: u32, state: Receiver, short: u16, time: u64) -> Stepped
 }
 
 // The receiver's step with a short number of 8 bits.
-pub fn step_8(state: Receiver, short: u16, time: u64) -> Stepped
+pub fn step_8(state: Receiver, short: u16, time: u64) -> StepAnswer
     ensures { λ r. ⌜ r ≡ shortStep (rangeOf 8) state short time ⌝ }
     ensures everywidth { λ _. ⌜ EveryStep ⌝ }
 {
@@ -182,7 +182,7 @@ pub fn step_8(state: Receiver, short: u16, time: u64) -> Stepped
 }
 
 // The receiver's step with a short number of 10 bits.
-pub fn step_10(state: Receiver, short: u16, time: u64) -> Stepped
+pub fn step_10(state: Receiver, short: u16, time: u64) -> StepAnswer
     ensures { λ r. ⌜ r ≡ shortStep (rangeOf 10) state short time ⌝ }
     ensures everywidth { λ _. ⌜ EveryStep ⌝ }
 {

@@ -1,21 +1,20 @@
 // Lists of short numbers.
-use crate::fields::FIELD;
-use crate::fields::number_in;
-use crate::fields::number32_in;
-use crate::fields::of_eight_bits;
+use crate::of_eight_bits;
 use crate::print::write_list;
+use cases::fields::field;
+use cases::fields::number_in_32;
 use cases::lists::fill_16;
 use cases::lists::fill_64;
 use cases::lists::first_16;
 use cases::lists::first_64;
-use cases::text::part;
+use cases::lists::least;
 use shortnumbers::full_numbers_8;
 use shortnumbers::full_numbers_10;
 
 // Finds the numbers of short ones, and writes the answer and the list.
 fn find<'a>(line: &[u8], shorts: &'a [u16], times: &'a [u64], numbers: &mut [u32]) {
-    let k = number32_in(line, 2);
-    let name = part(line, FIELD, 1);
+    let k = number_in_32(line, 2);
+    let name = field(line, 1);
     if of_eight_bits(line) {
         let refusal = full_numbers_8(k, shorts, times, numbers);
         write_list(name, refusal, numbers);
@@ -29,31 +28,21 @@ fn find<'a>(line: &[u8], shorts: &'a [u16], times: &'a [u64], numbers: &mut [u32
 fn find_into(line: &[u8], numbers: &mut [u32]) {
     let mut shorts = [0u16; 10];
     let mut times = [0u64; 10];
-    let n = fill_16(part(line, FIELD, 3), &mut shorts);
-    let m = fill_64(part(line, FIELD, 4), &mut times);
+    let n = fill_16(field(line, 3), &mut shorts);
+    let m = fill_64(field(line, 4), &mut times);
     find(line, first_16(&shorts, n), first_64(&times, m), numbers);
 }
 
 // Runs the case of a line, with the places that it asks for.
 pub(crate) fn run(line: &[u8]) {
-    let places = number_in(line, 5);
-    if places == 1 {
-        find_into(line, &mut [77u32; 1]);
-    }
-    if places == 3 {
-        find_into(line, &mut [77u32; 3]);
-    }
-    if places == 7 {
-        find_into(line, &mut [77u32; 7]);
-    }
-    if places == 10 {
-        find_into(line, &mut [77u32; 10]);
-    }
+    let mut numbers = [77u32; 10];
+    let places = least(number_in_32(line, 5) as usize, 10);
+    find_into(line, &mut numbers[0..places]);
 }
 
 // Runs the case of many short numbers.
 pub(crate) fn run_many(line: &[u8]) {
-    let n = number32_in(line, 3) as usize;
+    let n = number_in_32(line, 3) as usize;
     if of_eight_bits(line) {
         find(
             line,

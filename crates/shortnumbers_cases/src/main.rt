@@ -6,45 +6,41 @@
 //   many: how many short numbers there are (of 8 bits each 256, with no times; of 10 bits each 0, all at time 0);
 //   step: the short numbers that arrive at 5,000 before, and the one that is stepped, with its time;
 //   next: what NextExp is set to in a fresh state, and the short number that is stepped, with its time.
-mod fields;
 mod lists;
 mod print;
 mod steps;
 
+use cases::fields::field;
+use cases::fields::first_octet;
 use cases::lists::first_8;
 use cases::text::count;
+use cases::text::number;
 use cases::text::part;
-use fields::FIELD;
-use fields::first_octet;
 use libc::STDIN_FILENO;
 
 // How many octets of cases are read at most.
 const MOST: usize = 8192;
 
+// Whether the short numbers of a line have 8 bits, and not 10.
+pub(crate) fn of_eight_bits(line: &[u8]) -> bool {
+    number(field(line, 0), 1) == 8
+}
+
 // Runs the case of a line.
 fn run(line: &[u8]) {
-    let call = first_octet(part(line, FIELD, 0));
-    if call == b'l' {
-        lists::run(line);
-    }
-    if call == b'm' {
-        lists::run_many(line);
-    }
-    if call == b's' {
-        steps::run(line);
-    }
-    if call == b'n' {
-        steps::run_next(line);
+    match first_octet(line) {
+        b'l' => lists::run(line),
+        b'm' => lists::run_many(line),
+        b's' => steps::run(line),
+        b'n' => steps::run_next(line),
+        _ => {}
     }
 }
 
 // Runs the cases of all lines.
 fn run_all(text: &[u8]) {
-    let lines = count(text, b'\n');
-    let mut i: usize = 0;
-    while i < lines {
+    for i in 0..count(text, b'\n') {
         run(part(text, b'\n', i));
-        i += 1;
     }
 }
 

@@ -1,34 +1,15 @@
-// What the cases are written with: words, numbers, lists, and what a receiver says, on standard output.
-use libc::STDOUT_FILENO;
+// What is written of a list call, and of what a receiver says.
+use cases::print::write_32;
+use cases::print::write_number;
+use cases::print::write_word;
 use receiver::Outcome;
 use receiver::ReceiverAnswer;
-
-// Writes a word.
-pub(crate) fn write_word(word: &[u8]) {
-    io::write_all(STDOUT_FILENO, word);
-}
-
-// Writes a word and a number.
-pub(crate) fn write_number(word: &[u8], n: u64) {
-    write_word(word);
-    io::print_decimal(STDOUT_FILENO, n);
-}
-
-// A number of 32 bits as one of 64.
-fn wide(n: u32) -> u64 {
-    n as u64
-}
 
 // Writes what a list call answers, and all numbers of the list after it.
 pub(crate) fn write_list(name: &[u8], refusal: u32, numbers: &[u32]) {
     write_word(name);
     write_number(b": refused ", refusal as u64);
-    write_word(b"; numbers");
-    let mut i: usize = 0;
-    while i < numbers.len() {
-        write_number(b" ", wide(numbers[i]));
-        i += 1;
-    }
+    write_32(b"; numbers", numbers);
     write_word(b"\n");
 }
 

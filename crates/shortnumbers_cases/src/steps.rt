@@ -1,15 +1,14 @@
 // The receiver's steps with short numbers.
-use crate::fields::FIELD;
-use crate::fields::number_in;
-use crate::fields::number16_in;
-use crate::fields::number32_in;
-use crate::fields::of_eight_bits;
+use crate::of_eight_bits;
 use crate::print::write_step;
+use cases::fields::field;
+use cases::fields::number_in;
+use cases::fields::number_in_16;
+use cases::fields::number_in_32;
 use cases::lists::fill_16;
 use cases::lists::first_16;
-use cases::text::part;
 use receiver::Receiver;
-use receiver::Stepped;
+use receiver::StepAnswer;
 use shortnumbers::step_8;
 use shortnumbers::step_10;
 
@@ -20,7 +19,7 @@ fn receiver_for(k: u32) -> Receiver {
 }
 
 // One step with a short number, of 8 bits or of 10.
-fn step(eight: bool, r: Receiver, short: u16, time: u64) -> Stepped {
+fn step(eight: bool, r: Receiver, short: u16, time: u64) -> StepAnswer {
     if eight {
         return step_8(r, short, time);
     }
@@ -30,12 +29,10 @@ fn step(eight: bool, r: Receiver, short: u16, time: u64) -> Stepped {
 // The receiver after short numbers that arrive at 5,000.
 fn after(eight: bool, start: Receiver, shorts: &[u16]) -> Receiver {
     let mut r = start;
-    let mut i: usize = 0;
-    while i < shorts.len() {
+    for i in 0..shorts.len() {
         let s = step(eight, r, shorts[i], 5000);
         let next = s.state;
         r = next;
-        i += 1;
     }
     r
 }
@@ -45,13 +42,13 @@ fn one_more(line: &[u8], r: Receiver) {
     let s = step(
         of_eight_bits(line),
         r,
-        number16_in(line, 4),
+        number_in_16(line, 4),
         number_in(line, 5),
     );
     let outcome = s.outcome;
     let state = s.state;
     write_step(
-        part(line, FIELD, 1),
+        field(line, 1),
         outcome,
         state.stream.next,
         state.stream.arrived,
@@ -61,8 +58,8 @@ fn one_more(line: &[u8], r: Receiver) {
 // Feeds the short numbers of a line to a fresh receiver, and steps with one more.
 pub(crate) fn run(line: &[u8]) {
     let mut shorts = [0u16; 10];
-    let n = fill_16(part(line, FIELD, 3), &mut shorts);
-    let start = receiver_for(number32_in(line, 2));
+    let n = fill_16(field(line, 3), &mut shorts);
+    let start = receiver_for(number_in_32(line, 2));
     one_more(
         line,
         after(of_eight_bits(line), start, first_16(&shorts, n)),
@@ -71,8 +68,8 @@ pub(crate) fn run(line: &[u8]) {
 
 // Steps in a fresh state whose NextExp is set.
 pub(crate) fn run_next(line: &[u8]) {
-    let mut r = receiver_for(number32_in(line, 2));
-    let next = number32_in(line, 3);
+    let mut r = receiver_for(number_in_32(line, 2));
+    let next = number_in_32(line, 3);
     r.stream.next = next;
     one_more(line, r);
 }

@@ -1,4 +1,5 @@
--- What the places of the tree hold while a value is added. Assumes nothing.
+-- What the places of the tree hold while a value is added at a number: those before i have their share of it, those from i on not yet
+-- (Partly); the next place that holds the number is i + (i - rest i), and between the two no place has a share. Assumes nothing.
 use mathlib.Core.Path.{_≡_, refl, ap, _∙_}
 use mathlib.Core.Bool.{Bool, true, false, cond}
 use mathlib.Core.List.{List}

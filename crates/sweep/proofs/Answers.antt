@@ -2,7 +2,7 @@
 use mathlib.Core.Path.{_≡_, refl, sym, ap, _∙_}
 use mathlib.Core.Bool.{Bool, true, false, _||_, true≢false}
 use mathlib.Core.List.{List, _++_, map}
-use Prim.Native.Nat.{ℕ, zero, suc, _+_, _≤_, _<_}
+use Prim.Native.Nat.{ℕ, zero, suc, _≤_, _<_}
 use native.Mathlib.Omega.{arith}
 use lib.Dec.{ltb}
 use lib.ListN.{length, getD, drop, replicate, length-replicate, getD-replicate, length-map, List·getD-append, List·getD-map}
@@ -16,12 +16,12 @@ use Rattle.rfc4737.proofs.Folds.{length-answers}
 use Rattle.sample.specs.declared.Layout.{Layout}
 use Rattle.sample.specs.Decode.{Decoded, refused, accepted, sampleOf, decodedRefusal, layoutOf}
 use Rattle.metrics.specs.Sample.{sizeOf, sampleArrivals, answersOf}
-use Rattle.metrics.specs.Private.Sample.{Laid}
+use Rattle.metrics.specs.Private.Sample.{FileLayout}
 use Rattle.metrics.specs.Figures.{recordAnswer, atRecord}
 use Rattle.metrics.proofs.RecordsAsked.{asked-within}
 use Rattle.sweep.specs.Figures.{figuresOf}
 use Rattle.sweep.specs.Swept.{places, Lent, lent, lentShort, short, decodedInto, SweptTo, figuresAt, EnginesAgree}
-use Rattle.sweep.specs.Private.PassInvariant.{Ready, FilledWith}
+use Rattle.sweep.specs.Private.PassInvariant.{SweepReady, FilledWith}
 
 -- with its own refusal
 pub swept-refused : (d : Decoded) (y : Layout) → y ≡ layoutOf d → (y .refusal ≡ 0 → ⊥) → (old : Lent) → SweptTo d old y old × EnginesAgree d y old
@@ -90,12 +90,12 @@ module _ (d : Decoded) (y : Layout) (e : y ≡ layoutOf d) (none : y .refusal �
         go false p false q false r true s g t z = absurd (true≢false (sym z))
         go false p false q false r false s true t z = absurd (true≢false (sym z))
 
-    module _ (laid : Laid d y) (table : List ℕ) (clear : table ≡ over (replicate places 0) (old .table)) where
+    module _ (laid : FileLayout d y) (table : List ℕ) (clear : table ≡ over (replicate places 0) (old .table)) where
       zeros-length : length (replicate {A = ℕ} places 0) ≡ places
       zeros-length = length-replicate {A = ℕ} places 0
 
       -- after the table is cleared
-      pub ready : Ready d y (lent table (old .flags) (old .positions) (old .extents) (old .lates))
+      pub ready : SweepReady d y (lent table (old .flags) (old .positions) (old .extents) (old .lates))
       ready =
           record {
             file = laid;

@@ -11,7 +11,7 @@ use lib.Seq.{getD-append-seam, getD-drop, drop-set-lt}
 use borrow.Author.Tests.{eqb-true, eqb-false, eq-eqb, ne-eqb, leb-true, leb-false, lt-leb, ltb-true, ltb-false}
 use Rattle.rfc4737.specs.declared.Arrival.{Arrival}
 use Rattle.rfc4737.specs.Arrivals.{has, firsts, firstRecord}
-use Rattle.rfc4737.specs.Order.{Placed, nextExp, isInOrder}
+use Rattle.rfc4737.specs.Order.{FirstArrival, nextExp, isInOrder}
 use Rattle.rfc4737.specs.Extent.{discontinuity}
 use Rattle.rfc4737.specs.Answer.{answerTo, answers, firstAnswer, inOrderAnswer, reorderedAnswer}
 use Rattle.rfc4737.proofs.Lists.{snoc-ind}
@@ -22,7 +22,7 @@ use Rattle.rfc4737.proofs.Skipped.{SkippedAt, discontinuity-skipped}
 use Rattle.metrics.proofs.Follow.{filled-none, filled-more, discontinuity-stays, discontinuity-none, discontinuity-new, recorded-copy}
 use Rattle.metrics.proofs.Records.{record-some, has-at}
 use Rattle.metrics.proofs.CountsBySeen.{has-below}
-use Rattle.metrics.specs.Private.Sample.{noArrival}
+use Rattle.sample.specs.Places.{noArrival}
 use Rattle.sweep.specs.Figures.{figuresOf, positionsOf}
 use Rattle.sweep.specs.Private.Table.{arrivedMark, recordOf, markOf, Skipping}
 
@@ -54,7 +54,7 @@ mark-ahead l s low h =
 -- the discontinuity of a packet below NextExp that has not arrived is the jump that skipped it: where it stands among the first
 -- arrivals, and its record is what stands at the packet
 pub record Behind (l : List Arrival) (s : ℕ) : Type 0 where
-  pub place : Placed
+  pub place : FirstArrival
   pub is : discontinuity (firsts l) s ≡ some place
   pub low : 1 ≤ place .position
   pub high : place .position ≤ length (firsts l)
@@ -63,18 +63,18 @@ pub record Behind (l : List Arrival) (s : ℕ) : Type 0 where
   pub mark : markOf l s ≡ firstRecord (place .number) l
 
 -- where it stands
-placed-at : (fs : List Arrival) (s : ℕ) (p : Placed) → SkippedAt s fs p
+placed-at : (fs : List Arrival) (s : ℕ) (p : FirstArrival) → SkippedAt s fs p
     → (1 ≤ p .position) × (p .position ≤ length fs)
     × (getD fs (p .position - 1) noArrival ≡ record { number = p .number; time = p .time })
 placed-at fs s p k =
-    let e : length (k .before) + 1 ≡ p .position = ap (λ (p : Placed). p .position) (k .place) in
+    let e : length (k .before) + 1 ≡ p .position = ap (λ (p : FirstArrival). p .position) (k .place) in
     let n = ap length (k .parts) in
     let o = length-append (k .before) (k .arrival ∷ k .after) in
     let w : p .position - 1 ≡ length (k .before) = omega arith in (
       omega arith,
       omega (arith, n, o, e),
       rw (w, k .parts) (getD-append-seam (k .before) (k .arrival) (k .after) noArrival)
-          ∙ ap (λ (p : Placed). record { number = p .number; time = p .time }) (k .place),
+          ∙ ap (λ (p : FirstArrival). record { number = p .number; time = p .time }) (k .place),
     )
 
 pub behind : (l : List Arrival) (s : ℕ) → 1 ≤ s → has s l ≡ false → s < nextExp (firsts l) → Behind l s
@@ -109,7 +109,7 @@ mark-copy l a s arrived = go (has s l) refl
     same : firsts (l ++ (a ∷ [])) ≡ firsts l
     same = firsts-more l a ∙ with-duplicate (firsts l) a (has-firsts (a .number) l ∙ arrived)
 
-    kept : (o : Option Placed) → recordOf (l ++ (a ∷ [])) o ≡ recordOf l o
+    kept : (o : Option FirstArrival) → recordOf (l ++ (a ∷ [])) o ≡ recordOf l o
     kept none = refl
     kept (some p) = recorded-copy l a arrived (p .number)
 

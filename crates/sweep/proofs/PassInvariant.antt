@@ -1,4 +1,6 @@
--- The pass: what is lent after the first i records. Assumes nothing.
+-- The pass on plain values: what is lent after the first i records. Till says that the lists hold these records' figures, then what
+-- they held, and the table what these records left; one record more is `till-next`, and after the last `till-end` gives what the pass
+-- promises. d is the file as read, y its layout, old and new what was lent before and now. Assumes nothing.
 use mathlib.Core.Path.{_≡_, refl, sym, ap, _∙_}
 use mathlib.Core.List.{List, [], _∷_, _++_, map, map-append}
 use Prim.Native.Nat.{ℕ, _+_, _-_, _≤_, _<_}
@@ -8,20 +10,21 @@ use lib.Seq.{take-all}
 use Rattle.octets.specs.Memory.{over, splice}
 use Rattle.octets.proofs.Memory.{splice-set, over-next, over-length}
 use Rattle.rfc4737.specs.declared.Answer.{Answer}
-use Rattle.rfc4737.specs.Arrivals.{has, firsts}
+use Rattle.rfc4737.specs.Arrivals.{firsts}
 use Rattle.rfc4737.specs.Order.{nextExp}
 use Rattle.rfc4737.specs.Answer.{answers}
 use Rattle.rfc4737.proofs.Folds.{answers-take, length-answers}
 use Rattle.sample.specs.declared.Layout.{Layout}
 use Rattle.sample.specs.Decode.{Decoded}
 use Rattle.metrics.specs.Sample.{sizeOf, sampleArrivals, answersOf}
-use Rattle.metrics.specs.Private.Sample.{noArrival, before, answerAt, Laid}
+use Rattle.sample.specs.Places.{noArrival}
+use Rattle.metrics.specs.Private.Sample.{before, answerAt, FileLayout}
 use Rattle.metrics.proofs.Follow.{arrivals-laid, before-count, inside-laid}
 use Rattle.sweep.specs.declared.table.State.{State}
 use Rattle.sweep.specs.Figures.{figuresOf, flagsOf, positionsOf, extentsOf, latesOf}
 use Rattle.sweep.specs.Swept.{places, Lent}
-use Rattle.sweep.specs.Private.Table.{Holds}
-use Rattle.sweep.specs.Private.PassInvariant.{Ready, Room, Positioned, Put, FilledWith}
+use Rattle.sweep.specs.Private.Table.{TableAfter}
+use Rattle.sweep.specs.Private.PassInvariant.{SweepReady, Room, PositionsBefore, Put, FilledWith}
 use Rattle.sweep.proofs.Marks.{mark-ahead}
 
 -- the answers of the first i records
@@ -31,7 +34,7 @@ answersTo d i = answers (sizeOf d) (before d i)
 -- what is lent after the first i records
 pub record Till (d : Decoded) (y : Layout) (i : ℕ) (old new : Lent) (state : State) : Type 0 where
   pub most : i ≤ y .arrivals
-  pub held : Holds (before d i) (new .table) state
+  pub held : TableAfter (before d i) (new .table) state
   pub rest : drop places (new .table) ≡ drop places (old .table)
   pub flags : new .flags ≡ over (flagsOf (answersTo d i)) (old .flags)
   pub positions : new .positions ≡ over (positionsOf (answersTo d i)) (old .positions)
@@ -39,7 +42,7 @@ pub record Till (d : Decoded) (y : Layout) (i : ℕ) (old new : Lent) (state : S
   pub lates : new .lates ≡ over (latesOf (answersTo d i)) (old .lates)
 
 -- after none: a table of zeros
-pub till-start : (d : Decoded) (y : Layout) (l : Lent) → Ready d y l → Till d y 0 l l (record { count = 0; next = 1 })
+pub till-start : (d : Decoded) (y : Layout) (l : Lent) → SweepReady d y l → Till d y 0 l l (record { count = 0; next = 1 })
 unfolding firsts nextExp answers Rattle.rfc4737.specs.Arrivals.each Rattle.rfc4737.specs.Arrivals.eachAfter
 till-start d y l r =
     record {
@@ -58,7 +61,7 @@ till-start d y l r =
       lates = refl;
     }
 
-module _ (d : Decoded) (y : Layout) (i : ℕ) (most : i ≤ y .arrivals) (h : Laid d y) (f : Answer → ℕ) where
+module _ (d : Decoded) (y : Layout) (i : ℕ) (most : i ≤ y .arrivals) (h : FileLayout d y) (f : Answer → ℕ) where
   -- a list has a figure of each of the first i records
   listed-count : length (map f (answersTo d i)) ≡ i
   listed-count = length-map (answersTo d i) f ∙ length-answers (sizeOf d) (before d i) ∙ before-count d y i h most
@@ -87,7 +90,7 @@ module _ (d : Decoded) (y : Layout) (i : ℕ) (most : i ≤ y .arrivals) (h : La
   listed-all all old new e =
       e ∙ ap (λ (l : List _). over (map f (answers (sizeOf d) l)) old) (take-all i (sampleArrivals d) (omega (arith, arrivals-laid d y h)))
 
-module _ (d : Decoded) (y : Layout) (i : ℕ) (old new : Lent) (state : State) (r : Ready d y old) (t : Till d y i old new state) where
+module _ (d : Decoded) (y : Layout) (i : ℕ) (old new : Lent) (state : State) (r : SweepReady d y old) (t : Till d y i old new state) where
   -- the lengths stay
   pub table-length : length (new .table) ≡ length (old .table)
   table-length =
@@ -117,7 +120,7 @@ module _ (d : Decoded) (y : Layout) (i : ℕ) (old new : Lent) (state : State) (
         }
 
     -- the list of positions has those of the records before
-    pub till-positioned : Positioned d i (new .positions)
+    pub till-positioned : PositionsBefore d i (new .positions)
     till-positioned =
         record {
           room = till-room .positions;
@@ -126,7 +129,7 @@ module _ (d : Decoded) (y : Layout) (i : ℕ) (old new : Lent) (state : State) (
         }
 
     -- under one record more
-    pub till-next : (next : Lent) (state′ : State) → Holds (before d (i + 1)) (next .table) state′ → drop places (next .table) ≡ drop places (new .table)
+    pub till-next : (next : Lent) (state′ : State) → TableAfter (before d (i + 1)) (next .table) state′ → drop places (next .table) ≡ drop places (new .table)
         → Put i (figuresOf (answerAt d i)) (new .flags) (new .positions) (new .extents) (new .lates) (next .flags) (next .positions) (next .extents) (next .lates)
         → Till d y (i + 1) old next state′
     till-next next state′ h e p =

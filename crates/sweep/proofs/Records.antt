@@ -9,8 +9,7 @@ use lib.ListN.{length, getD, set, drop, length-set, length-append}
 use lib.Seq.{getD-take, getD-set-same, getD-set-other, drop-set-lt}
 use borrow.Author.Tests.{eqb-true, eqb-false, leb-true, leb-false, le-leb, lt-leb, ltb-true, ltb-false, lt-ltb, le-ltb}
 use Rattle.rfc4737.specs.declared.Arrival.{Arrival}
-use Rattle.rfc4737.specs.declared.LateTime.{LateTime}
-use Rattle.rfc4737.specs.declared.LateTime.the-variants.{After, Before}
+use Rattle.rfc4737.specs.Judge.{arrivalsMost}
 use Rattle.rfc4737.specs.Times.{elapsed}
 use Rattle.rfc4737.specs.Numbering.{reorderedNumber, amountOf}
 use Rattle.rfc4737.specs.Arrivals.{has, firsts, firstRecord}
@@ -22,19 +21,20 @@ use Rattle.rfc4737.proofs.Folds.{next-more, next-positive, answer-duplicate, an
 use Rattle.sample.specs.declared.Layout.{Layout}
 use Rattle.sample.specs.Decode.{Decoded}
 use Rattle.metrics.specs.Sample.{sizeOf, sampleArrivals}
-use Rattle.metrics.specs.Private.Sample.{noArrival, arrivalAt, before, answerAt, Has}
+use Rattle.sample.specs.Places.{noArrival}
+use Rattle.metrics.specs.Private.Sample.{arrivalAt, before, answerAt, HasRecord}
 use Rattle.metrics.proofs.Follow.{before-more, before-length}
 use Rattle.metrics.proofs.Records.{record-some, first-at}
 use Rattle.sweep.specs.declared.table.State.{State}
 use Rattle.sweep.specs.Figures.{figuresOf}
 use Rattle.sweep.specs.Swept.{places}
-use Rattle.sweep.specs.Private.Table.{arrivedMark, markOf, Holds, Skipping}
-use Rattle.sweep.specs.Private.PassInvariant.{Positioned}
+use Rattle.sweep.specs.Private.Table.{arrivedMark, markOf, TableAfter, Skipping}
+use Rattle.sweep.specs.Private.PassInvariant.{PositionsBefore}
 use Rattle.sweep.proofs.Marks.{mark-arrived, mark-copy, mark-more, one-more, mark-ahead, Behind, behind, position-at, skipping-at}
 
 -- of record i + 1: its number, what stands at its packet in the table, and the state after the arrivals before it
 pub record Known (d : Decoded) (y : Layout) (i number mark : ℕ) (state : State) : Type 0 where
-  pub has : Has d y i
+  pub has : HasRecord d y i
   pub is : number ≡ arrivalAt d i .number
   pub low : 1 ≤ number
   pub high : number ≤ places
@@ -59,11 +59,11 @@ ltb-pred a b h g = go (ltb a b) refl
 
 module _ (d : Decoded) (y : Layout) (i number mark : ℕ) (state : State) (k : Known d y i number mark state) where
   -- there are few first arrivals
-  pub few : (state .count ≤ i) × (i < 4096) × (1 ≤ state .next)
+  pub few : (state .count ≤ i) × (i < arrivalsMost) × (1 ≤ state .next)
   few = omega (arith, k .count, k .next, length-firsts (before d i), before-length d y i (k .has), k .has .inside, k .has .file .few, next-positive (firsts (before d i)))
 
   -- a mark of at most 4,096 is at a packet that has not arrived
-  pub is-new : mark ≤ 4096 → has (arrivalAt d i .number) (before d i) ≡ false
+  pub is-new : mark ≤ arrivalsMost → has (arrivalAt d i .number) (before d i) ≡ false
   is-new h = go (has (arrivalAt d i .number) (before d i)) refl
     where
       go : (t : Bool) → has (arrivalAt d i .number) (before d i) ≡ t → t ≡ false
@@ -73,39 +73,39 @@ module _ (d : Decoded) (y : Layout) (i number mark : ℕ) (state : State) (k : K
           absurd (omega arith)
 
   -- where its discontinuity stands if it is reordered
-  at-jump : mark ≤ 4096 → number < state .next → Behind (before d i) (arrivalAt d i .number)
+  at-jump : mark ≤ arrivalsMost → number < state .next → Behind (before d i) (arrivalAt d i .number)
   at-jump h late =
       behind (before d i) (arrivalAt d i .number) (omega (arith, k .is, k .low)) (is-new h) (omega (arith, k .is, k .next))
 
-  mark-is : (h : mark ≤ 4096) (late : number < state .next) → mark ≡ firstRecord (at-jump h late .place .number) (before d i)
+  mark-is : (h : mark ≤ arrivalsMost) (late : number < state .next) → mark ≡ firstRecord (at-jump h late .place .number) (before d i)
   mark-is h late = k .stands ∙ ap (markOf (before d i)) (k .is) ∙ at-jump h late .mark
 
   -- the mark is then one of the records before it
-  pub jump-inside : mark ≤ 4096 → number < state .next → (1 ≤ mark) × (mark ≤ i)
+  pub jump-inside : mark ≤ arrivalsMost → number < state .next → (1 ≤ mark) × (mark ≤ i)
   jump-inside h late =
       let r = record-some (at-jump h late .place .number) (before d i) (at-jump h late .arrived) in
       omega (arith, r, mark-is h late, before-length d y i (k .has))
 
   -- the place of its discontinuity among the first arrivals
-  place-inside : (h : mark ≤ 4096) (late : number < state .next) → at-jump h late .place .position - 1 < length (firsts (before d i))
+  place-inside : (h : mark ≤ arrivalsMost) (late : number < state .next) → at-jump h late .place .position - 1 < length (firsts (before d i))
   place-inside h late = omega (arith, at-jump h late .low, at-jump h late .high)
 
   -- where its record is the mark
-  mark-at : (h : mark ≤ 4096) (late : number < state .next)
+  mark-at : (h : mark ≤ arrivalsMost) (late : number < state .next)
       → mark ≡ firstRecord (getD (firsts (before d i)) (at-jump h late .place .position - 1) noArrival .number) (before d i)
   mark-at h late = mark-is h late ∙ ap (λ (n : ℕ). firstRecord n (before d i)) (sym (ap (λ (a : Arrival). a .number) (at-jump h late .stands)))
 
   -- at which its time stands in the file
-  jump-time : (h : mark ≤ 4096) (late : number < state .next) → arrivalAt d (mark - 1) .time ≡ at-jump h late .place .time
+  jump-time : (h : mark ≤ arrivalsMost) (late : number < state .next) → arrivalAt d (mark - 1) .time ≡ at-jump h late .place .time
   jump-time h late =
       sym (ap (λ (a : Arrival). a .time) (getD-take i (sampleArrivals d) (mark - 1) noArrival (omega (arith, jump-inside h late))))
       ∙ ap (λ (m : ℕ). getD (before d i) (m - 1) noArrival .time) (mark-at h late)
       ∙ ap (λ (a : Arrival). a .time) (first-at noArrival (before d i) (at-jump h late .place .position - 1) (place-inside h late))
       ∙ ap (λ (a : Arrival). a .time) (at-jump h late .stands)
 
-  module _ (positions : List ℕ) (p : Positioned d i positions) where
+  module _ (positions : List ℕ) (p : PositionsBefore d i positions) where
     -- and its position in the list of positions
-    jump-position : (h : mark ≤ 4096) (late : number < state .next) → getD positions (mark - 1) 0 ≡ at-jump h late .place .position
+    jump-position : (h : mark ≤ arrivalsMost) (late : number < state .next) → getD positions (mark - 1) 0 ≡ at-jump h late .place .position
     jump-position h late =
         let f = at-jump h late in
         let e = position-at (sizeOf d) noArrival (before d i) (at-jump h late .place .position - 1) (place-inside h late) in
@@ -114,39 +114,23 @@ module _ (d : Decoded) (y : Layout) (i number mark : ℕ) (state : State) (k : K
         ∙ omega (arith, f .low)
 
     -- which is at most the count
-    pub jump-before : mark ≤ 4096 → number < state .next → getD positions (mark - 1) 0 ≤ state .count
+    pub jump-before : mark ≤ arrivalsMost → number < state .next → getD positions (mark - 1) 0 ≤ state .count
     jump-before h late = omega (arith, jump-position h late, at-jump h late .high, k .count)
 
-    -- the figures of a reordered packet
-    figures-late : (h : mark ≤ 4096) (late : number < state .next) (past own : ℕ) → past ≡ arrivalAt d (mark - 1) .time
-        → own ≡ arrivalAt d i .time → (late : LateTime) → late ≡ elapsed past own
-        → (flag amount : ℕ) → flag ≡ reorderedNumber late → amount ≡ amountOf late
-        → record { flag = flag; position = state .count + 1; extent = state .count + 1 - getD positions (mark - 1) 0; late = amount }
+    -- the figures of a reordered packet, by the time of its discontinuity and its own
+    pub figures-late : (h : mark ≤ arrivalsMost) (late : number < state .next) (past own : ℕ) → past ≡ arrivalAt d (mark - 1) .time → own ≡ arrivalAt d i .time
+        → record { flag = reorderedNumber (elapsed past own); position = state .count + 1; extent = state .count + 1 - getD positions (mark - 1) 0; late = amountOf (elapsed past own) }
         ≡ figuresOf (answerAt d i)
     unfolding figuresOf reorderedAnswer extentFrom lateFrom
-    figures-late h late past own e f elapse g flag amount a b =
+    figures-late h late past own e f =
         sym (ap figuresOf
         (answer-first (sizeOf d) (before d i) (arrivalAt d i) (is-new h)
         ∙ first-reordered (sizeOf d) (firsts (before d i)) (arrivalAt d i) (omega (arith, k .is, k .next))
         ∙ ap (reorderedAnswer (sizeOf d) (firsts (before d i)) (arrivalAt d i)) (at-jump h late .is))
-        ∙ rw (← k .count, ← jump-position h late, ← jump-time h late, ← e, ← f, ← g, ← a, ← b))
-
-    -- whose time lies before its discontinuity's
-    pub figures-before : (h : mark ≤ 4096) (late : number < state .next) (past own : ℕ) → past ≡ arrivalAt d (mark - 1) .time
-        → own ≡ arrivalAt d i .time → own < past
-        → record { flag = 2; position = state .count + 1; extent = state .count + 1 - getD positions (mark - 1) 0; late = past - own } ≡ figuresOf (answerAt d i)
-    unfolding elapsed
-    figures-before h late past own e f g = figures-late h late past own e f (Before (past - own)) (rw (lt-ltb own past g)) 2 (past - own) refl refl
-
-    -- or not
-    pub figures-after : (h : mark ≤ 4096) (late : number < state .next) (past own : ℕ) → past ≡ arrivalAt d (mark - 1) .time
-        → own ≡ arrivalAt d i .time → past ≤ own
-        → record { flag = 1; position = state .count + 1; extent = state .count + 1 - getD positions (mark - 1) 0; late = own - past } ≡ figuresOf (answerAt d i)
-    unfolding elapsed
-    figures-after h late past own e f g = figures-late h late past own e f (After (own - past)) (rw (le-ltb own past g)) 1 (own - past) refl refl
+        ∙ rw (← k .count, ← jump-position h late, ← jump-time h late, ← e, ← f))
 
   -- of a packet in order
-  pub figures-in-order : mark ≤ 4096 → state .next ≤ number → record { flag = 0; position = state .count + 1; extent = 0; late = 0 } ≡ figuresOf (answerAt d i)
+  pub figures-in-order : mark ≤ arrivalsMost → state .next ≤ number → record { flag = 0; position = state .count + 1; extent = 0; late = 0 } ≡ figuresOf (answerAt d i)
   unfolding figuresOf inOrderAnswer
   figures-in-order h ahead =
       sym (ap figuresOf
@@ -155,7 +139,7 @@ module _ (d : Decoded) (y : Layout) (i number mark : ℕ) (state : State) (k : K
       ∙ rw (← k .count))
 
   -- a mark over 4,096 is at a packet that has arrived
-  pub is-copy : 4096 < mark → has (arrivalAt d i .number) (before d i) ≡ true
+  pub is-copy : arrivalsMost < mark → has (arrivalAt d i .number) (before d i) ≡ true
   is-copy h = go (has (arrivalAt d i .number) (before d i)) refl (leb (nextExp (firsts (before d i))) (arrivalAt d i .number)) refl
     where
       s : ℕ
@@ -173,15 +157,15 @@ module _ (d : Decoded) (y : Layout) (i number mark : ℕ) (state : State) (k : K
           absurd (omega (arith, e, b, few, before-length d y i (k .has)))
 
   -- the figures of a copy
-  pub figures-copy : 4096 < mark → record { flag = 3; position = 0; extent = 0; late = 0 } ≡ figuresOf (answerAt d i)
+  pub figures-copy : arrivalsMost < mark → record { flag = 3; position = 0; extent = 0; late = 0 } ≡ figuresOf (answerAt d i)
   unfolding figuresOf
   figures-copy h = sym (ap figuresOf (answer-duplicate (sizeOf d) (before d i) (arrivalAt d i) (is-copy h)))
 
   -- ---- the table
 
-  module _ (table : List ℕ) (t : Holds (before d i) table state) where
+  module _ (table : List ℕ) (t : TableAfter (before d i) table state) where
     -- after a copy
-    pub held-copy : 4096 < mark → Holds (before d (i + 1)) table state
+    pub held-copy : arrivalsMost < mark → TableAfter (before d (i + 1)) table state
     held-copy h =
         let arrived = is-copy h in
         let same : firsts (before d i ++ (arrivalAt d i ∷ [])) ≡ firsts (before d i) =
@@ -195,10 +179,10 @@ module _ (d : Decoded) (y : Layout) (i number mark : ℕ) (state : State) (k : K
         })
 
     -- after a first arrival: at its packet that it has arrived, at those that it skips its record, all else as it was
-    held-new : mark ≤ 4096 → (table′ : List ℕ) → length table′ ≡ length table
+    held-new : mark ≤ arrivalsMost → (table′ : List ℕ) → length table′ ≡ length table
         → ((s : ℕ) → 1 ≤ s → s ≤ places → getD table′ (s - 1) 0 ≡ cond (eqb number s) arrivedMark (cond (leb (state .next) s && ltb s number) (i + 1) (getD table (s - 1) 0)))
         → (next : ℕ) → next ≡ nextAfter (state .next) number
-        → Holds (before d (i + 1)) table′ (record { count = state .count + 1; next = next })
+        → TableAfter (before d (i + 1)) table′ (record { count = state .count + 1; next = next })
     held-new h table′ same at next e =
         let new = is-new h in
         rw (before-more d y i (k .has))
@@ -211,8 +195,8 @@ module _ (d : Decoded) (y : Layout) (i number mark : ℕ) (state : State) (k : K
         })
 
     -- one that is reordered
-    pub held-late : mark ≤ 4096 → number < state .next
-        → Holds (before d (i + 1)) (set table (number - 1) arrivedMark) (record { count = state .count + 1; next = state .next })
+    pub held-late : mark ≤ arrivalsMost → number < state .next
+        → TableAfter (before d (i + 1)) (set table (number - 1) arrivedMark) (record { count = state .count + 1; next = state .next })
     unfolding nextAfter
     held-late h late =
         held-new h (set table (number - 1) arrivedMark) (length-set table (number - 1) arrivedMark) (λ s low high. go s low high (eqb number s) refl)
@@ -236,8 +220,8 @@ module _ (d : Decoded) (y : Layout) (i number mark : ℕ) (state : State) (k : K
                 rw (le-ltb s number b)
 
     -- one that is in order
-    pub held-in-order : mark ≤ 4096 → state .next ≤ number → (filled : List ℕ) → Skipping (state .next - 1) (number - 1) (i + 1) table filled
-        → Holds (before d (i + 1)) (set filled (number - 1) arrivedMark) (record { count = state .count + 1; next = number + 1 })
+    pub held-in-order : mark ≤ arrivalsMost → state .next ≤ number → (filled : List ℕ) → Skipping (state .next - 1) (number - 1) (i + 1) table filled
+        → TableAfter (before d (i + 1)) (set filled (number - 1) arrivedMark) (record { count = state .count + 1; next = number + 1 })
     unfolding nextAfter
     held-in-order h ahead filled f =
         held-new h (set filled (number - 1) arrivedMark) (length-set filled (number - 1) arrivedMark ∙ f .filled .same) (λ s low high. go s low high (eqb number s) refl)

@@ -6,6 +6,7 @@ use Prim.Native.Nat.{ℕ}
 use lib.Dec.{ltb}
 use lib.ListN.{length, replicate}
 use Rattle.octets.specs.Memory.{over}
+use Rattle.rfc4737.specs.Judge.{sentMost}
 use Rattle.rfc4737.specs.Refusals.{inCase, firstOf, outputShort}
 use Rattle.sample.specs.declared.Layout.{Layout}
 use Rattle.sample.specs.Decode.{Decoded, refused, accepted, decided, sampleOf, decodedRefusal, layoutOf}
@@ -18,7 +19,7 @@ use Rattle.sweep.specs.Figures.{figuresOf, flagsOf, positionsOf, extents
 
 -- the numbers of the table: one for each packet that there can be
 abbrev pub places : ℕ
-places = 4096
+places = sentMost
 
 -- the table and the four lists
 pub record Lent : Type 0 where

@@ -3,16 +3,17 @@ ghost use mathlib.Core.Path.{_≡_};
 ghost use Prim.Native.Nat.{_+_, _≤_};
 ghost use lib.ListN.{drop};
 ghost use Rattle.sample.specs.Decode.{decode};
-ghost use Rattle.metrics.specs.Private.Sample.{Has, arrivalAt, before, answerAt};
+ghost use Rattle.metrics.specs.Private.Sample.{HasRecord, arrivalAt, before, answerAt};
 ghost use Rattle.sweep.specs.Figures.{figuresOf};
 ghost use Rattle.sweep.specs.Swept.{places, lent};
-ghost use Rattle.sweep.specs.Private.Table.{Holds};
-ghost use Rattle.sweep.specs.Private.PassInvariant.{Ready, Room, Positioned, Put, FilledWith};
+ghost use Rattle.sweep.specs.Private.Table.{TableAfter};
+ghost use Rattle.sweep.specs.Private.PassInvariant.{SweepReady, Room, PositionsBefore, Put, FilledWith};
 use crate::Figures;
 use crate::table::ARRIVED;
 use crate::table::State;
 use crate::table::skip;
 use rfc4737::Arrival;
+use rfc4737::judge::ARRIVALS_MOST;
 use rfc4737::numbering::DUPLICATE;
 use rfc4737::numbering::IN_ORDER;
 use rfc4737::numbering::REORDERED_AFTER;
@@ -29,7 +30,7 @@ const FLAG_BEFORE: u8 = REORDERED_BEFORE as u8;
 const FLAG_DUPLICATE: u8 = DUPLICATE as u8;
 
 // The greatest number of a record: what stands at a packet that has arrived is over it.
-const RECORDS: usize = 4096;
+const RECORDS: usize = ARRIVALS_MOST as usize;
 
 // A number of the table, as a place.
 fn wide(x: u16) -> usize
@@ -52,7 +53,7 @@ fn figures(flag: u8, position: u32, extent: u32, late: u64) -> Figures
 
 // The arrival of record i + 1, read where it stands: no test of the file's length is in the loop.
 fn arrival_at(file: &[u8], y: Layout, i: usize) -> Arrival
-    requires { ⌜ Has (decode (now file)) y i ⌝ }
+    requires { ⌜ HasRecord (decode (now file)) y i ⌝ }
     ensures { λ r. ⌜ (r ≡ arrivalAt (decode (now (file .entry))) i) × (1 ≤ r .number) × (r .number ≤ places) ⌝ }
 {
     let start = sample::arrivals_at(y) + 12 * i;
@@ -95,9 +96,9 @@ fn pass_record(
     lates: &mut [u64],
     state: State,
 ) -> State
-    requires { ⌜ Has (decode (now file)) y i × Holds (before (decode (now file)) i) (now table) state
-        × Room i (now flags) (now positions) (now extents) (now lates) × Positioned (decode (now file)) i (now positions) ⌝ }
-    ensures { λ r. ⌜ Holds (before (decode (now (file .entry))) (i + 1)) (now (table .exit)) r
+    requires { ⌜ HasRecord (decode (now file)) y i × TableAfter (before (decode (now file)) i) (now table) state
+        × Room i (now flags) (now positions) (now extents) (now lates) × PositionsBefore (decode (now file)) i (now positions) ⌝ }
+    ensures { λ r. ⌜ TableAfter (before (decode (now (file .entry))) (i + 1)) (now (table .exit)) r
         × (drop places (now (table .exit)) ≡ drop places (now (table .entry)))
         × Put i (figuresOf (answerAt (decode (now (file .entry))) i)) (now (flags .entry)) (now (positions .entry)) (now (extents .entry)) (now (lates .entry))
         (now (flags .exit)) (now (positions .exit)) (now (extents .exit)) (now (lates .exit)) ⌝ }
@@ -147,7 +148,7 @@ pub(crate) fn pass(
     extents: &mut [u32],
     lates: &mut [u64],
 )
-    requires { ⌜ Ready (decode (now file)) y (lent (now table) (now flags) (now positions) (now extents) (now lates)) ⌝ }
+    requires { ⌜ SweepReady (decode (now file)) y (lent (now table) (now flags) (now positions) (now extents) (now lates)) ⌝ }
     ensures { λ _. ⌜ FilledWith (decode (now (file .entry)))
         (lent (now (table .entry)) (now (flags .entry)) (now (positions .entry)) (now (extents .entry)) (now (lates .entry)))
         (lent (now (table .exit)) (now (flags .exit)) (now (positions .exit)) (now (extents .exit)) (now (lates .exit))) ⌝ }

@@ -6,12 +6,14 @@ ghost use lib.ListN.{length, replicate};
 ghost use Rattle.octets.specs.Memory.{over};
 ghost use Rattle.sweep.specs.Swept.{places};
 ghost use Rattle.sweep.specs.Private.Table.{Skipping};
+use rfc4737::judge::ARRIVALS_MOST;
+use rfc4737::judge::SENT_MOST;
 
 // The numbers of the table.
-pub(crate) const PLACES: usize = 4096;
+pub(crate) const PLACES: usize = SENT_MOST as usize;
 
 // What stands at a packet that has arrived.
-pub(crate) const ARRIVED: u16 = 4097;
+pub(crate) const ARRIVED: u16 = ARRIVALS_MOST as u16 + 1;
 
 // Of the arrivals passed: how many are first arrivals, and NextExp.
 pub(crate) struct State {

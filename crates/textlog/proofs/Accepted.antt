@@ -4,33 +4,34 @@ use Prim.Native.Nat.{ℕ, zero, suc, _+_, _^_, _≤_, _<_}
 use native.Mathlib.Nat.{add-zero, zero-add}
 use native.Mathlib.Omega.{arith}
 use mathlib.Core.Path.{_≡_, refl, sym, ap, _∙_, subst}
-use mathlib.Core.List.{List, [], _∷_, _++_}
+use mathlib.Core.List.{List, [], _∷_, _++_, flatten}
 use borrow.Author.Tests.{leb-false}
 use lib.Dec.{leb, ltb}
 use lib.ListN.{length, getD, take, length-map, replicate, length-replicate}
-use Rattle.octets.specs.Memory.{over}
 use Rattle.octets.specs.Below.{Below}
+use Rattle.octets.specs.Text.{lines}
 use Rattle.octets.proofs.Below.{below-nil, below-cons}
-use Rattle.octets.proofs.Memory.{over-read}
+use Rattle.octets.proofs.Text.{lines-joined}
 use Rattle.rfc4737.specs.declared.Arrival.{Arrival}
-use Rattle.rfc4737.specs.Judge.{sentMost, arrivalsMost, numbersOf, timesOf, arrivalsFrom, judgeOne, judge, judgeSent, judgeArrivals, refusalOfLists}
+use Rattle.rfc4737.specs.Judge.{sentMost, arrivalsMost, numbersOf, timesOf, arrivalsFrom, judgeOne, judge, judgeSent, refusalOfLists}
 use Rattle.rfc4737.specs.Refusals.{outside, inCase, manyArrivals, sentOutside, outputShort}
 use Rattle.rfc4737.specs.Times.{nextReference}
 use Rattle.rfc4737.proofs.Due.{first-none, first-next, first-one, case-none, not-outside, between}
 use Rattle.rfc4737.proofs.Judged.{fit-lists}
 use Rattle.rfc4737.proofs.Pairs.{arrivals-back}
 use Rattle.sample.specs.Format.{Sample, fileOf}
-use Rattle.sample.specs.Judge.{judgeLabel, someUnshown, judgeSample, FitSample}
+use Rattle.sample.specs.Judge.{judgeLabel, someUnshown, FitSample}
 use Rattle.sample.specs.Decode.{decode, accepted}
-use Rattle.sample.specs.Calls.{sampleRefusal, writeRefusal, octetsInto, unlessRefused, WrittenTo}
-use Rattle.sample.specs.declared.Written.{Written}
+use Rattle.sample.specs.Calls.{sampleRefusal, WrittenTo}
+use Rattle.sample.specs.Output.{outputRefusal}
+use Rattle.sample.specs.declared.WriteAnswer.{WriteAnswer}
 use Rattle.sample.proofs.Exact.{decode-file}
-use Rattle.sample.proofs.RoundTrips.{none-from}
+use Rattle.sample.proofs.Output.{output-read}
 use Rattle.textlog.specs.Form.{Log, none, after}
-use Rattle.textlog.specs.Decode.{DecodedLine, malformed, arrived, decodeLine, lines, arrivalOr0, arrivalsOfLines, arrivalsIn, judgeLine, judgeLines, judgeLog}
-use Rattle.textlog.specs.RoundTrip.{sampleOfLog, Writable, ImportedIsFit}
-use Rattle.textlog.specs.declared.Imported.{Imported}
-use Rattle.textlog.proofs.Lines.{decoded, joined, lines-joined}
+use Rattle.textlog.specs.Decode.{DecodedLine, malformed, arrived, decodeLine, arrivalOr0, arrivalsOfLines, logArrivals, judgeLine, judgeLines, judgeLog}
+use Rattle.textlog.specs.RoundTrip.{sampleWith, Writable, ImportedIsFit}
+use Rattle.textlog.specs.declared.LogImport.{LogImport}
+use Rattle.textlog.proofs.Lines.{decoded}
 use Rattle.textlog.proofs.Judging.{unless-split, judge-first}
 use Rattle.textlog.proofs.Filling.{lines-length}
 
@@ -39,7 +40,7 @@ use Rattle.textlog.proofs.Filling.{lines-length}
 -- what holds of them, where so many lines come before them
 pub record Lines (k count reference : ℕ) (ls : List (List ℕ)) : Type 0 where
   pub answer : judgeLines k count reference ls ≡ record { refusal = 0; arrivals = count + length ls; line = 0 }
-  pub form : Log (joined ls) (arrivalsOfLines ls)
+  pub form : Log (flatten ls) (arrivalsOfLines ls)
   pub decodes : (j : ℕ) → j < length ls → decodeLine (getD ls j []) ≡ malformed → ⊥
   pub judged : judge k reference (arrivalsOfLines ls) ≡ 0
   pub times : Below (2 ^ 64) (timesOf (arrivalsOfLines ls))
@@ -47,7 +48,7 @@ pub record Lines (k count reference : ℕ) (ls : List (List ℕ)) : Type 0 where
 
 -- no line
 no-lines : (k count reference : ℕ) → count ≤ arrivalsMost → Lines k count reference []
-unfolding judgeLines judge joined arrivalsOfLines
+unfolding judgeLines judge flatten arrivalsOfLines
 no-lines k count reference h =
     record {
       answer = ap (λ (n : ℕ). record { refusal = 0; arrivals = n; line = 0 }) (sym (add-zero count));
@@ -62,7 +63,7 @@ no-lines k count reference h =
 one-line : (k count reference : ℕ) (l : List ℕ) (ls : List (List ℕ)) (a : Arrival) → decodeLine l ≡ arrived a → judgeOne k reference a ≡ 0
     → judgeLines k count reference (l ∷ ls) ≡ judgeLines k (count + 1) (nextReference reference (a .time)) ls
     → Lines k (count + 1) (nextReference reference (a .time)) ls → Lines k count reference (l ∷ ls)
-unfolding judge joined arrivalsOfLines
+unfolding judge flatten arrivalsOfLines
 one-line k count reference l ls a d j y r =
     let n : count + 1 + length ls ≡ count + suc (length ls) = omega arith in
     let f = decoded l a d in
@@ -71,7 +72,7 @@ one-line k count reference l ls a d j y r =
     below-cons (2 ^ 64) (a .time) (timesOf (arrivalsOfLines ls)) (omega (arith, f .time)) (r .times) in
     record {
       answer = y ∙ r .answer ∙ ap (λ (n : ℕ). record { refusal = 0; arrivals = n; line = 0 }) n;
-      form = subst (λ (x : List Arrival). Log (l ++ joined ls) x) (sym same) (after f (r .form));
+      form = subst (λ (x : List Arrival). Log (l ++ flatten ls) x) (sym same) (after f (r .form));
       decodes = first;
       judged = ap (judge k reference) same ∙ first-next (judgeOne k reference a) (judge k (nextReference reference (a .time)) (arrivalsOfLines ls) ∷ []) j ∙ first-one _ ∙ r .judged;
       times = subst (λ (x : List Arrival). Below (2 ^ 64) (timesOf x)) (sym same) fits;
@@ -93,11 +94,11 @@ accepted-lines k count reference (l ∷ ls) h e =
         → Lines k (count + 1) (nextReference reference (arrivalOr0 d .time)) ls)
         → Lines k count reference (l ∷ ls)
     go malformed d f =
-        let z : _≡_ {A = ℕ} 14 0 = ap (λ (y : Imported). y .refusal) (sym (judge-first k count reference l ls malformed d)) ∙ e in
+        let z : _≡_ {A = ℕ} 14 0 = ap (λ (y : LogImport). y .refusal) (sym (judge-first k count reference l ls malformed d)) ∙ e in
         absurd (omega arith)
     go (arrived a) d f =
         let y = judge-first k count reference l ls (arrived a) d in
-        let s = unless-split (judgeLine k count reference (arrived a)) (count + 1) (judgeLines k (count + 1) (nextReference reference (a .time)) ls) (ap (λ (y : Imported). y .refusal) (sym y) ∙ e) in
+        let s = unless-split (judgeLine k count reference (arrived a)) (count + 1) (judgeLines k (count + 1) (nextReference reference (a .time)) ls) (ap (λ (y : LogImport). y .refusal) (sym y) ∙ e) in
         let p = first-none (inCase (leb arrivalsMost count) manyArrivals) (judgeOne k reference a ∷ []) (s .0) in
         let few : count < arrivalsMost = leb-false arrivalsMost count (case-none (leb arrivalsMost count) manyArrivals (omega arith) (p .0)) in
         one-line k count reference l ls a d (sym (first-one (judgeOne k reference a)) ∙ p .1) (y ∙ s .1) (f (omega arith) (s .2))
@@ -110,7 +111,7 @@ pub record Accepted (k : ℕ) (log : List ℕ) : Type 0 where
   pub least : 1 ≤ k
   pub most : k ≤ sentMost
   pub answer : judgeLog k log ≡ record { refusal = 0; arrivals = length (lines log); line = 0 }
-  pub form : Log log (arrivalsIn log)
+  pub form : Log log (logArrivals log)
   pub inTurn : Lines k 0 0 (lines log)
 
 pub accepted-log : (k : ℕ) (log : List ℕ) → judgeLog k log .refusal ≡ 0 → Accepted k log
@@ -124,35 +125,33 @@ accepted-log k log e =
       least = b .0;
       most = b .1;
       answer = s .1 ∙ a .answer ∙ ap (λ (n : ℕ). record { refusal = 0; arrivals = n; line = 0 }) (zero-add (length (lines log)));
-      form = subst (λ (x : List ℕ). Log x (arrivalsIn log)) (lines-joined log) (a .form);
+      form = subst (λ (x : List ℕ). Log x (logArrivals log)) (lines-joined log) (a .form);
       inTurn = a;
     }
 
 module _ (k : ℕ) (log : List ℕ) (e : judgeLog k log .refusal ≡ 0) where
-  few : length (arrivalsIn log) ≤ arrivalsMost
+  few : length (logArrivals log) ≤ arrivalsMost
   few = omega (arith, lines-length (lines log), accepted-log k log e .inTurn .few)
 
   -- its arrivals, as lists, are not refused
-  pub accepted-lists : refusalOfLists k (numbersOf (arrivalsIn log)) (timesOf (arrivalsIn log)) ≡ 0
+  pub accepted-lists : refusalOfLists k (numbersOf (logArrivals log)) (timesOf (logArrivals log)) ≡ 0
   accepted-lists =
       let a = accepted-log k log e in
-      let n : length (numbersOf (arrivalsIn log)) ≡ length (arrivalsIn log) = length-map (arrivalsIn log) _ in
-      let t : length (timesOf (arrivalsIn log)) ≡ length (arrivalsIn log) = length-map (arrivalsIn log) _ in
-      fit-lists k (numbersOf (arrivalsIn log)) (timesOf (arrivalsIn log)) (a .least) (a .most) (omega (arith, few)) (t ∙ sym n)
-      (ap (judge k 0) (arrivals-back (arrivalsIn log)) ∙ a .inTurn .judged)
+      let n : length (numbersOf (logArrivals log)) ≡ length (logArrivals log) = length-map (logArrivals log) _ in
+      let t : length (timesOf (logArrivals log)) ≡ length (logArrivals log) = length-map (logArrivals log) _ in
+      fit-lists k (numbersOf (logArrivals log)) (timesOf (logArrivals log)) (a .least) (a .most) (omega (arith, few)) (t ∙ sym n)
+      (ap (judge k 0) (arrivals-back (logArrivals log)) ∙ a .inTurn .judged)
 
   -- with so many payload sizes of one size, they are a fit sample
-  pub fit-sample : (size : ℕ) → size < 2 ^ 16 → FitSample (sampleOfLog k size log)
-  unfolding judgeSample someUnshown
+  pub fit-sample : (size : ℕ) → size < 2 ^ 16 → FitSample (sampleWith k size (logArrivals log))
+  unfolding sampleRefusal someUnshown
   fit-sample size h =
-      let a = accepted-log k log e in
       let m : length (replicate k size) ≡ k = length-replicate k size in
-      let f : judgeArrivals (length (arrivalsIn log)) ≡ 0 = rw (not-outside 0 arrivalsMost (length (arrivalsIn log)) (omega arith) few) in
       let z : judgeLabel 0 ≡ 0 = rw (not-outside 0 64 0 (omega arith) (omega arith)) in
       record {
-        judged = rw (z, m, a .sent, f) (first-one _ ∙ a .inTurn .judged);
+        judged = rw (z, m, accepted-lists);
         sizes = below-replicate k;
-        times = a .inTurn .times;
+        times = accepted-log k log e .inTurn .times;
       }
     where
       below-replicate : (n : ℕ) → Below (2 ^ 16) (replicate n size)
@@ -167,30 +166,22 @@ module _ (s : Sample) (fit : FitSample s) where
   same = ap (λ (l : List Arrival). fileOf (record { label = s .label; sizes = s .sizes; arrivals = l })) (arrivals-back (s .arrivals))
 
   -- 8 alone is due
-  short-alone : (room : ℕ) → writeRefusal room (s .label) (s .sizes) (numbersOf (s .arrivals)) (timesOf (s .arrivals)) ≡ inCase (ltb room (length (fileOf s))) outputShort
-  unfolding writeRefusal
-  short-alone room =
-      let short : ℕ = inCase (ltb room (length (fileOf (record { label = s .label; sizes = s .sizes; arrivals = arrivalsFrom (numbersOf (s .arrivals)) (timesOf (s .arrivals)) })))) outputShort in
-      first-next (sampleRefusal (s .label) (s .sizes) (numbersOf (s .arrivals)) (timesOf (s .arrivals))) (short ∷ []) (none-from s (fit .judged))
-      ∙ first-one short
-      ∙ ap (λ (x : List ℕ). inCase (ltb room (length x)) outputShort) same
+  short-alone : (room : ℕ)
+      → outputRefusal (sampleRefusal (s .label) (s .sizes) (numbersOf (s .arrivals)) (timesOf (s .arrivals)))
+      (fileOf (record { label = s .label; sizes = s .sizes; arrivals = arrivalsFrom (numbersOf (s .arrivals)) (timesOf (s .arrivals)) })) room
+      ≡ inCase (ltb room (length (fileOf s))) outputShort
+  unfolding outputRefusal
+  short-alone room = rw (fit .judged, same) (first-one _)
 
   pub fit-writable : Writable s
   fit-writable = record { fit = fit; refusal = λ out out′ written w. w .refusal ∙ short-alone (length out); decodes = written-decodes }
     where
-      written-decodes : (out out′ : List ℕ) (written : Written)
+      written-decodes : (out out′ : List ℕ) (written : WriteAnswer)
           → WrittenTo (s .label) (s .sizes) (numbersOf (s .arrivals)) (timesOf (s .arrivals)) out written out′
           → written .refusal ≡ 0 → decode (take (written .length) out′) ≡ accepted s
       written-decodes out out′ written w z =
-          let i = sym (w .refusal) ∙ z in
-          let o : octetsInto (length out) (s .label) (s .sizes) (numbersOf (s .arrivals)) (timesOf (s .arrivals)) ≡ fileOf s =
-          ap (λ (r : ℕ). unlessRefused r (fileOf (record { label = s .label; sizes = s .sizes; arrivals = arrivalsFrom (numbersOf (s .arrivals)) (timesOf (s .arrivals)) }))) i ∙ same in
-          let t : take (written .length) out′ ≡ fileOf s =
-          ap (λ (n : ℕ). take n out′) (w .octets ∙ ap length o)
-          ∙ ap (take (length (fileOf s))) (w .filled ∙ ap (λ (x : List ℕ). over x out) o)
-          ∙ over-read (fileOf s) out in
-          ap decode t ∙ decode-file s fit
+          ap decode (output-read (sampleRefusal (s .label) (s .sizes) (numbersOf (s .arrivals)) (timesOf (s .arrivals))) _ out w z ∙ same) ∙ decode-file s fit
 
 -- the arrivals of a log that is not refused are such a sample
 pub fit-log : (k : ℕ) (log : List ℕ) → ImportedIsFit k log
-fit-log k log size h e = fit-writable (sampleOfLog k size log) (fit-sample k log e size h)
+fit-log k log size h e = fit-writable (sampleWith k size (logArrivals log)) (fit-sample k log e size h)

@@ -9,9 +9,10 @@ use borrow.Author.Tests.{leb-true, leb-false, eqb-true}
 use lib.Dec.{leb, eqb}
 use lib.ListN.{length, getD, take, drop, length-append, List·getD-eq-default}
 use lib.Seq.{split-at, take-at, getD-at, drop-at, length-take-le, append-snoc}
+use Rattle.octets.specs.Text.{lineFeed}
 use Rattle.decimal.specs.Reading.{digit, digitCount, leading}
 use Rattle.decimal.proofs.Leading.{is-digit, digit-bounds}
-use Rattle.textlog.specs.Form.{semicolon, comma, point, lineFeed, Digits, one, more, Mark, byComma, byPoint}
+use Rattle.textlog.specs.Form.{semicolon, comma, point, Digits, one, more, Mark, byComma, byPoint}
 use Rattle.textlog.specs.Decode.{mark, octetAfter, textAfter}
 
 -- ---- octets that are no digits

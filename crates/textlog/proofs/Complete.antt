@@ -5,11 +5,12 @@ use mathlib.Core.Path.{_≡_}
 use mathlib.Core.List.{List, [], _∷_, _++_, append-assoc}
 use borrow.Author.Tests.{le-leb, le-ltb, ne-eqb}
 use lib.ListN.{length, length-append}
+use Rattle.octets.specs.Text.{lineFeed}
 use Rattle.decimal.specs.Decimal.{decimalValue}
 use Rattle.rfc4737.proofs.Due.{not-outside}
-use Rattle.textlog.specs.Form.{semicolon, lineFeed, numberMost, timeMost, Digits, thousandths, Time, whole, parted, Line, line}
+use Rattle.textlog.specs.Form.{semicolon, numberMost, timeMost, Digits, thousandths, Time, whole, parted, Line, line}
 use Rattle.textlog.specs.Decode.{inRange, fractionIn, timeIn, lineIn}
-use Rattle.textlog.specs.declared.reading.Found.the-variants.{Read}
+use Rattle.textlog.specs.declared.reading.Reading.the-variants.{Read}
 use Rattle.textlog.proofs.Begun.{feed-no-digit, semicolon-no-digit, some-digits, met, mark-passes}
 
 range-complete : (n τ e : ℕ) → τ ≤ timeMost → inRange n τ e ≡ Read n τ e

@@ -1,4 +1,5 @@
--- A loop that fills two lists with the arrivals of a log. Assumes nothing.
+-- A loop that fills two lists with the arrivals of a log: after i lines, which end at the place `at`, the lists hold the values of the first i
+-- arrivals, and the log from there on has the lines that are left (`Filled`). What is left from i on, x ∷ xs, gives element i (`left`). Assumes nothing.
 use Prim.Native.Nat.{ℕ, zero, suc, _+_, _≤_, _<_}
 use native.Mathlib.Nat.{add-zero}
 use native.Mathlib.Omega.{arith}
@@ -7,12 +8,13 @@ use mathlib.Core.List.{List, [], _∷_, _++_, map}
 use lib.ListN.{length, getD, take, drop, length-drop, length-map, drop-of-length-le}
 use lib.Seq.{getD-drop, drop-drop}
 use Rattle.octets.specs.Memory.{over}
+use Rattle.octets.specs.Text.{lines}
 use Rattle.octets.proofs.Memory.{fill-length, fill-done}
 use Rattle.rfc4737.specs.declared.Arrival.{Arrival}
 use Rattle.rfc4737.specs.Judge.{numbersOf, timesOf}
-use Rattle.textlog.specs.Decode.{lineIn, DecodedLine, decodeLine, lines, arrivalOr0, arrivalsOfLines, arrivalsIn}
+use Rattle.textlog.specs.Decode.{lineIn, DecodedLine, decodeLine, arrivalOr0, arrivalsOfLines, logArrivals}
 use Rattle.textlog.specs.Private.Filling.{Fillable}
-use Rattle.textlog.specs.declared.reading.Found.the-variants.{Read, Malformed}
+use Rattle.textlog.specs.declared.reading.Reading.the-variants.{Read, Malformed}
 use Rattle.textlog.proofs.Lines.{line-read, line-unread}
 
 -- ---- lists
@@ -52,34 +54,31 @@ lines-first l ls d g = ap (λ (x : DecodedLine). arrivalOr0 x ∷ arrivalsOfLine
 pub record Filled (log numbers₀ times₀ : List ℕ) (at i : ℕ) (numbers times : List ℕ) : Type 0 where
   pub rest : lines (drop at log) ≡ drop i (lines log)
   pub some : i ≤ length (lines log)
-  pub filledNumbers : numbers ≡ take i (numbersOf (arrivalsIn log)) ++ drop i numbers₀
-  pub filledTimes : times ≡ take i (timesOf (arrivalsIn log)) ++ drop i times₀
+  pub filledNumbers : numbers ≡ take i (numbersOf (logArrivals log)) ++ drop i numbers₀
+  pub filledTimes : times ≡ take i (timesOf (logArrivals log)) ++ drop i times₀
 
 pub filled-none : (log numbers₀ times₀ : List ℕ) → Filled log numbers₀ times₀ 0 0 numbers₀ times₀
 filled-none log numbers₀ times₀ = record { rest = refl; some = omega arith; filledNumbers = refl; filledTimes = refl }
 
 module _ (log numbers₀ times₀ : List ℕ) (room : Fillable log numbers₀ times₀) (at i : ℕ) (numbers times : List ℕ)
     (f : Filled log numbers₀ times₀ at i numbers times) where
-  numbers-length : length (numbersOf (arrivalsIn log)) ≡ length (lines log)
-  numbers-length = length-map (arrivalsIn log) _ ∙ lines-length (lines log)
+  -- as many values of arrivals as lines
+  values-length : (value : Arrival → ℕ) → length (map value (logArrivals log)) ≡ length (lines log)
+  values-length value = length-map (logArrivals log) value ∙ lines-length (lines log)
 
-  times-length : length (timesOf (arrivalsIn log)) ≡ length (lines log)
-  times-length = length-map (arrivalsIn log) _ ∙ lines-length (lines log)
-
-  -- the lists keep their length
-  pub kept-numbers : length numbers ≡ length numbers₀
-  kept-numbers =
-      let p = numbers-length in
+  -- a list keeps its length
+  kept : (value : Arrival → ℕ) (old : List ℕ) {new : List ℕ} → new ≡ take i (map value (logArrivals log)) ++ drop i old → length (lines log) ≤ length old
+      → length new ≡ length old
+  kept value old e r =
+      let p = values-length value in
       let s = f .some in
-      let r = room .numbersRoom in
-      ap length (f .filledNumbers) ∙ fill-length (numbersOf (arrivalsIn log)) numbers₀ i (omega arith) (omega arith)
+      ap length e ∙ fill-length (map value (logArrivals log)) old i (omega arith) (omega arith)
+
+  pub kept-numbers : length numbers ≡ length numbers₀
+  kept-numbers = kept (λ (a : Arrival). a .number) numbers₀ (f .filledNumbers) (room .numbersRoom)
 
   pub kept-times : length times ≡ length times₀
-  kept-times =
-      let p = times-length in
-      let s = f .some in
-      let r = room .timesRoom in
-      ap length (f .filledTimes) ∙ fill-length (timesOf (arrivalsIn log)) times₀ i (omega arith) (omega arith)
+  kept-times = kept (λ (a : Arrival). a .time) times₀ (f .filledTimes) (room .timesRoom)
 
   -- no malformed line stands there
   pub none-bad : at < length log → lineIn at (drop at log) ≡ Malformed → ⊥
@@ -89,15 +88,15 @@ module _ (log numbers₀ times₀ : List ℕ) (room : Fillable log numbers₀ ti
       room .decodes i (s .0) (ap decodeLine (sym (s .1)) ∙ b .gives)
 
   -- no line is left
-  pub filled-done : length log ≤ at → (numbers ≡ over (numbersOf (arrivalsIn log)) numbers₀) × (times ≡ over (timesOf (arrivalsIn log)) times₀)
+  pub filled-done : length log ≤ at → (numbers ≡ over (numbersOf (logArrivals log)) numbers₀) × (times ≡ over (timesOf (logArrivals log)) times₀)
   unfolding lines
   filled-done h =
       let z : drop i (lines log) ≡ [] = sym (f .rest) ∙ ap lines (drop-of-length-le log h) in
-      let p = numbers-length in
-      let q = times-length in
+      let p = values-length (λ (a : Arrival). a .number) in
+      let q = values-length (λ (a : Arrival). a .time) in
       let s : length (lines log) ≡ i = omega (arith, f .some, ap length z, length-drop i (lines log)) in (
-        fill-done (numbersOf (arrivalsIn log)) numbers₀ i (omega arith) (f .filledNumbers),
-        fill-done (timesOf (arrivalsIn log)) times₀ i (omega arith) (f .filledTimes),
+        fill-done (numbersOf (logArrivals log)) numbers₀ i (omega arith) (f .filledNumbers),
+        fill-done (timesOf (logArrivals log)) times₀ i (omega arith) (f .filledTimes),
       )
 
   module _ (n τ end : ℕ) (e : lineIn at (drop at log) ≡ Read n τ end) where
@@ -105,16 +104,16 @@ module _ (log numbers₀ times₀ : List ℕ) (room : Fillable log numbers₀ ti
     record Here : Type 0 where
       pub within : i < length (lines log)
       pub onward : lines (drop end log) ≡ drop (i + 1) (lines log)
-      pub arrival : drop i (arrivalsIn log) ≡ record { number = n; time = τ } ∷ drop (i + 1) (arrivalsIn log)
+      pub arrival : drop i (logArrivals log) ≡ record { number = n; time = τ } ∷ drop (i + 1) (logArrivals log)
 
     here : Here
     here =
         let b = line-read log at e in
         let l = sym (f .rest) ∙ b .lead in
         let s = left (lines log) i [] (b .text) (lines (drop end log)) l in
-        let m : drop i (arrivalsIn log) ≡ record { number = n; time = τ } ∷ arrivalsOfLines (lines (drop end log)) =
+        let m : drop i (logArrivals log) ≡ record { number = n; time = τ } ∷ arrivalsOfLines (lines (drop end log)) =
         lines-drop i (lines log) ∙ ap arrivalsOfLines l ∙ lines-first (b .text) (lines (drop end log)) _ (b .gives) in
-        let t = left (arrivalsIn log) i (record { number = 0; time = 0 }) _ _ m in
+        let t = left (logArrivals log) i (record { number = 0; time = 0 }) _ _ m in
         record {
           within = s .0;
           onward = sym (s .2);
@@ -131,11 +130,11 @@ module _ (log numbers₀ times₀ : List ℕ) (room : Fillable log numbers₀ ti
         → Filled log numbers₀ times₀ end (i + 1) numbers′ times′
     filled-next fn ft =
         let h = here in
-        let p = left (numbersOf (arrivalsIn log)) i 0 n (numbersOf (drop (i + 1) (arrivalsIn log))) (drop-map (λ (a : Arrival). a .number) i (arrivalsIn log) ∙ ap numbersOf (h .arrival)) in
-        let q = left (timesOf (arrivalsIn log)) i 0 τ (timesOf (drop (i + 1) (arrivalsIn log))) (drop-map (λ (a : Arrival). a .time) i (arrivalsIn log) ∙ ap timesOf (h .arrival)) in
+        let p = left (numbersOf (logArrivals log)) i 0 n (numbersOf (drop (i + 1) (logArrivals log))) (drop-map (λ (a : Arrival). a .number) i (logArrivals log) ∙ ap numbersOf (h .arrival)) in
+        let q = left (timesOf (logArrivals log)) i 0 τ (timesOf (drop (i + 1) (logArrivals log))) (drop-map (λ (a : Arrival). a .time) i (logArrivals log) ∙ ap timesOf (h .arrival)) in
         record {
           rest = h .onward;
           some = omega (arith, h .within);
-          filledNumbers = fn (numbersOf (arrivalsIn log)) (p .1) (p .0) (f .filledNumbers);
-          filledTimes = ft (timesOf (arrivalsIn log)) (q .1) (q .0) (f .filledTimes);
+          filledNumbers = fn (numbersOf (logArrivals log)) (p .1) (p .0) (f .filledNumbers);
+          filledTimes = ft (timesOf (logArrivals log)) (q .1) (q .0) (f .filledTimes);
         }

@@ -10,40 +10,27 @@ use borrow.Author.Tests.{eq-eqb, ne-eqb, eqb-true}
 use lib.Dec.{eqb}
 use lib.ListN.{length, getD, drop, length-append}
 use lib.Seq.{append-snoc, drop-at, drop-drop, drop-cons}
+use Rattle.octets.specs.Text.{lineFeed, lines}
+use Rattle.octets.proofs.Text.{Plain, none, some, plain-append, plain-line, first-line}
 use Rattle.rfc4737.specs.declared.Arrival.{Arrival}
-use Rattle.textlog.specs.Form.{semicolon, lineFeed, numberMost, Digits, one, more, byComma, byPoint, Time, whole, parted, Line, line, LineFits}
-use Rattle.textlog.specs.Decode.{lineIn, DecodedLine, malformed, arrived, readWhole, decodeLine, inFront, withOctet, lines}
+use Rattle.textlog.specs.Form.{semicolon, numberMost, Digits, one, more, byComma, byPoint, Time, whole, parted, Line, line, LineFits}
+use Rattle.textlog.specs.Decode.{lineIn, DecodedLine, malformed, arrived, readWhole, decodeLine}
 use Rattle.textlog.specs.RoundTrip.{ExactLine}
-use Rattle.textlog.specs.declared.reading.Found.{Found}
-use Rattle.textlog.specs.declared.reading.Found.the-variants.{Read, Malformed}
+use Rattle.textlog.specs.declared.reading.Reading.{Reading}
+use Rattle.textlog.specs.declared.reading.Reading.the-variants.{Read, Malformed}
 use Rattle.textlog.proofs.Sound.{sound}
 use Rattle.textlog.proofs.Complete.{complete}
 
 -- ---- a line of the form is the first of the text that it begins
 
--- octets other than a line feed
-data Plain : List ℕ → Type 0 where
-  none : Plain []
-  some : {o : ℕ} {l : List ℕ} → eqb o lineFeed ≡ false → Plain l → Plain (o ∷ l)
-
 plain-digits : {ds : List ℕ} → Digits ds → Plain ds
 plain-digits (one {o} h k) = some (ne-eqb o lineFeed (λ e. omega arith)) none
 plain-digits (more {o} h k d) = some (ne-eqb o lineFeed (λ e. omega arith)) (plain-digits d)
-
-plain-append : {a b : List ℕ} → Plain a → Plain b → Plain (a ++ b)
-plain-append none q = q
-plain-append (some e p) q = some e (plain-append p q)
 
 plain-time : {ts : List ℕ} {τ : ℕ} → Time ts τ → Plain ts
 plain-time (whole d) = plain-digits d
 plain-time (parted d byComma f few) = plain-append (plain-digits d) (some refl (plain-digits f))
 plain-time (parted d byPoint f few) = plain-append (plain-digits d) (some refl (plain-digits f))
-
--- such octets and a line feed are the first line
-plain-line : {x : List ℕ} → Plain x → (u : List ℕ) → lines (x ++ (lineFeed ∷ u)) ≡ (x ++ (lineFeed ∷ [])) ∷ lines u
-unfolding lines
-plain-line none u = refl
-plain-line (some {o} e p) u = rw e (ap (inFront o) (plain-line p u))
 
 -- a line of the form, with anything after it, is the first line
 pub line-first : {text : List ℕ} {n τ : ℕ} → Line text n τ → (u : List ℕ) → lines (text ++ u) ≡ text ∷ lines u
@@ -53,63 +40,10 @@ line-first (line {ns} {ts} d t) u =
     sym (append-assoc ns (semicolon ∷ ts) (lineFeed ∷ [])) in
     rw e (ap lines (append-snoc (ns ++ (semicolon ∷ ts)) lineFeed u) ∙ plain-line p u)
 
--- ---- the lines of a text, one after the other, are the text
-
--- lines, one after the other
-unfoldable pub joined : List (List ℕ) → List ℕ
-joined [] = []
-joined (l ∷ ls) = l ++ joined ls
-
--- with an octet before them
-with-joined : (b : Bool) (o : ℕ) (ls : List (List ℕ)) → joined (withOctet b o ls) ≡ o ∷ joined ls
-unfolding joined
-with-joined true o ls = refl
-with-joined false o [] = refl
-with-joined false o (l ∷ ls) = refl
-
-pub lines-joined : (t : List ℕ) → joined (lines t) ≡ t
-unfolding lines joined
-lines-joined [] = refl
-lines-joined (o ∷ t) = with-joined (eqb o lineFeed) o (lines t) ∙ ap (λ (x : List ℕ). o ∷ x) (lines-joined t)
-
--- ---- every text that is not empty has a first line
-
--- the first line, with which the text begins, and the lines of what follows it
-record First (t : List ℕ) : Type 0 where
-  pub text : List ℕ
-  pub rest : List ℕ
-  pub split : t ≡ text ++ rest
-  pub lead : lines t ≡ text ∷ lines rest
-
-first-line : (o : ℕ) (t : List ℕ) → First (o ∷ t)
-unfolding lines
-first-line o [] = go (eqb o lineFeed) refl
-  where
-    go : (b : Bool) → eqb o lineFeed ≡ b → First (o ∷ [])
-    go true e = record { text = o ∷ []; rest = []; split = refl; lead = rw e }
-    go false e = record { text = o ∷ []; rest = []; split = refl; lead = rw e }
-first-line o (p ∷ t) = go (eqb o lineFeed) refl (first-line p t)
-  where
-    go : (b : Bool) → eqb o lineFeed ≡ b → First (p ∷ t) → First (o ∷ p ∷ t)
-    go true e f =
-        record {
-          text = o ∷ [];
-          rest = p ∷ t;
-          split = refl;
-          lead = ap (λ (b : Bool). withOctet b o (lines (p ∷ t))) e;
-        }
-    go false e f =
-        record {
-          text = o ∷ f .text;
-          rest = f .rest;
-          split = ap (λ (x : List ℕ). o ∷ x) (f .split);
-          lead = ap (λ (b : Bool). withOctet b o (lines (p ∷ t))) e ∙ ap (inFront o) (f .lead);
-        }
-
 -- ---- a line decodes exactly if it has the form, and its values fit
 
 -- a line read to its end
-read-whole : (n : ℕ) (r : Found) {a : Arrival} → readWhole n r ≡ arrived a → r ≡ Read (a .number) (a .time) n
+read-whole : (n : ℕ) (r : Reading) {a : Arrival} → readWhole n r ≡ arrived a → r ≡ Read (a .number) (a .time) n
 read-whole n Malformed h = absurd (let z : _≡_ {A = ℕ} 0 1 = cc in omega arith)
 read-whole n (Read m τ e) {a} h = go (eqb e n) refl h
   where
@@ -186,8 +120,9 @@ pub record Bad (log : List ℕ) (at : ℕ) : Type 0 where
 pub line-unread : (log : List ℕ) (at : ℕ) → at < length log → lineIn at (drop at log) ≡ Malformed → Bad log at
 line-unread log at h e =
     let f = first-line (getD log at 0) (drop (suc at) log) in
-    let w : drop at log ≡ f .text ++ f .rest = drop-cons log at 0 h ∙ f .split in
-    go (f .text) (f .rest) (lines (f .rest)) w (ap lines (drop-cons log at 0 h) ∙ f .lead) (decodeLine (f .text)) refl
+    let text : List ℕ = getD log at 0 ∷ f .text in
+    let w : drop at log ≡ text ++ f .rest = drop-cons log at 0 h ∙ ap (λ (x : List ℕ). getD log at 0 ∷ x) (f .split) in
+    go text (f .rest) (lines (f .rest)) w (ap lines (drop-cons log at 0 h) ∙ f .lead) (decodeLine text) refl
   where
     go : (text rest : List ℕ) (others : List (List ℕ)) → drop at log ≡ text ++ rest → lines (drop at log) ≡ text ∷ others
         → (d : DecodedLine) → decodeLine text ≡ d → Bad log at

@@ -1,5 +1,5 @@
 -- What the reading of a line finds at the places of a log: one law for each `return` of the code. Assumes nothing.
-use Prim.Native.Nat.{ℕ, zero, suc, _+_, _*_, _-_, _^_, _≤_, _<_, min}
+use Prim.Native.Nat.{ℕ, _+_, _*_, _-_, _^_, _≤_, _<_, min}
 use native.Mathlib.Omega.{arith}
 use mathlib.Core.Bool.{Bool, true, false}
 use mathlib.Core.Path.{_≡_, refl, sym, ap, ap₂, _∙_}
@@ -8,23 +8,19 @@ use borrow.Author.Tests.{eq-eqb, ne-eqb, lt-ltb, le-ltb, le-leb, lt-leb, leb-tru
 use lib.Dec.{leb}
 use lib.ListN.{length, getD, drop}
 use lib.Seq.{getD-drop, drop-drop}
+use Rattle.octets.specs.Text.{lineFeed}
 use Rattle.decimal.specs.Decimal.{decimalValue}
 use Rattle.decimal.specs.Reading.{digitCount, leading, leadingValue, wordMost, numberAt}
 use Rattle.decimal.specs.declared.reading.Number.{Number}
 use Rattle.rfc4737.specs.Refusals.{outside}
 use Rattle.rfc4737.proofs.Due.{not-outside}
-use Rattle.textlog.specs.Form.{semicolon, lineFeed, numberMost, timeMost, Digits, one, more}
+use Rattle.textlog.specs.Form.{semicolon, numberMost, timeMost, Digits, one, more}
 use Rattle.textlog.specs.Decode.{mark, octetAfter, textAfter, inRange, fractionIn, timeIn, lineIn}
-use Rattle.textlog.specs.declared.reading.Found.{Found}
-use Rattle.textlog.specs.declared.reading.Found.the-variants.{Malformed}
+use Rattle.textlog.specs.declared.reading.Reading.{Reading}
+use Rattle.textlog.specs.declared.reading.Reading.the-variants.{Malformed}
 use Rattle.textlog.proofs.Begun.{some-digits, present, digits-lead, begins}
 
 -- ---- numbers
-
--- not 0
-positive : (n : ℕ) → (n ≡ 0 → ⊥) → 1 ≤ n
-positive zero h = absurd (h refl)
-positive (suc n) h = omega arith
 
 -- more than three
 outside-over : (n : ℕ) → 3 < n → outside 1 3 n ≡ true
@@ -118,7 +114,7 @@ module _ (log : List ℕ) (at : ℕ) (digits : Number) (e : digits ≡ numberAt 
           rw (ne-eqb (digitCount (drop at log)) 0 some, le-ltb numberMost (leadingValue (drop at log)) under, here, ne-eqb (getD log (digits .end) 0) semicolon o)
 
       -- the time decides
-      pub line-time : getD log (digits .end) 0 ≡ semicolon → {r : Found}
+      pub line-time : getD log (digits .end) 0 ≡ semicolon → {r : Reading}
           → r ≡ timeIn (digits .value) (digits .end + 1) (drop (digits .end + 1) log) → r ≡ lineIn at (drop at log)
       unfolding lineIn
       line-time o q =
@@ -135,7 +131,7 @@ module _ (log : List ℕ) (at : ℕ) (digits : Number) (e : digits ≡ numberAt 
 
     module _ (s : digits .end ≡ at → ⊥) where
       -- a line feed follows
-      pub time-ends : getD log (digits .end) 0 ≡ lineFeed → {r : Found}
+      pub time-ends : getD log (digits .end) 0 ≡ lineFeed → {r : Reading}
           → r ≡ inRange number (1000 * digits .value + 0) (digits .end + 1) → r ≡ timeIn number at (drop at log)
       unfolding timeIn
       time-ends o q =
@@ -154,7 +150,7 @@ module _ (log : List ℕ) (at : ℕ) (digits : Number) (e : digits ≡ numberAt 
             rw (ne-eqb (digitCount (drop at log)) 0 (some s), here, ne-eqb (getD log (digits .end) 0) lineFeed o, m)
 
         -- a mark does: the decimals decide
-        pub time-parted : mark (getD log (digits .end) 0) ≡ true → {r : Found}
+        pub time-parted : mark (getD log (digits .end) 0) ≡ true → {r : Reading}
             → r ≡ fractionIn number (digits .value) (digits .end + 1) (drop (digits .end + 1) log) → r ≡ timeIn number at (drop at log)
         unfolding timeIn
         time-parted m q =
@@ -180,7 +176,7 @@ module _ (log : List ℕ) (at : ℕ) (digits : Number) (e : digits ≡ numberAt 
 
       module _ (l : digits .end - at ≡ 0 → ⊥) (m : digits .end - at ≤ 3) where
         there : 1 ≤ digitCount (drop at log)
-        there = positive (digitCount (drop at log)) (λ z. l (omega (arith, ends)))
+        there = omega (arith, ends, l)
 
         few : outside 1 3 (digitCount (drop at log)) ≡ false
         few = not-outside 1 3 (digitCount (drop at log)) there (omega (arith, ends))
@@ -202,7 +198,7 @@ module _ (log : List ℕ) (at : ℕ) (digits : Number) (e : digits ≡ numberAt 
               (omega (arith, value), omega (arith, value))
 
           -- one does: the line is read
-          pub fraction-ends : {r : Found} (f : ℕ) → f ≡ digits .value * 10 ^ (3 - (digits .end - at))
+          pub fraction-ends : {r : Reading} (f : ℕ) → f ≡ digits .value * 10 ^ (3 - (digits .end - at))
               → r ≡ inRange number (1000 * whole + f) (digits .end + 1) → r ≡ fractionIn number whole at (drop at log)
           unfolding fractionIn
           fraction-ends f w q =

@@ -1,32 +1,29 @@
 -- A log of the form is read as its arrivals, a written log has the form, and so what is written reads back. Assumes nothing.
-use Prim.Native.Nat.{ℕ, _+_, _*_, _-_, _/_, _%_, _^_, _≤_, _<_}
+use Prim.Native.Nat.{ℕ, _+_, _*_, _/_, _%_, _^_, _≤_, _<_}
 use native.Mathlib.Nat.{add-zero, zero-add}
 use native.Mathlib.Omega.{arith}
 use mathlib.Core.Path.{_≡_, refl, sym, ap, _∙_, subst}
 use mathlib.Core.List.{List, [], _∷_, _++_, append-assoc}
 use borrow.Author.Tests.{le-ltb}
-use lib.Dec.{ltb}
 use lib.ListN.{length, take, length-map}
 use Rattle.octets.specs.Memory.{over}
 use Rattle.octets.specs.Below.{Below}
+use Rattle.octets.specs.Text.{lineFeed, lines}
 use Rattle.octets.proofs.Below.{below-tail}
-use Rattle.octets.proofs.Memory.{over-read}
 use Rattle.decimal.specs.Decimal.{decimalOf, decimalValue}
 use Rattle.decimal.proofs.Laws.{by-tens, one-digit, more-digits, reads-back}
 use Rattle.rfc4737.specs.declared.Arrival.{Arrival}
 use Rattle.rfc4737.specs.Judge.{arrivalsMost, numbersOf, timesOf, arrivalsFrom, judge, refusalOfLists}
-use Rattle.rfc4737.specs.Refusals.{inCase, outputShort}
 use Rattle.rfc4737.specs.Times.{nextReference}
-use Rattle.rfc4737.proofs.Due.{first-none}
 use Rattle.rfc4737.proofs.Judged.{judge-split, one-split, ListsFit, lists-fit}
 use Rattle.rfc4737.proofs.Pairs.{arrivals-length, numbers-back, times-back, arrivals-back}
 use Rattle.sample.specs.Format.{itemOctets}
-use Rattle.sample.specs.Calls.{unlessRefused}
-use Rattle.textlog.specs.Form.{semicolon, comma, lineFeed, numberMost, Digits, one, more, byComma, thousandths, threeDigits, Time, parted, Line, line, Log, none, after, lineOf, logOf}
-use Rattle.textlog.specs.Decode.{DecodedLine, lines, arrivalOr0, arrivalsOfLines, arrivalsIn, unless, judgeLines, judgeLog}
-use Rattle.textlog.specs.Calls.{listsShort, shortLast, importAnswer, arrivalsUnless, writeRefusal, octetsInto}
-use Rattle.textlog.specs.RoundTrip.{ExactLog, ReadAgain}
-use Rattle.textlog.specs.declared.Imported.{Imported}
+use Rattle.sample.proofs.Output.{own-none, output-read}
+use Rattle.textlog.specs.Form.{semicolon, comma, numberMost, Digits, one, more, byComma, thousandths, threeDigits, Time, parted, Line, line, Log, none, after, lineOf, logOf}
+use Rattle.textlog.specs.Decode.{DecodedLine, arrivalOr0, arrivalsOfLines, logArrivals, unless, judgeLines, judgeLog}
+use Rattle.textlog.specs.Calls.{logListsShort, shortLast, importAnswer, arrivalsUnless}
+use Rattle.textlog.specs.RoundTrip.{ExactLog, LogReadAgain}
+use Rattle.textlog.specs.declared.LogImport.{LogImport}
 use Rattle.textlog.proofs.Lines.{decodes, line-first}
 use Rattle.textlog.proofs.Judging.{judge-passed}
 use Rattle.textlog.proofs.Accepted.{accepted-log, accepted-lists}
@@ -34,12 +31,12 @@ use Rattle.textlog.proofs.Accepted.{accepted-log, accepted-lists}
 -- ---- a log of the form is read as its arrivals
 
 -- its arrivals
-form-arrivals : {log : List ℕ} {l : List Arrival} → Log log l → arrivalsIn log ≡ l
+form-arrivals : {log : List ℕ} {l : List Arrival} → Log log l → logArrivals log ≡ l
 unfolding lines arrivalsOfLines
 form-arrivals none = refl
 form-arrivals (after {l} {log} {a} {rest} f g) =
     ap arrivalsOfLines (line-first (f .form) log)
-    ∙ ap (λ (d : DecodedLine). arrivalOr0 d ∷ arrivalsIn log) (decodes l a f)
+    ∙ ap (λ (d : DecodedLine). arrivalOr0 d ∷ logArrivals log) (decodes l a f)
     ∙ ap (λ (y : List Arrival). a ∷ y) (form-arrivals g)
 
 -- where no arrival is refused, no line is
@@ -69,17 +66,17 @@ form-read k {log} {l} g j f =
 pub exact-log : (k : ℕ) (log : List ℕ) → ExactLog k log
 exact-log k log l = (there, back)
   where
-    there : (judgeLog k log .refusal ≡ 0) × (arrivalsIn log ≡ l) → Log log l × (refusalOfLists k (numbersOf l) (timesOf l) ≡ 0)
+    there : (judgeLog k log .refusal ≡ 0) × (logArrivals log ≡ l) → Log log l × (refusalOfLists k (numbersOf l) (timesOf l) ≡ 0)
     there h = (
       subst (λ (x : List Arrival). Log log x) (h .1) (accepted-log k log (h .0) .form),
       subst (λ (x : List Arrival). refusalOfLists k (numbersOf x) (timesOf x) ≡ 0) (h .1) (accepted-lists k log (h .0)),
     )
 
-    back : Log log l × (refusalOfLists k (numbersOf l) (timesOf l) ≡ 0) → (judgeLog k log .refusal ≡ 0) × (arrivalsIn log ≡ l)
+    back : Log log l × (refusalOfLists k (numbersOf l) (timesOf l) ≡ 0) → (judgeLog k log .refusal ≡ 0) × (logArrivals log ≡ l)
     back h =
         let f = lists-fit k (numbersOf l) (timesOf l) (h .1) in
         let j : judge k 0 l ≡ 0 = ap (judge k 0) (sym (arrivals-back l)) ∙ f .judged in
-        (ap (λ (y : Imported). y .refusal) (form-read k (h .0) j f), form-arrivals (h .0))
+        (ap (λ (y : LogImport). y .refusal) (form-read k (h .0) j f), form-arrivals (h .0))
 
 -- ---- a written log has the form
 
@@ -138,21 +135,15 @@ log-form k reference (a ∷ l) h j b =
 import-accepted : (k : ℕ) (log numbers times : List ℕ) (n : ℕ) → judgeLog k log ≡ record { refusal = 0; arrivals = n; line = 0 }
     → n ≤ length numbers → n ≤ length times
     → importAnswer k (length numbers) (length times) log ≡ record { refusal = 0; arrivals = n; line = 0 }
-unfolding importAnswer listsShort
+unfolding importAnswer logListsShort
 import-accepted k log numbers times n e h m =
-    ap (λ (y : Imported). shortLast (length numbers) (length times) (y .refusal) y) e
+    ap (λ (y : LogImport). shortLast (length numbers) (length times) (y .refusal) y) e
     ∙ (rw (le-ltb (length numbers) n h, le-ltb (length times) n m))
 
-pub read-again : (k : ℕ) (numbers times : List ℕ) → Below (2 ^ 64) times → ReadAgain k numbers times
-unfolding writeRefusal
+pub read-again : (k : ℕ) (numbers times : List ℕ) → Below (2 ^ 64) times → LogReadAgain k numbers times
 read-again k numbers times b out out′ numbers₀ times₀ numbers′ times′ written read w z rn rt r =
-    let i : writeRefusal k (length out) numbers times ≡ 0 = sym (w .refusal) ∙ z in
-    let f = lists-fit k numbers times (first-none (refusalOfLists k numbers times) (inCase (ltb (length out) (length (logOf (arrivalsFrom numbers times)))) outputShort ∷ []) i .0) in
-    let o : octetsInto k (length out) numbers times ≡ logOf (arrivalsFrom numbers times) = ap (λ (x : ℕ). unlessRefused x (logOf (arrivalsFrom numbers times))) i in
-    let t : take (written .length) out′ ≡ logOf (arrivalsFrom numbers times) =
-    ap (λ (n : ℕ). take n out′) (w .octets ∙ ap length o)
-    ∙ ap (take (length (logOf (arrivalsFrom numbers times)))) (w .filled ∙ ap (λ (x : List ℕ). over x out) o)
-    ∙ over-read (logOf (arrivalsFrom numbers times)) out in
+    let f = lists-fit k numbers times (own-none (refusalOfLists k numbers times) (logOf (arrivalsFrom numbers times)) out w z) in
+    let t = output-read (refusalOfLists k numbers times) (logOf (arrivalsFrom numbers times)) out w z in
     let g = log-form k 0 (arrivalsFrom numbers times) (omega (arith, f .most)) (f .judged) (rw (times-back numbers times (f .same)) b) in
     let fn : ListsFit k (numbersOf (arrivalsFrom numbers times)) (timesOf (arrivalsFrom numbers times)) = rw (numbers-back numbers times (f .same), times-back numbers times (f .same)) f in
     let l = arrivals-length numbers times (f .same) in
@@ -162,9 +153,9 @@ read-again k numbers times b out out′ numbers₀ times₀ numbers′ times′ 
     ∙ ap (importAnswer k (length numbers₀) (length times₀)) t
     ∙ import-accepted k (logOf (arrivalsFrom numbers times)) numbers₀ times₀ (length (arrivalsFrom numbers times)) j (omega arith) (omega (arith, f .same))
     ∙ ap (λ (n : ℕ). record { refusal = 0; arrivals = n; line = 0 }) l in
-    let a : arrivalsUnless (read .refusal) (arrivalsIn (take (written .length) out′)) ≡ arrivalsFrom numbers times =
-    ap (λ (x : Imported). arrivalsUnless (x .refusal) (arrivalsIn (take (written .length) out′))) y
-    ∙ ap arrivalsIn t
+    let a : arrivalsUnless (read .refusal) (logArrivals (take (written .length) out′)) ≡ arrivalsFrom numbers times =
+    ap (λ (x : LogImport). arrivalsUnless (x .refusal) (logArrivals (take (written .length) out′))) y
+    ∙ ap logArrivals t
     ∙ form-arrivals g in (
       y,
       r .filledNumbers ∙ ap (λ (x : List Arrival). over (numbersOf x) numbers₀) a ∙ ap (λ (x : List ℕ). over x numbers₀) (numbers-back numbers times (f .same)),

@@ -1,5 +1,6 @@
--- What is read of a text has the form of a line, and fits. Assumes nothing.
-use Prim.Native.Nat.{ℕ, zero, suc, _+_, _*_, _≤_, _<_}
+-- What is read of a text t has the form of a line, and fits: each test on the way was passed (`kept`, `passed`), so the digits, the octet after them and
+-- what follows are the parts of the form; first of the decimals, then of a time, then of a line. Assumes nothing.
+use Prim.Native.Nat.{ℕ, suc, _+_, _*_, _≤_}
 use native.Mathlib.Omega.{arith}
 use mathlib.Core.Bool.{Bool, true, false, cond}
 use mathlib.Core.Path.{_≡_, refl, sym, ap, _∙_, subst}
@@ -8,31 +9,27 @@ use borrow.Author.Tests.{leb-true, ltb-false, eqb-true, eqb-false}
 use lib.Dec.{leb, ltb, eqb}
 use lib.ListN.{length, length-append}
 use lib.Seq.{append-snoc}
+use Rattle.octets.specs.Text.{lineFeed}
 use Rattle.decimal.specs.Reading.{digitCount, leading, leadingValue}
 use Rattle.rfc4737.specs.Refusals.{outside}
 use Rattle.rfc4737.proofs.Due.{between}
-use Rattle.textlog.specs.Form.{semicolon, lineFeed, numberMost, timeMost, Digits, Mark, thousandths, Time, whole, parted, Line, line}
+use Rattle.textlog.specs.Form.{semicolon, numberMost, timeMost, Digits, Mark, thousandths, Time, whole, parted, Line, line}
 use Rattle.textlog.specs.Decode.{mark, octetAfter, textAfter, inRange, fractionIn, timeIn, lineIn}
-use Rattle.textlog.specs.declared.reading.Found.{Found}
-use Rattle.textlog.specs.declared.reading.Found.the-variants.{Read, Malformed}
+use Rattle.textlog.specs.declared.reading.Reading.{Reading}
+use Rattle.textlog.specs.declared.reading.Reading.the-variants.{Read, Malformed}
 use Rattle.textlog.proofs.Begun.{digits-lead, begins, is-mark, mark-passes}
 
 -- ---- tests passed on the way to a line
 
 -- one that must not hold
-kept : (b : Bool) {r : Found} {n τ e : ℕ} → cond b Malformed r ≡ Read n τ e → (b ≡ false) × (r ≡ Read n τ e)
+kept : (b : Bool) {r : Reading} {n τ e : ℕ} → cond b Malformed r ≡ Read n τ e → (b ≡ false) × (r ≡ Read n τ e)
 kept true h = absurd (let z : _≡_ {A = ℕ} 0 1 = cc in omega arith)
 kept false h = (refl, h)
 
 -- one that must hold
-passed : (b : Bool) {r : Found} {n τ e : ℕ} → cond b r Malformed ≡ Read n τ e → (b ≡ true) × (r ≡ Read n τ e)
+passed : (b : Bool) {r : Reading} {n τ e : ℕ} → cond b r Malformed ≡ Read n τ e → (b ≡ true) × (r ≡ Read n τ e)
 passed true h = (refl, h)
 passed false h = absurd (let z : _≡_ {A = ℕ} 0 1 = cc in omega arith)
-
--- not 0
-positive : (n : ℕ) → eqb n 0 ≡ false → 0 < n
-positive zero e = absurd (eqb-false 0 0 e refl)
-positive (suc n) e = omega arith
 
 -- a time in range, and the rest of the line
 record Ranged (n τ e n₂ τ₂ e₂ : ℕ) : Type 0 where
@@ -96,7 +93,7 @@ time-sound : (number at : ℕ) (t : List ℕ) {n τ e : ℕ} → timeIn number a
 unfolding timeIn
 time-sound number at t {n} {τ} {e} h =
     let p = kept (eqb (digitCount t) 0) h in
-    go (digits-lead t (positive (digitCount t) (p .0))) (eqb (octetAfter t) lineFeed) refl (p .1)
+    go (digits-lead t (omega (arith, eqb-false (digitCount t) 0 (p .0)))) (eqb (octetAfter t) lineFeed) refl (p .1)
   where
     -- a line feed follows the digits
     plain : Digits (leading t) → octetAfter t ≡ lineFeed → Ranged number (1000 * leadingValue t) (at + digitCount t + 1) n τ e
@@ -161,7 +158,7 @@ sound at t {n} {τ} {e} h =
     let r = passed (eqb (octetAfter t) semicolon) (q .1) in
     let g = begins t semicolon (eqb-true _ _ (r .0)) (omega arith) in
     let s = time-sound (leadingValue t) (at + digitCount t + 1) (textAfter t) (r .1) in
-    let d = digits-lead t (positive (digitCount t) (p .0)) in
+    let d = digits-lead t (omega (arith, eqb-false (digitCount t) 0 (p .0))) in
     let l : length (leading t ++ (semicolon ∷ (s .ts ++ (lineFeed ∷ [])))) ≡ digitCount t + suc (length (s .ts) + 1) =
     length-append (leading t) _
     ∙ ap (λ (k : ℕ). k + suc (length (s .ts ++ (lineFeed ∷ [])))) (g .long)

@@ -1,41 +1,42 @@
 -- The written form: the length of a line, a line put in parts, and the log of a list of arrivals, one line more. Assumes nothing.
-use Prim.Native.Nat.{ℕ, _+_, _-_, _/_, _%_, _≤_, _<_}
+use Prim.Native.Nat.{ℕ, _+_, _/_, _%_, _≤_, _<_}
 use native.Mathlib.Omega.{arith}
 use mathlib.Core.Path.{_≡_, sym, ap, _∙_}
 use mathlib.Core.List.{List, [], _∷_, _++_, append-assoc}
 use lib.ListN.{length, getD, take, drop, length-append, take-append-drop}
 use lib.Seq.{take-all, append-snoc}
 use Rattle.octets.specs.Memory.{put}
+use Rattle.octets.specs.Text.{lineFeed}
 use Rattle.octets.proofs.Memory.{put-next}
 use Rattle.decimal.specs.Decimal.{decimalOf}
 use Rattle.rfc4737.specs.declared.Arrival.{Arrival}
 use Rattle.rfc4737.specs.Judge.{arrivalsFrom}
 use Rattle.rfc4737.proofs.Pairs.{arrivals-getD, arrivals-length}
 use Rattle.sample.proofs.Items.{octets-append, octets-snoc}
-use Rattle.textlog.specs.Form.{lineOf, logOf}
+use Rattle.textlog.specs.Form.{semicolon, comma, threeDigits, lineOf, logOf}
 
 -- the length of a line
 pub line-long : (a : Arrival) → length (lineOf a) ≡ length (decimalOf (a .number)) + length (decimalOf (a .time / 1000)) + 6
 unfolding lineOf
 line-long a =
-    let t : List ℕ = 44 ∷ (48 + a .time % 1000 / 100) ∷ (48 + a .time % 1000 / 10 % 10) ∷ (48 + a .time % 1000 % 10) ∷ 10 ∷ [] in
-    omega (arith, length-append (decimalOf (a .number)) (59 ∷ (decimalOf (a .time / 1000) ++ t)), length-append (decimalOf (a .time / 1000)) t)
+    let t : List ℕ = comma ∷ (threeDigits (a .time % 1000) ++ (lineFeed ∷ [])) in
+    omega (arith, length-append (decimalOf (a .number)) (semicolon ∷ (decimalOf (a .time / 1000) ++ t)), length-append (decimalOf (a .time / 1000)) t)
 
 -- a line put in four parts
-pub put-parts : (at first third : ℕ) (x y z old : List ℕ) {o₁ o₂ o₃ o₄ : List ℕ} → at + length (x ++ (59 ∷ (y ++ z))) ≤ length old
+pub put-parts : (at first third : ℕ) (x y z old : List ℕ) {o₁ o₂ o₃ o₄ : List ℕ} → at + length (x ++ (semicolon ∷ (y ++ z))) ≤ length old
     → first ≡ at + length x → third ≡ first + 1 + length y
-    → o₁ ≡ put at x old → o₂ ≡ put first (59 ∷ []) o₁ → o₃ ≡ put (first + 1) y o₂ → o₄ ≡ put third z o₃ → o₄ ≡ put at (x ++ (59 ∷ (y ++ z))) old
+    → o₁ ≡ put at x old → o₂ ≡ put first (semicolon ∷ []) o₁ → o₃ ≡ put (first + 1) y o₂ → o₄ ≡ put third z o₃ → o₄ ≡ put at (x ++ (semicolon ∷ (y ++ z))) old
 put-parts at first third x y z old {o₁} {o₂} {o₃} room f t p q r s =
-    let n = length-append x (59 ∷ (y ++ z)) in
+    let n = length-append x (semicolon ∷ (y ++ z)) in
     let m = length-append y z in
-    let l₁ = length-append x (59 ∷ []) in
-    let l₂ = length-append (x ++ (59 ∷ [])) y in
-    let e₂ : o₂ ≡ put at (x ++ (59 ∷ [])) old =
-    q ∙ ap (put first (59 ∷ [])) p ∙ put-next at first x (59 ∷ []) old (omega arith) (omega arith) in
-    let e₃ : o₃ ≡ put at ((x ++ (59 ∷ [])) ++ y) old =
-    r ∙ ap (put (first + 1) y) e₂ ∙ put-next at (first + 1) (x ++ (59 ∷ [])) y old (omega arith) (omega arith) in
-    s ∙ ap (put third z) e₃ ∙ put-next at third ((x ++ (59 ∷ [])) ++ y) z old (omega arith) (omega arith)
-    ∙ ap (λ (l : List ℕ). put at l old) (append-assoc (x ++ (59 ∷ [])) y z ∙ append-snoc x 59 (y ++ z))
+    let l₁ = length-append x (semicolon ∷ []) in
+    let l₂ = length-append (x ++ (semicolon ∷ [])) y in
+    let e₂ : o₂ ≡ put at (x ++ (semicolon ∷ [])) old =
+    q ∙ ap (put first (semicolon ∷ [])) p ∙ put-next at first x (semicolon ∷ []) old (omega arith) (omega arith) in
+    let e₃ : o₃ ≡ put at ((x ++ (semicolon ∷ [])) ++ y) old =
+    r ∙ ap (put (first + 1) y) e₂ ∙ put-next at (first + 1) (x ++ (semicolon ∷ [])) y old (omega arith) (omega arith) in
+    s ∙ ap (put third z) e₃ ∙ put-next at third ((x ++ (semicolon ∷ [])) ++ y) z old (omega arith) (omega arith)
+    ∙ ap (λ (l : List ℕ). put at l old) (append-assoc (x ++ (semicolon ∷ [])) y z ∙ append-snoc x semicolon (y ++ z))
 
 -- ---- the log of two lists, after i lines
 

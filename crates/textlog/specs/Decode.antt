@@ -1,18 +1,19 @@
 -- What a text log decodes to, line by line, and what is refused. Assumes nothing.
 use Prim.Native.Nat.{ℕ, zero, suc, _+_, _*_}
-use mathlib.Core.Bool.{Bool, true, false, cond, _||_}
+use mathlib.Core.Bool.{Bool, cond, _||_}
 use mathlib.Core.List.{List, [], _∷_, map}
 use lib.Dec.{ltb, leb, eqb}
 use lib.ListN.{length, getD, drop}
+use Rattle.octets.specs.Text.{lineFeed, lines}
 use Rattle.decimal.specs.Reading.{digitCount, leading, leadingValue}
 use Rattle.rfc4737.specs.declared.Arrival.{Arrival}
 use Rattle.rfc4737.specs.Judge.{arrivalsMost, judgeOne, judgeSent}
 use Rattle.rfc4737.specs.Times.{nextReference}
 use Rattle.rfc4737.specs.Refusals.{outside, inCase, firstOf, manyArrivals, lineMalformed}
-use Rattle.textlog.specs.Form.{semicolon, comma, point, lineFeed, thousandths, numberMost, timeMost}
-use Rattle.textlog.specs.declared.Imported.{Imported}
-use Rattle.textlog.specs.declared.reading.Found.{Found}
-use Rattle.textlog.specs.declared.reading.Found.the-variants.{Read, Malformed}
+use Rattle.textlog.specs.Form.{semicolon, comma, point, thousandths, numberMost, timeMost}
+use Rattle.textlog.specs.declared.LogImport.{LogImport}
+use Rattle.textlog.specs.declared.reading.Reading.{Reading}
+use Rattle.textlog.specs.declared.reading.Reading.the-variants.{Read, Malformed}
 
 -- ---- a line, read in stages from the place where a text t begins
 
@@ -29,18 +30,18 @@ abbrev pub textAfter : List ℕ → List ℕ
 textAfter t = drop (digitCount t + 1) t
 
 -- a line that is read up to `end`, unless its time is over the field's range
-unfoldable pub inRange : (number time end : ℕ) → Found
+unfoldable pub inRange : (number time end : ℕ) → Reading
 inRange number time end = cond (leb time timeMost) (Read number time end) Malformed
 
 -- a line whose decimals begin at `at`
-unfoldable pub fractionIn : (number whole at : ℕ) (t : List ℕ) → Found
+unfoldable pub fractionIn : (number whole at : ℕ) (t : List ℕ) → Reading
 fractionIn number whole at t =
     cond (outside 1 3 (digitCount t)) Malformed
     (cond (eqb (octetAfter t) lineFeed) (inRange number (1000 * whole + thousandths (leading t)) (at + digitCount t + 1))
     Malformed)
 
 -- a line whose time begins at `at`
-unfoldable pub timeIn : (number at : ℕ) (t : List ℕ) → Found
+unfoldable pub timeIn : (number at : ℕ) (t : List ℕ) → Reading
 timeIn number at t =
     cond (eqb (digitCount t) 0) Malformed
     (cond (eqb (octetAfter t) lineFeed) (inRange number (1000 * leadingValue t) (at + digitCount t + 1))
@@ -48,7 +49,7 @@ timeIn number at t =
     Malformed))
 
 -- the line that begins at `at`: its number, its time, and where it ends
-unfoldable pub lineIn : (at : ℕ) (t : List ℕ) → Found
+unfoldable pub lineIn : (at : ℕ) (t : List ℕ) → Reading
 lineIn at t =
     cond (eqb (digitCount t) 0) Malformed
     (cond (ltb numberMost (leadingValue t)) Malformed
@@ -61,30 +62,13 @@ pub data DecodedLine : Type 0 where
   arrived : Arrival → DecodedLine
 
 -- what is found, if it ends where a line of this length does
-abbrev pub readWhole : (length : ℕ) → Found → DecodedLine
+abbrev pub readWhole : (length : ℕ) → Reading → DecodedLine
 readWhole length (Read number time end) = cond (eqb end length) (arrived (record { number = number; time = time })) malformed
 readWhole length Malformed = malformed
 
 -- a line by itself
 unfoldable pub decodeLine : List ℕ → DecodedLine
 decodeLine l = readWhole (length l) (lineIn 0 l)
-
--- ---- the lines of a log, each with the line feed that ends it; what follows the last line feed is a line without one
-
--- an octet in front of the first line
-abbrev pub inFront : ℕ → List (List ℕ) → List (List ℕ)
-inFront o [] = (o ∷ []) ∷ []
-inFront o (l ∷ ls) = (o ∷ l) ∷ ls
-
--- an octet before lines: a line by itself if it is a line feed, which the test says
-abbrev pub withOctet : Bool → ℕ → List (List ℕ) → List (List ℕ)
-withOctet true o ls = (o ∷ []) ∷ ls
-withOctet false o ls = inFront o ls
-
--- octet by octet, from the last on
-unfoldable pub lines : List ℕ → List (List ℕ)
-lines [] = []
-lines (o ∷ t) = withOctet (eqb o lineFeed) o (lines t)
 
 -- ---- the arrivals
 
@@ -98,8 +82,8 @@ unfoldable pub arrivalsOfLines : List (List ℕ) → List Arrival
 arrivalsOfLines ls = map (λ (l : List ℕ). arrivalOr0 (decodeLine l)) ls
 
 -- the arrivals of a log
-abbrev pub arrivalsIn : List ℕ → List Arrival
-arrivalsIn log = arrivalsOfLines (lines log)
+abbrev pub logArrivals : List ℕ → List Arrival
+logArrivals log = arrivalsOfLines (lines log)
 
 -- ---- what is refused
 
@@ -110,17 +94,17 @@ judgeLine k count reference (arrived a) =
     firstOf (inCase (leb arrivalsMost count) manyArrivals ∷ judgeOne k reference a ∷ [])
 
 -- an answer, unless a refusal is due before it, at a line or, for 0, at none
-abbrev pub unless : (refusal line : ℕ) → Imported → Imported
+abbrev pub unless : (refusal line : ℕ) → LogImport → LogImport
 unless zero line y = y
 unless (suc r) line y = record { refusal = suc r; arrivals = 0; line = line }
 
 -- the lines in turn, with so many lines before them
-unfoldable pub judgeLines : (k count reference : ℕ) → List (List ℕ) → Imported
+unfoldable pub judgeLines : (k count reference : ℕ) → List (List ℕ) → LogImport
 judgeLines k count reference [] = record { refusal = 0; arrivals = count; line = 0 }
 judgeLines k count reference (l ∷ ls) =
     unless (judgeLine k count reference (decodeLine l)) (count + 1)
     (judgeLines k (count + 1) (nextReference reference (arrivalOr0 (decodeLine l) .time)) ls)
 
 -- a log: 4, then the lines in turn
-unfoldable pub judgeLog : ℕ → List ℕ → Imported
+unfoldable pub judgeLog : ℕ → List ℕ → LogImport
 judgeLog k log = unless (judgeSent k) 0 (judgeLines k 0 0 (lines log))

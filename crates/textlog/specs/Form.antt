@@ -1,27 +1,25 @@
 -- The form of a text log, said without a reader: sequence number, semicolon, arrival time in milliseconds, line feed, on each line.
 -- Assumes nothing.
+use Prim.Native.Char.{code}
 use Prim.Native.Nat.{ℕ, _+_, _-_, _*_, _/_, _%_, _^_, _≤_}
 use mathlib.Core.List.{List, [], _∷_, _++_}
 use lib.ListN.{length}
+use Rattle.octets.specs.Text.{lineFeed}
 use Rattle.decimal.specs.Decimal.{decimalOf, decimalValue}
 use Rattle.rfc4737.specs.declared.Arrival.{Arrival}
 use Rattle.sample.specs.Format.{itemOctets}
 
 -- the octet `;`
 abbrev pub semicolon : ℕ
-semicolon = 59
+semicolon = code ";"
 
 -- the octet `,`
 abbrev pub comma : ℕ
-comma = 44
+comma = code ","
 
 -- the octet `.`
 abbrev pub point : ℕ
-point = 46
-
--- the octet that ends a line
-abbrev pub lineFeed : ℕ
-lineFeed = 10
+point = code "."
 
 -- ---- the form of a line, with the values that it gives
 

@@ -13,12 +13,12 @@ use Rattle.rfc4737.specs.Refusals.{inCase, outputShort}
 use Rattle.sample.specs.Format.{Sample, fileOf}
 use Rattle.sample.specs.Judge.{FitSample}
 use Rattle.sample.specs.Decode.{decode, accepted}
-use Rattle.sample.specs.Calls.{WrittenTo as SampleWritten}
-use Rattle.sample.specs.declared.Written.{Written}
+use Rattle.sample.specs.Calls.{WrittenTo}
+use Rattle.sample.specs.declared.WriteAnswer.{WriteAnswer}
 use Rattle.textlog.specs.Form.{LineFits, Log}
-use Rattle.textlog.specs.Decode.{arrived, decodeLine, arrivalsIn, judgeLog}
-use Rattle.textlog.specs.Calls.{ImportedFrom, WrittenTo}
-use Rattle.textlog.specs.declared.Imported.{Imported}
+use Rattle.textlog.specs.Decode.{arrived, decodeLine, logArrivals, judgeLog}
+use Rattle.textlog.specs.Calls.{LogImportedFrom, LogWrittenTo}
+use Rattle.textlog.specs.declared.LogImport.{LogImport}
 
 -- a line decodes exactly if it has the form and its values fit, and to the arrival that the form says
 abbrev pub ExactLine : Type 0
@@ -28,35 +28,35 @@ ExactLine = (l : List ℕ) (a : Arrival) → (decodeLine l ≡ arrived a) ↔ Li
 abbrev pub ExactLog : ℕ → List ℕ → Type 0
 ExactLog k log =
     (l : List Arrival)
-    → ((judgeLog k log .refusal ≡ 0) × (arrivalsIn log ≡ l)) ↔ (Log log l × (refusalOfLists k (numbersOf l) (timesOf l) ≡ 0))
+    → ((judgeLog k log .refusal ≡ 0) × (logArrivals log ≡ l)) ↔ (Log log l × (refusalOfLists k (numbersOf l) (timesOf l) ≡ 0))
 
--- the sample of a log: no label, K payload sizes of one size, and the arrivals
-abbrev pub sampleOfLog : (k size : ℕ) (log : List ℕ) → Sample
-sampleOfLog k size log = record { label = []; sizes = replicate k size; arrivals = arrivalsIn log }
+-- a sample of arrivals: no label, K payload sizes of one size, and these
+abbrev pub sampleWith : (k size : ℕ) → List Arrival → Sample
+sampleWith k size l = record { label = []; sizes = replicate k size; arrivals = l }
 
 -- a sample that the sample's writer refuses with nothing but 8, and whose written file decodes to it
 pub record Writable (s : Sample) : Type 0 where
   pub fit : FitSample s
-  pub refusal : (out out′ : List ℕ) (written : Written)
-      → SampleWritten (s .label) (s .sizes) (numbersOf (s .arrivals)) (timesOf (s .arrivals)) out written out′
+  pub refusal : (out out′ : List ℕ) (written : WriteAnswer)
+      → WrittenTo (s .label) (s .sizes) (numbersOf (s .arrivals)) (timesOf (s .arrivals)) out written out′
       → written .refusal ≡ inCase (ltb (length out) (length (fileOf s))) outputShort
-  pub decodes : (out out′ : List ℕ) (written : Written)
-      → SampleWritten (s .label) (s .sizes) (numbersOf (s .arrivals)) (timesOf (s .arrivals)) out written out′
+  pub decodes : (out out′ : List ℕ) (written : WriteAnswer)
+      → WrittenTo (s .label) (s .sizes) (numbersOf (s .arrivals)) (timesOf (s .arrivals)) out written out′
       → written .refusal ≡ 0 → decode (take (written .length) out′) ≡ accepted s
 
 -- the arrivals of a log that is not refused, with K payload sizes of any one size, are such a sample
 abbrev pub ImportedIsFit : ℕ → List ℕ → Type 0
-ImportedIsFit k log = (size : ℕ) → size < 2 ^ 16 → judgeLog k log .refusal ≡ 0 → Writable (sampleOfLog k size log)
+ImportedIsFit k log = (size : ℕ) → size < 2 ^ 16 → judgeLog k log .refusal ≡ 0 → Writable (sampleWith k size (logArrivals log))
 
 -- arrivals that are written and imported again, into lists that are long enough, are the same arrivals
-abbrev pub ReadAgain : (k : ℕ) (numbers times : List ℕ) → Type 0
-ReadAgain k numbers times =
-    (out out′ numbers₀ times₀ numbers′ times′ : List ℕ) (written : Written) (read : Imported)
-    → WrittenTo k numbers times out written out′
+abbrev pub LogReadAgain : (k : ℕ) (numbers times : List ℕ) → Type 0
+LogReadAgain k numbers times =
+    (out out′ numbers₀ times₀ numbers′ times′ : List ℕ) (written : WriteAnswer) (read : LogImport)
+    → LogWrittenTo k numbers times out written out′
     → written .refusal ≡ 0
     → length numbers ≤ length numbers₀
     → length times ≤ length times₀
-    → ImportedFrom k (take (written .length) out′) numbers₀ times₀ read numbers′ times′
+    → LogImportedFrom k (take (written .length) out′) numbers₀ times₀ read numbers′ times′
     → (read ≡ record { refusal = 0; arrivals = length numbers; line = 0 })
     × (numbers′ ≡ over numbers numbers₀)
     × (times′ ≡ over times times₀)

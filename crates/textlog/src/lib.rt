@@ -1,17 +1,18 @@
 // Text logs from suppliers: imported into lent lists, and written. Every public call takes all input there is.
 ghost use mathlib.Core.Path.{_≡_};
 ghost use Rattle.octets.specs.Memory.{over};
+ghost use Rattle.octets.specs.Text.{lines};
 ghost use Rattle.rfc4737.specs.Judge.{numbersOf, timesOf};
-ghost use Rattle.textlog.specs.Decode.{lines, judgeLines, judgeLog, arrivalsIn};
-ghost use Rattle.textlog.specs.Calls.{listsShort, ImportedFrom, WrittenTo};
-ghost use Rattle.textlog.specs.RoundTrip.{ExactLine, ExactLog, ImportedIsFit, ReadAgain};
-ghost use Rattle.textlog.specs.Cases.{ReadAsGiven, WrittenAsGiven};
+ghost use Rattle.textlog.specs.Decode.{judgeLines, judgeLog, logArrivals};
+ghost use Rattle.textlog.specs.Calls.{logListsShort, LogImportedFrom, LogWrittenTo};
+ghost use Rattle.textlog.specs.RoundTrip.{ExactLine, ExactLog, ImportedIsFit, LogReadAgain};
+ghost use Rattle.textlog.specs.Cases.{LinesReadAsGiven, LinesWrittenAsGiven};
 ghost use Rattle.textlog.specs.Private.Filling.{Fillable};
 
 mod reading;
 mod writing;
 
-use reading::Found;
+use reading::Reading;
 use reading::line_at;
 use rfc4737::judge::ARRIVALS_MOST;
 use rfc4737::judge::SENT_MOST;
@@ -23,24 +24,24 @@ use rfc4737::refusal::MANY_ARRIVALS;
 use rfc4737::refusal::OUTPUT_SHORT;
 use rfc4737::refusal::SENT_OUTSIDE;
 use rfc4737::time::next_reference;
-use sample::Written;
+use sample::WriteAnswer;
 use writing::log_length;
 use writing::put_lines;
 
 // What was imported: the refusal (0 for none), the number of arrivals, 0 with a refusal, and the line of the log that is
 // refused, from 1, or 0 where no line is.
 #[repr(C)]
-pub struct Imported {
+pub struct LogImport {
     pub refusal: u32,
     pub arrivals: u32,
     pub line: u32,
 }
 
 // The answer that a refusal has, at a line or, for 0, at none.
-fn refused(refusal: u32, line: u32) -> Imported
+fn refused(refusal: u32, line: u32) -> LogImport
     ensures { λ r. ⌜ r ≡ record { refusal = refusal; arrivals = 0; line = line } ⌝ }
 {
-    Imported {
+    LogImport {
         refusal,
         arrivals: 0,
         line,
@@ -48,14 +49,14 @@ fn refused(refusal: u32, line: u32) -> Imported
 }
 
 // The lines of a log in turn.
-fn judge_lines(log: &[u8], k: u32) -> Imported
+fn judge_lines(log: &[u8], k: u32) -> LogImport
     ensures { λ r. ⌜ r ≡ judgeLines k 0 0 (lines (now (log .entry))) ⌝ }
 {
     let mut reference: u64 = 0;
     let mut at = 0;
     let mut count: u32 = 0;
     while at < log.len() {
-        let Found::Read(number, time, end) = line_at(log, at) else {
+        let Reading::Read(number, time, end) = line_at(log, at) else {
             return refused(LINE_MALFORMED, count + 1);
         };
         if ARRIVALS_MOST <= count as u64 {
@@ -69,7 +70,7 @@ fn judge_lines(log: &[u8], k: u32) -> Imported
         at = end;
         count += 1;
     }
-    Imported {
+    LogImport {
         refusal: 0,
         arrivals: count,
         line: 0,
@@ -77,7 +78,7 @@ fn judge_lines(log: &[u8], k: u32) -> Imported
 }
 
 // A whole log: K, then the lines.
-fn judge_log(log: &[u8], k: u32) -> Imported
+fn judge_log(log: &[u8], k: u32) -> LogImport
     ensures { λ r. ⌜ r ≡ judgeLog k (now (log .entry)) ⌝ }
 {
     if outside(1, SENT_MOST, k as u64) {
@@ -89,13 +90,13 @@ fn judge_log(log: &[u8], k: u32) -> Imported
 // Fills lists with the numbers and times of a log that is not refused.
 fn fill(log: &[u8], numbers: &mut [u32], times: &mut [u64])
     requires { ⌜ Fillable (now log) (now numbers) (now times) ⌝ }
-    ensures { λ _. ⌜ (now (numbers .exit) ≡ over (numbersOf (arrivalsIn (now (log .entry)))) (now (numbers .entry)))
-        × (now (times .exit) ≡ over (timesOf (arrivalsIn (now (log .entry)))) (now (times .entry))) ⌝ }
+    ensures { λ _. ⌜ (now (numbers .exit) ≡ over (numbersOf (logArrivals (now (log .entry)))) (now (numbers .entry)))
+        × (now (times .exit) ≡ over (timesOf (logArrivals (now (log .entry)))) (now (times .entry))) ⌝ }
 {
     let mut at = 0;
     let mut i = 0;
     while at < log.len() {
-        let Found::Read(number, time, end) = line_at(log, at) else {
+        let Reading::Read(number, time, end) = line_at(log, at) else {
             return;
         };
         numbers[i] = number;
@@ -107,7 +108,7 @@ fn fill(log: &[u8], numbers: &mut [u32], times: &mut [u64])
 
 // Whether one of two lists, of so many places, is too short for so many arrivals.
 fn too_short(arrivals: u32, numbers: usize, times: usize) -> bool
-    ensures { λ r. ⌜ r ≡ listsShort arrivals numbers times ⌝ }
+    ensures { λ r. ⌜ r ≡ logListsShort arrivals numbers times ⌝ }
 {
     if numbers < arrivals as usize {
         return true;
@@ -117,11 +118,11 @@ fn too_short(arrivals: u32, numbers: usize, times: usize) -> bool
 
 // Imports the log of K sent packets: fills the lists of numbers and times from their start. With a refusal they stay as
 // they were.
-pub fn import(log: &[u8], k: u32, numbers: &mut [u32], times: &mut [u64]) -> Imported
-    ensures { λ r. ⌜ ImportedFrom k (now (log .entry)) (now (numbers .entry)) (now (times .entry)) r (now (numbers .exit)) (now (times .exit)) ⌝ }
+pub fn import(log: &[u8], k: u32, numbers: &mut [u32], times: &mut [u64]) -> LogImport
+    ensures { λ r. ⌜ LogImportedFrom k (now (log .entry)) (now (numbers .entry)) (now (times .entry)) r (now (numbers .exit)) (now (times .exit)) ⌝ }
     ensures exact { λ _. ⌜ ExactLine × ExactLog k (now (log .entry)) ⌝ }
     ensures fit { λ _. ⌜ ImportedIsFit k (now (log .entry)) ⌝ }
-    ensures cases { λ _. ⌜ ReadAsGiven ⌝ }
+    ensures cases { λ _. ⌜ LinesReadAsGiven ⌝ }
 {
     let found = judge_log(log, k);
     if found.refusal != 0 {
@@ -135,24 +136,24 @@ pub fn import(log: &[u8], k: u32, numbers: &mut [u32], times: &mut [u64]) -> Imp
 }
 
 // Writes the log of arrivals of K sent packets from the start of `out`. With a refusal `out` stays as it was.
-pub fn write(k: u32, numbers: &[u32], times: &[u64], out: &mut [u8]) -> Written
-    ensures { λ r. ⌜ WrittenTo k (now (numbers .entry)) (now (times .entry)) (now (out .entry)) r (now (out .exit)) ⌝ }
-    ensures again { λ _. ⌜ ReadAgain k (now (numbers .entry)) (now (times .entry)) ⌝ }
-    ensures cases { λ _. ⌜ WrittenAsGiven ⌝ }
+pub fn write(k: u32, numbers: &[u32], times: &[u64], out: &mut [u8]) -> WriteAnswer
+    ensures { λ r. ⌜ LogWrittenTo k (now (numbers .entry)) (now (times .entry)) (now (out .entry)) r (now (out .exit)) ⌝ }
+    ensures again { λ _. ⌜ LogReadAgain k (now (numbers .entry)) (now (times .entry)) ⌝ }
+    ensures cases { λ _. ⌜ LinesWrittenAsGiven ⌝ }
 {
     let refusal = refusal_of_lists(k as u64, numbers, times);
     if refusal != 0 {
-        return Written { refusal, length: 0 };
+        return WriteAnswer { refusal, length: 0 };
     }
     let length = log_length(numbers, times);
     if out.len() < length {
-        return Written {
+        return WriteAnswer {
             refusal: OUTPUT_SHORT,
             length: 0,
         };
     }
     put_lines(numbers, times, out);
-    Written {
+    WriteAnswer {
         refusal: 0,
         length: length as u32,
     }

@@ -7,7 +7,7 @@ ghost use Rattle.textlog.specs.Decode.{mark, inRange, fractionIn, timeIn
 use decimal::reading::number_at;
 
 // A line that is of the form and in range: its number, its time in microseconds and where it ends.
-pub(crate) enum Found {
+pub(crate) enum Reading {
     Read(u32, u64, usize),
     Malformed,
 }
@@ -19,14 +19,6 @@ const NUMBER_MOST: u64 = 4_294_967_295;
 const TIME_MOST: u64 = 18_446_744_073_709_551_615;
 
 const WHOLE_MOST: u64 = 18_446_744_073_709_551;
-
-const SEMICOLON: u8 = 59;
-
-const COMMA: u8 = 44;
-
-const POINT: u8 = 46;
-
-const LINE_FEED: u8 = 10;
 
 // The octet that stands at a place; 0 past the end.
 fn octet_at(log: &[u8], at: usize) -> u8
@@ -42,10 +34,10 @@ fn octet_at(log: &[u8], at: usize) -> u8
 fn is_mark(octet: u8) -> bool
     ensures { λ r. ⌜ r ≡ mark octet ⌝ }
 {
-    if octet == COMMA {
+    if octet == b',' {
         return true;
     }
-    octet == POINT
+    octet == b'.'
 }
 
 // One to three decimals of a millisecond, in microseconds.
@@ -63,72 +55,72 @@ fn thousandths(value: u64, count: usize) -> u64
 }
 
 // A line that is read up to `end`, unless its time is over the field's range.
-fn in_range(number: u32, whole: u64, fraction: u64, end: usize) -> Found
+fn in_range(number: u32, whole: u64, fraction: u64, end: usize) -> Reading
     ensures { λ r. ⌜ r ≡ inRange number (1000 * whole + fraction) end ⌝ }
 {
     if WHOLE_MOST < whole {
-        return Found::Malformed;
+        return Reading::Malformed;
     }
     let time = 1000 * whole;
     if TIME_MOST - time < fraction {
-        return Found::Malformed;
+        return Reading::Malformed;
     }
-    Found::Read(number, time + fraction, end)
+    Reading::Read(number, time + fraction, end)
 }
 
 // A line whose decimals begin at a place.
-fn fraction_at(log: &[u8], at: usize, number: u32, whole: u64) -> Found
+fn fraction_at(log: &[u8], at: usize, number: u32, whole: u64) -> Reading
     ensures { λ r. ⌜ r ≡ fractionIn number whole at (drop at (now (log .entry))) ⌝ }
 {
     let digits = number_at(log, at);
     let end = digits.end;
     let count = end - at;
     if count == 0 {
-        return Found::Malformed;
+        return Reading::Malformed;
     }
     if 3 < count {
-        return Found::Malformed;
+        return Reading::Malformed;
     }
-    if octet_at(log, end) != LINE_FEED {
-        return Found::Malformed;
+    if octet_at(log, end) != b'\n' {
+        return Reading::Malformed;
     }
     in_range(number, whole, thousandths(digits.value, count), end + 1)
 }
 
 // A line whose time begins at a place.
-fn time_at(log: &[u8], at: usize, number: u32) -> Found
+fn time_at(log: &[u8], at: usize, number: u32) -> Reading
     ensures { λ r. ⌜ r ≡ timeIn number at (drop at (now (log .entry))) ⌝ }
 {
     let digits = number_at(log, at);
     let end = digits.end;
     if end == at {
-        return Found::Malformed;
+        return Reading::Malformed;
     }
     let octet = octet_at(log, end);
-    if octet == LINE_FEED {
+    if octet == b'\n' {
         return in_range(number, digits.value, 0, end + 1);
     }
     if !is_mark(octet) {
-        return Found::Malformed;
+        return Reading::Malformed;
     }
     fraction_at(log, end + 1, number, digits.value)
 }
 
 // The line that begins at a place.
-pub(crate) fn line_at(log: &[u8], at: usize) -> Found
+pub(crate) fn line_at(log: &[u8], at: usize) -> Reading
     ensures { λ r. ⌜ r ≡ lineIn at (drop at (now (log .entry))) ⌝ }
 {
     let digits = number_at(log, at);
     let end = digits.end;
     if end == at {
-        return Found::Malformed;
+        return Reading::Malformed;
     }
     let number = digits.value;
     if NUMBER_MOST < number {
-        return Found::Malformed;
+        return Reading::Malformed;
     }
-    if octet_at(log, end) != SEMICOLON {
-        return Found::Malformed;
+    if octet_at(log, end) != b';' {
+        return Reading::Malformed;
     }
     time_at(log, end + 1, number as u32)
 }

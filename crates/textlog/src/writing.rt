@@ -3,7 +3,7 @@ ghost use mathlib.Core.Path.{_≡_};
 ghost use Prim.Native.Nat.{_+_, _≤_};
 ghost use lib.ListN.{length};
 ghost use Rattle.octets.specs.Memory.{over, put};
-ghost use Rattle.rfc4737.specs.Judge.{arrivalsFrom};
+ghost use Rattle.rfc4737.specs.Judge.{arrivalsMost, arrivalsFrom};
 ghost use Rattle.textlog.specs.Form.{lineOf, logOf};
 
 // The octets of a line.
@@ -15,7 +15,7 @@ fn line_length(number: u32, time: u64) -> usize
 
 // The octets of the log of two lists.
 pub(crate) fn log_length(numbers: &[u32], times: &[u64]) -> usize
-    requires { ⌜ (length (now times) ≡ length (now numbers)) × (length (now numbers) ≤ 4096) ⌝ }
+    requires { ⌜ (length (now times) ≡ length (now numbers)) × (length (now numbers) ≤ arrivalsMost) ⌝ }
     ensures { λ r. ⌜ (r ≡ length (logOf (arrivalsFrom (now (numbers .entry)) (now (times .entry))))) × (r ≤ 188416) ⌝ }
 {
     let mut total = 0;
@@ -42,17 +42,17 @@ fn put_line(out: &mut [u8], at: usize, number: u32, time: u64) -> usize
         × (now (out .exit) ≡ put at (lineOf (record { number = number; time = time })) (now (out .entry))) ⌝ }
 {
     let first = at + decimal::put_decimal(out, at, number as u64);
-    let semicolon = [59u8];
+    let semicolon = [b';'];
     octets::put_octets(out, first, &semicolon);
     let second = first + 1;
     let third = second + decimal::put_decimal(out, second, time / 1000);
     let rest = time % 1000;
     let decimals = [
-        44,
+        b',',
         digit_of(rest / 100),
         digit_of(rest / 10 % 10),
         digit_of(rest % 10),
-        10,
+        b'\n',
     ];
     octets::put_octets(out, third, &decimals);
     third + 5

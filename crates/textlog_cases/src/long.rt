@@ -1,14 +1,14 @@
 // The cases of long logs: 4,096 lines and more, and a million digits.
-use crate::fields::FIELD;
-use crate::fields::first_octet;
-use crate::fields::number_in;
 use crate::fields::octets_of;
 use crate::lists::NUMBER;
 use crate::lists::TIME;
 use crate::lists::import_and_sum;
-use crate::short::import_into;
+use crate::lists::import_into;
+use cases::fields::field;
+use cases::fields::first_octet;
+use cases::fields::number_in_32;
 use cases::lists::first_8;
-use cases::text::part;
+use cases::lists::least;
 
 // The octets of each line: line n is n in four digits, and `;2`.
 const LINE: usize = 7;
@@ -26,8 +26,7 @@ fn last_digit(n: usize) -> u8 {
 // All lines in turn.
 fn lines_in_turn() -> [u8; MOST] {
     let mut log = [0u8; MOST];
-    let mut i: usize = 0;
-    while i < LINES {
+    for i in 0..LINES {
         let n = i + 1;
         let line = [
             last_digit(n / 1000),
@@ -39,30 +38,33 @@ fn lines_in_turn() -> [u8; MOST] {
             b'\n',
         ];
         octets::put_octets(&mut log, i * LINE, &line);
-        i += 1;
     }
     log
 }
 
-// Imports the first so many lines of a log into lists of so many places: 4,095 or 4,098.
+// Imports the first so many lines of a log into lists of so many places: 4,098 at most.
 fn import_lines(line: &[u8], log: &[u8]) {
-    let name = part(line, FIELD, 1);
-    let lines = first_8(log, number_in(line, 3) as usize * LINE);
-    if number_in(line, 2) == 4095 {
-        import_and_sum(name, 4096, lines, &mut [NUMBER; 4095], &mut [TIME; 4095]);
-        return;
-    }
-    import_and_sum(name, 4096, lines, &mut [NUMBER; 4098], &mut [TIME; 4098]);
+    let mut numbers = [NUMBER; 4098];
+    let mut times = [TIME; 4098];
+    let n = least(number_in_32(line, 2) as usize, 4098);
+    let lines = first_8(log, number_in_32(line, 3) as usize * LINE);
+    import_and_sum(
+        field(line, 1),
+        4096,
+        lines,
+        &mut numbers[0..n],
+        &mut times[0..n],
+    );
 }
 
 // Runs the case of many lines, after another line is put at a place.
 pub(crate) fn run_lines(line: &[u8]) {
     let mut log = lines_in_turn();
     let mut other = [0u8; LINE];
-    let n = octets_of(part(line, FIELD, 5), &mut other);
+    let n = octets_of(field(line, 5), &mut other);
     octets::put_octets(
         &mut log,
-        number_in(line, 4) as usize * LINE,
+        number_in_32(line, 4) as usize * LINE,
         first_8(&other, n),
     );
     import_lines(line, &log);
@@ -85,14 +87,14 @@ fn import_digits(name: &[u8], digit: u8, first: &[u8], at: usize, last: &[u8], e
 pub(crate) fn run_digits(line: &[u8]) {
     let mut before = [0u8; 8];
     let mut after = [0u8; 8];
-    let m = octets_of(part(line, FIELD, 3), &mut before);
-    let n = octets_of(part(line, FIELD, 5), &mut after);
+    let m = octets_of(field(line, 3), &mut before);
+    let n = octets_of(field(line, 5), &mut after);
     import_digits(
-        part(line, FIELD, 1),
-        first_octet(part(line, FIELD, 2)),
+        field(line, 1),
+        first_octet(field(line, 2)),
         first_8(&before, m),
-        number_in(line, 4) as usize,
+        number_in_32(line, 4) as usize,
         first_8(&after, n),
-        number_in(line, 6) as usize,
+        number_in_32(line, 6) as usize,
     );
 }

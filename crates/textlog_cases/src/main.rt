@@ -10,15 +10,13 @@
 mod fields;
 mod lists;
 mod long;
-mod print;
 mod short;
 mod writing;
 
+use cases::fields::first_octet;
 use cases::lists::first_8;
 use cases::text::count;
 use cases::text::part;
-use fields::FIELD;
-use fields::first_octet;
 use libc::STDIN_FILENO;
 
 // How many octets of cases are read at most.
@@ -26,31 +24,20 @@ const MOST: usize = 8192;
 
 // Runs the case of a line.
 fn run(line: &[u8]) {
-    let kind = first_octet(part(line, FIELD, 0));
-    if kind == b'r' {
-        short::run(line);
-    }
-    if kind == b'l' {
-        long::run_lines(line);
-    }
-    if kind == b'd' {
-        long::run_digits(line);
-    }
-    if kind == b'w' {
-        writing::run(line);
-    }
-    if kind == b'm' {
-        writing::run_many(line);
+    match first_octet(line) {
+        b'r' => short::run(line),
+        b'l' => long::run_lines(line),
+        b'd' => long::run_digits(line),
+        b'w' => writing::run(line),
+        b'm' => writing::run_many(line),
+        _ => {}
     }
 }
 
 // Runs the cases of all lines.
 fn run_all(text: &[u8]) {
-    let lines = count(text, b'\n');
-    let mut i: usize = 0;
-    while i < lines {
+    for i in 0..count(text, b'\n') {
         run(part(text, b'\n', i));
-        i += 1;
     }
 }
 

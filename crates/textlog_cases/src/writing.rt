@@ -1,45 +1,26 @@
 // The cases that write a log from K and lists.
-use crate::fields::FIELD;
-use crate::fields::number_in;
 use crate::lists::NUMBER;
 use crate::lists::OCTET;
 use crate::lists::TIME;
 use crate::lists::import_and_sum;
-use crate::print::write_number;
-use crate::print::write_word;
+use cases::fields::field;
+use cases::fields::number_in_32;
 use cases::lists::fill_32;
 use cases::lists::fill_64;
 use cases::lists::first_8;
 use cases::lists::first_32;
 use cases::lists::first_64;
-use cases::text::part;
-ghost use Prim.Native.Nat.{_≤_};
+use cases::lists::least;
+use cases::print::write_answer;
+use cases::print::write_word;
 
 // The most octets that are lent for a short log.
 const ROOM: usize = 32;
 
-// So many octets: 32 at most.
-fn room_for(n: u32) -> usize
-    ensures { λ r. ⌜ r ≤ 32 ⌝ }
-{
-    if n < 32 {
-        return n as usize;
-    }
-    ROOM
-}
-
 // Writes a log into lent octets, and writes the answer. The answer is how many octets it has.
 fn write_into(name: &[u8], k: u32, numbers: &[u32], times: &[u64], out: &mut [u8]) -> usize {
     let written = textlog::write(k, numbers, times, out);
-    write_word(name);
-    if written.refusal == 0 {
-        write_number(b": octets ", written.length as u64);
-    } else {
-        write_number(b": refused ", written.refusal as u64);
-        if written.length != 0 {
-            write_number(b" BUT ", written.length as u64);
-        }
-    }
+    write_answer(name, written.refusal, b": octets ", written.length as u64);
     write_word(b"\n");
     written.length as usize
 }
@@ -56,12 +37,12 @@ pub(crate) fn run(line: &[u8]) {
     let mut numbers = [0u32; 3];
     let mut times = [0u64; 3];
     let mut out = [OCTET; ROOM];
-    let n = fill_32(part(line, FIELD, 3), &mut numbers);
-    let t = fill_64(part(line, FIELD, 4), &mut times);
-    let room = room_for(number_in(line, 5));
+    let n = fill_32(field(line, 3), &mut numbers);
+    let t = fill_64(field(line, 4), &mut times);
+    let room = least(number_in_32(line, 5) as usize, ROOM);
     write_shown(
-        part(line, FIELD, 1),
-        number_in(line, 2),
+        field(line, 1),
+        number_in_32(line, 2),
         first_32(&numbers, n),
         first_64(&times, t),
         &mut out[0..room],
@@ -83,9 +64,9 @@ fn write_and_import(name: &[u8], numbers: &[u32], times: &[u64]) {
 
 // Runs the case of many arrivals.
 pub(crate) fn run_many(line: &[u8]) {
-    let n = number_in(line, 2) as usize;
+    let n = number_in_32(line, 2) as usize;
     write_and_import(
-        part(line, FIELD, 1),
+        field(line, 1),
         first_32(&[1u32; 4097], n),
         first_64(&[4500u64; 4097], n),
     );

@@ -49,14 +49,11 @@ fn greater(f: Fraction, g: Fraction) -> bool
     theirs < ours
 }
 
-// Nothing is compared: the refusal, and the first sample.
-fn refused_with(refusal: u32) -> Comparison
-    ensures { λ r. ⌜ r ≡ record { refusal = refusal; link = Link.First } ⌝ }
+// A refusal, and one of two samples.
+fn found_with(refusal: u32, link: Link) -> Comparison
+    ensures { λ r. ⌜ r ≡ record { refusal = refusal; link = link } ⌝ }
 {
-    Comparison {
-        refusal,
-        link: Link::First,
-    }
+    Comparison { refusal, link }
 }
 
 // Which of two samples has the greater reordered ratio; equal ratios give the first. One pass over each.
@@ -65,22 +62,16 @@ pub fn compare(first: &[u8], second: &[u8]) -> Comparison
 {
     let one = counts(first);
     if one.refusal != 0 {
-        return refused_with(one.refusal);
+        return found_with(one.refusal, Link::First);
     }
     let other = counts(second);
     if other.refusal != 0 {
-        return refused_with(other.refusal);
+        return found_with(other.refusal, Link::First);
     }
     if greater(reordered_ratio(other.counts), reordered_ratio(one.counts)) {
-        return Comparison {
-            refusal: 0,
-            link: Link::Second,
-        };
+        return found_with(0, Link::Second);
     }
-    Comparison {
-        refusal: 0,
-        link: Link::First,
-    }
+    found_with(0, Link::First)
 }
 
 // The label of the worse of two samples, as a part of it; with a refusal the empty part at the first sample's start.

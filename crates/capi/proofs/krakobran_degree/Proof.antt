@@ -3,14 +3,8 @@ use borrow.Author.Needs.{needs}
 use Rattle.capi.proofs.krakobran_degree.Statement.{statement}
 use Rattle.capi.proofs.krakobran_degree.Tie as tie
 
-degree-requires : tie.Need-degree-requires
-degree-requires c κs = search needs
-
-degree-figures-requires : tie.Need-degree-figures-requires
-degree-figures-requires c κs = search needs
-
 returns : tie.Need-returns
 returns c = simp (c .degree-figures .ensures, c .before .degree .ensures)
 
 pub krakobran-degree-spec : {M : Type 1} → statement M
-krakobran-degree-spec = tie.close (tie.spec degree-requires degree-figures-requires returns)
+krakobran-degree-spec = tie.close (tie.spec (λ c κs. search needs) (λ c κs. search needs) returns)

@@ -3,14 +3,8 @@ use borrow.Author.Needs.{needs}
 use Rattle.capi.proofs.krakobran_ratios.Statement.{statement}
 use Rattle.capi.proofs.krakobran_ratios.Tie as tie
 
-ratios-requires : tie.Need-ratios-requires
-ratios-requires c κs = search needs
-
-ratios-figures-requires : tie.Need-ratios-figures-requires
-ratios-figures-requires c κs = search needs
-
 returns : tie.Need-returns
 returns c = simp (c .ratios-figures .ensures, c .before .ratios .ensures)
 
 pub krakobran-ratios-spec : {M : Type 1} → statement M
-krakobran-ratios-spec = tie.close (tie.spec ratios-requires ratios-figures-requires returns)
+krakobran-ratios-spec = tie.close (tie.spec (λ c κs. search needs) (λ c κs. search needs) returns)

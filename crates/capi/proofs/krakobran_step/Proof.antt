@@ -3,14 +3,8 @@ use borrow.Author.Needs.{needs}
 use Rattle.capi.proofs.krakobran_step.Statement.{statement}
 use Rattle.capi.proofs.krakobran_step.Tie as tie
 
-held-step-requires : tie.Need-held-step-requires
-held-step-requires c κs = search needs
-
-step-answer-requires : tie.Need-step-answer-requires
-step-answer-requires c κs = search needs
-
 returns : tie.Need-returns
-returns c = simp (c .step-answer .ensures, c .before .held-step .ensures)
+returns c = simp (c .step-figures .ensures, c .before .held-step .ensures)
 
 pub krakobran-step-spec : {M : Type 1} → statement M
-krakobran-step-spec = tie.close (tie.spec held-step-requires step-answer-requires returns)
+krakobran-step-spec = tie.close (tie.spec (λ c κs. search needs) (λ c κs. search needs) returns)

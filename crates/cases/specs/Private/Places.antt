@@ -5,6 +5,6 @@ use mathlib.Core.List.{List, [], _∷_}
 use lib.Dec.{eqb}
 
 -- how many octets stand before the first separator
-unfoldable pub before : ℕ → List ℕ → ℕ
-before separator [] = 0
-before separator (o ∷ t) = cond (eqb o separator) 0 (suc (before separator t))
+unfoldable pub separatorAt : ℕ → List ℕ → ℕ
+separatorAt separator [] = 0
+separatorAt separator (o ∷ t) = cond (eqb o separator) 0 (suc (separatorAt separator t))

@@ -2,22 +2,19 @@
 use borrow.Author.Needs.{needs}
 use native.Mathlib.Omega.{arith}
 use mathlib.Core.Path.{ap, _∙_}
-use mathlib.Core.List.{List}
-use Prim.Native.Nat.{ℕ}
+use Prim.Native.Nat.{_+_}
 use denote.Ref.{now}
+use Rattle.listing.specs.Room.{listingOctets}
 use Rattle.sample.specs.Decode.{decode}
 use Rattle.checker.specs.Verdict.{checked}
 use Rattle.check_listing.proofs.check_start.Statement.{statement}
 use Rattle.check_listing.proofs.check_start.Tie as tie
 
-check-requires : tie.Need-check-requires
-check-requires c κs = search needs
-
 returns : tie.Need-returns
 returns c whole e =
     let d = decode (now (c .before .before .before .args .file)) in
     let found = c .check .ensures in
-    found .0 ∙ ap (checked d) e ∙ found .1 .1 .0 .start whole 262145 (omega arith)
+    found .0 ∙ ap (checked d) e ∙ found .1 .1 .0 .start whole (listingOctets + 1) (omega arith)
 
 pub check-start-spec : {M : Type 1} → statement M
-check-start-spec = tie.close (tie.spec check-requires returns)
+check-start-spec = tie.close (tie.spec (λ c κs. search needs) returns)

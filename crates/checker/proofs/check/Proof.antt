@@ -3,7 +3,7 @@ use borrow.Author.Needs.{needs}
 use denote.Ref.{now}
 use Rattle.sample.specs.Decode.{decode}
 use Rattle.checker.specs.Claims.{AgreesExactly, StartDecides}
-use Rattle.checker.specs.Cases.{CasesHold}
+use Rattle.checker.specs.Cases.{ListingCasesHold}
 use Rattle.checker.proofs.Answers.{checked-refused, checked-same, checked-wrong, octets-most}
 use Rattle.checker.proofs.Claims.{agrees-exactly, start-decides}
 use Rattle.checker.proofs.Cases.{cases-hold}
@@ -13,12 +13,9 @@ use Rattle.checker.proofs.check.Tie as tie
 -- what is carried: yes exactly of the sample's listing, the start that decides, and the cases
 carries : (c : tie.After-agreement)
     → AgreesExactly (decode (now (c .before .before .before .args .file)))
-    × (StartDecides (decode (now (c .before .before .before .args .file))) × CasesHold)
+    × (StartDecides (decode (now (c .before .before .before .args .file))) × ListingCasesHold)
 carries c =
     (agrees-exactly _, (start-decides (decode (now (c .before .before .before .args .file))) (c .agreement .ensures .1), cases-hold))
-
-agreement-requires : tie.Need-agreement-requires
-agreement-requires c κs = search needs
 
 returns : tie.Need-returns
 returns c =
@@ -42,4 +39,4 @@ returns-3 c =
 
 pub check-spec : {M : Type 1} → statement M
 check-spec =
-    tie.close (tie.spec agreement-requires returns returns-2 wrong-line-requires returns-3)
+    tie.close (tie.spec (λ c κs. search needs) returns returns-2 wrong-line-requires returns-3)

@@ -22,12 +22,6 @@ loop-holds : tie.Need-loop-holds Inv-loop μ-loop
 unfolding feeds
 loop-holds c = (omega arith, refl)
 
-shared-slice-read-feed : tie.Need-shared-slice-read-feed Inv-loop μ-loop
-shared-slice-read-feed c = omega arith
-
-feed-requires : tie.Need-feed-requires Inv-loop μ-loop
-feed-requires c κs = search needs
-
 -- with the octet at i
 next : (c : tie.After-feed Inv-loop μ-loop)
     → c .before .before .before .loop .found + c .feed .result ≡ feeds (take (c .before .before .before .loop .i + 1) (now (c .before .before .before .before .before .args .text)))
@@ -39,12 +33,6 @@ add-found : tie.Need-add-found Inv-loop μ-loop
 add-found c =
     let i = c .before .before .before .loop .i in
     omega (arith, next c, feeds-take-le (i + 1) (now (c .before .before .before .before .before .args .text)))
-
-add-i : tie.Need-add-i Inv-loop μ-loop
-add-i c = omega arith
-
-loop-less : tie.Need-loop-less Inv-loop μ-loop
-loop-less c = omega arith
 
 loop-again : tie.Need-loop-again Inv-loop μ-loop
 loop-again c = (omega arith, next c)
@@ -59,10 +47,10 @@ feeds-in-spec =
     Inv-loop
     μ-loop
     loop-holds
-    shared-slice-read-feed
-    feed-requires
+    (λ c. omega arith)
+    (λ c κs. search needs)
     add-found
-    add-i
-    loop-less
+    (λ c. omega arith)
+    (λ c. omega arith)
     loop-again
     returns)

@@ -16,9 +16,6 @@ slice-aggregate-feeds-in c =
     let a = c .before .before .args in
     sym (length-take-le (a .octets) (now (a .listing)) (c .before .before .pre .0))
 
-feeds-in-requires : tie.Need-feeds-in-requires
-feeds-in-requires c κs = search needs
-
 -- the line feeds are few
 few : (c : tie.After-feeds-in) → c .feeds-in .result ≤ listingOctets
 few c =
@@ -36,4 +33,4 @@ returns c = ap (λ (n : ℕ). Verdict.WrongLine (1 + n)) (c .feeds-in .ensures)
 
 pub wrong-line-spec : {M : Type 1} → statement M
 wrong-line-spec =
-    tie.close (tie.spec slice-aggregate-feeds-in feeds-in-requires add-t6 cast-t7 returns)
+    tie.close (tie.spec slice-aggregate-feeds-in (λ c κs. search needs) add-t6 cast-t7 returns)

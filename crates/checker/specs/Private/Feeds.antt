@@ -4,7 +4,7 @@ use mathlib.Core.Bool.{cond}
 use mathlib.Core.List.{List, [], _∷_}
 use lib.Dec.{eqb}
 use lib.ListN.{take}
-use Rattle.listing.specs.Words.{lineFeed}
+use Rattle.octets.specs.Text.{lineFeed}
 use Rattle.checker.specs.declared.Verdict.{Verdict}
 
 -- how many line feeds a text has

@@ -19,14 +19,8 @@ abbrev μ-loop : tie.MeasureT-loop
 short : (c : tie.Start Inv-loop μ-loop) → length (decimalOf (c .args .v)) ≤ 20
 short c = at-most-20 (c .args .v) (c .fits .v .fits)
 
-loop-holds : tie.Need-loop-holds Inv-loop μ-loop
-loop-holds c = omega arith
-
 add-cut : tie.Need-add-cut Inv-loop μ-loop
 add-cut c = omega (arith, short (c .before .before))
-
-loop-less : tie.Need-loop-less Inv-loop μ-loop
-loop-less c = omega arith
 
 loop-again : tie.Need-loop-again Inv-loop μ-loop
 loop-again c = omega (arith, cut-off 4 (c .before .loop .rest) (omega arith))
@@ -61,9 +55,9 @@ count-spec =
     (tie.spec
     Inv-loop
     μ-loop
-    loop-holds
+    (λ c. omega arith)
     add-cut
-    loop-less
+    (λ c. omega arith)
     loop-again
     add-result
     returns

@@ -7,18 +7,6 @@ use Rattle.decimal.specs.Decimal.{decimalOf}
 use Rattle.decimal.proofs.put_decimal.Statement.{statement}
 use Rattle.decimal.proofs.put_decimal.Tie as tie
 
-count-requires : tie.Need-count-requires
-count-requires c κs = search needs
-
-sub-if2 : tie.Need-sub-if2
-sub-if2 c = search needs
-
-write-requires : tie.Need-write-requires
-write-requires c κs = search needs
-
-same-length : tie.Need-same-length
-same-length c = search needs
-
 returns : tie.Need-returns
 returns c =
     let a = c .before .before .before .before .before .before .before .before .args in
@@ -37,4 +25,4 @@ returns-3 c =
 pub put-decimal-spec : {M : Type 1} → statement M
 put-decimal-spec =
     tie.close
-    (tie.spec count-requires sub-if2 write-requires same-length returns returns-2 returns-3)
+    (tie.spec (λ c κs. search needs) (λ c. search needs) (λ c κs. search needs) (λ c. search needs) returns returns-2 returns-3)

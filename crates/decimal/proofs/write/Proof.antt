@@ -21,29 +21,8 @@ abbrev μ-loop : tie.MeasureT-loop
 loop-holds : tie.Need-loop-holds Inv-loop μ-loop
 loop-holds c = (search needs, refl, rw (c .before .pre .0, all-lowest))
 
-sub-i : tie.Need-sub-i Inv-loop μ-loop
-sub-i c = search needs
-
-add-place : tie.Need-add-place Inv-loop μ-loop
-add-place c = search needs
-
-last-requires : tie.Need-last-requires Inv-loop μ-loop
-last-requires c κs = search needs
-
-add-out : tie.Need-add-out Inv-loop μ-loop
-add-out c = search needs
-
-slice-write-out : tie.Need-slice-write-out Inv-loop μ-loop
-slice-write-out c = search needs
-
-last-requires-2 : tie.Need-last-requires-2 Inv-loop μ-loop
-last-requires-2 c κs = search needs
-
 slice-write-out-2 : tie.Need-slice-write-out-2 Inv-loop μ-loop
 slice-write-out-2 c = simp length-set (omega arith)
-
-loop-less : tie.Need-loop-less Inv-loop μ-loop
-loop-less c = search needs
 
 loop-again : tie.Need-loop-again Inv-loop μ-loop
 loop-again c =
@@ -51,24 +30,12 @@ loop-again c =
     let a = c .before .before .before .before .before .args in
     (omega arith, simp length-set (l .inv .1), rw (c .before .last .ensures, c .last2 .ensures) (write-two (a .at) (l .i) (l .rest) (l .out) (omega arith) (omega arith) ∙ l .inv .2))
 
-last-requires-3 : tie.Need-last-requires-3 Inv-loop μ-loop
-last-requires-3 c κs = search needs
-
-slice-write-out-3 : tie.Need-slice-write-out-3 Inv-loop μ-loop
-slice-write-out-3 c = search needs
-
-same-length : tie.Need-same-length Inv-loop μ-loop
-same-length c = search needs
-
 returns : tie.Need-returns Inv-loop μ-loop
 returns c =
     let l = c .before .before .before .loop in
     let a = c .before .before .before .before .before .args in
     let one : l .i ≡ 1 = omega arith in
     rw (c .last3 .ensures) (write-first (a .at) (l .rest) (l .out) (omega arith) ∙ (rw one at (l .inv .2)))
-
-same-length-2 : tie.Need-same-length-2 Inv-loop μ-loop
-same-length-2 c = search needs
 
 returns-2 : tie.Need-returns-2 Inv-loop μ-loop
 returns-2 c =
@@ -84,18 +51,18 @@ write-spec =
     Inv-loop
     μ-loop
     loop-holds
-    sub-i
-    add-place
-    last-requires
-    add-out
-    slice-write-out
-    last-requires-2
+    (λ c. search needs)
+    (λ c. search needs)
+    (λ c κs. search needs)
+    (λ c. search needs)
+    (λ c. search needs)
+    (λ c κs. search needs)
     slice-write-out-2
-    loop-less
+    (λ c. search needs)
     loop-again
-    last-requires-3
-    slice-write-out-3
-    same-length
+    (λ c κs. search needs)
+    (λ c. search needs)
+    (λ c. search needs)
     returns
-    same-length-2
+    (λ c. search needs)
     returns-2)

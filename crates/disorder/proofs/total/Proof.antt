@@ -2,7 +2,7 @@
 use denote.Ref.{now}
 use borrow.Author.Needs.{needs}
 use Rattle.sample.specs.Decode.{decode}
-use Rattle.metrics.specs.Private.Sample.{Laid}
+use Rattle.metrics.specs.Private.Sample.{FileLayout}
 use Rattle.metrics.proofs.FoundInFile.{laid}
 use Rattle.disorder.specs.Sample.{sampleDisorder}
 use Rattle.disorder.proofs.Disorder.{offsets-count-pairs, wrong-least}
@@ -10,11 +10,8 @@ use Rattle.disorder.proofs.Disordered.{sums-offsets}
 use Rattle.disorder.proofs.total.Statement.{statement}
 use Rattle.disorder.proofs.total.Tie as tie
 
-check-requires : tie.Need-check-requires
-check-requires c κs = search needs
-
 -- what the check finds lays the file out
-found : (c : tie.After-check) → Laid (decode (now (c .before .before .args .file))) (c .check .result)
+found : (c : tie.After-check) → FileLayout (decode (now (c .before .before .args .file))) (c .check .result)
 found c = rw (c .check .ensures .0) (laid _ (λ i. c .before .shared-slice-known .given i .fits))
 
 disorder-of-requires : tie.Need-disorder-of-requires
@@ -27,4 +24,4 @@ returns c =
     (rw (h .laid, c .disorder-of .ensures), (sums-offsets _ _ h, (offsets-count-pairs, wrong-least)))
 
 pub total-spec : {M : Type 1} → statement M
-total-spec = tie.close (tie.spec check-requires disorder-of-requires returns)
+total-spec = tie.close (tie.spec (λ c κs. search needs) disorder-of-requires returns)

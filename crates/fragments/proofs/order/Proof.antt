@@ -1,4 +1,4 @@
--- `fragments::order` meets its contract. Assumes nothing.
+-- `fragments::order` meets its contract: refused, the lists stay; else `accepted` gives what `mark` asks, and it fills both. Assumes nothing.
 use Rattle.fragments.proofs.Whole.{whole-flags}
 use Rattle.fragments.proofs.Cases.{flagged-as-given}
 use Rattle.fragments.proofs.Accepted.{accepted, refused-over}
@@ -12,9 +12,6 @@ use borrow.Author.Needs.{needs}
 use Rattle.fragments.proofs.order.Statement.{statement}
 use Rattle.fragments.proofs.order.Tie as tie
 
-refusal-of-requires : tie.Need-refusal-of-requires
-refusal-of-requires c κs = search needs
-
 returns : tie.Need-returns
 returns c =
     let a = c .before .before .before .before .before .before .before .before .before .args in
@@ -26,12 +23,6 @@ mark-requires c κs =
     let k = accepted (a .k) (now (a .numbers)) (now (a .times)) (now (a .lengths)) (now (a .mores)) (now (a .offsets)) (length (now (a .flagged))) (length (now (a .used))) (sym (c .before .before .before .refusal-of .ensures) ∙ c .before .before .if1 .left) in
     (k .sent, k .lists, k .inside, k .numbers, k .flagRoom, k .usedRoom)
 
-same-length : tie.Need-same-length
-same-length c = search needs
-
-same-length-2 : tie.Need-same-length-2
-same-length-2 c = search needs
-
 returns-2 : tie.Need-returns-2
 returns-2 c =
     let a = c .before .before .before .before .before .before .before .before .before .before .before .before .before .before .before .before .args in
@@ -40,4 +31,4 @@ returns-2 c =
 pub order-spec : {M : Type 1} → statement M
 order-spec =
     tie.close
-    (tie.spec refusal-of-requires returns mark-requires same-length same-length-2 returns-2)
+    (tie.spec (λ c κs. search needs) returns mark-requires (λ c. search needs) (λ c. search needs) returns-2)

@@ -1,5 +1,5 @@
 -- `listing::write_all` meets its contract: by how many fours of digits the number has. Assumes nothing.
-use Prim.Native.Nat.{_+_, _/_, _≤_}
+use Prim.Native.Nat.{_/_, _≤_}
 use mathlib.Core.Path.{sym}
 use native.Mathlib.Omega.{arith}
 use lib.ListN.{length}
@@ -11,24 +11,6 @@ use Rattle.listing.proofs.Parts.{named, then}
 use Rattle.listing.proofs.write_all.Statement.{statement}
 use Rattle.listing.proofs.write_all.Tie as tie
 
-write-few-requires : tie.Need-write-few-requires
-write-few-requires c κs = search needs
-
-same-length : tie.Need-same-length
-same-length c = search needs
-
-returns : tie.Need-returns
-returns c = search needs
-
-write-few-requires-2 : tie.Need-write-few-requires-2
-write-few-requires-2 c κs = search needs
-
-write-four-requires : tie.Need-write-four-requires
-write-four-requires c κs = search needs
-
-same-length-2 : tie.Need-same-length-2
-same-length-2 c = search needs
-
 returns-2 : tie.Need-returns-2
 returns-2 c =
     let s = c .before .before .before .before .before .before .before .before .before .before .before in
@@ -37,20 +19,11 @@ returns-2 c =
     named 10 (sym (more-fours v (c .before .before .before .before .before .before .before .before .before .if1 .left))) (at-most 10 v (omega arith) (omega arith))
     (then h (c .before .before .before .before .before .before .write-few2 .ensures) (c .before .before .write-four .ensures))
 
-write-few-requires-3 : tie.Need-write-few-requires-3
-write-few-requires-3 c κs = search needs
-
-write-four-requires-2 : tie.Need-write-four-requires-2
-write-four-requires-2 c κs = search needs
-
 write-four-requires-3 : tie.Need-write-four-requires-3
 write-four-requires-3 c κs =
     let v = c .before .before .before .before .before .before .before .before .before .before .before .before .args .v in
     let few : length (decimalOf (v / 100000000)) ≤ 2 = at-most 2 (v / 100000000) (omega arith) (omega arith) in
     (omega (arith, few, c .before .before .before .before .before .before .before .write-few3 .ensures .place, c .before .before .before .write-four2 .ensures .place), omega arith)
-
-same-length-3 : tie.Need-same-length-3
-same-length-3 c = search needs
 
 returns-3 : tie.Need-returns-3
 returns-3 c =
@@ -64,15 +37,15 @@ pub write-all-spec : {M : Type 1} → statement M
 write-all-spec =
     tie.close
     (tie.spec
-    write-few-requires
-    same-length
-    returns
-    write-few-requires-2
-    write-four-requires
-    same-length-2
+    (λ c κs. search needs)
+    (λ c. search needs)
+    (λ c. search needs)
+    (λ c κs. search needs)
+    (λ c κs. search needs)
+    (λ c. search needs)
     returns-2
-    write-few-requires-3
-    write-four-requires-2
+    (λ c κs. search needs)
+    (λ c κs. search needs)
     write-four-requires-3
-    same-length-3
+    (λ c. search needs)
     returns-3)

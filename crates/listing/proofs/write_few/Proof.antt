@@ -10,38 +10,17 @@ use Rattle.listing.proofs.Parts.{named, then}
 use Rattle.listing.proofs.write_few.Statement.{statement}
 use Rattle.listing.proofs.write_few.Tie as tie
 
-write-digit-requires : tie.Need-write-digit-requires
-write-digit-requires c κs = search needs
-
-same-length : tie.Need-same-length
-same-length c = search needs
-
 returns : tie.Need-returns
 returns c =
     let s = c .before .before .before .before .before .before in
     let v = s .args .v in
     named 4 (sym (one-digit v (c .before .before .before .before .if1 .taken))) (at-most 4 v (omega arith) (omega (arith, s .pre .1))) (c .before .before .write-digit .ensures)
 
-write-pair-requires : tie.Need-write-pair-requires
-write-pair-requires c κs = search needs
-
-same-length-2 : tie.Need-same-length-2
-same-length-2 c = search needs
-
 returns-2 : tie.Need-returns-2
 returns-2 c =
     let s = c .before .before .before .before .before .before .before in
     let v = s .args .v in
     named 4 (sym (two-digits v (c .before .before .before .before .before .if1 .left) (c .before .before .before .before .if2 .taken))) (at-most 4 v (omega arith) (omega (arith, s .pre .1))) (c .before .before .write-pair .ensures)
-
-write-digit-requires-2 : tie.Need-write-digit-requires-2
-write-digit-requires-2 c κs = search needs
-
-write-pair-requires-2 : tie.Need-write-pair-requires-2
-write-pair-requires-2 c κs = search needs
-
-same-length-3 : tie.Need-same-length-3
-same-length-3 c = search needs
 
 returns-3 : tie.Need-returns-3
 returns-3 c =
@@ -50,12 +29,6 @@ returns-3 c =
     let h : s .args .at ≤ length (s .args .out .now) = omega arith in
     named 4 (sym (three-digits v (c .before .before .before .before .before .before .before .before .before .if2 .left) (c .before .before .before .before .before .before .before .before .if3 .taken))) (at-most 4 v (omega arith) (omega (arith, s .pre .1)))
     (then h (c .before .before .before .before .before .before .write-digit2 .ensures) (c .before .before .write-pair2 .ensures))
-
-write-four-requires : tie.Need-write-four-requires
-write-four-requires c κs = search needs
-
-same-length-4 : tie.Need-same-length-4
-same-length-4 c = search needs
 
 returns-4 : tie.Need-returns-4
 returns-4 c =
@@ -67,16 +40,16 @@ pub write-few-spec : {M : Type 1} → statement M
 write-few-spec =
     tie.close
     (tie.spec
-    write-digit-requires
-    same-length
+    (λ c κs. search needs)
+    (λ c. search needs)
     returns
-    write-pair-requires
-    same-length-2
+    (λ c κs. search needs)
+    (λ c. search needs)
     returns-2
-    write-digit-requires-2
-    write-pair-requires-2
-    same-length-3
+    (λ c κs. search needs)
+    (λ c κs. search needs)
+    (λ c. search needs)
     returns-3
-    write-four-requires
-    same-length-4
+    (λ c κs. search needs)
+    (λ c. search needs)
     returns-4)

@@ -7,15 +7,6 @@ use Rattle.listing.proofs.Parts.{then}
 use Rattle.listing.proofs.write_four.Statement.{statement}
 use Rattle.listing.proofs.write_four.Tie as tie
 
-write-pair-requires : tie.Need-write-pair-requires
-write-pair-requires c κs = search needs
-
-write-pair-requires-2 : tie.Need-write-pair-requires-2
-write-pair-requires-2 c κs = search needs
-
-same-length : tie.Need-same-length
-same-length c = search needs
-
 returns : tie.Need-returns
 returns c =
     let s = c .before .before .before .before .before .before .before .before .before in
@@ -26,7 +17,7 @@ pub write-four-spec : {M : Type 1} → statement M
 write-four-spec =
     tie.close
     (tie.spec
-    write-pair-requires
-    write-pair-requires-2
-    same-length
+    (λ c κs. search needs)
+    (λ c κs. search needs)
+    (λ c. search needs)
     returns)

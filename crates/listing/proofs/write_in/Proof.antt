@@ -8,21 +8,6 @@ use Rattle.listing.proofs.Parts.{then}
 use Rattle.listing.proofs.write_in.Statement.{statement}
 use Rattle.listing.proofs.write_in.Tie as tie
 
-slice-aggregate-write-word : tie.Need-slice-aggregate-write-word
-slice-aggregate-write-word c = search needs
-
-write-word-requires : tie.Need-write-word-requires
-write-word-requires c κs = search needs
-
-write-number-requires : tie.Need-write-number-requires
-write-number-requires c κs = search needs
-
-write-number-requires-2 : tie.Need-write-number-requires-2
-write-number-requires-2 c κs = search needs
-
-same-length : tie.Need-same-length
-same-length c = search needs
-
 returns : tie.Need-returns
 returns c =
     let e3 = c .before .before in
@@ -36,9 +21,9 @@ pub write-in-spec : {M : Type 1} → statement M
 write-in-spec =
     tie.close
     (tie.spec
-    slice-aggregate-write-word
-    write-word-requires
-    write-number-requires
-    write-number-requires-2
-    same-length
+    (λ c. search needs)
+    (λ c κs. search needs)
+    (λ c κs. search needs)
+    (λ c κs. search needs)
+    (λ c. search needs)
     returns)

@@ -7,15 +7,6 @@ use Rattle.listing.proofs.Parts.{then}
 use Rattle.listing.proofs.write_pair.Statement.{statement}
 use Rattle.listing.proofs.write_pair.Tie as tie
 
-write-digit-requires : tie.Need-write-digit-requires
-write-digit-requires c κs = search needs
-
-write-digit-requires-2 : tie.Need-write-digit-requires-2
-write-digit-requires-2 c κs = search needs
-
-same-length : tie.Need-same-length
-same-length c = search needs
-
 returns : tie.Need-returns
 returns c =
     let s = c .before .before .before .before .before .before .before .before .before in
@@ -26,7 +17,7 @@ pub write-pair-spec : {M : Type 1} → statement M
 write-pair-spec =
     tie.close
     (tie.spec
-    write-digit-requires
-    write-digit-requires-2
-    same-length
+    (λ c κs. search needs)
+    (λ c κs. search needs)
+    (λ c. search needs)
     returns)

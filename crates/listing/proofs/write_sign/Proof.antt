@@ -7,9 +7,6 @@ use Rattle.listing.proofs.Parts.{nothing, one}
 use Rattle.listing.proofs.write_sign.Statement.{statement}
 use Rattle.listing.proofs.write_sign.Tie as tie
 
-enum-known-late : tie.Need-enum-known-late
-enum-known-late c = search needs
-
 enum-told : tie.Need-enum-told
 enum-told c = search needs
 
@@ -17,15 +14,6 @@ returns : tie.Need-returns
 returns c =
     let a = c .before .before .args in
     rw (c .enum-told .given .1) (nothing (a .at) (a .out .now))
-
-slice-write-out : tie.Need-slice-write-out
-slice-write-out c = search needs
-
-add-result : tie.Need-add-result
-add-result c = search needs
-
-same-length : tie.Need-same-length
-same-length c = search needs
 
 returns-2 : tie.Need-returns-2
 returns-2 c =
@@ -43,11 +31,11 @@ pub write-sign-spec : {M : Type 1} → statement M
 write-sign-spec =
     tie.close
     (tie.spec
-    enum-known-late
+    (λ c. search needs)
     enum-told
     returns
-    slice-write-out
-    add-result
-    same-length
+    (λ c. search needs)
+    (λ c. search needs)
+    (λ c. search needs)
     returns-2
     returns-3)

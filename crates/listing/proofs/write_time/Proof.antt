@@ -9,19 +9,10 @@ use Rattle.listing.proofs.Parts.{weaken, then, time-parts}
 use Rattle.listing.proofs.write_time.Statement.{statement}
 use Rattle.listing.proofs.write_time.Tie as tie
 
-write-sign-requires : tie.Need-write-sign-requires
-write-sign-requires c κs = search needs
-
-amount-requires : tie.Need-amount-requires
-amount-requires c κs = search needs
-
 write-digits-requires : tie.Need-write-digits-requires
 write-digits-requires c κs =
     let w = c .before .before .before .before .write-sign .ensures in
     omega (arith, w .place, w .within, at-most-20 (c .amount .result) (omega arith))
-
-same-length : tie.Need-same-length
-same-length c = search needs
 
 returns : tie.Need-returns
 returns c =
@@ -37,4 +28,4 @@ returns c =
 pub write-time-spec : {M : Type 1} → statement M
 write-time-spec =
     tie.close
-    (tie.spec write-sign-requires amount-requires write-digits-requires same-length returns)
+    (tie.spec (λ c κs. search needs) (λ c κs. search needs) write-digits-requires (λ c. search needs) returns)

@@ -1,23 +1,8 @@
--- `listing::write_word` meets its contract. Assumes nothing.
+-- `listing::write_word` meets its contract: the word is put, and the octet stored after it. Assumes nothing.
 use borrow.Author.Needs.{needs}
 use Rattle.listing.proofs.Parts.{with-after}
 use Rattle.listing.proofs.write_word.Statement.{statement}
 use Rattle.listing.proofs.write_word.Tie as tie
-
-put-octets-requires : tie.Need-put-octets-requires
-put-octets-requires c κs = search needs
-
-add-end : tie.Need-add-end
-add-end c = search needs
-
-slice-write-out : tie.Need-slice-write-out
-slice-write-out c = search needs
-
-add-result : tie.Need-add-result
-add-result c = search needs
-
-same-length : tie.Need-same-length
-same-length c = search needs
 
 returns : tie.Need-returns
 returns c =
@@ -26,4 +11,4 @@ returns c =
 
 pub write-word-spec : {M : Type 1} → statement M
 write-word-spec =
-    tie.close (tie.spec put-octets-requires add-end slice-write-out add-result same-length returns)
+    tie.close (tie.spec (λ c κs. search needs) (λ c. search needs) (λ c. search needs) (λ c. search needs) (λ c. search needs) returns)

@@ -1,9 +1,8 @@
 -- `meter::step_first` meets its contract: the receiver's step, keeping as many jumps as the stream can beside its neighbour.
 -- Assumes nothing.
-use mathlib.Core.Path.{_≡_, refl, ap, _∙_}
+use mathlib.Core.Path.{ap, _∙_}
 use borrow.Author.Needs.{needs}
 use Rattle.meter.specs.declared.StreamState.{StreamState}
-use Rattle.meter.specs.declared.MeterStepped.{MeterStepped}
 use Rattle.meter.specs.Streams.{one, two}
 use Rattle.meter.proofs.Meters.{meter-few, step-kept}
 use Rattle.meter.proofs.step_first.Statement.{statement}
@@ -11,15 +10,6 @@ use Rattle.meter.proofs.step_first.Tie as tie
 
 most-beside-requires : tie.Need-most-beside-requires
 most-beside-requires c κs = meter-few (c .before .before .args .m) (c .before .before .pre) two
-
-receiver-of-requires : tie.Need-receiver-of-requires
-receiver-of-requires c κs = search needs
-
-step-within-requires : tie.Need-step-within-requires
-step-within-requires c κs = search needs
-
-state-of-requires : tie.Need-state-of-requires
-state-of-requires c κs = search needs
 
 returns : tie.Need-returns
 returns c =
@@ -34,4 +24,4 @@ returns c =
 
 pub step-first-spec : {M : Type 1} → statement M
 step-first-spec =
-    tie.close (tie.spec most-beside-requires receiver-of-requires step-within-requires state-of-requires returns)
+    tie.close (tie.spec most-beside-requires (λ c κs. search needs) (λ c κs. search needs) (λ c κs. search needs) returns)

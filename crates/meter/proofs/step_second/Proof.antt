@@ -1,10 +1,9 @@
 -- `meter::step_second` meets its contract: the receiver's step on the places turned, keeping as many jumps as the stream can beside
 -- its neighbour. Assumes nothing.
-use mathlib.Core.Path.{_≡_, refl, ap, _∙_}
+use mathlib.Core.Path.{ap, _∙_}
 use borrow.Author.Needs.{needs}
 use Rattle.receiver.specs.declared.Places.{Places}
 use Rattle.meter.specs.declared.StreamState.{StreamState}
-use Rattle.meter.specs.declared.MeterStepped.{MeterStepped}
 use Rattle.meter.specs.Streams.{one, two, streamIn}
 use Rattle.meter.proofs.Meters.{meter-few, second-known, step-kept}
 use Rattle.meter.proofs.step_second.Statement.{statement}
@@ -12,21 +11,6 @@ use Rattle.meter.proofs.step_second.Tie as tie
 
 most-beside-requires : tie.Need-most-beside-requires
 most-beside-requires c κs = meter-few (c .before .before .args .m) (c .before .before .pre) one
-
-turned-requires : tie.Need-turned-requires
-turned-requires c κs = search needs
-
-receiver-of-requires : tie.Need-receiver-of-requires
-receiver-of-requires c κs = search needs
-
-step-within-requires : tie.Need-step-within-requires
-step-within-requires c κs = search needs
-
-state-of-requires : tie.Need-state-of-requires
-state-of-requires c κs = search needs
-
-turned-requires-2 : tie.Need-turned-requires-2
-turned-requires-2 c κs = search needs
 
 returns : tie.Need-returns
 returns c =
@@ -46,9 +30,9 @@ step-second-spec =
     tie.close
     (tie.spec
     most-beside-requires
-    turned-requires
-    receiver-of-requires
-    step-within-requires
-    state-of-requires
-    turned-requires-2
+    (λ c κs. search needs)
+    (λ c κs. search needs)
+    (λ c κs. search needs)
+    (λ c κs. search needs)
+    (λ c κs. search needs)
     returns)

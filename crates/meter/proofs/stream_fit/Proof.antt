@@ -1,4 +1,4 @@
--- `meter::stream_fit` meets its contract. Assumes nothing.
+-- `meter::stream_fit` meets its contract: over 48 kept jumps are unfit, and under that the receiver's test decides. Assumes nothing.
 use borrow.Author.Needs.{needs}
 use borrow.Author.Tests.{le-leb, lt-leb}
 use Rattle.meter.specs.Step.{fitOnMeter}
@@ -9,12 +9,9 @@ returns : tie.Need-returns
 unfolding fitOnMeter
 returns c = simp (lt-leb _ _ (c .if1 .taken))
 
-is-fit-requires : tie.Need-is-fit-requires
-is-fit-requires c κs = search needs
-
 returns-2 : tie.Need-returns-2
 unfolding fitOnMeter
 returns-2 c = simp (le-leb _ _ (c .before .if1 .left), c .is-fit .ensures)
 
 pub stream-fit-spec : {M : Type 1} → statement M
-stream-fit-spec = tie.close (tie.spec returns is-fit-requires returns-2)
+stream-fit-spec = tie.close (tie.spec returns (λ c κs. search needs) returns-2)

@@ -20,17 +20,8 @@ room c =
     let file = now (c .before .before .before .args .file) in
     sample-within file (c .layout .result) (c .layout .ensures) (below-fits w8 file (c .before .before .shared-slice-known .given))
 
-layout-requires : tie.Need-layout-requires
-layout-requires c κs = search needs
-
 returns : tie.Need-returns
 returns c = (agreed-refused _ _ (c .before .before .layout .ensures) _ (c .if1 .taken), room (c .before .before))
-
-compare-requires : tie.Need-compare-requires
-compare-requires c κs = search needs
-
-same-requires : tie.Need-same-requires
-same-requires c κs = search needs
 
 returns-2 : tie.Need-returns-2
 returns-2 c =
@@ -39,4 +30,4 @@ returns-2 c =
 
 pub agreement-spec : {M : Type 1} → statement M
 agreement-spec =
-    tie.close (tie.spec layout-requires returns compare-requires same-requires returns-2)
+    tie.close (tie.spec (λ c κs. search needs) returns (λ c κs. search needs) (λ c κs. search needs) returns-2)

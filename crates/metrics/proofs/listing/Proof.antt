@@ -10,9 +10,10 @@ use Rattle.listing.specs.Example.{ExampleHolds}
 use Rattle.listing.specs.Room.{listingOctets}
 use Rattle.listing.proofs.Example.{example-holds}
 use Rattle.sample.specs.Decode.{decode}
+use Rattle.sample.proofs.Output.{nothing-written, whole-written}
 use Rattle.metrics.specs.Report.{sampleText}
 use Rattle.metrics.specs.Moved.{ClockMoved}
-use Rattle.metrics.proofs.Listed.{sample-within, listed-refused, listed-whole}
+use Rattle.metrics.proofs.Listed.{sample-within}
 use Rattle.metrics.proofs.Moved.{clock-moved}
 use Rattle.metrics.proofs.listing.Statement.{statement}
 use Rattle.metrics.proofs.listing.Tie as tie
@@ -26,28 +27,16 @@ carries c =
     let o = below-fits w8 file (c .before .before .shared-slice-known .given) in
     (sample-within file (c .layout .result) (c .layout .ensures) o, (example-holds, clock-moved file o))
 
-layout-requires : tie.Need-layout-requires
-layout-requires c κs = search needs
-
-refusal-into-requires : tie.Need-refusal-into-requires
-refusal-into-requires c κs = search needs
-
 returns : tie.Need-returns
-returns c = (listed-refused _ _ _ (c .before .refusal-into .ensures) (c .if1 .taken), carries (c .before .before))
-
-list-requires : tie.Need-list-requires
-list-requires c κs = search needs
-
-same-length : tie.Need-same-length
-same-length c = search needs
+returns c = (nothing-written _ _ _ _ (c .before .refusal-into .ensures) (c .if1 .taken), carries (c .before .before))
 
 returns-2 : tie.Need-returns-2
 returns-2 c =
     let r = c .before .before .before .before .before in
     let e = c .before .before .list .ensures in
-    (listed-whole _ _ _ _ (r .refusal-into .ensures) (c .before .before .before .before .if1 .left) (e .0) (e .1), carries (r .before))
+    (whole-written _ _ _ _ (r .refusal-into .ensures) (c .before .before .before .before .if1 .left) (e .0) (e .1), carries (r .before))
 
 pub listing-spec : {M : Type 1} → statement M
 listing-spec =
     tie.close
-    (tie.spec layout-requires refusal-into-requires returns list-requires same-length returns-2)
+    (tie.spec (λ c κs. search needs) (λ c κs. search needs) returns (λ c κs. search needs) (λ c. search needs) returns-2)

@@ -4,27 +4,19 @@ use Rattle.metrics.specs.Private.Steps.{sharesOf}
 use Rattle.metrics.specs.declared.figures.Shares.{Shares}
 use Rattle.metrics.proofs.RecordsAsked.{laid-refusal, degree-answered-refused, degree-answered}
 use borrow.Author.Needs.{needs}
+use Rattle.metrics.specs.Figures.{degreeMost}
 use Rattle.metrics.proofs.n_reordered.Statement.{statement}
 use Rattle.metrics.proofs.n_reordered.Tie as tie
 
-layout-requires : tie.Need-layout-requires
-layout-requires c κs = search needs
-
-refusal-of-requires : tie.Need-refusal-of-requires
-refusal-of-requires c κs = search needs
-
 returns : tie.Need-returns
-returns c = degree-answered-refused _ _ _ (laid-refusal _ _ (c .before .before .layout .ensures) _ 1 100 (c .before .before .before .before .args .n) (c .before .refusal-of .ensures)) (c .if1 .taken)
-
-shares-of-requires : tie.Need-shares-of-requires
-shares-of-requires c κs = search needs
+returns c = degree-answered-refused _ _ _ (laid-refusal _ _ (c .before .before .layout .ensures) _ 1 degreeMost (c .before .before .before .before .args .n) (c .before .refusal-of .ensures)) (c .if1 .taken)
 
 returns-2 : tie.Need-returns-2
 unfolding sharesOf
 returns-2 c =
     let s = c .shares-of .ensures in
-    degree-answered _ _ _ (laid-refusal _ _ (c .before .before .before .layout .ensures) _ 1 100 (c .before .before .before .before .before .args .n) (c .before .before .refusal-of .ensures)) (c .before .if1 .left) _ _ (ap (λ (t : Shares). t .low) s) (ap (λ (t : Shares). t .whole) s)
+    degree-answered _ _ _ (laid-refusal _ _ (c .before .before .before .layout .ensures) _ 1 degreeMost (c .before .before .before .before .before .args .n) (c .before .before .refusal-of .ensures)) (c .before .if1 .left) _ _ (ap (λ (t : Shares). t .low) s) (ap (λ (t : Shares). t .whole) s)
 
 pub n-reordered-spec : {M : Type 1} → statement M
 n-reordered-spec =
-    tie.close (tie.spec layout-requires refusal-of-requires returns shares-of-requires returns-2)
+    tie.close (tie.spec (λ c κs. search needs) (λ c κs. search needs) returns (λ c κs. search needs) returns-2)

@@ -6,15 +6,6 @@ use borrow.Author.Needs.{needs}
 use Rattle.metrics.proofs.ratios.Statement.{statement}
 use Rattle.metrics.proofs.ratios.Tie as tie
 
-layout-requires : tie.Need-layout-requires
-layout-requires c κs = search needs
-
-shares-of-requires : tie.Need-shares-of-requires
-shares-of-requires c κs = search needs
-
-ratios-of-requires : tie.Need-ratios-of-requires
-ratios-of-requires c κs = search needs
-
 returns : tie.Need-returns
 unfolding sampleRatios ratiosBy ratios sharesOf
 returns c =
@@ -22,4 +13,4 @@ returns c =
 
 pub ratios-spec : {M : Type 1} → statement M
 ratios-spec =
-    tie.close (tie.spec layout-requires shares-of-requires ratios-of-requires returns)
+    tie.close (tie.spec (λ c κs. search needs) (λ c κs. search needs) (λ c κs. search needs) returns)

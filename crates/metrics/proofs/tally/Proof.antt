@@ -4,15 +4,9 @@ use borrow.Author.Needs.{needs}
 use Rattle.metrics.proofs.tally.Statement.{statement}
 use Rattle.metrics.proofs.tally.Tie as tie
 
-layout-requires : tie.Need-layout-requires
-layout-requires c κs = search needs
-
-tally-of-requires : tie.Need-tally-of-requires
-tally-of-requires c κs = search needs
-
 returns : tie.Need-returns
 unfolding sampleTally
 returns c = rw (c .before .layout .ensures .laid, c .tally-of .ensures)
 
 pub tally-spec : {M : Type 1} → statement M
-tally-spec = tie.close (tie.spec layout-requires tally-of-requires returns)
+tally-spec = tie.close (tie.spec (λ c κs. search needs) (λ c κs. search needs) returns)

@@ -14,7 +14,7 @@ use Rattle.metrics.specs.Sample.{answersOf}
 use Rattle.metrics.specs.Private.Compared.{Agreed, LeftAt}
 use Rattle.metrics.specs.Private.Sample.{before, answersTo}
 use Rattle.metrics.specs.declared.parts.Part.{Part}
-use Rattle.metrics.specs.declared.pass.Passed.{Passed}
+use Rattle.metrics.specs.declared.pass.PassResult.{PassResult}
 
 -- the listing up to record i
 abbrev pub ListedAt : Decoded → Layout → ℕ → ℕ → List ℕ → List ℕ → Type 0
@@ -27,7 +27,7 @@ pub record PassedTo (d : Decoded) (y : Layout) (text : List ℕ) (comparing : Bo
   pub places : length new ≡ length old
 
 -- all records are behind or, comparing, a line differs
-pub record PassEnded (d : Decoded) (y : Layout) (text : List ℕ) (comparing : Bool) (old new : List ℕ) (r : Passed) : Type 0 where
+pub record PassEnded (d : Decoded) (y : Layout) (text : List ℕ) (comparing : Bool) (old new : List ℕ) (r : PassResult) : Type 0 where
   pub all : r .part .whole ≡ true → PassedTo d y text comparing (y .arrivals) (r .part .octets) old new × (r .counts ≡ counts (answersOf d))
   pub differs : r .part .whole ≡ false → (comparing ≡ true) × Agreed (sampleText d) text (r .part)
   pub places : length new ≡ length old

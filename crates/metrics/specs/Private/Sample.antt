@@ -6,13 +6,15 @@ use lib.ListN.{take, getD}
 use Rattle.rfc4737.specs.declared.Arrival.{Arrival}
 use Rattle.rfc4737.specs.declared.Answer.{Answer}
 use Rattle.rfc4737.specs.Answer.{answerTo, answers}
+use Rattle.rfc4737.specs.Judge.{sentMost, arrivalsMost}
 use Rattle.sample.specs.declared.Layout.{Layout}
 use Rattle.sample.specs.Decode.{Decoded, layoutOf}
+use Rattle.sample.specs.Places.{noArrival}
 use Rattle.metrics.specs.Sample.{sizeOf, sampleArrivals}
 
--- what stands where there is no arrival
-abbrev pub noArrival : Arrival
-noArrival = record { number = 0; time = 0 }
+-- the places of a table by packet: one for each number up to the greatest, and one for 0
+abbrev pub numberPlaces : ℕ
+numberPlaces = 4097
 
 -- the arrival of record i + 1
 abbrev pub arrivalAt : Decoded → ℕ → Arrival
@@ -31,13 +33,13 @@ abbrev pub answersTo : Decoded → ℕ → List Answer
 answersTo d i = answers (sizeOf d) (before d i)
 
 -- the layout of a file: what is known of its sample besides
-pub record Laid (d : Decoded) (y : Layout) : Type 0 where
+pub record FileLayout (d : Decoded) (y : Layout) : Type 0 where
   pub laid : y ≡ layoutOf d
-  pub sentFew : y .sent ≤ 4096
-  pub few : y .arrivals ≤ 4096
+  pub sentFew : y .sent ≤ sentMost
+  pub few : y .arrivals ≤ arrivalsMost
   pub numbers : (i : ℕ) → i < y .arrivals → (1 ≤ arrivalAt d i .number) × (arrivalAt d i .number ≤ y .sent)
 
 -- a file of this layout has a record i + 1
-pub record Has (d : Decoded) (y : Layout) (i : ℕ) : Type 0 where
-  pub file : Laid d y
+pub record HasRecord (d : Decoded) (y : Layout) (i : ℕ) : Type 0 where
+  pub file : FileLayout d y
   pub inside : i < y .arrivals

@@ -14,11 +14,13 @@ use Rattle.rfc4737.specs.declared.Ratios.{Ratios}
 use Rattle.rfc4737.specs.Arrivals.{count, has, firsts}
 use Rattle.rfc4737.specs.Order.{nextExp}
 use Rattle.rfc4737.specs.Answer.{answers}
-use Rattle.rfc4737.specs.Runs.{isReordered, arrived, lengthened, ended}
+use Rattle.rfc4737.specs.Runs.{isReordered, arrived, lengthened, ended, squaresMost}
 use Rattle.rfc4737.specs.Tally.{tallyPlace, oneMoreAt}
 use Rattle.rfc4737.specs.Gaps.{discoverer}
 use Rattle.rfc4737.specs.Ratios.{quotient, nReordered}
-use Rattle.metrics.specs.Private.Tables.{Numbered, Linked}
+use Rattle.rfc4737.specs.Judge.{sentMost, arrivalsMost}
+use Rattle.metrics.specs.Private.Sample.{numberPlaces}
+use Rattle.metrics.specs.Private.Tables.{NumberTable, LinkTable}
 use Rattle.metrics.specs.declared.look.Class.{Class}
 use Rattle.metrics.specs.declared.figures.Shares.{Shares}
 
@@ -30,26 +32,15 @@ Inside count (Class.Reordered at) = (1 ≤ at) × (at ≤ count)
 
 -- ---- counts
 
--- the counts of no arrivals
-abbrev pub noCounts : Counts
-noCounts =
-    record {
-      arrived = 0;
-      reordered = 0;
-      duplicates = 0;
-      inorder = 0;
-      runs = record { closed = 0; squares = 0; current = 0 };
-    }
-
 -- counts of fewer than 4,096 arrivals
 pub record FewCounted (c : Counts) : Type 0 where
-  pub arrived : c .arrived < 4096
-  pub reordered : c .reordered < 4096
-  pub duplicates : c .duplicates < 4096
-  pub inorder : c .inorder < 4096
-  pub closed : c .runs .closed < 4096
-  pub squares : c .runs .squares ≤ 16777216
-  pub current : c .runs .current < 4096
+  pub arrived : c .arrived < arrivalsMost
+  pub reordered : c .reordered < arrivalsMost
+  pub duplicates : c .duplicates < arrivalsMost
+  pub inorder : c .inorder < arrivalsMost
+  pub closed : c .runs .closed < arrivalsMost
+  pub squares : c .runs .squares ≤ squaresMost
+  pub current : c .runs .current < arrivalsMost
 
 -- the counts under one arrival more
 unfoldable pub countsBy : Counts → Class → Counts
@@ -85,13 +76,6 @@ tallyBy t count (Class.Duplicate first) = t
 tallyBy t count (Class.InOrder jump) = t
 tallyBy t count (Class.Reordered at) = oneMoreAt (tallyPlace (count + 1 - at)) t
 
--- shares of fewer than 4,096 arrivals
-pub record FewShares (t : Shares) : Type 0 where
-  pub whole : t .whole < 4096
-  pub reordered : t .reordered < 4096
-  pub low : t .low < 4096
-  pub high : t .high < 4096
-
 -- the n-reordered packets under a reordered one more, of this largest n
 abbrev pub reachedBy : ℕ → ℕ → ℕ → ℕ
 reachedBy n largest part = cond (leb n largest) (part + 1) part
@@ -110,10 +94,10 @@ sharesOf low high size l =
 -- the shares of some arrivals, the numbers of the first ones, and by packet 1 and its largest n, 0 where it has not arrived
 pub record ShareTables (low high : ℕ) (size : ℕ → ℕ) (l : List Arrival) (numbers links : List ℕ) (t : Shares) : Type 0 where
   pub shares : t ≡ sharesOf low high size l
-  pub places : (length numbers ≡ 4096) × (length links ≡ 4097)
-  pub numbered : Numbered (firsts l) numbers (t .whole)
-  pub linked : Linked 0 (firsts l) links
-  pub arrived : (s : ℕ) → s ≤ 4096 → eqb (getD links s 0) 0 ≡ not (has s l)
+  pub places : (length numbers ≡ sentMost) × (length links ≡ numberPlaces)
+  pub numbered : NumberTable (firsts l) numbers (t .whole)
+  pub linked : LinkTable 0 (firsts l) links
+  pub arrived : (s : ℕ) → s ≤ sentMost → eqb (getD links s 0) 0 ≡ not (has s l)
 
 -- the ratio figures of three counts over L
 unfoldable pub ratiosBy : ℕ → ℕ → ℕ → ℕ → Ratios
@@ -143,8 +127,8 @@ placeBy count (Class.Reordered at) = count + 1
 
 -- a table has at each position the discoverer of the discontinuity there, 0 where there is none
 pub record DiscoverersAt (l : List Answer) (found : List ℕ) : Type 0 where
-  pub places : length found ≡ 4097
-  pub at : (p : ℕ) → 1 ≤ p → p ≤ 4096 → getD found p 0 ≡ orZero (discoverer p l)
+  pub places : length found ≡ numberPlaces
+  pub at : (p : ℕ) → 1 ≤ p → p ≤ sentMost → getD found p 0 ≡ orZero (discoverer p l)
   pub positive : (p q : ℕ) → discoverer p l ≡ some q → 1 ≤ q
 
 -- the table under one arrival more, after so many first arrivals

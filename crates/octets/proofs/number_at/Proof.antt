@@ -12,28 +12,16 @@ use Rattle.octets.proofs.Memory.{part-none, part-rest}
 use Rattle.octets.proofs.number_at.Statement.{statement}
 use Rattle.octets.proofs.number_at.Tie as tie
 
-octets-of-requires : tie.Need-octets-of-requires
-octets-of-requires c κs = search needs
-
 returns : tie.Need-returns
 returns c =
     let args = c .before .before .before .args in
     sym (ap beValue (part-none (args .at) (min (args .width) 8) (args .s .now) (omega arith)) ∙ value-nil)
-
-sub-left : tie.Need-sub-left
-sub-left c = search needs
-
-value-of-requires : tie.Need-value-of-requires
-value-of-requires c κs = search needs
 
 returns-2 : tie.Need-returns-2
 returns-2 c =
     let at-octets-of = c .before .before .before in
     let args = at-octets-of .before .before .args in
     c .value-of .ensures ∙ ap (λ (n : ℕ). beValue (part (args .at) n (args .s .now))) (at-octets-of .octets-of .ensures)
-
-value-of-requires-2 : tie.Need-value-of-requires-2
-value-of-requires-2 c κs = search needs
 
 returns-3 : tie.Need-returns-3
 returns-3 c =
@@ -47,10 +35,10 @@ pub number-at-spec : {M : Type 1} → statement M
 number-at-spec =
     tie.close
     (tie.spec
-    octets-of-requires
+    (λ c κs. search needs)
     returns
-    sub-left
-    value-of-requires
+    (λ c. search needs)
+    (λ c κs. search needs)
     returns-2
-    value-of-requires-2
+    (λ c κs. search needs)
     returns-3)

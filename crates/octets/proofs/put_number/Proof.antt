@@ -12,17 +12,8 @@ use Rattle.octets.proofs.RoundTrip.{read-back}
 use Rattle.octets.proofs.put_number.Statement.{statement}
 use Rattle.octets.proofs.put_number.Tie as tie
 
-octets-of-requires : tie.Need-octets-of-requires
-octets-of-requires c κs = search needs
-
-has-room-requires : tie.Need-has-room-requires
-has-room-requires c κs = search needs
-
 write-number-requires : tie.Need-write-number-requires
 write-number-requires c κs = leb-true _ _ (sym (c .before .before .has-room .ensures) ∙ c .before .if1 .taken)
-
-same-length : tie.Need-same-length
-same-length c = search needs
 
 returns : tie.Need-returns
 returns c =
@@ -43,9 +34,9 @@ pub put-number-spec : {M : Type 1} → statement M
 put-number-spec =
     tie.close
     (tie.spec
-    octets-of-requires
-    has-room-requires
+    (λ c κs. search needs)
+    (λ c κs. search needs)
     write-number-requires
-    same-length
+    (λ c. search needs)
     returns
     returns-2)

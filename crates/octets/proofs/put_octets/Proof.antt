@@ -6,14 +6,8 @@ use Rattle.octets.specs.Memory.{put}
 use Rattle.octets.proofs.put_octets.Statement.{statement}
 use Rattle.octets.proofs.put_octets.Tie as tie
 
-has-room-requires : tie.Need-has-room-requires
-has-room-requires c κs = search needs
-
 write-octets-requires : tie.Need-write-octets-requires
 write-octets-requires c κs = leb-true _ _ (sym (c .before .before .has-room .ensures) ∙ c .before .if1 .taken)
-
-same-length : tie.Need-same-length
-same-length c = search needs
 
 returns : tie.Need-returns
 unfolding put
@@ -27,4 +21,4 @@ returns-2 c =
     rw (← c .before .has-room .ensures, c .if1 .left)
 
 pub put-octets-spec : {M : Type 1} → statement M
-put-octets-spec = tie.close (tie.spec has-room-requires write-octets-requires same-length returns returns-2)
+put-octets-spec = tie.close (tie.spec (λ c κs. search needs) write-octets-requires (λ c. search needs) returns returns-2)

@@ -21,12 +21,6 @@ abbrev μ-loop : tie.MeasureT-loop
 loop-holds : tie.Need-loop-holds Inv-loop μ-loop
 loop-holds c = (omega arith, sym value-nil)
 
-add-octet : tie.Need-add-octet Inv-loop μ-loop
-add-octet c = omega arith
-
-shared-slice-read-octet : tie.Need-shared-slice-read-octet Inv-loop μ-loop
-shared-slice-read-octet c = omega arith
-
 -- the octet that is read is below 256
 octet : (c : tie.After-shared-slice-known Inv-loop μ-loop) → getD (c .before .before .before .args .s .now) (c .before .before .before .args .at + c .before .before .loop .i) 0 < 256
 octet c = c .shared-slice-known .given (c .before .before .before .args .at + c .before .before .loop .i) .fits
@@ -48,12 +42,6 @@ mul-v c = omega (arith, octet c, room c)
 add-v : tie.Need-add-v Inv-loop μ-loop
 add-v c = omega (arith, octet c, room c)
 
-add-i : tie.Need-add-i Inv-loop μ-loop
-add-i c = omega arith
-
-loop-less : tie.Need-loop-less Inv-loop μ-loop
-loop-less c = omega arith
-
 loop-again : tie.Need-loop-again Inv-loop μ-loop
 loop-again c =
     let at-loop = c .before .before in
@@ -72,12 +60,12 @@ value-of-spec =
     Inv-loop
     μ-loop
     loop-holds
-    add-octet
-    shared-slice-read-octet
+    (λ c. omega arith)
+    (λ c. omega arith)
     cast-octet
     mul-v
     add-v
-    add-i
-    loop-less
+    (λ c. omega arith)
+    (λ c. omega arith)
     loop-again
     returns)

@@ -22,21 +22,6 @@ abbrev μ-loop : tie.MeasureT-loop
 loop-holds : tie.Need-loop-holds Inv-loop μ-loop
 loop-holds c = (omega arith, refl, refl)
 
-sub-i : tie.Need-sub-i Inv-loop μ-loop
-sub-i c = omega arith
-
-cast-out : tie.Need-cast-out Inv-loop μ-loop
-cast-out c = omega arith
-
-add-out : tie.Need-add-out Inv-loop μ-loop
-add-out c = omega arith
-
-slice-write-out : tie.Need-slice-write-out Inv-loop μ-loop
-slice-write-out c = omega arith
-
-loop-less : tie.Need-loop-less Inv-loop μ-loop
-loop-less c = omega arith
-
 -- the last of j + 1 octets stored before the others are written: all of them written
 turn : (at j v : ℕ) (old : List ℕ) → at + j < length old
     → splice at (beOctets j (v / 256)) (set old (at + j) (v % 256)) ≡ splice at (beOctets (j + 1) v) old
@@ -52,9 +37,6 @@ loop-again c =
       turn (at-loop .before .args .at) j (at-loop .loop .rest) (at-loop .loop .out) (omega arith) ∙ rw e (at-loop .loop .inv .2),
     )
 
-same-length : tie.Need-same-length Inv-loop μ-loop
-same-length c = omega arith
-
 returns : tie.Need-returns Inv-loop μ-loop
 unfolding beOctets
 returns c =
@@ -69,11 +51,11 @@ write-number-spec =
     Inv-loop
     μ-loop
     loop-holds
-    sub-i
-    cast-out
-    add-out
-    slice-write-out
-    loop-less
+    (λ c. omega arith)
+    (λ c. omega arith)
+    (λ c. omega arith)
+    (λ c. omega arith)
+    (λ c. omega arith)
     loop-again
-    same-length
+    (λ c. omega arith)
     returns)

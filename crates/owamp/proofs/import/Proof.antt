@@ -1,45 +1,45 @@
 -- `owamp::import` meets its contract: refused, a list too short, or filled and converted. Assumes nothing.
 use borrow.Author.Needs.{needs}
 use native.Mathlib.Omega.{arith}
-use Prim.Native.Nat.{ℕ, _≤_, _<_}
-use mathlib.Core.Bool.{true, _||_}
+use Prim.Native.Nat.{ℕ}
 use mathlib.Core.Path.{_≡_, sym, _∙_}
 use mathlib.Core.List.{List}
-use lib.Dec.{ltb}
 use lib.ListN.{length}
-use borrow.Author.Tests.{lt-ltb, le-ltb}
 use denote.Ref.{now}
 use Rattle.owamp.proofs.Accepted.{accepted-lists}
-use Rattle.owamp.specs.Record.{arrivalsIn}
-use Rattle.owamp.specs.Order.{inOrder, OnlyOne}
+use Rattle.owamp.specs.Record.{recordsArrivals}
+use Rattle.owamp.specs.Order.{inTimeOrder, OnlyOne}
 use Rattle.owamp.specs.Clock.{RoundedDown}
+use Rattle.owamp.specs.Judge.{recordsRefusal}
 use Rattle.owamp.specs.RoundTrip.{AcceptedLists}
-use Rattle.owamp.specs.Cases.{ReadAsGiven}
+use Rattle.owamp.specs.Cases.{RecordsReadAsGiven}
 use Rattle.owamp.proofs.Clocks.{distance}
 use Rattle.owamp.proofs.Cases.{read-as-given}
 use Rattle.owamp.proofs.Sorted.{only-one, in-order}
 use Rattle.owamp.proofs.Reading.{numbers-fit}
 use Rattle.owamp.proofs.Inserted.{order-length}
 use Rattle.owamp.proofs.Converted.{times-converted}
-use Rattle.owamp.proofs.Answers.{none-refused, import-refused, import-short, import-filled, filled-first}
+use Rattle.owamp.proofs.Answers.{none-refused, import-refused, import-short-numbers, import-short-times, import-filled, filled-first}
 use Rattle.owamp.proofs.import.Statement.{statement}
 use Rattle.owamp.proofs.import.Tie as tie
 
 -- the theorems that the contract carries
-carried : (k : ℕ) (os : List ℕ) → OnlyOne (arrivalsIn os) × (RoundedDown × (AcceptedLists k os × ReadAsGiven))
-carried k os = (only-one (arrivalsIn os), (distance, (accepted-lists k os, read-as-given)))
+carried : (k : ℕ) (os : List ℕ) → OnlyOne (recordsArrivals os) × (RoundedDown × (AcceptedLists k os × RecordsReadAsGiven))
+carried k os = (only-one (recordsArrivals os), (distance, (accepted-lists k os, read-as-given)))
 
-over-short : (l : List ℕ) {n m : ℕ} → length l < n → n ≡ m → length l < m
-over-short l h e = omega arith
+-- the start, from where K and the records are not refused
+abbrev start : tie.Else1 → tie.Start
+start c = c .before .before .before .before .before .before
 
-not-short : (l : List ℕ) {n m : ℕ} → n ≤ length l → n ≡ m → m ≤ length l
-not-short l h e = omega arith
+abbrev records : tie.Else1 → List ℕ
+records c = now (start c .args .records)
 
-arrivals-among-requires : tie.Need-arrivals-among-requires
-arrivals-among-requires c κs = search needs
+-- that they are not, and how many arrivals there are
+none : (c : tie.Else1) → recordsRefusal (start c .args .k) (records c) ≡ 0
+none c = sym (c .before .refusal-in .ensures) ∙ c .if1 .left
 
-refusal-in-requires : tie.Need-refusal-in-requires
-refusal-in-requires c κs = search needs
+many : (c : tie.Else1) → c .before .before .arrivals-among .result ≡ length (recordsArrivals (records c))
+many c = c .before .before .arrivals-among .ensures
 
 returns : tie.Need-returns
 returns c =
@@ -49,69 +49,54 @@ returns c =
 
 returns-2 : tie.Need-returns-2
 returns-2 c =
-    let a = c .before .before .before .before .before .before .before .args in
-    let os = now (a .records) in
-    let e = sym (c .before .before .refusal-in .ensures) ∙ c .before .if1 .left in
-    let s : (ltb (length (now (a .numbers))) (length (arrivalsIn os)) || ltb (length (now (a .times))) (length (arrivalsIn os))) ≡ true = simp (lt-ltb _ _ (over-short (now (a .numbers)) (c .if2 .taken) (c .before .before .before .arrivals-among .ensures))) in
-    (import-short (a .k) os (now (a .numbers)) (now (a .times)) e s, carried (a .k) os)
+    let e = c .before in
+    (import-short-numbers _ (records e) (now (start e .args .numbers)) (now (start e .args .times)) (none e) (many e) (c .if2 .taken), carried (start e .args .k) (records e))
 
 returns-3 : tie.Need-returns-3
 returns-3 c =
-    let a = c .before .before .before .before .before .before .before .before .args in
-    let os = now (a .records) in
-    let e = sym (c .before .before .before .refusal-in .ensures) ∙ c .before .before .if1 .left in
-    let s : (ltb (length (now (a .numbers))) (length (arrivalsIn os)) || ltb (length (now (a .times))) (length (arrivalsIn os))) ≡ true = simp (le-ltb _ _ (not-short (now (a .numbers)) (c .before .if2 .left) (c .before .before .before .before .arrivals-among .ensures)), lt-ltb _ _ (over-short (now (a .times)) (c .if3 .taken) (c .before .before .before .before .arrivals-among .ensures))) in
-    (import-short (a .k) os (now (a .numbers)) (now (a .times)) e s, carried (a .k) os)
+    let e = c .before .before in
+    (import-short-times _ (records e) (now (start e .args .numbers)) (now (start e .args .times)) (none e) (many e) (c .if3 .taken), carried (start e .args .k) (records e))
 
 fill-requires : tie.Need-fill-requires
 fill-requires c κs =
-    let a = c .before .before .before .before .before .before .before .before .before .before .args in
-    let os = now (a .records) in
-    let e = none-refused (a .k) os (sym (c .before .before .before .before .before .refusal-in .ensures) ∙ c .before .before .before .before .if1 .left) in
-    let n = c .before .before .before .before .before .before .arrivals-among .ensures in
-    (not-short (now (a .numbers)) (c .before .before .before .if2 .left) n, not-short (now (a .times)) (c .before .before .if3 .left) n, numbers-fit (a .k) (arrivalsIn os) (e .most) (e .numbers))
+    let e = c .before .before .before .before in
+    let f = none-refused (start e .args .k) (records e) (none e) in
+    (omega (arith, c .before .before .before .if2 .left, many e), omega (arith, c .before .before .if3 .left, many e), numbers-fit (start e .args .k) (recordsArrivals (records e)) (f .most) (f .numbers))
 
 convert-requires : tie.Need-convert-requires
 convert-requires c κs =
-    let a = c .before .before .before .before .before .before .before .before .before .before .before .before .before .before .before .before .args in
-    let os = now (a .records) in
-    let n = c .before .before .before .before .before .before .before .before .before .before .before .before .arrivals-among .ensures in
-    let k = c .before .before .before .before .before .fill .kept .1 .0 in
-    (omega arith, λ i h. filled-first os (now (a .times)) (c .before .before .before .before .before .fill .ensures .1) i (omega arith))
+    let e = c .before .before .before .before .before .before .before .before .before .before in
+    let f = c .before .before .before .before .before .fill in
+    let k = f .kept .1 .0 in
+    let n = many e in
+    (omega arith, λ i h. filled-first (records e) (now (start e .args .times)) (f .ensures .1) i (omega arith))
 
 cast-t16 : tie.Need-cast-t16
 cast-t16 c =
-    let a = c .before .before .before .before .before .before .before .before .before .before .before .before .before .before .before .before .before .before .before .args in
-    let os = now (a .records) in
-    let e = none-refused (a .k) os (sym (c .before .before .before .before .before .before .before .before .before .before .before .before .before .before .refusal-in .ensures) ∙ c .before .before .before .before .before .before .before .before .before .before .before .before .before .if1 .left) in
-    let n = c .before .before .before .before .before .before .before .before .before .before .before .before .before .before .before .arrivals-among .ensures in
-    omega (arith, e .few)
-
-same-length : tie.Need-same-length
-same-length c = search needs
-
-same-length-2 : tie.Need-same-length-2
-same-length-2 c = search needs
+    let e = c .before .before .before .before .before .before .before .before .before .before .before .before .before in
+    omega (arith, none-refused (start e .args .k) (records e) (none e) .few, many e)
 
 returns-4 : tie.Need-returns-4
 returns-4 c =
-    let a = c .before .before .before .before .before .before .before .before .before .before .before .before .before .before .before .before .before .before .before .args in
-    let os = now (a .records) in
-    let n = c .before .before .before .before .before .before .before .before .before .before .before .before .before .before .before .arrivals-among .ensures in
-    (import-filled (a .k) os (now (a .numbers)) (now (a .times)) (c .before .before .before .before .before .before .before .before .before .before .before .before .before .before .before .arrivals-among .result) (sym (c .before .before .before .before .before .before .before .before .before .before .before .before .before .before .refusal-in .ensures) ∙ c .before .before .before .before .before .before .before .before .before .before .before .before .before .if1 .left) n (c .before .before .before .before .before .before .before .before .before .before .before .before .if2 .left) (c .before .before .before .before .before .before .before .before .before .before .before .if3 .left) (c .before .before .before .before .before .before .before .before .fill .ensures .0) (times-converted (inOrder (arrivalsIn os)) (c .before .before .before .before .before .before .before .before .before .before .before .before .before .before .before .arrivals-among .result) (now (a .times)) (in-order (arrivalsIn os) .rising) (n ∙ sym (order-length (arrivalsIn os))) (c .before .before .before .before .before .before .before .before .fill .ensures .1) (c .before .before .convert .ensures)), carried (a .k) os)
+    let e = c .before .before .before .before .before .before .before .before .before .before .before .before .before in
+    let a = start e .args in
+    let l = recordsArrivals (records e) in
+    let f = c .before .before .before .before .before .before .before .before .fill .ensures in
+    let t = times-converted (inTimeOrder l) _ (now (a .times)) (in-order l .rising) (many e ∙ sym (order-length l)) (f .1) (c .before .before .convert .ensures) in
+    (import-filled (a .k) (records e) (now (a .numbers)) (now (a .times)) _ (none e) (many e) (c .before .before .before .before .before .before .before .before .before .before .before .before .if2 .left) (c .before .before .before .before .before .before .before .before .before .before .before .if3 .left) (f .0) t, carried (a .k) (records e))
 
 pub import-spec : {M : Type 1} → statement M
 import-spec =
     tie.close
     (tie.spec
-    arrivals-among-requires
-    refusal-in-requires
+    (λ c κs. search needs)
+    (λ c κs. search needs)
     returns
     returns-2
     returns-3
     fill-requires
     convert-requires
     cast-t16
-    same-length
-    same-length-2
+    (λ c. search needs)
+    (λ c. search needs)
     returns-4)

@@ -2,105 +2,103 @@
 use borrow.Author.Needs.{needs}
 use native.Mathlib.Omega.{arith}
 use Prim.Native.Nat.{ℕ, _*_}
-use mathlib.Core.Path.{sym, _∙_}
+use mathlib.Core.Path.{sym, _∙_, _≡_}
 use mathlib.Core.List.{List}
+use lib.ListN.{length}
 use mir.Syntax.{w8}
 use denote.Ref.{now}
 use Rattle.octets.specs.Below.{Octets}
 use Rattle.octets.proofs.Below.{below-fits}
-use Rattle.octets.proofs.Memory.{taken}
-use Rattle.sample.specs.Decode.{decode, sampleOf}
-use Rattle.owamp.specs.Calls.{arrivalsOfFile}
-use Rattle.owamp.specs.RoundTrip.{ReadAgain}
-use Rattle.owamp.specs.Cases.{WrittenAsGiven}
+use Rattle.octets.proofs.Memory.{over-splice}
+use Rattle.sample.specs.Decode.{decode, sampleOf, decodedRefusal}
+use Rattle.owamp.specs.Calls.{recordsOf, arrivalsOfFile}
+use Rattle.owamp.specs.RoundTrip.{RecordsReadAgain}
+use Rattle.owamp.specs.Cases.{RecordsWrittenAsGiven}
+use Rattle.owamp.specs.Private.Reading.{AcceptedLayout}
 use Rattle.owamp.proofs.Cases.{written-as-given}
 use Rattle.sample.proofs.Accepted.{found-sample, accepted-limits}
 use Rattle.owamp.proofs.RoundTrips.{records-many}
-use Rattle.owamp.proofs.Writing.{found-many, found-refusal, write-refused, write-over, write-short, write-filled, read-again}
+use Rattle.sample.proofs.Output.{output-refused, output-short, output-written}
+use Rattle.owamp.proofs.Writing.{found-many, found-refusal, own-refusal, times-refusal, read-again}
 use Rattle.owamp.proofs.write.Statement.{statement}
 use Rattle.owamp.proofs.write.Tie as tie
 
 -- the theorems that the contract carries
-carried : (file : List ℕ) → Octets file → ReadAgain file × WrittenAsGiven
+carried : (file : List ℕ) → Octets file → RecordsReadAgain file × RecordsWrittenAsGiven
 carried file o = (read-again file o, written-as-given)
 
-check-requires : tie.Need-check-requires
-check-requires c κs = search needs
+-- the start, from where the sample is not refused
+abbrev start : tie.Else1 → tie.Start
+start c = c .before .before .before .before .before
+
+-- the file, and that its octets are such
+abbrev file : tie.Else1 → List ℕ
+file c = now (start c .args .file)
+
+octets : (c : tie.Else1) → Octets (file c)
+octets c = below-fits w8 (file c) (c .before .before .before .before .shared-slice-known .given)
+
+-- its layout, the refusal that is not due, and how many arrivals it has
+found : (c : tie.Else1) → AcceptedLayout (file c) (c .before .before .check .result)
+found c = record { layout = c .before .before .check .ensures .0; accepted = c .if1 .left }
+
+none : (c : tie.Else1) → decodedRefusal (decode (file c)) ≡ 0
+none c = sym (found-refusal (file c) _ (c .before .before .check .ensures .0)) ∙ c .if1 .left
+
+many : (c : tie.Else1) → (c .before .before .check .result .arrivals ≡ length (arrivalsOfFile (file c))) × (length (recordsOf (arrivalsOfFile (file c))) ≡ 25 * length (arrivalsOfFile (file c)))
+many c = (found-many (file c) _ (found c), records-many (arrivalsOfFile (file c)))
 
 returns : tie.Need-returns
 returns c =
-    let a = c .before .before .before .before .before .args in
-    let f = now (a .file) in
-    let y = c .before .before .check .result in
-    let e = c .before .before .check .ensures .0 in
-    (write-refused f (now (a .out)) (y .refusal) (found-refusal f y e) (c .if1 .taken), carried f (below-fits w8 f (c .before .before .before .before .shared-slice-known .given)))
+    let s = c .before .before .before .before .before in
+    let f = now (s .args .file) in
+    (output-refused _ _ (now (s .args .out)) _ (own-refusal f _ (found-refusal f _ (c .before .before .check .ensures .0)) (c .if1 .taken)) (c .if1 .taken), carried f (below-fits w8 f (c .before .before .before .before .shared-slice-known .given)))
 
 judge-seconds-requires : tie.Need-judge-seconds-requires
-judge-seconds-requires c κs = record { layout = c .before .before .check .ensures .0; accepted = c .if1 .left }
+judge-seconds-requires c κs = found c
 
 returns-2 : tie.Need-returns-2
 returns-2 c =
-    let a = c .before .before .before .before .before .before .before .args in
-    let f = now (a .file) in
-    let y = c .before .before .before .before .check .result in
-    let e = c .before .before .before .before .check .ensures .0 in
-    (write-over f (now (a .out)) (c .before .judge-seconds .result) (sym (found-refusal f y e) ∙ c .before .before .if1 .left) (c .before .judge-seconds .ensures) (c .if2 .taken), carried f (below-fits w8 f (c .before .before .before .before .before .before .shared-slice-known .given)))
-
-cast-end : tie.Need-cast-end
-cast-end c = search needs
-
-mul-end : tie.Need-mul-end
-mul-end c = search needs
+    let e = c .before .before in
+    (output-refused _ _ (now (start e .args .out)) _ (times-refusal (file e) _ (none e) (c .before .judge-seconds .ensures)) (c .if2 .taken), carried (file e) (octets e))
 
 returns-3 : tie.Need-returns-3
 returns-3 c =
-    let a = c .before .before .before .before .before .before .before .before .before .args in
-    let f = now (a .file) in
-    let y = c .before .before .before .before .before .before .check .result in
-    let e = c .before .before .before .before .before .before .check .ensures .0 in
-    let m = found-many f y (record { layout = e; accepted = c .before .before .before .before .if1 .left }) in
-    let n = records-many (arrivalsOfFile f) in
-    (write-short f (now (a .out)) (sym (found-refusal f y e) ∙ c .before .before .before .before .if1 .left) (sym (c .before .before .before .judge-seconds .ensures) ∙ c .before .before .if2 .left) (omega (arith, c .if3 .taken)), carried f (below-fits w8 f (c .before .before .before .before .before .before .before .before .shared-slice-known .given)))
+    let e = c .before .before .before .before in
+    let due = times-refusal (file e) 0 (none e) (sym (c .before .before .if2 .left) ∙ c .before .before .before .judge-seconds .ensures) in
+    (output-short _ _ (now (start e .args .out)) (sym due) (omega (arith, c .if3 .taken, many e)), carried (file e) (octets e))
 
 write-records-requires : tie.Need-write-records-requires
-write-records-requires c κs = (record { layout = c .before .before .before .before .before .before .before .check .ensures .0; accepted = c .before .before .before .before .before .if1 .left }, omega (arith, c .before .if3 .left))
+write-records-requires c κs = (found (c .before .before .before .before .before), omega (arith, c .before .if3 .left))
 
 cast-t11 : tie.Need-cast-t11
 cast-t11 c =
-    let a = c .before .before .before .before .before .before .before .before .before .before .before .before .before .args in
-    let f = now (a .file) in
-    let y = c .before .before .before .before .before .before .before .before .before .before .check .result in
-    let e = c .before .before .before .before .before .before .before .before .before .before .check .ensures .0 in
-    let d = found-sample f y e (c .before .before .before .before .before .before .before .before .if1 .left) in
-    let l = accepted-limits f (sampleOf (decode f)) d (below-fits w8 f (c .before .before .before .before .before .before .before .before .before .before .before .before .shared-slice-known .given)) .arrivalsFit in
-    let m = found-many f y (record { layout = e; accepted = c .before .before .before .before .before .before .before .before .if1 .left }) in
-    omega arith
-
-same-length : tie.Need-same-length
-same-length c = search needs
+    let e = c .before .before .before .before .before .before .before .before in
+    let f = found e in
+    let d = found-sample (file e) _ (f .layout) (f .accepted) in
+    omega (arith, accepted-limits (file e) (sampleOf (decode (file e))) d (octets e) .arrivalsFit, many e)
 
 returns-4 : tie.Need-returns-4
 returns-4 c =
-    let a = c .before .before .before .before .before .before .before .before .before .before .before .before .before .args in
-    let f = now (a .file) in
-    let y = c .before .before .before .before .before .before .before .before .before .before .check .result in
-    let e = c .before .before .before .before .before .before .before .before .before .before .check .ensures .0 in
-    let m = found-many f y (record { layout = e; accepted = c .before .before .before .before .before .before .before .before .if1 .left }) in
-    let n = records-many (arrivalsOfFile f) in
-    (write-filled f (now (a .out)) (25 * y .arrivals) (sym (found-refusal f y e) ∙ c .before .before .before .before .before .before .before .before .if1 .left) (sym (c .before .before .before .before .before .before .before .judge-seconds .ensures) ∙ c .before .before .before .before .before .before .if2 .left) (omega (arith, c .before .before .before .before .if3 .left)) (omega arith) (c .before .before .write-records .ensures), carried f (below-fits w8 f (c .before .before .before .before .before .before .before .before .before .before .before .before .shared-slice-known .given)))
+    let e = c .before .before .before .before .before .before .before .before in
+    let due = times-refusal (file e) 0 (none e) (sym (c .before .before .before .before .before .before .if2 .left) ∙ c .before .before .before .before .before .before .before .judge-seconds .ensures) in (
+      output-written _ _ (now (start e .args .out)) (sym due) (omega (arith, c .before .before .before .before .if3 .left, many e)) (omega (arith, many e))
+          (c .before .before .write-records .ensures ∙ sym (over-splice (recordsOf (arrivalsOfFile (file e))) (now (start e .args .out)))),
+      carried (file e) (octets e),
+    )
 
 pub write-spec : {M : Type 1} → statement M
 write-spec =
     tie.close
     (tie.spec
-    check-requires
+    (λ c κs. search needs)
     returns
     judge-seconds-requires
     returns-2
-    cast-end
-    mul-end
+    (λ c. search needs)
+    (λ c. search needs)
     returns-3
     write-records-requires
     cast-t11
-    same-length
+    (λ c. search needs)
     returns-4)

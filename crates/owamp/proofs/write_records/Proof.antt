@@ -14,7 +14,7 @@ use Rattle.rfc4737.specs.declared.Arrival.{Arrival}
 use Rattle.sample.specs.Format.{itemOctets}
 use Rattle.sample.specs.Decode.{decode, sampleOf}
 use Rattle.owamp.specs.Calls.{recordOctets, recordsOf, arrivalsOfFile}
-use Rattle.owamp.specs.Private.Reading.{noArrival}
+use Rattle.sample.specs.Places.{noArrival}
 use Rattle.sample.proofs.Accepted.{found-sample, arrival-found, number-within}
 use Rattle.sample.proofs.Writing.{write-start, write-length, write-next, write-done}
 use Rattle.owamp.proofs.RoundTrips.{record-long}
@@ -53,24 +53,6 @@ loop-holds c =
     let r : 0 + 25 * length xs ≤ length (now (a .args .out)) = omega (arith, a .pre .1) in
     (search needs, write-start recordOctets 25 record-long xs 0 (now (a .args .out)) r)
 
-arrival-requires : tie.Need-arrival-requires Inv-loop μ-loop
-arrival-requires c κs = search needs
-
-cast-start : tie.Need-cast-start Inv-loop μ-loop
-cast-start c = search needs
-
-mul-start : tie.Need-mul-start Inv-loop μ-loop
-mul-start c = search needs
-
-add-end : tie.Need-add-end Inv-loop μ-loop
-add-end c = search needs
-
-sub-lent : tie.Need-sub-lent Inv-loop μ-loop
-sub-lent c = search needs
-
-part-lent-start : tie.Need-part-lent-start Inv-loop μ-loop
-part-lent-start c = search needs
-
 part-lent-end : tie.Need-part-lent-end Inv-loop μ-loop
 part-lent-end c =
     let k = kept (c .before .before) in
@@ -90,12 +72,6 @@ put-record-requires c κs =
     let o = below-fits w8 f (l .before .before .shared-slice-known .given) in
     let w = number-within f (sampleOf (decode f)) (found-sample f (a .args .found) (a .pre .0 .layout) (a .pre .0 .accepted)) o noArrival (l .loop .i) (omega arith) .0 in
     (omega arith, simp (length-take, length-drop) (omega arith))
-
-add-i : tie.Need-add-i Inv-loop μ-loop
-add-i c = search needs
-
-loop-less : tie.Need-loop-less Inv-loop μ-loop
-loop-less c = search needs
 
 loop-again : tie.Need-loop-again Inv-loop μ-loop
 loop-again c =
@@ -131,16 +107,16 @@ write-records-spec =
     Inv-loop
     μ-loop
     loop-holds
-    arrival-requires
-    cast-start
-    mul-start
-    add-end
-    sub-lent
-    part-lent-start
+    (λ c κs. search needs)
+    (λ c. search needs)
+    (λ c. search needs)
+    (λ c. search needs)
+    (λ c. search needs)
+    (λ c. search needs)
     part-lent-end
     put-record-requires
-    add-i
-    loop-less
+    (λ c. search needs)
+    (λ c. search needs)
     loop-again
     same-length
     returns)

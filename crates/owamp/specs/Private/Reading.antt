@@ -11,10 +11,6 @@ use Rattle.sample.specs.declared.Layout.{Layout}
 use Rattle.owamp.specs.Record.{isArrival}
 use Rattle.owamp.specs.Judge.{judgeNumber}
 
--- what stands where there is no record
-abbrev pub noArrival : Arrival
-noArrival = record { number = 0; time = 0 }
-
 -- 1 for an arrival, 0 for a lost packet, by the receive time
 abbrev pub oneIfArrived : ℕ → ℕ
 oneIfArrived t = cond (eqb t 0) 0 1

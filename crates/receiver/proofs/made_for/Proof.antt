@@ -1,4 +1,4 @@
--- `receiver::made_for` meets its contract. Assumes nothing.
+-- `receiver::made_for` meets its contract, field by field. Assumes nothing.
 use mathlib.Core.Path.{refl}
 use Rattle.receiver.specs.Step.{freshStream, madeFor}
 use Rattle.receiver.proofs.made_for.Statement.{statement}

@@ -42,16 +42,16 @@ use denote.Triple.Call.{calls-at}
 use denote.Triple.Entry.{onEntry}
 use denote.Triple.Spec.{Meets, tripleOf}
 use denote.Triple.Table.{entered, cited}
-use denote.Triple.Walked.{says, Stays, stay-ref, stay-none, walkOf, AllGo, goes-none, goes-ref, Walks, ends-at, walked, walk-meets}
+use denote.Triple.Walked.{says, Stays, stay-ref, stay-none, walkOf, AllGo, goes-none, goes-ref, ends-at, walked, walk-meets}
 use denote.Exit.{yes}
 use Rattle.receiver.specs.declared.Stream.{Stream}
 use Rattle.receiver.specs.declared.Places.{Places}
 use Rattle.receiver.specs.declared.Receiver.{Receiver}
 use Rattle.receiver.specs.declared.Outcome.{Outcome}
-use Rattle.receiver.specs.declared.Stepped.{Stepped}
-use Rattle.receiver.specs.declared.advance.Advanced.{Advanced}
+use Rattle.receiver.specs.declared.StepAnswer.{StepAnswer}
+use Rattle.receiver.specs.declared.advance.StreamStep.{StreamStep}
 use Rattle.receiver.specs.Step.{stepOf}
-use Rattle.receiver.specs.Private.Parts.{Full, whole, steppedOf}
+use Rattle.receiver.specs.Private.Parts.{Full, whole, stepAnswerOf}
 use Rattle.receiver.proofs.StepCases.{refused-equal}
 use Rattle.receiver.proofs.FieldLent.{cells-out, cells-in, map-same, lends-field, field-back, unraw}
 use Rattle.receiver.proofs.Returned.{returned-with}
@@ -63,8 +63,8 @@ use Rattle.receiver.proofs.Stream as F
 use Rattle.receiver.proofs.Stream.Laws as F′
 use Rattle.receiver.proofs.Outcome as S
 use Rattle.receiver.proofs.Outcome.Laws as S′
-use Rattle.receiver.proofs.advance.Advanced as B
-use Rattle.receiver.proofs.advance.Advanced.Laws as B′
+use Rattle.receiver.proofs.advance.StreamStep as B
+use Rattle.receiver.proofs.advance.StreamStep.Laws as B′
 use Rattle.receiver.proofs.advance.advance as advance
 use Rattle.receiver.proofs.advance.advance.Symbol as advance-def
 use Rattle.receiver.proofs.advance.advance.Symbol.{name as #advance}
@@ -160,7 +160,7 @@ renewed-is s is ws im ip ix it =
     (is, (im, (LL.owes P.the-type P′.the-laws (renewed s ws .places) (ip, (ix, (it, tt))), tt)))
 
 -- what is known of both parts of what `advance` gives back, at the machine value v
-module _ (a : Advanced) (v : Val) (is : Is B.the-row a (v ∷ [])) where
+module _ (a : StreamStep) (v : Val) (is : Is B.the-row a (v ∷ [])) where
   of-back : Are (B.the-type .parts) B′.the-laws (B.struct .as-values a)
   of-back = LL.owed B.the-type B′.the-laws a _ is
 
@@ -228,7 +228,7 @@ module _ {M : Type 1} (𝓤 : URA M) (H : Heap 𝓤) (A : Atoms 𝓤) (W : Given
   typed : (z : Receiver) → Is R.the-row z (mach z ∷ []) → WTs (vals z)
   typed z was = LL.lawful R.the-type R′.the-laws 𝓤 H A W .typed z _ was .0 .1
 
-  typed-back : (a : Advanced) (v : Val) → Is B.the-row a (v ∷ []) → WTs (spelled (B.the-type .parts) B′.the-laws (B.struct .as-values a))
+  typed-back : (a : StreamStep) (v : Val) → Is B.the-row a (v ∷ []) → WTs (spelled (B.the-type .parts) B′.the-laws (B.struct .as-values a))
   typed-back a v is =
       LL.lawful B.the-type B′.the-laws 𝓤 H A W .typed a _ (LL.owes B.the-type B′.the-laws a (of-back a v is)) .0 .1
 
@@ -345,7 +345,7 @@ module _ {M : Type 1} (𝓤 : URA M) (H : Heap 𝓤) (A : Atoms 𝓤) (W : Given
         (and-then ! (load ! (from ! (stop !)) (look ! 11 refl)) (and-then ! (load ! (from ! (stop !)) (look ! 25 refl))
         (and-then ! (load ! (from ! (stop !)) (look ! 23 refl)) (no-more !)))))))) (λ v.
         returned-with 𝓤 H A advance.ended (advance.clauses 𝓤 H A at-mem run) (to-advance α γm γp γn γt) v ! tt
-        (λ a e. steppedOf a (e .1 .0 .now) (e .1 .1 .0 .now) (e .1 .1 .1 .0 .now) (e .1 .1 .1 .1 .0 .now) ≡ stepOf h n t)
+        (λ a e. stepAnswerOf a (e .1 .0 .now) (e .1 .1 .0 .now) (e .1 .1 .1 .0 .now) (e .1 .1 .1 .1 .0 .now) ≡ stepOf h n t)
         (λ a e. id⊢ 𝓤 _) (λ a ws e is.
         -- the lifetime is ended, and each array comes back
         use1 W (‵ (flft (α ∷ []) fullShare) ⊛ ‵ ftrue) (id⊢ 𝓤 _) $ split ! $ lft-end ! tt $
@@ -386,23 +386,11 @@ module _ {M : Type 1} (𝓤 : URA M) (H : Heap 𝓤) (A : Atoms 𝓤) (W : Given
         move ! (11 ∷ 12 ∷ []) $ free1 ! $ move ! (9 ∷ 10 ∷ []) $ free1 ! $ move ! (7 ∷ 8 ∷ []) $ free1 ! $
         move ! (5 ∷ 6 ∷ []) $ free1 ! $ move ! (3 ∷ 4 ∷ []) $ free1 ! $
         free0 ! $ keep ! (0 ∷ 1 ∷ 2 ∷ []) $
-        by ! (exits (a .outcome) _ (of-back a v is .0) (renewed (a .stream) (ws .1)) (ap (λ (p : Stepped). p .outcome) e)
-        (ap (λ (p : Stepped). p .state) e)))))))))))))))))))))))))
+        by ! (exits (a .outcome) _ (of-back a v is .0) (renewed (a .stream) (ws .1)) (ap (λ (p : StepAnswer). p .outcome) e)
+        (ap (λ (p : StepAnswer). p .state) e)))))))))))))))))))))))))
 
 module _ {M : Type 1} (𝓤 : URA M) (H : Heap 𝓤) (A : Atoms 𝓤) (W : Given 𝓤 H A) (at-mem : Memory → SProp 𝓤)
-    (run : Routine → Fun 𝓤) where
-  -- the walk, at all that is passed
-  step-walks : (C : Calls 𝓤 H) (Λ : Loops 𝓤 H) → FmC 𝓤 H (W .laws) C
-      → Triple 𝓤 (C #advance) (Advance 𝓤 H A at-mem run)
-      → Walks 𝓤 H A step.ended stayed (WpFn 𝓤 H C Λ code.function) (step.clauses 𝓤 H A at-mem run)
-  step-walks C Λ fm known-advance =
-      walked 𝓤 H A step.ended stayed (step.clauses 𝓤 H A at-mem run) (WpFn 𝓤 H C Λ code.function)
-      (λ κs. (ptr-vals, (uint-vals w32, (uint-vals w64, tt))))
-      (λ κs. (mut-tells (named 0) (κs .0) R.the-row, (uint-tells w32, (uint-tells w64, tt))))
-      (λ κs qs bounds a _ are. via 𝓤 _ (fst∗ 𝓤 _ (emp 𝓤))
-      (walk 𝓤 H A W at-mem run (κs .0) (qs .0) (a .0 .ptr .0) (a .0 .ptr .1) (a .0 .name) (a .0 .now) (a .1 .0)
-      (a .1 .1 .0) (are .1 .0 .1) (are .1 .1 .0 .1) C Λ fm known-advance))
-
+    (run : Routine → Fun 𝓤) (𝓣 : Tables 𝓤 H) where
   -- what is had of each parameter at exit is given up
   goes : AllGo 𝓤 H A W 1 (step.signature .params) (step.ended .kept) stayed
   goes = (
@@ -410,14 +398,18 @@ module _ {M : Type 1} (𝓤 : URA M) (H : Heap 𝓤) (A : Atoms 𝓤) (W : Given
     (goes-none 𝓤 H A W 1 (λ _. u32) yes (λ κs x f. refl), (goes-none 𝓤 H A W 1 (λ _. u64) yes (λ κs x f. refl), tt)),
   )
 
--- the MIR meets the contract
-step-meets : {M : Type 1} (𝓤 : URA M) (H : Heap 𝓤) (A : Atoms 𝓤) (W : Given 𝓤 H A) (at-mem : Memory → SProp 𝓤)
-    (run : Routine → Fun 𝓤) (𝓣 : Tables 𝓤 H) → Triple 𝓤 (𝓣 .C #advance) (Advance 𝓤 H A at-mem run)
-    → Meets 𝓤 H A step.signature (WpFn 𝓤 H (𝓣 .C) (𝓣 .Λ) code.function) (step.spec 𝓤 H A at-mem run)
-step-meets 𝓤 H A W at-mem run 𝓣 known-advance =
-    walk-meets 𝓤 H A step.ended stayed W (goes 𝓤 H A W at-mem run) (step.clauses 𝓤 H A at-mem run)
-    (WpFn 𝓤 H (𝓣 .C) (𝓣 .Λ) code.function) (WpFn-mono 𝓤 H (W .laws) 𝓣 code.function)
-    (step-walks 𝓤 H A W at-mem run (𝓣 .C) (𝓣 .Λ) (fmOf 𝓤 H (W .laws) 𝓣) known-advance)
+  -- the MIR meets the contract: the walk, at all that is passed
+  meets : Triple 𝓤 (𝓣 .C #advance) (Advance 𝓤 H A at-mem run)
+      → Meets 𝓤 H A step.signature (WpFn 𝓤 H (𝓣 .C) (𝓣 .Λ) code.function) (step.spec 𝓤 H A at-mem run)
+  meets known-advance =
+      let fn = WpFn 𝓤 H (𝓣 .C) (𝓣 .Λ) code.function in
+      walk-meets 𝓤 H A step.ended stayed W goes (step.clauses 𝓤 H A at-mem run) fn (WpFn-mono 𝓤 H (W .laws) 𝓣 code.function)
+      (walked 𝓤 H A step.ended stayed (step.clauses 𝓤 H A at-mem run) fn
+      (λ κs. (ptr-vals, (uint-vals w32, (uint-vals w64, tt))))
+      (λ κs. (mut-tells (named 0) (κs .0) R.the-row, (uint-tells w32, (uint-tells w64, tt))))
+      (λ κs qs bounds a _ are. via 𝓤 _ (fst∗ 𝓤 _ (emp 𝓤))
+      (walk 𝓤 H A W at-mem run (κs .0) (qs .0) (a .0 .ptr .0) (a .0 .ptr .1) (a .0 .name) (a .0 .now) (a .1 .0)
+      (a .1 .1 .0) (are .1 .0 .1) (are .1 .1 .0 .1) (𝓣 .C) (𝓣 .Λ) (fmOf 𝓤 H (W .laws) 𝓣) known-advance)))
 
 -- the function meets its contract
 pub step-in-place-spec : {M : Type 1} → stated.statement M
@@ -425,6 +417,6 @@ unfolding code.routine tablesOf
 step-in-place-spec 𝓤 H 𝓜 𝓖 𝓡 =
     entered 𝓤 H (tripleOf 𝓤 H (𝓖 .A) step.signature (step.spec 𝓤 H (𝓖 .A) (𝓜 .mem) (𝓡 .run)))
     (tables 𝓤 H 𝓜 𝓡 code.env .C) (tables 𝓤 H 𝓜 𝓡 code.env .Λ) #step code.function (code.unfolded 𝓤 H 𝓜 𝓡)
-    (step-meets 𝓤 H (𝓖 .A) (givenOf 𝓤 H 𝓜 𝓖) (𝓜 .mem) (𝓡 .run) (tablesOf 𝓤 H 𝓜 (tables 𝓤 H 𝓜 𝓡 code.env))
+    (meets 𝓤 H (𝓖 .A) (givenOf 𝓤 H 𝓜 𝓖) (𝓜 .mem) (𝓡 .run) (tablesOf 𝓤 H 𝓜 (tables 𝓤 H 𝓜 𝓡 code.env))
     (cited 𝓤 H (Advance 𝓤 H (𝓖 .A) (𝓜 .mem) (𝓡 .run)) 𝓜 𝓡 code.env #advance advance-def.routine
     code.calls-receiver·advance·advance (advance-thm.met 𝓤 H 𝓜 𝓖 𝓡)))

@@ -5,9 +5,11 @@ use mathlib.Core.List.{List}
 use mathlib.Core.Path.{_≡_}
 use lib.Dec.{leb, ltb}
 use lib.ListN.{getD}
+use Rattle.rfc4737.specs.Judge.{sentMost}
+use Rattle.rfc4737.specs.Runs.{squaresMost}
 use Rattle.receiver.specs.declared.Stream.{Stream}
 use Rattle.receiver.specs.declared.Receiver.{Receiver}
-use Rattle.receiver.specs.Limits.{window, packets, squaresMost}
+use Rattle.receiver.specs.Limits.{window}
 use Rattle.receiver.specs.Private.Facts.{StreamFit, PlacesFit}
 
 -- what holds of a state and an arrival that meets no refusal before it is looked at
@@ -23,11 +25,6 @@ pub record FirstAbove (numbers : List ℕ) (kept s place : ℕ) : Type 0 where
   pub before : (k : ℕ) → k < place → ltb s (getD numbers k 0) ≡ false
   pub above : place < kept → s < getD numbers place 0
 
--- what holds of the jump in a place that a packet at a position comes after
-pub record After (positions : List ℕ) (place position : ℕ) : Type 0 where
-  pub place-high : place < window
-  pub position-high : getD positions place 0 ≤ position
-
 -- whether a time is at most the greatest
 abbrev pub notAfter : ℕ → ℕ → Bool
 notAfter greatest time = leb time greatest
@@ -39,9 +36,9 @@ firstPass t l (suc n) = firstPass t l n && t (getD l n 0)
 
 -- numbers so small that none overflows under one arrival more
 pub record NoOverflow (s : Stream) : Type 0 where
-  pub arrived-high : s .arrived ≤ packets
-  pub inorder-high : s .inorder ≤ packets
-  pub current-high : s .runs .current ≤ packets
-  pub closed-high : s .runs .closed ≤ packets
+  pub arrived-high : s .arrived ≤ sentMost
+  pub inorder-high : s .inorder ≤ sentMost
+  pub current-high : s .runs .current ≤ sentMost
+  pub closed-high : s .runs .closed ≤ sentMost
   pub squares-high : s .runs .squares ≤ squaresMost
   pub kept-high : s .kept ≤ window

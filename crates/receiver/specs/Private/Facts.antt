@@ -3,19 +3,21 @@ use Prim.Native.Nat.{_+_, _≤_}
 use mathlib.Core.Bool.{true}
 use mathlib.Core.List.{map}
 use mathlib.Core.Path.{_≡_}
-use Rattle.rfc4737.specs.Order.{Placed}
+use Rattle.rfc4737.specs.Order.{FirstArrival}
+use Rattle.rfc4737.specs.Judge.{sentMost, arrivalsMost}
+use Rattle.rfc4737.specs.Runs.{squaresMost}
 use Rattle.receiver.specs.declared.Stream.{Stream}
 use Rattle.receiver.specs.declared.Places.{Places}
-use Rattle.receiver.specs.Limits.{window, packets, squaresMost}
+use Rattle.receiver.specs.Limits.{window}
 use Rattle.receiver.specs.Kept.{heldOf, keptOf}
 use Rattle.receiver.specs.Fit.{every, jumpFit}
 
 -- what fit numbers say
 pub record StreamFit (s : Stream) : Type 0 where
   pub sent-low : 1 ≤ s .sent
-  pub sent-high : s .sent ≤ packets
+  pub sent-high : s .sent ≤ sentMost
   pub arrived-high : s .arrived ≤ s .sent
-  pub accepted-high : s .arrived + s .duplicates ≤ packets
+  pub accepted-high : s .arrived + s .duplicates ≤ arrivalsMost
   pub inorder-high : s .inorder ≤ s .arrived
   pub current-high : s .runs .current ≤ s .inorder
   pub closed-high : s .runs .closed ≤ s .arrived
@@ -24,7 +26,7 @@ pub record StreamFit (s : Stream) : Type 0 where
   pub next-high : s .next ≤ s .sent + 1
 
 -- what a fit kept jump says
-pub record JumpFit (s : Stream) (p : Placed) : Type 0 where
+pub record JumpFit (s : Stream) (p : FirstArrival) : Type 0 where
   pub position-low : 1 ≤ p .position
   pub position-high : p .position ≤ s .arrived
   pub number-low : 1 ≤ p .number

@@ -6,8 +6,8 @@ use lib.ListN.{length}
 use Rattle.receiver.specs.declared.Stream.{Stream}
 use Rattle.receiver.specs.declared.Places.{Places}
 use Rattle.receiver.specs.declared.Receiver.{Receiver}
-use Rattle.receiver.specs.declared.Stepped.{Stepped}
-use Rattle.receiver.specs.declared.advance.Advanced.{Advanced}
+use Rattle.receiver.specs.declared.StepAnswer.{StepAnswer}
+use Rattle.receiver.specs.declared.advance.StreamStep.{StreamStep}
 use Rattle.receiver.specs.Limits.{window}
 
 -- the places of three arrays
@@ -20,8 +20,8 @@ whole s marks positions numbers times =
     record { stream = s; marks = marks; places = placesOf positions numbers times }
 
 -- the step that gives the parts: what was said, and the receiver of the stream, with the marks and places then
-abbrev pub steppedOf : Advanced → List ℕ → List ℕ → List ℕ → List ℕ → Stepped
-steppedOf a marks positions numbers times =
+abbrev pub stepAnswerOf : StreamStep → List ℕ → List ℕ → List ℕ → List ℕ → StepAnswer
+stepAnswerOf a marks positions numbers times =
     record { outcome = a .outcome; state = whole (a .stream) marks positions numbers times }
 
 -- a number of jumps that a receiver can keep at most: it has a place for a first one, and no more than its places

@@ -1,55 +1,14 @@
--- `receiver_cases::fed` is safe and ends: neither number nor time wraps.
--- Invariant: i is at most the count, and the number at most 4 and 2 for each arrival fed. Measure: count - i.
+-- `receiver_cases::fed` is safe and ends. Invariant: none. Measure: the arrivals that are left.
 use borrow.Author.Needs.{needs}
-use Prim.Native.Nat.{_+_, _*_, _-_, _≤_}
+use Prim.Native.Nat.{_-_}
 use Rattle.receiver_cases.proofs.fed.Statement.{statement}
 use Rattle.receiver_cases.proofs.fed.Tie as tie
-
-abbrev Inv-loop : tie.InvT-loop
-Inv-loop first rise count r₀ number₀ i₀ r number i = (i ≤ count) × ((count ≤ 4096) × ((rise ≤ 2) × (number ≤ 4 + 2 * i)))
-
-abbrev μ-loop : tie.MeasureT-loop
-μ-loop first rise count r₀ number₀ i₀ r number i = count - i
-
-loop-holds : tie.Need-loop-holds Inv-loop μ-loop
-loop-holds c = search needs
-
-add-i : tie.Need-add-i Inv-loop μ-loop
-add-i c = search needs
-
-cast-step : tie.Need-cast-step Inv-loop μ-loop
-cast-step c = search needs
-
-mul-step : tie.Need-mul-step Inv-loop μ-loop
-mul-step c = search needs
-
-step-requires : tie.Need-step-requires Inv-loop μ-loop
-step-requires c κs = search needs
-
-add-number : tie.Need-add-number Inv-loop μ-loop
-add-number c = search needs
-
-loop-less : tie.Need-loop-less Inv-loop μ-loop
-loop-less c = search needs
-
-loop-again : tie.Need-loop-again Inv-loop μ-loop
-loop-again c = search needs
-
-returns : tie.Need-returns Inv-loop μ-loop
-returns c = search needs
 
 pub fed-spec : {M : Type 1} → statement M
 fed-spec =
     tie.close
     (tie.spec
-    Inv-loop
-    μ-loop
-    loop-holds
-    add-i
-    cast-step
-    mul-step
-    step-requires
-    add-number
-    loop-less
-    loop-again
-    returns)
+    (λ _ _ _ _ _ _ _ _ _ _ _ _. Unit {0})
+    (λ _ _ _ _ _ _ _ end _ _ _ counter. end - counter)
+    (search needs) (search needs) (search needs) (search needs) (search needs) (search needs) (search needs)
+    (search needs) (search needs) (search needs) (search needs) (search needs) (search needs))

@@ -5,19 +5,10 @@ use Rattle.report.proofs.Laws.{put-short, put-fitting}
 use Rattle.report.proofs.refuse.Statement.{statement}
 use Rattle.report.proofs.refuse.Tie as tie
 
-put-refused-requires : tie.Need-put-refused-requires
-put-refused-requires c κs = search needs
-
-same-length : tie.Need-same-length
-same-length c = search needs
-
 returns : tie.Need-returns
 returns c =
     let e = c .before .before .before .put-refused .ensures in
     put-short _ _ (e .0) (e .1) (omega arith)
-
-same-length-2 : tie.Need-same-length-2
-same-length-2 c = search needs
 
 returns-2 : tie.Need-returns-2
 returns-2 c =
@@ -25,4 +16,4 @@ returns-2 c =
     put-fitting _ _ (e .0) (e .1) (omega arith)
 
 pub refuse-spec : {M : Type 1} → statement M
-refuse-spec = tie.close (tie.spec put-refused-requires same-length returns same-length-2 returns-2)
+refuse-spec = tie.close (tie.spec (λ c κs. search needs) (λ c. search needs) returns (λ c. search needs) returns-2)

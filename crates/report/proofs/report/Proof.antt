@@ -16,30 +16,12 @@ use Rattle.report.proofs.report.Tie as tie
 own : (c : tie.After-check) → c .check .result .refusal ≡ decodedRefusal (decode (now (c .before .before .before .args .input)))
 own c = ap (λ (y : Layout). y .refusal) (c .check .ensures .0)
 
-check-requires : tie.Need-check-requires
-check-requires c κs = search needs
-
-refuse-requires : tie.Need-refuse-requires
-refuse-requires c κs = search needs
-
-same-length : tie.Need-same-length
-same-length c = search needs
-
 returns : tie.Need-returns
 returns c =
     let found = c .before .before .before .before .before in
     let r = found .check .result .refusal in
     let fits : r < 2 ^ 32 = omega arith in
     rw (text-refused _ (own found) (c .before .before .before .before .if1 .taken)) (c .before .before .refuse .ensures, omega (arith, refused-octets r fits))
-
-listing-requires : tie.Need-listing-requires
-listing-requires c κs = search needs
-
-cast-result : tie.Need-cast-result
-cast-result c = search needs
-
-same-length-2 : tie.Need-same-length-2
-same-length-2 c = search needs
 
 returns-2 : tie.Need-returns-2
 returns-2 c =
@@ -54,11 +36,11 @@ pub report-spec : {M : Type 1} → statement M
 report-spec =
     tie.close
     (tie.spec
-    check-requires
-    refuse-requires
-    same-length
+    (λ c κs. search needs)
+    (λ c κs. search needs)
+    (λ c. search needs)
     returns
-    listing-requires
-    cast-result
-    same-length-2
+    (λ c κs. search needs)
+    (λ c. search needs)
+    (λ c. search needs)
     returns-2)

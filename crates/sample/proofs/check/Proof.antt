@@ -14,15 +14,15 @@ use Rattle.octets.specs.Memory.{part}
 use Rattle.octets.proofs.Below.{below-fits}
 use Rattle.rfc4737.specs.Refusals.{inCase, octetsFollow, longLabel, octetOutside, sentOutside, manyArrivals}
 use Rattle.rfc4737.specs.Judge.{sentMost, arrivalsMost, judgeSent, judgeArrivals, judge}
-use Rattle.sample.specs.Format.{itemsIn, labelMost, longest}
+use Rattle.sample.specs.Format.{labelMost, longest, countWidth, octetWidth, sizeWidth, arrivalWidth, itemsAt, itemsIn}
 use Rattle.sample.specs.Judge.{judgeLabel, someUnshown}
-use Rattle.sample.specs.Decode.{labelCount, sentAt, sentCount, arrivedAt, arrivalCount, fileEnd, arrivalIn, labelIn, labelStage, sentStage, arrivedStage, endStage, fileRefusal, refused, decode, layoutOf}
+use Rattle.sample.specs.Decode.{labelCount, sentAt, sentCount, arrivedAt, arrivalCount, fileEnd, arrivalIn, sampleIn, fileRefusal, refused, decode, layoutOf}
 use Rattle.sample.specs.RoundTrip.{ExactFile, Lengths}
 use Rattle.sample.specs.Cases.{RefusalsInOrder}
 use Rattle.sample.specs.Private.Readings.{refusalOfSection, sectionReading}
 use Rattle.sample.specs.declared.Layout.{Layout}
 use Rattle.sample.proofs.Readings.{whole-section, refusal-section, refused-section}
-use Rattle.sample.proofs.Decoded.{WholeFile, refused-none, stage-none, decode-refused, layout-accepted, refused-label, refused-octets, refused-sent, refused-arrived, refused-end, refused-arrivals}
+use Rattle.sample.proofs.Decoded.{labelStage, sentStage, arrivedStage, endStage, WholeFile, refused-none, stage-none, decode-refused, layout-accepted, refused-label, refused-octets, refused-sent, refused-arrived, refused-end, refused-arrivals}
 use Rattle.sample.proofs.Exact.{exact}
 use Rattle.sample.proofs.Longer.{lengths}
 use Rattle.sample.proofs.Cases.{in-order}
@@ -43,19 +43,20 @@ labelled : (c : tie.After-known-told)
     × (c .before .label .given .0 .0 ≡ labelCount (now (c .before .before .before .before .before .args .file)))
     × (c .before .label .given .0 .1 .0 ≡ sentAt (now (c .before .before .before .before .before .args .file)))
 labelled c =
-    whole-section 0 1 0 labelMost longLabel (now (c .before .before .before .before .before .args .file)) (sym (c .before .before .before .section-at .ensures) ∙ c .before .label .given .1)
+    whole-section 0 octetWidth 0 labelMost longLabel (now (c .before .before .before .before .before .args .file)) (sym (c .before .before .before .section-at .ensures) ∙ c .before .label .given .1)
 
 -- after its octets are looked at
-looked : (c : tie.After-some-unshown) → c .some-unshown .result ≡ someUnshown (labelIn (now (c .before .before .before .before .before .before .before .args .file)))
+looked : (c : tie.After-some-unshown) → c .some-unshown .result ≡ someUnshown (sampleIn (now (c .before .before .before .before .before .before .before .args .file)) .label)
+unfolding sampleIn
 looked c =
     let l = c .before .before in
     let f = now (l .before .before .before .before .before .args .file) in
     let w = labelled l in
-    let e : l .before .label .given .0 .1 .0 - 2 ≡ labelCount f = omega arith in
-    c .some-unshown .ensures ∙ ap (λ (n : ℕ). someUnshown (part 2 n f)) e
+    let e : l .before .label .given .0 .1 .0 - countWidth ≡ labelCount f = omega arith in
+    c .some-unshown .ensures ∙ ap (λ (n : ℕ). someUnshown (part (itemsAt 0) n f)) e
 
 -- all of them can be shown
-shown : (c : tie.Else1) → someUnshown (labelIn (now (c .before .before .before .before .before .before .before .before .args .file))) ≡ false
+shown : (c : tie.Else1) → someUnshown (sampleIn (now (c .before .before .before .before .before .before .before .before .args .file)) .label) ≡ false
 shown c = sym (looked (c .before)) ∙ c .if1 .left
 
 -- after the sent packets
@@ -66,8 +67,8 @@ counted : (c : tie.After-known-told2)
 counted c =
     let l = c .before .before .before .before .before .before .before in
     let f = now (l .before .before .before .before .before .args .file) in
-    whole-section (sentAt f) 2 1 sentMost sentOutside f
-    (sym (c .before .before .before .section-at2 .ensures ∙ ap (λ (n : ℕ). sectionReading n 2 1 sentMost sentOutside f) (labelled l .2)) ∙ c .before .sent .given .1)
+    whole-section (sentAt f) sizeWidth 1 sentMost sentOutside f
+    (sym (c .before .before .before .section-at2 .ensures ∙ ap (λ (n : ℕ). sectionReading n sizeWidth 1 sentMost sentOutside f) (labelled l .2)) ∙ c .before .sent .given .1)
 
 -- after the arrivals
 arrived : (c : tie.After-known-told3)
@@ -77,22 +78,23 @@ arrived : (c : tie.After-known-told3)
 arrived c =
     let k = c .before .before .before .before in
     let f = now (k .before .before .before .before .before .before .before .before .before .before .before .before .args .file) in
-    whole-section (arrivedAt f) 12 0 arrivalsMost manyArrivals f
-    (sym (c .before .before .before .section-at3 .ensures ∙ ap (λ (n : ℕ). sectionReading n 12 0 arrivalsMost manyArrivals f) (counted k .2)) ∙ c .before .arrived .given .1)
+    whole-section (arrivedAt f) arrivalWidth 0 arrivalsMost manyArrivals f
+    (sym (c .before .before .before .section-at3 .ensures ∙ ap (λ (n : ℕ). sectionReading n arrivalWidth 0 arrivalsMost manyArrivals f) (counted k .2)) ∙ c .before .arrived .given .1)
 
 -- the arrivals lie within the file
 sections-within : (c : tie.After-known-told3)
-    → c .before .before .before .before .before .sent .given .0 .1 .0 + 2 + 12 * c .before .arrived .given .0 .0 ≤ length (now (c .before .before .before .before .before .before .before .before .before .before .before .before .before .before .before .before .args .file))
+    → itemsAt (c .before .before .before .before .before .sent .given .0 .1 .0) + arrivalWidth * c .before .arrived .given .0 .0 ≤ length (now (c .before .before .before .before .before .before .before .before .before .before .before .before .before .before .before .before .args .file))
 sections-within c =
     let k = c .before .before .before .before in
     let f = now (k .before .before .before .before .before .before .before .before .before .before .before .before .args .file) in
     let u = arrived c in
     let v = counted k in
-    let s = stage-none (arrivedAt f) 12 judgeArrivals f (u .0) in
+    let s = stage-none (arrivedAt f) arrivalWidth judgeArrivals f (u .0) in
     omega arith
 
 -- after the arrivals are judged: theirs is the first refusal, if any
 judged : (c : tie.After-judge-file) → fileRefusal (now (c .before .before .before .before .before .before .before .before .before .before .before .before .before .before .before .before .before .before .args .file)) ≡ c .judge-file .result
+unfolding sampleIn
 judged c =
     let b = c .before .before in
     let k = b .before .before .before .before in
@@ -103,7 +105,7 @@ judged c =
     let v = counted k in
     let e : endStage f ≡ 0 = ap (λ t. inCase t octetsFollow) (le-ltb (fileEnd f) (length f) (omega arith)) in
     refused-arrivals f (labelled l .0) (shown o) (v .0) (u .0) (c .judge-file .result) e
-    (sym (c .judge-file .ensures ∙ (λ i. judge (v .1 i) 0 (itemsIn 12 arrivalIn (u .1 i) (drop (v .2 i + 2) f)))))
+    (sym (c .judge-file .ensures ∙ (λ i. judge (v .1 i) 0 (itemsIn arrivalWidth arrivalIn (u .1 i) (drop (itemsAt (v .2 i)) f)))))
 
 -- where nothing is refused
 accepted : (c : tie.Else3) → WholeFile (now (c .before .before .before .before .before .before .before .before .before .before .before .before .before .before .before .before .before .before .before .args .file))
@@ -119,28 +121,16 @@ within c =
     let r = arrived (c .before .before .before) in
     (omega arith, omega arith, omega arith)
 
-section-at-requires : tie.Need-section-at-requires
-section-at-requires c κs = search needs
-
-enum-known-label : tie.Need-enum-known-label
-enum-known-label c = search needs
-
 enum-told : tie.Need-enum-told
 enum-told c = search needs
-
-refusal-of-requires : tie.Need-refusal-of-requires
-refusal-of-requires c κs = search needs
-
-refused-with-requires : tie.Need-refused-with-requires
-refused-with-requires c κs = search needs
 
 returns : tie.Need-returns
 returns c =
     let f = now (c .before .before .before .before .before .before .args .file) in
     let s = c .before .before .before .before .section-at .ensures in
-    let r = c .before .refusal-of .ensures ∙ ap refusalOfSection s ∙ refusal-section 0 1 0 labelMost longLabel f in
-    let p = refused-section 0 1 0 labelMost longLabel f (sym s ∙ c .before .before .enum-told .given .1) in (
-      answer f (labelStage f) p (refused-label f (labelStage f) p refl) (c .refused-with .ensures) r,
+    let r = c .before .refusal-of-section .ensures ∙ ap refusalOfSection s ∙ refusal-section 0 octetWidth 0 labelMost longLabel f in
+    let p = refused-section 0 octetWidth 0 labelMost longLabel f (sym s ∙ c .before .before .enum-told .given .1) in (
+      answer f (labelStage f) p (refused-label f (labelStage f) p refl) (c .refused-layout .ensures) r,
       promised f (below-fits w8 f (c .before .before .before .before .before .shared-slice-known .given)),
     )
 
@@ -157,21 +147,15 @@ part-shown-start c =
 part-shown-end : tie.Need-part-shown-end
 part-shown-end c =
     let w = labelled c in
-    let s = stage-none 0 1 judgeLabel (now (c .before .before .before .before .before .args .file)) (w .0) in
+    let s = stage-none 0 octetWidth judgeLabel (now (c .before .before .before .before .before .args .file)) (w .0) in
     omega arith
-
-some-unshown-requires : tie.Need-some-unshown-requires
-some-unshown-requires c κs = search needs
-
-refused-with-requires-2 : tie.Need-refused-with-requires-2
-refused-with-requires-2 c κs = search needs
 
 returns-2 : tie.Need-returns-2
 returns-2 c =
     let l = c .before .before .before .before in
     let f = now (l .before .before .before .before .before .args .file) in
     let o = sym (looked (c .before .before)) ∙ c .before .if1 .taken in (
-      answer f octetOutside (omega arith) (refused-octets f (labelled l .0) o) (c .refused-with2 .ensures) refl,
+      answer f octetOutside (omega arith) (refused-octets f (labelled l .0) o) (c .refused-layout2 .ensures) refl,
       promised f (below-fits w8 f (l .before .before .before .before .shared-slice-known .given)),
     )
 
@@ -179,20 +163,8 @@ section-at-requires-2 : tie.Need-section-at-requires-2
 section-at-requires-2 c κs =
     let l = c .before .before .before in
     let w = labelled l in
-    let s = stage-none 0 1 judgeLabel (now (l .before .before .before .before .before .args .file)) (w .0) in
+    let s = stage-none 0 octetWidth judgeLabel (now (l .before .before .before .before .before .args .file)) (w .0) in
     (omega arith, omega arith, omega arith)
-
-enum-known-sent : tie.Need-enum-known-sent
-enum-known-sent c = search needs
-
-enum-told-2 : tie.Need-enum-told-2
-enum-told-2 c = search needs
-
-refusal-of-requires-2 : tie.Need-refusal-of-requires-2
-refusal-of-requires-2 c κs = search needs
-
-refused-with-requires-3 : tie.Need-refused-with-requires-3
-refused-with-requires-3 c κs = search needs
 
 returns-3 : tie.Need-returns-3
 returns-3 c =
@@ -200,10 +172,10 @@ returns-3 c =
     let l = o .before .before .before in
     let f = now (l .before .before .before .before .before .args .file) in
     let w = labelled l in
-    let s = c .before .before .before .before .section-at2 .ensures ∙ ap (λ (n : ℕ). sectionReading n 2 1 sentMost sentOutside f) (w .2) in
-    let r = c .before .refusal-of2 .ensures ∙ ap refusalOfSection s ∙ refusal-section (sentAt f) 2 1 sentMost sentOutside f in
-    let p = refused-section (sentAt f) 2 1 sentMost sentOutside f (sym s ∙ c .before .before .enum-told2 .given .1) in (
-      answer f (sentStage f) p (refused-sent f (w .0) (shown o) (sentStage f) p refl) (c .refused-with3 .ensures) r,
+    let s = c .before .before .before .before .section-at2 .ensures ∙ ap (λ (n : ℕ). sectionReading n sizeWidth 1 sentMost sentOutside f) (w .2) in
+    let r = c .before .refusal-of-section2 .ensures ∙ ap refusalOfSection s ∙ refusal-section (sentAt f) sizeWidth 1 sentMost sentOutside f in
+    let p = refused-section (sentAt f) sizeWidth 1 sentMost sentOutside f (sym s ∙ c .before .before .enum-told2 .given .1) in (
+      answer f (sentStage f) p (refused-sent f (w .0) (shown o) (sentStage f) p refl) (c .refused-layout3 .ensures) r,
       promised f (below-fits w8 f (l .before .before .before .before .shared-slice-known .given)),
     )
 
@@ -211,20 +183,8 @@ section-at-requires-3 : tie.Need-section-at-requires-3
 section-at-requires-3 c κs =
     let w = counted c in
     let f = now (c .before .before .before .before .before .before .before .before .before .before .before .before .args .file) in
-    let s = stage-none (sentAt f) 2 judgeSent f (w .0) in
+    let s = stage-none (sentAt f) sizeWidth judgeSent f (w .0) in
     (omega arith, omega arith, omega arith)
-
-enum-known-arrived : tie.Need-enum-known-arrived
-enum-known-arrived c = search needs
-
-enum-told-3 : tie.Need-enum-told-3
-enum-told-3 c = search needs
-
-refusal-of-requires-3 : tie.Need-refusal-of-requires-3
-refusal-of-requires-3 c κs = search needs
-
-refused-with-requires-4 : tie.Need-refused-with-requires-4
-refused-with-requires-4 c κs = search needs
 
 returns-4 : tie.Need-returns-4
 returns-4 c =
@@ -233,15 +193,12 @@ returns-4 c =
     let l = o .before .before .before in
     let f = now (l .before .before .before .before .before .args .file) in
     let v = counted b in
-    let s = c .before .before .before .before .section-at3 .ensures ∙ ap (λ (n : ℕ). sectionReading n 12 0 arrivalsMost manyArrivals f) (v .2) in
-    let r = c .before .refusal-of3 .ensures ∙ ap refusalOfSection s ∙ refusal-section (arrivedAt f) 12 0 arrivalsMost manyArrivals f in
-    let p = refused-section (arrivedAt f) 12 0 arrivalsMost manyArrivals f (sym s ∙ c .before .before .enum-told3 .given .1) in (
-      answer f (arrivedStage f) p (refused-arrived f (labelled l .0) (shown o) (v .0) (arrivedStage f) p refl) (c .refused-with4 .ensures) r,
+    let s = c .before .before .before .before .section-at3 .ensures ∙ ap (λ (n : ℕ). sectionReading n arrivalWidth 0 arrivalsMost manyArrivals f) (v .2) in
+    let r = c .before .refusal-of-section3 .ensures ∙ ap refusalOfSection s ∙ refusal-section (arrivedAt f) arrivalWidth 0 arrivalsMost manyArrivals f in
+    let p = refused-section (arrivedAt f) arrivalWidth 0 arrivalsMost manyArrivals f (sym s ∙ c .before .before .enum-told3 .given .1) in (
+      answer f (arrivedStage f) p (refused-arrived f (labelled l .0) (shown o) (v .0) (arrivedStage f) p refl) (c .refused-layout4 .ensures) r,
       promised f (below-fits w8 f (l .before .before .before .before .shared-slice-known .given)),
     )
-
-refused-with-requires-5 : tie.Need-refused-with-requires-5
-refused-with-requires-5 c κs = search needs
 
 returns-5 : tie.Need-returns-5
 returns-5 c =
@@ -252,12 +209,12 @@ returns-5 c =
     let f = now (l .before .before .before .before .before .args .file) in
     let u = arrived b in
     let e : endStage f ≡ octetsFollow = ap (λ t. inCase t octetsFollow) (lt-ltb (fileEnd f) (length f) (omega arith)) in (
-      answer f octetsFollow (omega arith) (refused-end f (labelled l .0) (shown o) (counted k .0) (u .0) octetsFollow (omega arith) e) (c .refused-with5 .ensures) refl,
+      answer f octetsFollow (omega arith) (refused-end f (labelled l .0) (shown o) (counted k .0) (u .0) octetsFollow (omega arith) e) (c .refused-layout5 .ensures) refl,
       promised f (below-fits w8 f (l .before .before .before .before .shared-slice-known .given)),
     )
 
-add-judge-file : tie.Need-add-judge-file
-add-judge-file c =
+add-at : tie.Need-add-at
+add-at c =
     let s = sections-within (c .before) in
     omega arith
 
@@ -266,23 +223,15 @@ judge-file-requires c κs =
     let s = sections-within (c .before) in
     omega arith
 
-refused-with-requires-6 : tie.Need-refused-with-requires-6
-refused-with-requires-6 c κs = search needs
-
 returns-6 : tie.Need-returns-6
 returns-6 c =
     let l = c .before .before .before .before .before .before .before .before .before .before .before .before .before .before .before in
     let f = now (l .before .before .before .before .before .args .file) in
     let j = judged (c .before .before) in
     let n : 0 < c .before .before .judge-file .result = omega (arith, c .before .if3 .taken) in (
-      answer f (c .before .before .judge-file .result) n j (c .refused-with6 .ensures) refl,
+      answer f (c .before .before .judge-file .result) n j (c .refused-layout6 .ensures) refl,
       promised f (below-fits w8 f (l .before .before .before .before .shared-slice-known .given)),
     )
-
-cast-t22 : tie.Need-cast-t22
-cast-t22 c =
-    let w = within c in
-    omega arith
 
 cast-t23 : tie.Need-cast-t23
 cast-t23 c =
@@ -291,6 +240,11 @@ cast-t23 c =
 
 cast-t24 : tie.Need-cast-t24
 cast-t24 c =
+    let w = within c in
+    omega arith
+
+cast-t25 : tie.Need-cast-t25
+cast-t25 c =
     let w = within c in
     omega arith
 
@@ -312,37 +266,37 @@ pub check-spec : {M : Type 1} → statement M
 check-spec =
     tie.close
     (tie.spec
-    section-at-requires
-    enum-known-label
+    (λ c κs. search needs)
+    (λ c. search needs)
     enum-told
-    refusal-of-requires
-    refused-with-requires
+    (λ c κs. search needs)
+    (λ c κs. search needs)
     returns
     sub-shown
     part-shown-start
     part-shown-end
-    some-unshown-requires
-    refused-with-requires-2
+    (λ c κs. search needs)
+    (λ c κs. search needs)
     returns-2
     section-at-requires-2
-    enum-known-sent
-    enum-told-2
-    refusal-of-requires-2
-    refused-with-requires-3
+    (λ c. search needs)
+    (λ c. search needs)
+    (λ c κs. search needs)
+    (λ c κs. search needs)
     returns-3
     section-at-requires-3
-    enum-known-arrived
-    enum-told-3
-    refusal-of-requires-3
-    refused-with-requires-4
+    (λ c. search needs)
+    (λ c. search needs)
+    (λ c κs. search needs)
+    (λ c κs. search needs)
     returns-4
-    refused-with-requires-5
+    (λ c κs. search needs)
     returns-5
-    add-judge-file
+    add-at
     judge-file-requires
-    refused-with-requires-6
+    (λ c κs. search needs)
     returns-6
-    cast-t22
     cast-t23
     cast-t24
+    cast-t25
     returns-7)

@@ -1,4 +1,4 @@
--- `sample::payload_size` meets its contract: the two octets at the size's place. Assumes nothing.
+-- `sample::payload_size` meets its contract: the octets at the size's place. Assumes nothing.
 use borrow.Author.Needs.{needs}
 use Prim.Native.Nat.{ℕ, _+_, _*_, _^_, _<_}
 use native.Mathlib.Omega.{arith}
@@ -8,37 +8,26 @@ use denote.Ref.{now}
 use Rattle.octets.specs.BigEndian.{beValue}
 use Rattle.octets.specs.Memory.{part}
 use Rattle.octets.proofs.Below.{below-fits}
+use Rattle.sample.specs.Format.{sizeWidth}
 use Rattle.sample.specs.Places.{sizeFound}
 use Rattle.sample.proofs.Items.{part-fits}
 use Rattle.sample.proofs.payload_size.Statement.{statement}
 use Rattle.sample.proofs.payload_size.Tie as tie
 
-sizes-at-requires : tie.Need-sizes-at-requires
-sizes-at-requires c κs = search needs
-
-mul-number-at : tie.Need-mul-number-at
-mul-number-at c = search needs
-
-add-number-at : tie.Need-add-number-at
-add-number-at c = search needs
-
-number-at-requires : tie.Need-number-at-requires
-number-at-requires c κs = search needs
-
 cast-result : tie.Need-cast-result
 cast-result c =
     let a = c .before .before .before .args in
     let o = below-fits w8 (now (a .file)) (c .before .before .shared-slice-known .given) in
-    let b : c .number-at .result < 2 ^ 16 = rw (c .number-at .ensures) (part-fits 2 (c .before .sizes-at .result + 2 * a .j) (now (a .file)) o) in
+    let b : c .number-at .result < 2 ^ 16 = rw (c .number-at .ensures) (part-fits sizeWidth (c .before .sizes-at .result + sizeWidth * a .j) (now (a .file)) o) in
     omega arith
 
 returns : tie.Need-returns
 unfolding sizeFound
 returns c =
     let a = c .before .before .before .args in
-    c .number-at .ensures ∙ ap (λ (n : ℕ). beValue (part (n + 2 * a .j) 2 (now (a .file)))) (c .before .sizes-at .ensures)
+    c .number-at .ensures ∙ ap (λ (n : ℕ). beValue (part (n + sizeWidth * a .j) sizeWidth (now (a .file)))) (c .before .sizes-at .ensures)
 
 pub payload-size-spec : {M : Type 1} → statement M
 payload-size-spec =
     tie.close
-    (tie.spec sizes-at-requires mul-number-at add-number-at number-at-requires cast-result returns)
+    (tie.spec (λ c κs. search needs) (λ c. search needs) (λ c. search needs) (λ c κs. search needs) cast-result returns)

@@ -10,7 +10,7 @@ use Rattle.octets.specs.BigEndian.{beValue}
 use Rattle.octets.specs.Memory.{over}
 use Rattle.octets.proofs.Below.{below-fits}
 use Rattle.rfc4737.specs.Judge.{numbersOf, timesOf}
-use Rattle.sample.specs.Format.{itemsIn}
+use Rattle.sample.specs.Format.{sizeWidth, arrivalWidth, itemsIn}
 use Rattle.sample.specs.Decode.{arrivalIn}
 use Rattle.sample.specs.Calls.{ReadFrom}
 use Rattle.sample.specs.declared.Layout.{Layout}
@@ -27,9 +27,6 @@ found c =
     room-found (now (a .file)) (now (a .sizes)) (now (a .numbers)) (now (a .times)) (c .before .before .before .before .check .result) (c .before .before .before .before .check .ensures .0) (c .before .before .if1 .left)
     (sym (c .before .too-short .ensures) ∙ c .if2 .left)
 
-check-requires : tie.Need-check-requires
-check-requires c κs = search needs
-
 returns : tie.Need-returns
 returns c =
     let a = c .before .before .before .before .before .before .before .args in
@@ -38,28 +35,16 @@ returns c =
       written-again f (below-fits w8 f (c .before .before .before .before .before .before .shared-slice-known .given)),
     )
 
-too-short-requires : tie.Need-too-short-requires
-too-short-requires c κs = search needs
-
-refused-with-requires : tie.Need-refused-with-requires
-refused-with-requires c κs = search needs
-
 returns-2 : tie.Need-returns-2
 returns-2 c =
     let k = c .before .before .before .before .before in
     let a = k .before .before .before .before .before .args in
     let f = now (a .file) in (
-      subst (λ (y : Layout). ReadFrom f (now (a .sizes)) (now (a .numbers)) (now (a .times)) y (now (a .sizes)) (now (a .numbers)) (now (a .times))) (sym (c .refused-with .ensures))
+      subst (λ (y : Layout). ReadFrom f (now (a .sizes)) (now (a .numbers)) (now (a .times)) y (now (a .sizes)) (now (a .numbers)) (now (a .times))) (sym (c .refused-layout .ensures))
           (read-short f (now (a .sizes)) (now (a .numbers)) (now (a .times)) (k .check .result) (k .check .ensures .0) (c .before .before .before .if1 .left)
           (sym (c .before .before .too-short .ensures) ∙ c .before .if2 .taken)),
       written-again f (below-fits w8 f (k .before .before .before .before .shared-slice-known .given)),
     )
-
-sizes-at-requires : tie.Need-sizes-at-requires
-sizes-at-requires c κs = search needs
-
-cast-fill-sizes : tie.Need-cast-fill-sizes
-cast-fill-sizes c = search needs
 
 fill-sizes-requires : tie.Need-fill-sizes-requires
 fill-sizes-requires c κs =
@@ -67,26 +52,11 @@ fill-sizes-requires c κs =
     let p = c .before .before .sizes-at .ensures in
     omega arith
 
-arrivals-at-requires : tie.Need-arrivals-at-requires
-arrivals-at-requires c κs = search needs
-
-cast-fill-arrivals : tie.Need-cast-fill-arrivals
-cast-fill-arrivals c = search needs
-
 fill-arrivals-requires : tie.Need-fill-arrivals-requires
 fill-arrivals-requires c κs =
     let w = found (c .before .before .before .before .before .before .before .before .before .before) in
-    let p = c .before .before .before .arrivals-at .ensures in
+    let p = c .before .before .arrivals-at .ensures in
     omega arith
-
-same-length : tie.Need-same-length
-same-length c = search needs
-
-same-length-2 : tie.Need-same-length-2
-same-length-2 c = search needs
-
-same-length-3 : tie.Need-same-length-3
-same-length-3 c = search needs
 
 returns-3 : tie.Need-returns-3
 returns-3 c =
@@ -98,13 +68,13 @@ returns-3 c =
     let s = c .before .before .before .before .before .before .before .before .before .before .before in
     let t = c .before .before .before .before in
     let m = s .before .before .before .sizes-at .ensures in
-    let n = t .before .before .before .before .arrivals-at .ensures in (
+    let n = t .before .before .before .arrivals-at .ensures in (
       read-filled f (now (a .sizes)) (now (a .numbers)) (now (a .times)) y (q .check .ensures .0) (k .before .before .if1 .left)
           (s .fill-sizes .last .1 .1 .1 .0) (t .fill-arrivals .last .1 .1 .1 .0) (t .fill-arrivals .last .1 .1 .1 .1 .0)
           (sym (k .before .too-short .ensures) ∙ k .if2 .left)
-          (s .fill-sizes .ensures ∙ ap (λ (p : ℕ). over (itemsIn 2 beValue (y .sent) (drop p f)) (now (a .sizes))) m)
-          (t .fill-arrivals .ensures .0 ∙ ap (λ (p : ℕ). over (numbersOf (itemsIn 12 arrivalIn (y .arrivals) (drop p f))) (now (a .numbers))) n)
-          (t .fill-arrivals .ensures .1 ∙ ap (λ (p : ℕ). over (timesOf (itemsIn 12 arrivalIn (y .arrivals) (drop p f))) (now (a .times))) n),
+          (s .fill-sizes .ensures ∙ ap (λ (p : ℕ). over (itemsIn sizeWidth beValue (y .sent) (drop p f)) (now (a .sizes))) m)
+          (t .fill-arrivals .ensures .0 ∙ ap (λ (p : ℕ). over (numbersOf (itemsIn arrivalWidth arrivalIn (y .arrivals) (drop p f))) (now (a .numbers))) n)
+          (t .fill-arrivals .ensures .1 ∙ ap (λ (p : ℕ). over (timesOf (itemsIn arrivalWidth arrivalIn (y .arrivals) (drop p f))) (now (a .times))) n),
       written-again f (below-fits w8 f (q .before .before .before .before .shared-slice-known .given)),
     )
 
@@ -112,18 +82,18 @@ pub read-spec : {M : Type 1} → statement M
 read-spec =
     tie.close
     (tie.spec
-    check-requires
+    (λ c κs. search needs)
     returns
-    too-short-requires
-    refused-with-requires
+    (λ c κs. search needs)
+    (λ c κs. search needs)
     returns-2
-    sizes-at-requires
-    cast-fill-sizes
+    (λ c κs. search needs)
+    (λ c. search needs)
     fill-sizes-requires
-    arrivals-at-requires
-    cast-fill-arrivals
+    (λ c. search needs)
+    (λ c κs. search needs)
     fill-arrivals-requires
-    same-length
-    same-length-2
-    same-length-3
+    (λ c. search needs)
+    (λ c. search needs)
+    (λ c. search needs)
     returns-3)

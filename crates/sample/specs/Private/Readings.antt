@@ -1,11 +1,12 @@
 -- The readings that the check of a file is made of, by cases. Assumes nothing.
-use Prim.Native.Nat.{ℕ, zero, suc, _+_}
+use Prim.Native.Nat.{ℕ, zero, suc}
 use mathlib.Core.Bool.{cond}
 use mathlib.Core.List.{List}
 use lib.Dec.{ltb}
 use lib.ListN.{length}
 use Rattle.rfc4737.specs.Refusals.{outside, inCase}
-use Rattle.sample.specs.Decode.{countAt, endOf, sectionStage}
+use Rattle.sample.specs.Format.{itemsAt, endOf}
+use Rattle.sample.specs.Decode.{countAt, sectionStage}
 use Rattle.sample.specs.declared.sections.Reading.{Reading}
 use Rattle.sample.specs.declared.sections.Reading.the-variants.{Value, Ended}
 use Rattle.sample.specs.declared.sections.Section.{Section}
@@ -13,7 +14,7 @@ use Rattle.sample.specs.declared.sections.Section.the-variants.{Whole, R
 
 -- the count that stands at a place
 unfoldable pub countReading : ℕ → List ℕ → Reading
-countReading at file = cond (ltb (length file) (at + 2)) Ended (Value (countAt at file))
+countReading at file = cond (ltb (length file) (itemsAt at)) Ended (Value (countAt at file))
 
 -- a place in the file
 unfoldable pub placeReading : ℕ → List ℕ → Reading
@@ -27,8 +28,7 @@ settled (suc r) s = Refused (suc r)
 -- the section that begins at a place: its count, and where it ends
 unfoldable pub sectionReading : ℕ → ℕ → ℕ → ℕ → ℕ → List ℕ → Section
 sectionReading at width least most refusal file =
-    settled (sectionStage at width (λ (n : ℕ). inCase (outside least most n) refusal) file)
-    (Whole (countAt at file) (endOf at width (countAt at file)))
+    settled (sectionStage at width (λ (n : ℕ). inCase (outside least most n) refusal) file) (Whole (countAt at file) (endOf at width (countAt at file)))
 
 -- the refusal of a section
 abbrev pub refusalOfSection : Section → ℕ

@@ -1,6 +1,6 @@
 -- `shortnumbers::fill` meets its contract. The loop's invariant: the greatest is that of the first i numbers found, at most 512 for each,
 -- and the list holds them, then what it held. The measure is the number of short numbers left. Assumes nothing.
-use Prim.Native.Nat.{ℕ, _+_, _-_, _*_, _≤_, _<_}
+use Prim.Native.Nat.{_-_, _*_, _≤_, _<_}
 use native.Mathlib.Omega.{arith}
 use mathlib.Core.Path.{_≡_, refl, ap, _∙_}
 use mathlib.Core.List.{_++_}
@@ -35,35 +35,17 @@ loop-holds : tie.Need-loop-holds Inv-loop μ-loop
 unfolding greatestOf
 loop-holds c = (search needs, search needs, refl, refl)
 
-mul-full-number : tie.Need-mul-full-number Inv-loop μ-loop
-mul-full-number c = search needs
-
-shared-slice-read-full-number : tie.Need-shared-slice-read-full-number Inv-loop μ-loop
-shared-slice-read-full-number c = search needs
-
 full-number-requires : tie.Need-full-number-requires Inv-loop μ-loop
 full-number-requires c κs =
     let l = c .before .before in
     let p = l .before .before .before .pre in
     (p .0, omega (arith, l .loop .inv .0, l .loop .inv .1, p .1))
 
-mul-numbers : tie.Need-mul-numbers Inv-loop μ-loop
-mul-numbers c = search needs
-
 slice-write-numbers : tie.Need-slice-write-numbers Inv-loop μ-loop
 slice-write-numbers c =
     let l = c .before .before .before in
     let k = kept l in
     omega (arith, c .before .before .loop-test .taken, l .before .before .before .pre .2)
-
-greater-requires : tie.Need-greater-requires Inv-loop μ-loop
-greater-requires c κs = search needs
-
-add-i : tie.Need-add-i Inv-loop μ-loop
-add-i c = search needs
-
-loop-less : tie.Need-loop-less Inv-loop μ-loop
-loop-less c = search needs
 
 loop-again : tie.Need-loop-again Inv-loop μ-loop
 loop-again c =
@@ -97,14 +79,14 @@ fill-spec =
     Inv-loop
     μ-loop
     loop-holds
-    mul-full-number
-    shared-slice-read-full-number
+    (λ c. search needs)
+    (λ c. search needs)
     full-number-requires
-    mul-numbers
+    (λ c. search needs)
     slice-write-numbers
-    greater-requires
-    add-i
-    loop-less
+    (λ c κs. search needs)
+    (λ c. search needs)
+    (λ c. search needs)
     loop-again
     same-length
     returns)

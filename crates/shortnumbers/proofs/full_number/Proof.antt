@@ -1,5 +1,5 @@
 -- `shortnumbers::full_number` meets its contract: the sum is that of the definition, and nothing of it wraps. Assumes nothing.
-use Prim.Native.Nat.{ℕ, _+_, _-_, _/_, _%_, _≤_, _<_}
+use Prim.Native.Nat.{ℕ, _+_, _-_, _/_, _%_, _<_}
 use native.Mathlib.Nat.{mod-lt}
 use native.Mathlib.Omega.{arith}
 use mathlib.Core.Path.{refl, _∙_}
@@ -18,20 +18,8 @@ returns : tie.Need-returns
 unfolding found
 returns c = (rw (le-ltb _ _ (c .if1 .taken)), omega arith)
 
-rem-up : tie.Need-rem-up
-rem-up c = search needs
-
 sub-up : tie.Need-sub-up
 sub-up c = let a = c .before .args in let b = below (a .range) (a .greatest) (c .before .pre .0) in omega arith
-
-add-up : tie.Need-add-up
-add-up c = search needs
-
-add-up-2 : tie.Need-add-up-2
-add-up-2 c = search needs
-
-rem-up-2 : tie.Need-rem-up-2
-rem-up-2 c = search needs
 
 add-up-3 : tie.Need-add-up-3
 add-up-3 c =
@@ -39,9 +27,6 @@ add-up-3 c =
     let p = c .before .pre in
     let u = below (a .range) (a .short + (a .range / 2 + (a .range - a .greatest % a .range))) (p .0) in
     omega (arith, p .0 .most, p .1)
-
-less-requires : tie.Need-less-requires
-less-requires c κs = search needs
 
 returns-2 : tie.Need-returns-2
 unfolding found
@@ -54,4 +39,4 @@ returns-2 c =
 pub full-number-spec : {M : Type 1} → statement M
 full-number-spec =
     tie.close
-    (tie.spec returns rem-up sub-up add-up add-up-2 rem-up-2 add-up-3 less-requires returns-2)
+    (tie.spec returns (λ c. search needs) sub-up (λ c. search needs) (λ c. search needs) (λ c. search needs) add-up-3 (λ c κs. search needs) returns-2)

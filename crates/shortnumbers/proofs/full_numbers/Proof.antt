@@ -9,9 +9,6 @@ use Rattle.shortnumbers.proofs.Lists.{found-length, filled-refused, fil
 use Rattle.shortnumbers.proofs.full_numbers.Statement.{statement}
 use Rattle.shortnumbers.proofs.full_numbers.Tie as tie
 
-refusal-of-found-requires : tie.Need-refusal-of-found-requires
-refusal-of-found-requires c κs = search needs
-
 returns : tie.Need-returns
 returns c =
     let a = c .before .before .before .before .before .args in
@@ -30,9 +27,6 @@ fill-requires c κs =
     let m = found-length (a .range) (now (a .shorts)) in
     (c .before .before .before .before .before .before .before .pre, omega (arith, f .few), c .before .if2 .left)
 
-same-length : tie.Need-same-length
-same-length c = search needs
-
 returns-3 : tie.Need-returns-3
 returns-3 c =
     let a = c .before .before .before .before .before .before .before .before .before .before .args in
@@ -41,4 +35,4 @@ returns-3 c =
 
 pub full-numbers-spec : {M : Type 1} → statement M
 full-numbers-spec =
-    tie.close (tie.spec refusal-of-found-requires returns returns-2 fill-requires same-length returns-3)
+    tie.close (tie.spec (λ c κs. search needs) returns returns-2 fill-requires (λ c. search needs) returns-3)

@@ -5,14 +5,8 @@ use Rattle.shortnumbers.proofs.Cases.{found-as-given}
 use Rattle.shortnumbers.proofs.full_numbers_8.Statement.{statement}
 use Rattle.shortnumbers.proofs.full_numbers_8.Tie as tie
 
-full-numbers-requires : tie.Need-full-numbers-requires
-full-numbers-requires c κs = search needs
-
-same-length : tie.Need-same-length
-same-length c = search needs
-
 returns : tie.Need-returns
 returns c = (c .before .before .full-numbers .ensures, (every-list, found-as-given))
 
 pub full-numbers-8-spec : {M : Type 1} → statement M
-full-numbers-8-spec = tie.close (tie.spec full-numbers-requires same-length returns)
+full-numbers-8-spec = tie.close (tie.spec (λ c κs. search needs) (λ c. search needs) returns)

@@ -1,7 +1,6 @@
--- `shortnumbers::judge_found` meets its contract. The loop's invariant: the greatest is that of the first i numbers found, at most 512
--- for each, and judging all arrivals is judging what is left of them from the reference. The measure is the number of arrivals left.
--- Assumes nothing.
-use Prim.Native.Nat.{ℕ, _+_, _-_, _*_, _≤_, _<_}
+-- `shortnumbers::judge_found` meets its contract. The loop's invariant: the greatest is that of the first i numbers found, at most 512 for each,
+-- and judging all arrivals is judging what is left of them from the reference. The measure is the number of arrivals left. Assumes nothing.
+use Prim.Native.Nat.{ℕ, _+_, _-_, _*_, _≤_}
 use native.Mathlib.Omega.{arith}
 use mathlib.Core.Path.{_≡_, refl, ap, sym, _∙_}
 use mathlib.Core.List.{List}
@@ -26,94 +25,63 @@ Inv-loop range k shorts times greatest₀ reference₀ i₀ greatest reference i
 abbrev μ-loop : tie.MeasureT-loop
 μ-loop range k shorts times greatest₀ reference₀ i₀ greatest reference i = length shorts - i
 
--- there are as many arrivals as short numbers
-as-many : (range : ℕ) (shorts times : List ℕ) → length times ≡ length shorts → length (arrivalsFrom (numbersFound range shorts) times) ≡ length shorts
-as-many range shorts times same =
-    let n = found-length range shorts in
-    arrivals-length (numbersFound range shorts) times (same ∙ sym n) ∙ n
+-- the start, from the loop
+abbrev start : tie.At-loop Inv-loop μ-loop → tie.Start Inv-loop μ-loop
+start c = c .before .before .before
+
+-- the arrivals with the numbers found
+abbrev arrivals : tie.At-loop Inv-loop μ-loop → List Arrival
+arrivals c = arrivalsFrom (numbersFound (start c .args .range) (now (start c .args .shorts))) (now (start c .args .times))
+
+-- there are as many of them as short numbers
+many : (c : tie.At-loop Inv-loop μ-loop) → length (arrivals c) ≡ length (now (start c .args .shorts))
+many c =
+    let n = found-length (start c .args .range) (now (start c .args .shorts)) in
+    arrivals-length _ (now (start c .args .times)) (start c .pre .2 ∙ sym n) ∙ n
+
+-- the number found, with its time, is the arrival at i
+here : (c : tie.After-full-number Inv-loop μ-loop) → let l = c .before .before .before in
+    record { number = c .full-number .result; time = getD (now (start l .args .times)) (l .loop .i) 0 } ≡ getD (arrivals l) (l .loop .i) none
+here c =
+    let l = c .before .before .before in
+    arrival-here _ _ (l .loop .greatest) _ _ (c .before .before .loop-test .taken) (l .loop .inv .2) (c .full-number .ensures .0) _ (start l .pre .2)
 
 loop-holds : tie.Need-loop-holds Inv-loop μ-loop
 unfolding greatestOf
 loop-holds c = (search needs, search needs, refl, refl)
 
-mul-full-number : tie.Need-mul-full-number Inv-loop μ-loop
-mul-full-number c = search needs
-
-shared-slice-read-full-number : tie.Need-shared-slice-read-full-number Inv-loop μ-loop
-shared-slice-read-full-number c = search needs
-
 full-number-requires : tie.Need-full-number-requires Inv-loop μ-loop
 full-number-requires c κs =
     let l = c .before .before in
-    let p = c .before .before .before .before .before .pre in
-    (p .0, omega (arith, l .loop .inv .0, l .loop .inv .1, p .1))
-
-mul-time : tie.Need-mul-time Inv-loop μ-loop
-mul-time c = search needs
-
-shared-slice-read-time : tie.Need-shared-slice-read-time Inv-loop μ-loop
-shared-slice-read-time c = search needs
-
-cast-judge-one : tie.Need-cast-judge-one Inv-loop μ-loop
-cast-judge-one c = search needs
-
-judge-one-requires : tie.Need-judge-one-requires Inv-loop μ-loop
-judge-one-requires c κs = search needs
+    (start l .pre .0, omega (arith, l .loop .inv .0, l .loop .inv .1, start l .pre .1))
 
 returns : tie.Need-returns Inv-loop μ-loop
 returns c =
-    let l = c .before .before .before .before .before .before in
-    let a = l .before .before .before .args in
-    let p = l .before .before .before .pre in
-    let n = c .before .before .before .full-number in
-    let lt : l .loop .i < length (now (a .shorts)) = c .before .before .before .before .before .loop-test .taken in
-    let m = as-many (a .range) (now (a .shorts)) (now (a .times)) (p .2) in
-    let here =
-    arrival-here (a .range) (now (a .shorts)) (l .loop .greatest) (l .loop .i) (n .result) lt (l .loop .inv .2) (n .ensures .0) (now (a .times)) (p .2) in
-    judge-stop (a .k) (arrivalsFrom (numbersFound (a .range) (now (a .shorts))) (now (a .times))) (l .loop .reference) (l .loop .i) none
-    (record { number = n .result; time = getD (now (a .times)) (l .loop .i) 0 }) (omega arith) here (l .loop .inv .3)
+    let n = c .before .before .before in
+    let l = n .before .before .before in
+    let m = many l in
+    judge-stop _ (arrivals l) (l .loop .reference) (l .loop .i) none _ (omega (arith, n .before .before .loop-test .taken)) (here n) (l .loop .inv .3)
     (c .before .judge-one .result) (c .before .judge-one .ensures) (c .if1 .taken)
-
-greater-requires : tie.Need-greater-requires Inv-loop μ-loop
-greater-requires c κs = search needs
-
-next-reference-requires : tie.Need-next-reference-requires Inv-loop μ-loop
-next-reference-requires c κs = search needs
-
-add-i : tie.Need-add-i Inv-loop μ-loop
-add-i c = search needs
-
-loop-less : tie.Need-loop-less Inv-loop μ-loop
-loop-less c = search needs
 
 loop-again : tie.Need-loop-again Inv-loop μ-loop
 loop-again c =
-    let l = c .before .before .before .before .before .before .before .before in
-    let a = l .before .before .before .args in
-    let p = l .before .before .before .pre in
-    let n = c .before .before .before .before .before .full-number in
-    let lt : l .loop .i < length (now (a .shorts)) = c .before .before .before .before .before .before .before .loop-test .taken in
-    let m = as-many (a .range) (now (a .shorts)) (now (a .times)) (p .2) in
-    let here =
-    arrival-here (a .range) (now (a .shorts)) (l .loop .greatest) (l .loop .i) (n .result) lt (l .loop .inv .2) (n .ensures .0) (now (a .times)) (p .2) in
+    let n = c .before .before .before .before .before in
+    let l = n .before .before .before in
+    let m = many l in
+    let lt = n .before .before .loop-test .taken in
+    let one = c .before .before .before .judge-one in
     let g = c .before .greater in (
       omega arith,
-      omega (arith, g .ensures, n .ensures .1, l .loop .inv .1),
-      greatest-next (a .range) (now (a .shorts)) (l .loop .greatest) (l .loop .i) (n .result) lt (l .loop .inv .2) (n .ensures .0) (g .result) (g .ensures),
-      judge-next (a .k) (arrivalsFrom (numbersFound (a .range) (now (a .shorts))) (now (a .times))) (l .loop .reference) (l .loop .i) none
-          (record { number = n .result; time = getD (now (a .times)) (l .loop .i) 0 }) (omega arith) here (l .loop .inv .3)
-          (c .before .before .before .judge-one .result) (c .before .before .before .judge-one .ensures) (c .before .before .if1 .left)
-          ∙ ap (λ (r : ℕ). judge (a .k) r (drop (l .loop .i + 1) (arrivalsFrom (numbersFound (a .range) (now (a .shorts))) (now (a .times)))))
-          (sym (c .next-reference .ensures)),
+      omega (arith, g .ensures, n .full-number .ensures .1, l .loop .inv .1),
+      greatest-next _ _ (l .loop .greatest) _ _ lt (l .loop .inv .2) (n .full-number .ensures .0) (g .result) (g .ensures),
+      judge-next _ (arrivals l) (l .loop .reference) (l .loop .i) none _ (omega arith) (here n) (l .loop .inv .3) (one .result) (one .ensures) (c .before .before .if1 .left)
+          ∙ ap (λ (r : ℕ). judge (start l .args .k) r (drop (l .loop .i + 1) (arrivals l))) (sym (c .next-reference .ensures)),
     )
 
 returns-2 : tie.Need-returns-2 Inv-loop μ-loop
 returns-2 c =
-    let l = c .before in
-    let a = l .before .before .before .args in
-    let p = l .before .before .before .pre in
-    let m = as-many (a .range) (now (a .shorts)) (now (a .times)) (p .2) in
-    judge-done (a .k) (arrivalsFrom (numbersFound (a .range) (now (a .shorts))) (now (a .times))) (l .loop .reference) (l .loop .i) (omega arith) (l .loop .inv .3)
+    let m = many (c .before) in
+    judge-done _ (arrivals (c .before)) (c .before .loop .reference) (c .before .loop .i) (omega arith) (c .before .loop .inv .3)
 
 pub judge-found-spec : {M : Type 1} → statement M
 judge-found-spec =
@@ -122,17 +90,17 @@ judge-found-spec =
     Inv-loop
     μ-loop
     loop-holds
-    mul-full-number
-    shared-slice-read-full-number
+    (λ c. search needs)
+    (λ c. search needs)
     full-number-requires
-    mul-time
-    shared-slice-read-time
-    cast-judge-one
-    judge-one-requires
+    (λ c. search needs)
+    (λ c. search needs)
+    (λ c. search needs)
+    (λ c κs. search needs)
     returns
-    greater-requires
-    next-reference-requires
-    add-i
-    loop-less
+    (λ c κs. search needs)
+    (λ c κs. search needs)
+    (λ c. search needs)
+    (λ c. search needs)
     loop-again
     returns-2)

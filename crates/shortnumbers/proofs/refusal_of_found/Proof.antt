@@ -1,6 +1,5 @@
 -- `shortnumbers::refusal_of_found` meets its contract: at each `return` the tests that led there say which refusal is the first; there are
 -- as many numbers found as short ones. Assumes nothing.
-use native.Mathlib.Omega.{arith}
 use mathlib.Core.Path.{sym, _∙_}
 use borrow.Author.Needs.{needs}
 use borrow.Author.Tests.{eq-eqb, ne-eqb}
@@ -12,15 +11,9 @@ use Rattle.shortnumbers.proofs.Lists.{found-length}
 use Rattle.shortnumbers.proofs.refusal_of_found.Statement.{statement}
 use Rattle.shortnumbers.proofs.refusal_of_found.Tie as tie
 
-outside-requires : tie.Need-outside-requires
-outside-requires c κs = search needs
-
 returns : tie.Need-returns
 unfolding refusalOfLists
 returns c = simp (sym (c .before .outside .ensures) ∙ c .if1 .taken)
-
-outside-requires-2 : tie.Need-outside-requires-2
-outside-requires-2 c κs = search needs
 
 returns-2 : tie.Need-returns-2
 unfolding refusalOfLists
@@ -55,4 +48,4 @@ returns-4 c =
 
 pub refusal-of-found-spec : {M : Type 1} → statement M
 refusal-of-found-spec =
-    tie.close (tie.spec outside-requires returns outside-requires-2 returns-2 returns-3 judge-found-requires returns-4)
+    tie.close (tie.spec (λ c κs. search needs) returns (λ c κs. search needs) returns-2 returns-3 judge-found-requires returns-4)

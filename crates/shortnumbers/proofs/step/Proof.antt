@@ -5,15 +5,6 @@ use Rattle.shortnumbers.proofs.Steps.{step-found}
 use Rattle.shortnumbers.proofs.step.Statement.{statement}
 use Rattle.shortnumbers.proofs.step.Tie as tie
 
-greatest-by-requires : tie.Need-greatest-by-requires
-greatest-by-requires c κs = search needs
-
-full-number-requires : tie.Need-full-number-requires
-full-number-requires c κs = search needs
-
-step-requires : tie.Need-step-requires
-step-requires c κs = search needs
-
 returns : tie.Need-returns
 returns c =
     let a = c .before .before .before .args in
@@ -22,4 +13,4 @@ returns c =
     (c .before .before .greatest-by .ensures .1) (c .before .full-number .ensures .0)
 
 pub step-spec : {M : Type 1} → statement M
-step-spec = tie.close (tie.spec greatest-by-requires full-number-requires step-requires returns)
+step-spec = tie.close (tie.spec (λ c κs. search needs) (λ c κs. search needs) (λ c κs. search needs) returns)

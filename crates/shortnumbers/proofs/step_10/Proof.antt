@@ -4,11 +4,8 @@ use Rattle.shortnumbers.proofs.Steps.{every-step}
 use Rattle.shortnumbers.proofs.step_10.Statement.{statement}
 use Rattle.shortnumbers.proofs.step_10.Tie as tie
 
-step-requires : tie.Need-step-requires
-step-requires c κs = search needs
-
 returns : tie.Need-returns
 returns c = (c .step .ensures, every-step)
 
 pub step-10-spec : {M : Type 1} → statement M
-step-10-spec = tie.close (tie.spec step-requires returns)
+step-10-spec = tie.close (tie.spec (λ c κs. search needs) returns)

@@ -22,29 +22,8 @@ returns c = added-nowhere _ _ _ (λ j. c .before .slice-known .given j .fits) (c
 loop-holds : tie.Need-loop-holds Inv-loop μ-loop
 loop-holds c = (omega arith, omega (arith, rest-low (c .before .before .args .number)), partly-none _ _ _ (λ j. c .before .slice-known .given j .fits))
 
-mul-wrapping-add-u32 : tie.Need-mul-wrapping-add-u32 Inv-loop μ-loop
-mul-wrapping-add-u32 c = omega arith
-
-slice-read-wrapping-add-u32 : tie.Need-slice-read-wrapping-add-u32 Inv-loop μ-loop
-slice-read-wrapping-add-u32 c = omega arith
-
-wrapping-add-u32-requires : tie.Need-wrapping-add-u32-requires Inv-loop μ-loop
-wrapping-add-u32-requires c κs = search needs
-
-mul-tree : tie.Need-mul-tree Inv-loop μ-loop
-mul-tree c = omega arith
-
-slice-write-tree : tie.Need-slice-write-tree Inv-loop μ-loop
-slice-write-tree c = omega arith
-
-rest-requires : tie.Need-rest-requires Inv-loop μ-loop
-rest-requires c κs = omega arith
-
 sub-i : tie.Need-sub-i Inv-loop μ-loop
 sub-i c = omega (arith, c .rest .ensures, rest-low (c .before .before .before .before .loop .i))
-
-add-i : tie.Need-add-i Inv-loop μ-loop
-add-i c = omega arith
 
 loop-less : tie.Need-loop-less Inv-loop μ-loop
 loop-less c = omega (arith, c .rest .ensures, rest-low (c .before .before .before .before .loop .i), c .before .before .before .before .loop .inv .2 .places)
@@ -73,14 +52,14 @@ add-spec =
     μ-loop
     returns
     loop-holds
-    mul-wrapping-add-u32
-    slice-read-wrapping-add-u32
-    wrapping-add-u32-requires
-    mul-tree
-    slice-write-tree
-    rest-requires
+    (λ c. omega arith)
+    (λ c. omega arith)
+    (λ c κs. search needs)
+    (λ c. omega arith)
+    (λ c. omega arith)
+    (λ c κs. omega arith)
     sub-i
-    add-i
+    (λ c. omega arith)
     loop-less
     loop-again
     same-length

@@ -1,15 +1,12 @@
--- `rest` meets its contract. Assumes nothing.
+-- `rest` meets its contract: the code computes the definition, and i - 1 does not wrap as i is at least 1. Assumes nothing.
 use borrow.Author.Needs.{needs}
 use Rattle.sums.specs.Tree.{rest}
 use Rattle.sums.proofs.rest.Statement.{statement}
 use Rattle.sums.proofs.rest.Tie as tie
-
-sub-result : tie.Need-sub-result
-sub-result c = search needs
 
 returns : tie.Need-returns
 unfolding rest
 returns c = search needs
 
 pub rest-spec : {M : Type 1} → statement M
-rest-spec = tie.close (tie.spec sub-result returns)
+rest-spec = tie.close (tie.spec (λ c. search needs) returns)

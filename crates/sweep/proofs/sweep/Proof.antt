@@ -4,7 +4,7 @@ use native.Mathlib.Omega.{arith}
 use mathlib.Core.Path.{sym, _∙_}
 use denote.Ref.{now}
 use Rattle.sample.specs.Decode.{decode}
-use Rattle.metrics.specs.Private.Sample.{Laid}
+use Rattle.metrics.specs.Private.Sample.{FileLayout}
 use Rattle.metrics.proofs.FoundInFile.{laid}
 use Rattle.sweep.specs.Swept.{Lent, lent}
 use Rattle.sweep.proofs.Answers.{swept-refused, swept-short, wide, ready, swept}
@@ -20,20 +20,11 @@ abbrev start : tie.After-check → tie.Start
 start c = c .before .before .before .before .before .before .before
 
 -- the check lays the file out
-laid-of : (c : tie.After-check) → Laid (decode (now (c .before .before .before .before .before .before .before .args .file))) (c .check .result)
+laid-of : (c : tie.After-check) → FileLayout (decode (now (c .before .before .before .before .before .before .before .args .file))) (c .check .result)
 laid-of c = rw (c .check .ensures .0) (laid _ (λ i. c .before .before .before .before .before .before .shared-slice-known .given i .fits))
-
-check-requires : tie.Need-check-requires
-check-requires c κs = search needs
 
 returns : tie.Need-returns
 returns c = swept-refused _ _ (c .before .before .check .ensures .0) (c .if1 .taken) _
-
-too-short-requires : tie.Need-too-short-requires
-too-short-requires c κs = search needs
-
-refused-with-requires : tie.Need-refused-with-requires
-refused-with-requires c κs = search needs
 
 returns-2 : tie.Need-returns-2
 returns-2 c =
@@ -64,21 +55,6 @@ clear-requires-2 c κs =
     (sym (k .if2 .left) ∙ k .before .too-short .ensures) (laid-of q) _ (a .before .before .before .before .before .before .before .clear .ensures) in
     omega (arith, r .table, c .before .before .before .before .before .before .before .before .before .before .before .pass .ensures .tableLength)
 
-same-length : tie.Need-same-length
-same-length c = search needs
-
-same-length-2 : tie.Need-same-length-2
-same-length-2 c = search needs
-
-same-length-3 : tie.Need-same-length-3
-same-length-3 c = search needs
-
-same-length-4 : tie.Need-same-length-4
-same-length-4 c = search needs
-
-same-length-5 : tie.Need-same-length-5
-same-length-5 c = search needs
-
 returns-3 : tie.Need-returns-3
 returns-3 c =
     let a = c .before .before .before .before .before .before .before .before .before .before .before .before .before .before .before in
@@ -92,17 +68,17 @@ pub sweep-spec : {M : Type 1} → statement M
 sweep-spec =
     tie.close
     (tie.spec
-    check-requires
+    (λ c κs. search needs)
     returns
-    too-short-requires
-    refused-with-requires
+    (λ c κs. search needs)
+    (λ c κs. search needs)
     returns-2
     clear-requires
     pass-requires
     clear-requires-2
-    same-length
-    same-length-2
-    same-length-3
-    same-length-4
-    same-length-5
+    (λ c. search needs)
+    (λ c. search needs)
+    (λ c. search needs)
+    (λ c. search needs)
+    (λ c. search needs)
     returns-3)

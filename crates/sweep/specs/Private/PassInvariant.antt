@@ -8,14 +8,14 @@ use Rattle.rfc4737.specs.Answer.{answers}
 use Rattle.sample.specs.declared.Layout.{Layout}
 use Rattle.sample.specs.Decode.{Decoded}
 use Rattle.metrics.specs.Sample.{sizeOf, answersOf}
-use Rattle.metrics.specs.Private.Sample.{before, Laid}
+use Rattle.metrics.specs.Private.Sample.{before, FileLayout}
 use Rattle.sweep.specs.declared.Figures.{Figures}
 use Rattle.sweep.specs.Figures.{flagsOf, positionsOf, extentsOf, latesOf}
 use Rattle.sweep.specs.Swept.{places, Lent}
 
 -- a checked file, a table of zeros, and lists with room for every record
-pub record Ready (d : Decoded) (y : Layout) (l : Lent) : Type 0 where
-  pub file : Laid d y
+pub record SweepReady (d : Decoded) (y : Layout) (l : Lent) : Type 0 where
+  pub file : FileLayout d y
   pub table : places ≤ length (l .table)
   pub zeros : (k : ℕ) → k < places → getD (l .table) k 0 ≡ 0
   pub flags : y .arrivals ≤ length (l .flags)
@@ -31,7 +31,7 @@ pub record Room (i : ℕ) (f p e l : List ℕ) : Type 0 where
   pub lates : i < length l
 
 -- the list of positions has those of the first i records
-pub record Positioned (d : Decoded) (i : ℕ) (positions : List ℕ) : Type 0 where
+pub record PositionsBefore (d : Decoded) (i : ℕ) (positions : List ℕ) : Type 0 where
   pub room : i < length positions
   pub at : (k : ℕ) → k < i → getD positions k 0 ≡ getD (positionsOf (answers (sizeOf d) (before d i))) k 0
 

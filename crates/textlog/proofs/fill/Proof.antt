@@ -6,9 +6,10 @@ use mathlib.Core.Path.{_≡_, sym, _∙_}
 use borrow.Author.Needs.{needs}
 use lib.ListN.{length, drop}
 use denote.Ref.{now}
+use Rattle.octets.specs.Text.{lines}
 use Rattle.octets.proofs.Memory.{fill-next}
-use Rattle.textlog.specs.Decode.{lineIn, lines}
-use Rattle.textlog.specs.declared.reading.Found.the-variants.{Read}
+use Rattle.textlog.specs.Decode.{lineIn}
+use Rattle.textlog.specs.declared.reading.Reading.the-variants.{Read}
 use Rattle.textlog.proofs.Lines.{line-read}
 use Rattle.textlog.proofs.Filling.{Filled, filled-none, kept-numbers, kept-times, within-lines, filled-next, none-bad, filled-done}
 use Rattle.textlog.proofs.fill.Statement.{statement}
@@ -37,12 +38,6 @@ within c =
 loop-holds : tie.Need-loop-holds Inv-loop μ-loop
 loop-holds c = filled-none _ _ _
 
-line-at-requires : tie.Need-line-at-requires Inv-loop μ-loop
-line-at-requires c κs = search needs
-
-enum-known-number : tie.Need-enum-known-number Inv-loop μ-loop
-enum-known-number c = search needs
-
 enum-told : tie.Need-enum-told Inv-loop μ-loop
 enum-told c = search needs
 
@@ -60,17 +55,11 @@ returns c =
     (none-bad _ _ _ (c .before .before .before .before .before .before .before .before .pre) _ _ _ _ (c .before .before .before .before .loop .inv)
     (c .before .before .before .loop-test .taken) (sym (c .before .before .line-at .ensures) ∙ c .enum-told .given .1))
 
-mul-numbers : tie.Need-mul-numbers Inv-loop μ-loop
-mul-numbers c = search needs
-
 slice-write-numbers : tie.Need-slice-write-numbers Inv-loop μ-loop
 slice-write-numbers c =
     let p = c .before .before .before .before .before .before .before .before .before .pre in
     let k = kept-numbers _ _ _ p _ _ _ _ (c .before .before .before .before .before .loop .inv) in
     omega (arith, within c, p .numbersRoom)
-
-mul-times : tie.Need-mul-times Inv-loop μ-loop
-mul-times c = search needs
 
 slice-write-times : tie.Need-slice-write-times Inv-loop μ-loop
 slice-write-times c =
@@ -112,15 +101,15 @@ fill-spec =
     Inv-loop
     μ-loop
     loop-holds
-    line-at-requires
-    enum-known-number
+    (λ c κs. search needs)
+    (λ c. search needs)
     enum-told
     same-length
     same-length-2
     returns
-    mul-numbers
+    (λ c. search needs)
     slice-write-numbers
-    mul-times
+    (λ c. search needs)
     slice-write-times
     add-i
     loop-less

@@ -5,7 +5,7 @@ use mathlib.Core.List.{List}
 use borrow.Author.Needs.{needs}
 use denote.Ref.{now}
 use Rattle.textlog.specs.RoundTrip.{ExactLine, ExactLog, ImportedIsFit}
-use Rattle.textlog.specs.Cases.{ReadAsGiven}
+use Rattle.textlog.specs.Cases.{LinesReadAsGiven}
 use Rattle.textlog.proofs.Lines.{exact-line}
 use Rattle.textlog.proofs.RoundTrips.{exact-log}
 use Rattle.textlog.proofs.Accepted.{fit-log}
@@ -15,11 +15,8 @@ use Rattle.textlog.proofs.import.Statement.{statement}
 use Rattle.textlog.proofs.import.Tie as tie
 
 -- the theorems that the contract carries
-carried : (k : ℕ) (log : List ℕ) → (ExactLine × ExactLog k log) × (ImportedIsFit k log × ReadAsGiven)
+carried : (k : ℕ) (log : List ℕ) → (ExactLine × ExactLog k log) × (ImportedIsFit k log × LinesReadAsGiven)
 carried k log = ((exact-line, exact-log k log), (fit-log k log, read-as-given))
-
-judge-log-requires : tie.Need-judge-log-requires
-judge-log-requires c κs = search needs
 
 returns : tie.Need-returns
 returns c =
@@ -28,12 +25,6 @@ returns c =
       import-refused (a .k) (now (a .log)) (now (a .numbers)) (now (a .times)) (j .result) (j .ensures) (c .if1 .taken),
       carried (a .k) (now (a .log)),
     )
-
-too-short-requires : tie.Need-too-short-requires
-too-short-requires c κs = search needs
-
-refused-requires : tie.Need-refused-requires
-refused-requires c κs = search needs
 
 returns-2 : tie.Need-returns-2
 returns-2 c =
@@ -51,12 +42,6 @@ fill-requires c κs =
     let room = sym (c .before .before .before .too-short .ensures) ∙ c .before .before .if2 .left in
     fillable (a .k) (now (a .log)) (now (a .numbers)) (now (a .times)) (j .result) (j .ensures) (c .before .before .before .before .if1 .left) room
 
-same-length : tie.Need-same-length
-same-length c = search needs
-
-same-length-2 : tie.Need-same-length-2
-same-length-2 c = search needs
-
 returns-3 : tie.Need-returns-3
 returns-3 c =
     let a = c .before .before .before .before .before .before .before .before .before .before .before .before .before .before .before .args in
@@ -72,12 +57,12 @@ pub import-spec : {M : Type 1} → statement M
 import-spec =
     tie.close
     (tie.spec
-    judge-log-requires
+    (λ c κs. search needs)
     returns
-    too-short-requires
-    refused-requires
+    (λ c κs. search needs)
+    (λ c κs. search needs)
     returns-2
     fill-requires
-    same-length
-    same-length-2
+    (λ c. search needs)
+    (λ c. search needs)
     returns-3)

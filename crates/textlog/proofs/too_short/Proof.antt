@@ -1,15 +1,15 @@
--- `textlog::too_short` meets its contract. Assumes nothing.
+-- `textlog::too_short` meets its contract: by the list of numbers, else by that of times. Assumes nothing.
 use borrow.Author.Tests.{lt-ltb, le-ltb}
-use Rattle.textlog.specs.Calls.{listsShort}
+use Rattle.textlog.specs.Calls.{logListsShort}
 use Rattle.textlog.proofs.too_short.Statement.{statement}
 use Rattle.textlog.proofs.too_short.Tie as tie
 
 returns : tie.Need-returns
-unfolding listsShort
+unfolding logListsShort
 returns c = simp (lt-ltb _ _ (c .if1 .taken))
 
 returns-2 : tie.Need-returns-2
-unfolding listsShort
+unfolding logListsShort
 returns-2 c = simp (le-ltb _ _ (c .if1 .left))
 
 pub too-short-spec : {M : Type 1} → statement M

@@ -6,9 +6,9 @@ use denote.Ref.{now}
 use mir.Syntax.{w64}
 use Rattle.octets.proofs.Below.{below-fits}
 use Rattle.rfc4737.proofs.Judged.{lists-fit}
-use Rattle.textlog.specs.RoundTrip.{ReadAgain}
-use Rattle.textlog.specs.Cases.{WrittenAsGiven}
-use Rattle.textlog.proofs.Answers.{write-refused, write-short, write-filled}
+use Rattle.textlog.specs.RoundTrip.{LogReadAgain}
+use Rattle.textlog.specs.Cases.{LinesWrittenAsGiven}
+use Rattle.sample.proofs.Output.{output-refused, output-short, output-written}
 use Rattle.textlog.proofs.Cases.{written-as-given}
 use Rattle.textlog.proofs.RoundTrips.{read-again}
 use Rattle.textlog.proofs.write.Statement.{statement}
@@ -16,21 +16,18 @@ use Rattle.textlog.proofs.write.Tie as tie
 
 -- the theorems that the contract carries
 carried : (c : tie.After-slice-known)
-    → ReadAgain (c .before .before .before .args .k) (now (c .before .before .before .args .numbers)) (now (c .before .before .before .args .times))
-    × WrittenAsGiven
+    → LogReadAgain (c .before .before .before .args .k) (now (c .before .before .before .args .numbers)) (now (c .before .before .before .args .times))
+    × LinesWrittenAsGiven
 carried c =
     let a = c .before .before .before .args in
     let fits = below-fits w64 (now (a .times)) (c .before .shared-slice-known2 .given) in
     (read-again (a .k) (now (a .numbers)) (now (a .times)) fits, written-as-given)
 
-refusal-of-lists-requires : tie.Need-refusal-of-lists-requires
-refusal-of-lists-requires c κs = search needs
-
 returns : tie.Need-returns
 returns c =
     let a = c .before .before .before .before .before .args in
     let r = c .before .refusal-of-lists in (
-      write-refused (a .k) (now (a .numbers)) (now (a .times)) (now (a .out)) (r .result) (c .if1 .taken) (r .ensures),
+      output-refused _ _ (now (a .out)) (r .result) (r .ensures) (c .if1 .taken),
       carried (c .before .before),
     )
 
@@ -46,7 +43,7 @@ returns-2 c =
     let a = c .before .before .before .before .before .before .before .args in
     let none = sym (c .before .before .before .refusal-of-lists .ensures) ∙ c .before .before .if1 .left in
     let e = c .before .log-length .ensures .0 in (
-      write-short (a .k) (now (a .numbers)) (now (a .times)) (now (a .out)) none (omega (arith, c .if2 .taken)),
+      output-short _ _ (now (a .out)) none (omega (arith, c .if2 .taken)),
       carried (c .before .before .before .before),
     )
 
@@ -61,9 +58,6 @@ put-lines-requires c κs =
 cast-t13 : tie.Need-cast-t13
 cast-t13 c = omega (arith, c .before .before .before .before .before .log-length .ensures .1)
 
-same-length : tie.Need-same-length
-same-length c = search needs
-
 returns-3 : tie.Need-returns-3
 returns-3 c =
     let a = c .before .before .before .before .before .before .before .before .before .before .before .args in
@@ -72,7 +66,7 @@ returns-3 c =
     let length = c .before .before .before .before .before .log-length in
     let e = length .ensures .0 in
     let room = c .before .before .before .before .if2 .left in (
-      write-filled (a .k) (now (a .numbers)) (now (a .times)) (now (a .out)) none (length .result) e (omega (arith, room)) (c .before .before .put-lines .ensures),
+      output-written _ _ (now (a .out)) none (omega (arith, room)) e (c .before .before .put-lines .ensures),
       carried (c .before .before .before .before .before .before .before .before),
     )
 
@@ -80,11 +74,11 @@ pub write-spec : {M : Type 1} → statement M
 write-spec =
     tie.close
     (tie.spec
-    refusal-of-lists-requires
+    (λ c κs. search needs)
     returns
     log-length-requires
     returns-2
     put-lines-requires
     cast-t13
-    same-length
+    (λ c. search needs)
     returns-3)

@@ -3,7 +3,8 @@ use Prim.Native.Nat.{ℕ, _≤_, _<_}
 use mathlib.Core.List.{List, []}
 use mathlib.Core.Path.{_≡_}
 use lib.ListN.{length, getD}
-use Rattle.textlog.specs.Decode.{malformed, decodeLine, lines}
+use Rattle.octets.specs.Text.{lines}
+use Rattle.textlog.specs.Decode.{malformed, decodeLine}
 
 -- a log of which every line decodes, and two lists with a place for each
 pub record Fillable (log numbers times : List ℕ) : Type 0 where

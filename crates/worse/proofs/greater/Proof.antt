@@ -15,20 +15,8 @@ product-fits m n h k =
     let p : m * n ≤ 4294967295 * 4294967295 = mul-le-mul {n₁ = m} {m₁ = n} {n₂ = 4294967295} {m₂ = 4294967295} (omega arith) (omega arith) in
     record { fits = omega arith }
 
-cast-ours : tie.Need-cast-ours
-cast-ours c = search needs
-
-cast-ours-2 : tie.Need-cast-ours-2
-cast-ours-2 c = search needs
-
 mul-ours : tie.Need-mul-ours
 mul-ours c = product-fits _ _ (search needs) (search needs)
-
-cast-theirs : tie.Need-cast-theirs
-cast-theirs c = search needs
-
-cast-theirs-2 : tie.Need-cast-theirs-2
-cast-theirs-2 c = search needs
 
 mul-theirs : tie.Need-mul-theirs
 mul-theirs c = product-fits _ _ (search needs) (search needs)
@@ -40,4 +28,4 @@ returns c = refl
 pub greater-spec : {M : Type 1} → statement M
 greater-spec =
     tie.close
-    (tie.spec cast-ours cast-ours-2 mul-ours cast-theirs cast-theirs-2 mul-theirs returns)
+    (tie.spec (λ c. search needs) (λ c. search needs) mul-ours (λ c. search needs) (λ c. search needs) mul-theirs returns)

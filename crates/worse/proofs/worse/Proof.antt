@@ -1,8 +1,8 @@
 -- `worse::worse` meets its contract: the comparison says whose label is shown. Assumes nothing.
 use borrow.Author.Needs.{needs}
-use Prim.Native.Nat.{ℕ, _<_}
+use Prim.Native.Nat.{_<_}
 use native.Mathlib.Omega.{arith}
-use mathlib.Core.Path.{_≡_, sym, ap, _∙_}
+use mathlib.Core.Path.{sym, ap, _∙_}
 use denote.Ref.{now}
 use Rattle.sample.specs.Decode.{decode}
 use Rattle.worse.specs.declared.Comparison.{Comparison}
@@ -10,18 +10,6 @@ use Rattle.worse.specs.declared.Link.the-variants.{First, Second}
 use Rattle.worse.proofs.Compared.{refusal-found, label-refused, place-refused, linked, label-first, label-second, place-first, place-second}
 use Rattle.worse.proofs.worse.Statement.{statement}
 use Rattle.worse.proofs.worse.Tie as tie
-
-compare-requires : tie.Need-compare-requires
-compare-requires c κs = search needs
-
-sub-result : tie.Need-sub-result
-sub-result c = search needs
-
-part-result-start : tie.Need-part-result-start
-part-result-start c = search needs
-
-part-result-end : tie.Need-part-result-end
-part-result-end c = search needs
 
 returns : tie.Need-returns
 returns c =
@@ -34,15 +22,6 @@ returns c =
 
 enum-told : tie.Need-enum-told
 enum-told c = search needs
-
-label-requires : tie.Need-label-requires
-label-requires c κs = search needs
-
-enum-told-2 : tie.Need-enum-told-2
-enum-told-2 c = search needs
-
-label-requires-2 : tie.Need-label-requires-2
-label-requires-2 c κs = search needs
 
 returns-2 : tie.Need-returns-2
 returns-2 c =
@@ -66,14 +45,14 @@ pub worse-spec : {M : Type 1} → statement M
 worse-spec =
     tie.close
     (tie.spec
-    compare-requires
-    sub-result
-    part-result-start
-    part-result-end
+    (λ c κs. search needs)
+    (λ c. search needs)
+    (λ c. search needs)
+    (λ c. search needs)
     returns
     enum-told
-    label-requires
-    enum-told-2
-    label-requires-2
+    (λ c κs. search needs)
+    (λ c. search needs)
+    (λ c κs. search needs)
     returns-2
     returns-3)

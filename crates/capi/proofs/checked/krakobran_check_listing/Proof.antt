@@ -3,14 +3,8 @@ use borrow.Author.Needs.{needs}
 use Rattle.capi.proofs.checked.krakobran_check_listing.Statement.{statement}
 use Rattle.capi.proofs.checked.krakobran_check_listing.Tie as tie
 
-check-requires : tie.Need-check-requires
-check-requires c κs = search needs
-
-listing-checked-requires : tie.Need-listing-checked-requires
-listing-checked-requires c κs = search needs
-
 returns : tie.Need-returns
-returns c = simp (c .listing-checked .ensures, c .before .check .ensures .0)
+returns c = simp (c .verdict-figures .ensures, c .before .check .ensures .0)
 
 pub krakobran-check-listing-spec : {M : Type 1} → statement M
-krakobran-check-listing-spec = tie.close (tie.spec check-requires listing-checked-requires returns)
+krakobran-check-listing-spec = tie.close (tie.spec (λ c κs. search needs) (λ c κs. search needs) returns)

@@ -7,12 +7,6 @@ use Rattle.capi.proofs.figures.degree_figures.Tie as tie
 enum-told : tie.Need-enum-told
 enum-told c = search needs
 
-enum-known-ratio : tie.Need-enum-known-ratio
-enum-known-ratio c = search needs
-
-bits-of-requires : tie.Need-bits-of-requires
-bits-of-requires c κs = search needs
-
 returns : tie.Need-returns
 returns c = rw (c .enum-told .given .1) refl
 
@@ -21,4 +15,4 @@ returns-2 c = rw (c .before .before .ratio .given .1) (simp (c .bits-of .ensures
 
 pub degree-figures-spec : {M : Type 1} → statement M
 degree-figures-spec =
-    tie.close (tie.spec enum-told enum-known-ratio bits-of-requires returns returns-2)
+    tie.close (tie.spec enum-told (λ c. search needs) (λ c κs. search needs) returns returns-2)

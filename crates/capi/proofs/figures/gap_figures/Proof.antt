@@ -7,9 +7,6 @@ use Rattle.capi.proofs.figures.gap_figures.Tie as tie
 enum-told : tie.Need-enum-told
 enum-told c = search needs
 
-enum-known-gap : tie.Need-enum-known-gap
-enum-known-gap c = search needs
-
 returns : tie.Need-returns
 returns c = rw (c .enum-told .given .1) refl
 
@@ -17,4 +14,4 @@ returns-2 : tie.Need-returns-2
 returns-2 c = rw (c .before .gap .given .1) refl
 
 pub gap-figures-spec : {M : Type 1} → statement M
-gap-figures-spec = tie.close (tie.spec enum-told enum-known-gap returns returns-2)
+gap-figures-spec = tie.close (tie.spec enum-told (λ c. search needs) returns returns-2)

@@ -7,18 +7,6 @@ use Rattle.capi.proofs.figures.ratios_figures.Tie as tie
 enum-told : tie.Need-enum-told
 enum-told c = search needs
 
-enum-known-ratios : tie.Need-enum-known-ratios
-enum-known-ratios c = search needs
-
-bits-of-requires : tie.Need-bits-of-requires
-bits-of-requires c κs = search needs
-
-bits-of-requires-2 : tie.Need-bits-of-requires-2
-bits-of-requires-2 c κs = search needs
-
-bits-of-requires-3 : tie.Need-bits-of-requires-3
-bits-of-requires-3 c κs = search needs
-
 returns : tie.Need-returns
 returns c = rw (c .enum-told .given .1) refl
 
@@ -32,9 +20,9 @@ ratios-figures-spec =
     tie.close
     (tie.spec
     enum-told
-    enum-known-ratios
-    bits-of-requires
-    bits-of-requires-2
-    bits-of-requires-3
+    (λ c. search needs)
+    (λ c κs. search needs)
+    (λ c κs. search needs)
+    (λ c κs. search needs)
     returns
     returns-2)

@@ -13,9 +13,6 @@ use Rattle.capi.specs.Label.{labelPart}
 use Rattle.capi.proofs.label.label_part.Statement.{statement}
 use Rattle.capi.proofs.label.label_part.Tie as tie
 
-check-requires : tie.Need-check-requires
-check-requires c κs = search needs
-
 returns : tie.Need-returns
 returns c =
     let f = now (c .before .before .before .before .args .file) in
@@ -31,4 +28,4 @@ returns-2 c =
     (λ i. record { start = labelPlace (sym d i); length = n i })
 
 pub label-part-spec : {M : Type 1} → statement M
-label-part-spec = tie.close (tie.spec check-requires returns returns-2)
+label-part-spec = tie.close (tie.spec (λ c κs. search needs) returns returns-2)

@@ -12,7 +12,6 @@ use Rattle.worse.specs.declared.Link.the-variants.{First, Second}
 use Rattle.worse.specs.Worse.{comparisonOf, worseLabel, worseStart}
 use Rattle.worse.proofs.Compared.{refusal-found, compared-refused, start-refused, label-refused, compared, linked, start-first, start-second, label-first, label-second}
 use Rattle.capi.specs.declared.label.LabelPart.{LabelPart}
-use Rattle.capi.specs.declared.link.WorseLink.{WorseLink}
 use Rattle.capi.specs.Link.{linkNumber, worseLink}
 use Rattle.capi.proofs.link.krakobran_worse.Statement.{statement}
 use Rattle.capi.proofs.link.krakobran_worse.Tie as tie
@@ -21,9 +20,6 @@ use Rattle.capi.proofs.link.krakobran_worse.Tie as tie
 given : (a b : Decoded) (x : Comparison) (start octets : ℕ) → x ≡ comparisonOf a b → start ≡ worseStart a b → octets ≡ length (worseLabel a b)
     → record { refusal = x .refusal; link = linkNumber (x .link); start = start; length = octets } ≡ worseLink a b
 given a b x start octets e s l = (λ i. record { refusal = e i .refusal; link = linkNumber (e i .link); start = s i; length = l i })
-
-compare-requires : tie.Need-compare-requires
-compare-requires c κs = search needs
 
 returns : tie.Need-returns
 returns c =
@@ -37,15 +33,6 @@ returns c =
 
 enum-told : tie.Need-enum-told
 enum-told c = search needs
-
-label-part-requires : tie.Need-label-part-requires
-label-part-requires c κs = search needs
-
-enum-told-2 : tie.Need-enum-told-2
-enum-told-2 c = search needs
-
-label-part-requires-2 : tie.Need-label-part-requires-2
-label-part-requires-2 c κs = search needs
 
 returns-2 : tie.Need-returns-2
 returns-2 c =
@@ -73,11 +60,11 @@ pub krakobran-worse-spec : {M : Type 1} → statement M
 krakobran-worse-spec =
     tie.close
     (tie.spec
-    compare-requires
+    (λ c κs. search needs)
     returns
     enum-told
-    label-part-requires
-    enum-told-2
-    label-part-requires-2
+    (λ c κs. search needs)
+    (λ c. search needs)
+    (λ c κs. search needs)
     returns-2
     returns-3)

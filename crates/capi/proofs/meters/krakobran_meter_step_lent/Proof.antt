@@ -15,8 +15,8 @@ use prog.Wp.{Heap, Calls, Loops, WpFn, Tables}
 use ghost.Atoms.{Atoms, sem}
 use contract.Monad.{Fun, fact}
 use contract.Running.{givenOf, tables, tablesOf}
-use types.Kit.{Given, ‵, raw, some, later, _⊛_, _$_, _∵_, !, qed, by, move, keep, drop, use0, use1, use2, split, join, fsplit, fjoin, suffices, frame, done, pick, await}
-use types.Run.{look, init, forget, stop, hop, addr, from, load, of-opd, and-then, no-more, assigns, land, returns, enter, alloc1, alloc0, params1, pass1, pass0, free1, free0}
+use types.Kit.{Given, ‵, raw, some, later, _⊛_, _$_, _∵_, !, qed, by, move, keep, use0, use1, use2, split, join, fsplit, fjoin, suffices, frame, done, pick, await}
+use types.Run.{look, init, forget, stop, hop, addr, from, load, and-then, no-more, assigns, land, returns, enter, alloc1, alloc0, params1, pass1, pass0, free1, free0}
 use sound.WpLaws.{FmC, fmOf, WpFn-mono}
 use denote.RattleType.{owns}
 use denote.Laws.{Is, shows}
@@ -32,28 +32,28 @@ use denote.Triple.Clauses.{lasts}
 use denote.Triple.Entry.{onEntry}
 use denote.Triple.Spec.{Meets, tripleOf}
 use denote.Triple.Table.{entered, cited}
-use denote.Triple.Walked.{says, Stays, gave-ref, stay-none, walkOf, AllGo, goes-none, goes-gave-ref, Walks, ends-at, walked, walk-meets}
+use denote.Triple.Walked.{says, Stays, gave-ref, stay-none, walkOf, AllGo, goes-none, goes-gave-ref, ends-at, walked, walk-meets}
 use denote.Exit.{yes}
 use Rattle.meter.specs.declared.Meter.{Meter}
 use Rattle.meter.specs.Step.{meterStep}
 use Rattle.receiver.specs.declared.Outcome.{Outcome}
 use Rattle.meter.specs.Lent.{AsMeterStep}
 use Rattle.receiver.proofs.Returned.{returned}
-use Rattle.capi.specs.declared.noted.SaidAnswer.{SaidAnswer}
-use Rattle.capi.specs.ReceiverFigures.{saidAnswer}
+use Rattle.capi.specs.declared.outcomes.OutcomeFigures.{OutcomeFigures}
+use Rattle.capi.specs.Outcomes.{outcomeFigures}
 use Rattle.meter.proofs.Meter as R
 use Rattle.receiver.proofs.Outcome as S
 use Rattle.receiver.proofs.Outcome.Laws as S′
-use Rattle.capi.proofs.noted.SaidAnswer as F
-use Rattle.capi.proofs.noted.SaidAnswer.Laws as F′
+use Rattle.capi.proofs.outcomes.OutcomeFigures as F
+use Rattle.capi.proofs.outcomes.OutcomeFigures.Laws as F′
 use Rattle.gateway.proofs.meters.step as step
 use Rattle.gateway.proofs.meters.step.Symbol as step-def
 use Rattle.gateway.proofs.meters.step.Symbol.{name as #step}
 use Rattle.gateway.proofs.meters.step.Met as step-thm
-use Rattle.capi.proofs.noted.said_answer as said
-use Rattle.capi.proofs.noted.said_answer.Symbol as said-def
-use Rattle.capi.proofs.noted.said_answer.Symbol.{name as #said}
-use Rattle.capi.proofs.noted.said_answer.Met as said-thm
+use Rattle.capi.proofs.outcomes.outcome_figures as said
+use Rattle.capi.proofs.outcomes.outcome_figures.Symbol as said-def
+use Rattle.capi.proofs.outcomes.outcome_figures.Symbol.{name as #said}
+use Rattle.capi.proofs.outcomes.outcome_figures.Met as said-thm
 use Rattle.capi.proofs.meters.krakobran_meter_step_lent.Key.{name as #f}
 use Rattle.capi.proofs.meters.krakobran_meter_step_lent as f
 use Rattle.capi.proofs.meters.krakobran_meter_step_lent.Statement as stated
@@ -67,7 +67,7 @@ stayed = (
 )
 
 module _ {M : Type 1} (𝓤 : URA M) (H : Heap 𝓤) (A : Atoms 𝓤) (at-mem : Memory → SProp 𝓤) (run : Routine → Fun 𝓤) where
-  -- the contracts that the walk cites: of the step over a meter lent and of `said_answer`
+  -- the contracts that the walk cites: of the step over a meter lent and of `outcome_figures`
   abbrev Step : Contract 𝓤
   Step = tripleOf 𝓤 H A step.signature (step.spec 𝓤 H A at-mem run)
 
@@ -91,8 +91,8 @@ module _ {M : Type 1} (𝓤 : URA M) (H : Heap 𝓤) (A : Atoms 𝓤) (W : Given
   Post = walkOf 𝓤 H A f.ended stayed (f.clauses 𝓤 H A at-mem run) .post (((κ, tt), (q, tt), tt, x, at), tt)
 
   -- the exit: the answer d, at the machine value v, and the meter h′
-  exits : (d : SaidAnswer) (v : Val) → Is F.the-row d (v ∷ []) → (h′ : Meter)
-      → d ≡ saidAnswer (meterStep h m n t .outcome)
+  exits : (d : OutcomeFigures) (v : Val) → Is F.the-row d (v ∷ []) → (h′ : Meter)
+      → d ≡ outcomeFigures (meterStep h m n t .outcome)
       → h′ ≡ meterStep h m n t .state
       → ent 𝓤 (sep 𝓤 (A .res γ (R.the-row .coded .code h′)) (A .lft κ q)) (Post v)
   exits d v is h′ e-said e-state =
@@ -124,7 +124,7 @@ module _ {M : Type 1} (𝓤 : URA M) (H : Heap 𝓤) (A : Atoms 𝓤) (W : Given
       owned ! u32 (Is u32) (uint-makes 𝓤 H A W w32) m _ (refl, m-fits) $ fjoin ! $
       move ! (1 ∷ 0 ∷ []) $ fjoin ! $ move ! (1 ∷ 0 ∷ []) $ join ! $ frame ! $ done !
 
-  -- what `said_answer` is handed: what is said, s, at its machine value
+  -- what `outcome_figures` is handed: what is said, s, at its machine value
   abbrev to-said : Outcome → Val → Saying 𝓤 H A at-mem run .Ghost
   to-said s v = ((tt, tt, tt, (s, tt), (v ∷ [], tt)), tt)
 
@@ -169,7 +169,7 @@ module _ {M : Type 1} (𝓤 : URA M) (H : Heap 𝓤) (A : Atoms 𝓤) (W : Given
         use0 W (raw (Saying 𝓤 H A at-mem run .pre (to-said s v₁))) (goes-said s v₁ is₁) $
         calls-at ! fm (Saying 𝓤 H A at-mem run) known-said (to-said s v₁)
         (and-then ! (load ! (from ! (stop !)) (look ! 7 refl)) (no-more !)) (λ v₂.
-        returned 𝓤 H A said.ended (said.clauses 𝓤 H A at-mem run) (to-said s v₁) v₂ ! tt (λ d. d ≡ saidAnswer s)
+        returned 𝓤 H A said.ended (said.clauses 𝓤 H A at-mem run) (to-said s v₁) v₂ ! tt (λ d. d ≡ outcomeFigures s)
         (λ d _. id⊢ 𝓤 _) (λ d e₂ is₂.
         land ! (from ! (stop !)) (init ! 16 refl (LL.lawful F.the-type F′.the-laws 𝓤 H A W .typed d _ is₂ .0)) $
         returns ! (look ! 16 refl) $ forget ! 4 refl $ forget ! 6 refl $ forget ! 8 refl $ forget ! 10 refl $
@@ -177,22 +177,10 @@ module _ {M : Type 1} (𝓤 : URA M) (H : Heap 𝓤) (A : Atoms 𝓤) (W : Given
         move ! (14 ∷ 15 ∷ []) $ free1 ! $ move ! (12 ∷ 13 ∷ []) $ free1 ! $
         move ! (10 ∷ 11 ∷ []) $ free1 ! $ move ! (8 ∷ 9 ∷ []) $ free1 ! $ move ! (6 ∷ 7 ∷ []) $ free1 ! $
         move ! (4 ∷ 5 ∷ []) $ free1 ! $ free0 ! $ keep ! (2 ∷ 0 ∷ []) $
-        by ! (exits d v₂ is₂ (ws .0) (e₂ ∙ ap saidAnswer (e₁ .0)) (e₁ .1))))))))))))))))
+        by ! (exits d v₂ is₂ (ws .0) (e₂ ∙ ap outcomeFigures (e₁ .0)) (e₁ .1))))))))))))))))
 
 module _ {M : Type 1} (𝓤 : URA M) (H : Heap 𝓤) (A : Atoms 𝓤) (W : Given 𝓤 H A) (at-mem : Memory → SProp 𝓤)
-    (run : Routine → Fun 𝓤) where
-  -- the walk, at all that is passed
-  walks : (C : Calls 𝓤 H) (Λ : Loops 𝓤 H) → FmC 𝓤 H (W .laws) C → Triple 𝓤 (C #step) (Step 𝓤 H A at-mem run)
-      → Triple 𝓤 (C #said) (Saying 𝓤 H A at-mem run)
-      → Walks 𝓤 H A f.ended stayed (WpFn 𝓤 H C Λ code.function) (f.clauses 𝓤 H A at-mem run)
-  walks C Λ fm known-step known-said =
-      walked 𝓤 H A f.ended stayed (f.clauses 𝓤 H A at-mem run) (WpFn 𝓤 H C Λ code.function)
-      (λ κs. (ptr-vals, (uint-vals w32, (uint-vals w32, (uint-vals w64, tt)))))
-      (λ κs. (mut-tells (named 0) (κs .0) R.the-row, (uint-tells w32, (uint-tells w32, (uint-tells w64, tt)))))
-      (λ κs qs bounds a _ are. via 𝓤 _ (fst∗ 𝓤 _ (emp 𝓤))
-      (walk 𝓤 H A W at-mem run (κs .0) (qs .0) (a .0 .ptr .0) (a .0 .ptr .1) (a .0 .name) (a .0 .now) (a .1 .0)
-      (a .1 .1 .0) (a .1 .1 .1 .0) (are .1 .0 .1) (are .1 .1 .0 .1) (are .1 .1 .1 .0 .1) C Λ fm known-step known-said))
-
+    (run : Routine → Fun 𝓤) (𝓣 : Tables 𝓤 H) where
   -- what is had of each parameter at exit is given up
   goes : AllGo 𝓤 H A W 1 (f.signature .params) (f.ended .kept) stayed
   goes = (
@@ -203,15 +191,20 @@ module _ {M : Type 1} (𝓤 : URA M) (H : Heap 𝓤) (A : Atoms 𝓤) (W : Given
     ),
   )
 
--- the MIR meets the contract
-meets : {M : Type 1} (𝓤 : URA M) (H : Heap 𝓤) (A : Atoms 𝓤) (W : Given 𝓤 H A) (at-mem : Memory → SProp 𝓤)
-    (run : Routine → Fun 𝓤) (𝓣 : Tables 𝓤 H) → Triple 𝓤 (𝓣 .C #step) (Step 𝓤 H A at-mem run)
-    → Triple 𝓤 (𝓣 .C #said) (Saying 𝓤 H A at-mem run)
-    → Meets 𝓤 H A f.signature (WpFn 𝓤 H (𝓣 .C) (𝓣 .Λ) code.function) (f.spec 𝓤 H A at-mem run)
-meets 𝓤 H A W at-mem run 𝓣 known-step known-said =
-    walk-meets 𝓤 H A f.ended stayed W (goes 𝓤 H A W at-mem run) (f.clauses 𝓤 H A at-mem run)
-    (WpFn 𝓤 H (𝓣 .C) (𝓣 .Λ) code.function) (WpFn-mono 𝓤 H (W .laws) 𝓣 code.function)
-    (walks 𝓤 H A W at-mem run (𝓣 .C) (𝓣 .Λ) (fmOf 𝓤 H (W .laws) 𝓣) known-step known-said)
+  -- the MIR meets the contract: the walk, at all that is passed
+  meets : Triple 𝓤 (𝓣 .C #step) (Step 𝓤 H A at-mem run)
+      → Triple 𝓤 (𝓣 .C #said) (Saying 𝓤 H A at-mem run)
+      → Meets 𝓤 H A f.signature (WpFn 𝓤 H (𝓣 .C) (𝓣 .Λ) code.function) (f.spec 𝓤 H A at-mem run)
+  meets known-step known-said =
+      let fn = WpFn 𝓤 H (𝓣 .C) (𝓣 .Λ) code.function in
+      walk-meets 𝓤 H A f.ended stayed W goes (f.clauses 𝓤 H A at-mem run) fn (WpFn-mono 𝓤 H (W .laws) 𝓣 code.function)
+      (walked 𝓤 H A f.ended stayed (f.clauses 𝓤 H A at-mem run) fn
+      (λ κs. (ptr-vals, (uint-vals w32, (uint-vals w32, (uint-vals w64, tt)))))
+      (λ κs. (mut-tells (named 0) (κs .0) R.the-row, (uint-tells w32, (uint-tells w32, (uint-tells w64, tt)))))
+      (λ κs qs bounds a _ are. via 𝓤 _ (fst∗ 𝓤 _ (emp 𝓤))
+      (walk 𝓤 H A W at-mem run (κs .0) (qs .0) (a .0 .ptr .0) (a .0 .ptr .1) (a .0 .name) (a .0 .now) (a .1 .0)
+      (a .1 .1 .0) (a .1 .1 .1 .0) (are .1 .0 .1) (are .1 .1 .0 .1) (are .1 .1 .1 .0 .1)
+      (𝓣 .C) (𝓣 .Λ) (fmOf 𝓤 H (W .laws) 𝓣) known-step known-said)))
 
 -- the function meets its contract
 pub krakobran-meter-step-lent-spec : {M : Type 1} → stated.statement M
@@ -223,4 +216,4 @@ krakobran-meter-step-lent-spec 𝓤 H 𝓜 𝓖 𝓡 =
     (cited 𝓤 H (Step 𝓤 H (𝓖 .A) (𝓜 .mem) (𝓡 .run)) 𝓜 𝓡 code.env #step step-def.routine code.calls-gateway·meters·step
     (step-thm.met 𝓤 H 𝓜 𝓖 𝓡))
     (cited 𝓤 H (Saying 𝓤 H (𝓖 .A) (𝓜 .mem) (𝓡 .run)) 𝓜 𝓡 code.env #said said-def.routine
-    code.calls-capi·noted·said-answer (said-thm.met 𝓤 H 𝓜 𝓖 𝓡)))
+    code.calls-capi·outcomes·outcome-figures (said-thm.met 𝓤 H 𝓜 𝓖 𝓡)))

@@ -3,14 +3,8 @@ use borrow.Author.Needs.{needs}
 use Rattle.capi.proofs.short.krakobran_step_10.Statement.{statement}
 use Rattle.capi.proofs.short.krakobran_step_10.Tie as tie
 
-step-10-requires : tie.Need-step-10-requires
-step-10-requires c κs = search needs
-
-step-answer-requires : tie.Need-step-answer-requires
-step-answer-requires c κs = search needs
-
 returns : tie.Need-returns
-returns c = simp (c .step-answer .ensures, c .before .step-10 .ensures .0)
+returns c = simp (c .step-figures .ensures, c .before .step-10 .ensures .0)
 
 pub krakobran-step-10-spec : {M : Type 1} → statement M
-krakobran-step-10-spec = tie.close (tie.spec step-10-requires step-answer-requires returns)
+krakobran-step-10-spec = tie.close (tie.spec (λ c κs. search needs) (λ c κs. search needs) returns)

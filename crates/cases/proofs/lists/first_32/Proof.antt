@@ -1,33 +1,13 @@
--- `cases::lists::first_32` meets its contract. Assumes nothing.
+-- `cases::lists::first_32` meets its contract: the first values end at the lesser of their number and the length. Assumes nothing.
 use borrow.Author.Needs.{needs}
-use Prim.Native.Nat.{ℕ, _-_}
-use native.Mathlib.Omega.{arith}
-use mathlib.Core.Path.{_≡_, sym, ap}
-use lib.ListN.{take}
-use lib.Seq.{take-all}
 use denote.Ref.{now}
+use Rattle.cases.proofs.Filled.{first-taken}
 use Rattle.cases.proofs.lists.first_32.Statement.{statement}
 use Rattle.cases.proofs.lists.first_32.Tie as tie
 
-returns : tie.Need-returns
-returns c =
-    let a = c .before .args in
-    sym (take-all (a .n) (now (a .list)) (omega arith))
-
-sub-result : tie.Need-sub-result
-sub-result c = search needs
-
-part-result-start : tie.Need-part-result-start
-part-result-start c = search needs
-
-part-result-end : tie.Need-part-result-end
-part-result-end c = search needs
-
-returns-2 : tie.Need-returns-2
-returns-2 c =
-    let a = c .before .before .args in
-    let e : a .n - 0 ≡ a .n = omega arith in
-    ap (λ (k : ℕ). take k (now (a .list))) e
-
 pub first-32-spec : {M : Type 1} → statement M
-first-32-spec = tie.close (tie.spec returns sub-result part-result-start part-result-end returns-2)
+first-32-spec =
+    tie.close
+    (tie.spec
+    (search needs) (search needs) (search needs) (search needs)
+    (λ c. let a = c .before .before .before .args in first-taken (a .n) (now (a .list)) (c .before .least .ensures)))

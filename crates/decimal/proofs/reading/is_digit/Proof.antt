@@ -1,4 +1,4 @@
--- `decimal::reading::is_digit` meets its contract. Assumes nothing.
+-- `decimal::reading::is_digit` meets its contract: by the one bound, then by the other. Assumes nothing.
 use borrow.Author.Tests.{lt-leb, le-leb}
 use Rattle.decimal.specs.Reading.{digit}
 use Rattle.decimal.proofs.reading.is_digit.Statement.{statement}

@@ -19,23 +19,11 @@ abbrev μ-loop : tie.MeasureT-loop
 loop-holds : tie.Need-loop-holds Inv-loop μ-loop
 loop-holds c = passed-none _ _
 
-shared-slice-read-octet : tie.Need-shared-slice-read-octet Inv-loop μ-loop
-shared-slice-read-octet c = search needs
-
-is-digit-requires : tie.Need-is-digit-requires Inv-loop μ-loop
-is-digit-requires c κs = search needs
-
 returns : tie.Need-returns Inv-loop μ-loop
 returns c = (passed-all _ _ _ _ (c .before .before .before .before .loop .inv) (sym (c .before .is-digit .ensures) ∙ not-true _ (c .if1 .taken)), back)
 
 with-digit-requires : tie.Need-with-digit-requires Inv-loop μ-loop
 with-digit-requires c κs = digit-bounds _ (sym (c .before .is-digit .ensures) ∙ not-false _ (c .if1 .left))
-
-add-end : tie.Need-add-end Inv-loop μ-loop
-add-end c = search needs
-
-loop-less : tie.Need-loop-less Inv-loop μ-loop
-loop-less c = search needs
 
 loop-again : tie.Need-loop-again Inv-loop μ-loop
 loop-again c =
@@ -55,11 +43,11 @@ number-at-spec =
     Inv-loop
     μ-loop
     loop-holds
-    shared-slice-read-octet
-    is-digit-requires
+    (λ c. search needs)
+    (λ c κs. search needs)
     returns
     with-digit-requires
-    add-end
-    loop-less
+    (λ c. search needs)
+    (λ c. search needs)
     loop-again
     returns-2)

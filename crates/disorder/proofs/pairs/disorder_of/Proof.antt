@@ -6,56 +6,48 @@ use native.Mathlib.Omega.{arith}
 use denote.Ref.{now}
 use borrow.Author.Needs.{needs}
 use Rattle.rfc4737.specs.declared.Arrival.{Arrival}
+use Rattle.rfc4737.specs.Judge.{sentMost}
 use Rattle.rfc4737.specs.Arrivals.{firsts}
 use Rattle.rfc4737.proofs.Arrivals.{length-firsts}
 use Rattle.sample.specs.Decode.{decode}
-use Rattle.metrics.specs.Private.Sample.{before, arrivalAt, Has}
+use Rattle.metrics.specs.Private.Sample.{before, arrivalAt, HasRecord}
 use Rattle.metrics.proofs.Follow.{before-length}
 use Rattle.metrics.proofs.FoundInFile.{arrival-known}
-use Rattle.disorder.specs.Private.Pairs.{Paired}
-use Rattle.disorder.proofs.Disordered.{paired-start, Arrived, arrived-start, arrived-next, firsts-seen, disorder-end}
+use Rattle.disorder.specs.Private.Pairs.{PairTree}
+use Rattle.disorder.proofs.Disordered.{paired-start, SeenTable, arrived-start, arrived-next, firsts-seen, disorder-end}
 use Rattle.disorder.proofs.pairs.disorder_of.Statement.{statement}
 use Rattle.disorder.proofs.pairs.disorder_of.Tie as tie
 
 abbrev Inv-loop : tie.InvT-loop
 Inv-loop file y counts₀ seen₀ p₀ i₀ counts seen p i =
-    (i ≤ y .arrivals) × Arrived (decode file) i seen × Paired (firsts (before (decode file) i)) counts p
+    (i ≤ y .arrivals) × SeenTable (decode file) i seen × PairTree (firsts (before (decode file) i)) counts p
 
 abbrev μ-loop : tie.MeasureT-loop
 μ-loop file y counts₀ seen₀ p₀ i₀ counts seen p i = y .arrivals - i
 
 -- record i + 1 is there
-here : (c : tie.Then1 Inv-loop μ-loop) → Has (decode (now (c .before .before .before .before .before .args .file))) (c .before .before .before .before .before .args .y) (c .before .before .loop .i)
+here : (c : tie.Then1 Inv-loop μ-loop) → HasRecord (decode (now (c .before .before .before .before .before .args .file))) (c .before .before .before .before .before .args .y) (c .before .before .loop .i)
 here c = record { file = c .before .before .before .before .before .pre; inside = c .if1 .taken }
 
 -- its number
 known : (c : tie.After-arrival Inv-loop μ-loop)
     → (c .arrival .result .number ≡ arrivalAt (decode (now (c .before .before .before .before .before .before .args .file))) (c .before .before .before .loop .i) .number)
-    × (1 ≤ c .arrival .result .number) × (c .arrival .result .number ≤ 4096)
+    × (1 ≤ c .arrival .result .number) × (c .arrival .result .number ≤ sentMost)
 known c =
     let h = here (c .before) in
     let k = arrival-known _ _ (h .file) _ (h .inside) (c .arrival .ensures) in
     (ap (λ (a : Arrival). a .number) (k .0), k .1, k .2)
-
-no-pairs-requires : tie.Need-no-pairs-requires Inv-loop μ-loop
-no-pairs-requires c κs = search needs
 
 loop-holds : tie.Need-loop-holds Inv-loop μ-loop
 loop-holds c =
     let d = decode (now (c .before .before .args .file)) in
     (omega arith, arrived-start d, rw (c .no-pairs .ensures) (paired-start d))
 
-arrival-requires : tie.Need-arrival-requires Inv-loop μ-loop
-arrival-requires c κs = search needs
-
 cast-at : tie.Need-cast-at Inv-loop μ-loop
 cast-at c = omega (arith, known c .2)
 
 array-read-arrived : tie.Need-array-read-arrived Inv-loop μ-loop
 array-read-arrived c = omega (arith, known c .2)
-
-slice-aggregate-paired : tie.Need-slice-aggregate-paired Inv-loop μ-loop
-slice-aggregate-paired c = search needs
 
 paired-requires : tie.Need-paired-requires Inv-loop μ-loop
 paired-requires c κs =
@@ -97,12 +89,12 @@ disorder-of-spec =
     (tie.spec
     Inv-loop
     μ-loop
-    no-pairs-requires
+    (λ c κs. search needs)
     loop-holds
-    arrival-requires
+    (λ c κs. search needs)
     cast-at
     array-read-arrived
-    slice-aggregate-paired
+    (λ c. search needs)
     paired-requires
     array-write-seen
     add-i

@@ -1,4 +1,5 @@
--- `paired` meets its contract. Assumes nothing.
+-- `paired` meets its contract: a copy changes nothing; else the tree says how many have a lower number, and `paired-more` says what
+-- one arrival more makes of tree and pairs. Nothing wraps, as there are fewer than 4,096 so far. Assumes nothing.
 use native.Mathlib.Omega.{arith}
 use borrow.Author.Needs.{needs}
 use Rattle.disorder.proofs.Disordered.{lower-sum, paired-more}
@@ -7,12 +8,6 @@ use Rattle.disorder.proofs.pairs.paired.Tie as tie
 
 returns : tie.Need-returns
 returns c = λ fs a e h. rw (c .if1 .taken) h
-
-sum-to-requires : tie.Need-sum-to-requires
-sum-to-requires c κs = search needs
-
-add-requires : tie.Need-add-requires
-add-requires c κs = search needs
 
 add-t12 : tie.Need-add-t12
 add-t12 c = omega (arith, c .before .before .before .before .before .before .before .before .before .pre .2 .few)
@@ -25,9 +20,6 @@ sub-t13 c =
 add-t14 : tie.Need-add-t14
 add-t14 c = let k = c .before .before .before .before .before .before .before .before .before .before .before .pre .2 in omega (arith, k .few, k .paired .small)
 
-same-length : tie.Need-same-length
-same-length c = search needs
-
 returns-2 : tie.Need-returns-2
 returns-2 c =
     let p = c .before .before .before .before .before .before .before .before .before .before .before .pre in
@@ -37,4 +29,4 @@ returns-2 c =
 
 pub paired-spec : {M : Type 1} → statement M
 paired-spec =
-    tie.close (tie.spec returns sum-to-requires add-requires add-t12 sub-t13 add-t14 same-length returns-2)
+    tie.close (tie.spec returns (λ c κs. search needs) (λ c κs. search needs) add-t12 sub-t13 add-t14 (λ c. search needs) returns-2)

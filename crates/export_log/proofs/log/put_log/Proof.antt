@@ -1,7 +1,7 @@
 -- `export_log::log::put_log` meets its contract: the file is refused, or the log of its arrivals is written. Assumes nothing.
 use Prim.Native.Nat.{ℕ, _≤_}
 use native.Mathlib.Omega.{arith}
-use mathlib.Core.Path.{_≡_, sym}
+use mathlib.Core.Path.{_≡_, sym, ap}
 use mathlib.Core.List.{List}
 use borrow.Author.Needs.{needs}
 use lib.ListN.{length, take, replicate, length-replicate}
@@ -10,15 +10,16 @@ use denote.Ref.{now}
 use mir.Syntax.{w8}
 use Rattle.octets.specs.Below.{Octets}
 use Rattle.octets.proofs.Below.{below-fits}
-use Rattle.rfc4737.specs.Judge.{numbersOf, timesOf}
-use Rattle.sample.specs.Decode.{decode, sampleOf}
-use Rattle.export_log.proofs.Logged.{read-refusal, read-sample, read-sent, read-numbers, read-times, read-lists, log-refused, log-written}
+use Rattle.rfc4737.specs.Judge.{numbersOf, timesOf, arrivalsMost}
+use Rattle.sample.specs.Decode.{decode, sampleOf, decodedRefusal}
+use Rattle.sample.proofs.Output.{output-refused}
+use Rattle.export_log.proofs.Logged.{read-refusal, read-sample, read-sent, read-numbers, read-times, read-lists, log-written}
 use Rattle.export_log.proofs.log.put_log.Statement.{statement}
 use Rattle.export_log.proofs.log.put_log.Tie as tie
 
 -- the places of each list
-room : 4096 ≤ length (replicate {A = ℕ} 4096 0)
-room = omega (arith, length-replicate {A = ℕ} 4096 0)
+room : arrivalsMost ≤ length (replicate {A = ℕ} arrivalsMost 0)
+room = omega (arith, length-replicate {A = ℕ} arrivalsMost 0)
 
 -- ---- where nothing is refused
 
@@ -44,28 +45,13 @@ times c = read-times _ _ _ _ _ _ _ _ (c .before .before .before .before .before 
 
 -- ---- the needs
 
-slice-aggregate-read : tie.Need-slice-aggregate-read
-slice-aggregate-read c = search needs
-
-slice-aggregate-read-2 : tie.Need-slice-aggregate-read-2
-slice-aggregate-read-2 c = search needs
-
-slice-aggregate-read-3 : tie.Need-slice-aggregate-read-3
-slice-aggregate-read-3 c = search needs
-
-read-requires : tie.Need-read-requires
-read-requires c κs = search needs
-
 returns : tie.Need-returns
 returns c =
     let f = now (c .before .before .before .before .before .before .before .before .before .before .before .args .file) in
     let o = below-fits w8 f (c .before .before .before .before .before .before .before .before .before .before .shared-slice-known .given) in
-    log-refused (decode f) (now (c .before .before .before .before .before .before .before .before .before .before .before .args .out))
+    output-refused _ _ (now (c .before .before .before .before .before .before .before .before .before .before .before .args .out))
     (c .before .before .before .before .before .read .result .refusal)
     (read-refusal _ _ _ _ _ _ _ _ (c .before .before .before .before .before .read .ensures .0) o room room room) (c .if1 .taken)
-
-cast-arrivals : tie.Need-cast-arrivals
-cast-arrivals c = search needs
 
 array-share-prefix-numbers : tie.Need-array-share-prefix-numbers
 array-share-prefix-numbers c = numbers (c .before) .0
@@ -79,12 +65,6 @@ array-share-prefix-times c = times (c .before .before) .0
 slice-aggregate-write-2 : tie.Need-slice-aggregate-write-2
 slice-aggregate-write-2 c = sym (length-take-le _ _ (times (c .before .before .before) .0))
 
-write-requires : tie.Need-write-requires
-write-requires c κs = search needs
-
-same-length : tie.Need-same-length
-same-length c = search needs
-
 returns-2 : tie.Need-returns-2
 returns-2 c =
     let kept = c .before .before .before .before .before .before .before in
@@ -93,7 +73,7 @@ returns-2 c =
     let o = octets kept in
     let z = kept .if1 .left in
     let a = c .before .before .before .before .before .before .before .before .before .before .before .before .before .before .before .before .before .before .args in
-    log-written d (now (a .out)) (c .before .before .write .result) _ (read-sample _ _ _ _ _ _ _ _ f o room room room z)
+    log-written d (now (a .out)) (c .before .before .write .result) _ (ap decodedRefusal (read-sample _ _ _ _ _ _ _ _ f o room room room z))
     (read-lists _ _ _ _ _ _ _ _ f o room room room z) (read-sent _ _ _ _ _ _ _ _ f o room room room z) (numbers kept .1) (times kept .1)
     (c .before .before .write .ensures .0)
 
@@ -101,16 +81,16 @@ pub put-log-spec : {M : Type 1} → statement M
 put-log-spec =
     tie.close
     (tie.spec
-    slice-aggregate-read
-    slice-aggregate-read-2
-    slice-aggregate-read-3
-    read-requires
+    (λ c. search needs)
+    (λ c. search needs)
+    (λ c. search needs)
+    (λ c κs. search needs)
     returns
-    cast-arrivals
+    (λ c. search needs)
     array-share-prefix-numbers
     slice-aggregate-write
     array-share-prefix-times
     slice-aggregate-write-2
-    write-requires
-    same-length
+    (λ c κs. search needs)
+    (λ c. search needs)
     returns-2)

@@ -1,4 +1,4 @@
--- `fragments::arrival::is_whole` meets its contract. Assumes nothing.
+-- `fragments::arrival::is_whole` meets its contract: each test says one half of `isWhole`. Assumes nothing.
 use borrow.Author.Tests.{eq-eqb, ne-eqb}
 use Rattle.fragments.proofs.arrival.is_whole.Statement.{statement}
 use Rattle.fragments.proofs.arrival.is_whole.Tie as tie

@@ -1,4 +1,4 @@
--- `fragments::cover::ends_by` meets its contract. Assumes nothing.
+-- `fragments::cover::ends_by` meets its contract: each `return` decides one conjunct of `endsBy`, those before it hold. Assumes nothing.
 use Rattle.fragments.specs.Private.Engine.{endsBy}
 use borrow.Author.Tests.{eq-eqb, ne-eqb}
 use borrow.Author.Needs.{needs}
@@ -13,12 +13,9 @@ returns-2 : tie.Need-returns-2
 unfolding endsBy
 returns-2 c = simp (eq-eqb _ _ (c .before .before .if1 .left), ne-eqb _ _ (c .if2 .taken))
 
-end-of-requires : tie.Need-end-of-requires
-end-of-requires c κs = search needs
-
 returns-3 : tie.Need-returns-3
 unfolding endsBy
 returns-3 c = simp (eq-eqb _ _ (c .before .before .before .if1 .left), eq-eqb _ _ (c .before .if2 .left), c .end-of .ensures)
 
 pub ends-by-spec : {M : Type 1} → statement M
-ends-by-spec = tie.close (tie.spec returns returns-2 end-of-requires returns-3)
+ends-by-spec = tie.close (tie.spec returns returns-2 (λ c κs. search needs) returns-3)

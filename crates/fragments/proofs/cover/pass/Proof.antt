@@ -1,56 +1,59 @@
--- `fragments::cover::pass` meets its contract. Assumes nothing.
-use Rattle.fragments.proofs.Spans.{Going, going-start, going-next, going-done}
+-- `fragments::cover::pass` meets its contract. The loop's invariant, PartPass: the packet is covered up to r, which is not below the
+-- reach at the start, and where it is still that, none of the arrivals before j has the octet there. One arrival more is `going-next`;
+-- the measure is what is left of the span. Assumes nothing.
+use Rattle.fragments.proofs.Spans.{PartPass, going-start, going-next, going-done}
 use Rattle.fragments.proofs.Laws.{pieces-length}
+use Rattle.fragments.specs.declared.Piece.{Piece}
 use Rattle.fragments.specs.Pieces.{piecesOf}
 use denote.Ref.{now}
+use mathlib.Core.List.{List}
 use lib.ListN.{length}
 use native.Mathlib.Omega.{arith}
-use Prim.Native.Nat.{_-_, _≤_}
+use Prim.Native.Nat.{_-_, _<_}
 use borrow.Author.Needs.{needs}
 use Rattle.fragments.proofs.cover.pass.Statement.{statement}
 use Rattle.fragments.proofs.cover.pass.Tie as tie
 
 abbrev Inv-loop : tie.InvT-loop
-Inv-loop numbers times lengths mores offsets s from to reach r₀ j₀ r j = Going (piecesOf numbers times lengths mores offsets) s reach r j
+Inv-loop numbers times lengths mores offsets s from to reach r₀ j₀ r j = PartPass (piecesOf numbers times lengths mores offsets) s reach r j
 
 abbrev μ-loop : tie.MeasureT-loop
 μ-loop numbers times lengths mores offsets s from to reach r₀ j₀ r j = to - j
 
+-- the start, from the loop
+abbrev start : tie.At-loop Inv-loop μ-loop → tie.Start Inv-loop μ-loop
+start c = c .before .before .before .before .before .before
+
+-- the arrivals
+abbrev pieces : tie.At-loop Inv-loop μ-loop → List Piece
+pieces c = let a = start c .args in piecesOf (now (a .numbers)) (now (a .times)) (now (a .lengths)) (now (a .mores)) (now (a .offsets))
+
+-- an arrival of the span is one of the lists
+inside : (c : tie.In-loop Inv-loop μ-loop) → (c .before .loop .j < length (pieces (c .before))) × (c .before .loop .j < length (now (start (c .before) .args .numbers)))
+inside c =
+    let a = start (c .before) .args in
+    let e = pieces-length (now (a .numbers)) (now (a .times)) (now (a .lengths)) (now (a .mores)) (now (a .offsets)) in
+    let m = start (c .before) .pre .1 .most in
+    (omega (arith, c .loop-test .taken), omega (arith, c .loop-test .taken))
+
 loop-holds : tie.Need-loop-holds Inv-loop μ-loop
 loop-holds c =
-    let a = c .before .before .before .before .before .args in
-    going-start (piecesOf (now (a .numbers)) (now (a .times)) (now (a .lengths)) (now (a .mores)) (now (a .offsets))) (a .s) (a .reach) (a .from) (a .to) (c .before .before .before .before .before .pre .1) (c .before .before .before .before .before .pre .2)
+    let b = c .before .before .before .before .before in
+    going-start _ _ _ (b .args .from) (b .args .to) (b .pre .1) (b .pre .2)
 
 piece-at-requires : tie.Need-piece-at-requires Inv-loop μ-loop
-piece-at-requires c κs =
-    let a = c .before .before .before .before .before .before .before .args in
-    let e = pieces-length (now (a .numbers)) (now (a .times)) (now (a .lengths)) (now (a .mores)) (now (a .offsets)) in
-    let m : a .to ≤ length (piecesOf (now (a .numbers)) (now (a .times)) (now (a .lengths)) (now (a .mores)) (now (a .offsets))) = c .before .before .before .before .before .before .before .pre .1 .most in
-    (omega arith, c .before .before .before .before .before .before .before .pre .0)
-
-grown-requires : tie.Need-grown-requires Inv-loop μ-loop
-grown-requires c κs = search needs
-
-add-j : tie.Need-add-j Inv-loop μ-loop
-add-j c = search needs
-
-loop-less : tie.Need-loop-less Inv-loop μ-loop
-loop-less c = search needs
+piece-at-requires c κs = (inside c .1, start (c .before) .pre .0)
 
 loop-again : tie.Need-loop-again Inv-loop μ-loop
 loop-again c =
     let l = c .before .before .before in
-    let a = l .before .before .before .before .before .before .args in
-    let e = pieces-length (now (a .numbers)) (now (a .times)) (now (a .lengths)) (now (a .mores)) (now (a .offsets)) in
-    let m : a .to ≤ length (piecesOf (now (a .numbers)) (now (a .times)) (now (a .lengths)) (now (a .mores)) (now (a .offsets))) = c .before .before .before .before .before .before .before .before .before .pre .1 .most in
-    going-next (piecesOf (now (a .numbers)) (now (a .times)) (now (a .lengths)) (now (a .mores)) (now (a .offsets))) (a .s) (a .reach) (l .loop .r) (l .loop .j) (c .grown .result) (c .before .piece-at .result) (l .loop .inv) (omega arith) (c .before .piece-at .ensures) (c .grown .ensures) (omega (arith, c .grown .ok))
+    let b = c .before .piece-at in
+    going-next (pieces l) _ _ (l .loop .r) (l .loop .j) _ (b .result) (l .loop .inv) (inside (c .before .before) .0) (b .ensures) (c .grown .ensures) (omega (arith, c .grown .ok))
 
 returns : tie.Need-returns Inv-loop μ-loop
 returns c =
     let l = c .before in
-    let a = l .before .before .before .before .before .before .args in
-    let e = pieces-length (now (a .numbers)) (now (a .times)) (now (a .lengths)) (now (a .mores)) (now (a .offsets)) in
-    going-done (piecesOf (now (a .numbers)) (now (a .times)) (now (a .lengths)) (now (a .mores)) (now (a .offsets))) (a .s) (a .reach) (a .from) (a .to) (l .loop .r) (l .loop .j) (c .before .before .before .before .before .before .before .pre .1) (omega arith) (l .loop .inv)
+    going-done (pieces l) _ _ (start l .args .from) (start l .args .to) (l .loop .r) (l .loop .j) (start l .pre .1) (omega arith) (l .loop .inv)
 
 pub pass-spec : {M : Type 1} → statement M
 pass-spec =
@@ -60,8 +63,8 @@ pass-spec =
     μ-loop
     loop-holds
     piece-at-requires
-    grown-requires
-    add-j
-    loop-less
+    (λ c κs. search needs)
+    (λ c. search needs)
+    (λ c. search needs)
     loop-again
     returns)

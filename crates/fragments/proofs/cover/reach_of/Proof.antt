@@ -1,5 +1,6 @@
--- `fragments::cover::reach_of` meets its contract. Assumes nothing.
-use Rattle.fragments.specs.Private.Engine.{Covered, Grown}
+-- `fragments::cover::reach_of` meets its contract. The loop's invariant: the packet is covered up to `reach`, and a pass takes it from there to
+-- `next`; so where the two are equal, the octet there is not covered. The measure is what 32 bits leave above `reach`. Assumes nothing.
+use Rattle.fragments.specs.Private.Engine.{Cover, Growth}
 use Rattle.fragments.specs.Pieces.{piecesOf}
 use native.Mathlib.Omega.{arith}
 use Prim.Native.Nat.{ℕ, _-_, _<_}
@@ -7,7 +8,7 @@ use Rattle.fragments.proofs.cover.reach_of.Statement.{statement}
 use Rattle.fragments.proofs.cover.reach_of.Tie as tie
 
 abbrev Inv-loop : tie.InvT-loop
-Inv-loop numbers times lengths mores offsets s from to reach₀ next₀ reach next = Covered (piecesOf numbers times lengths mores offsets) s reach × Grown (piecesOf numbers times lengths mores offsets) s reach next
+Inv-loop numbers times lengths mores offsets s from to reach₀ next₀ reach next = Cover (piecesOf numbers times lengths mores offsets) s reach × Growth (piecesOf numbers times lengths mores offsets) s reach next
 
 abbrev μ-loop : tie.MeasureT-loop
 μ-loop numbers times lengths mores offsets s from to reach₀ next₀ reach next = 4294967296 - reach

@@ -1,4 +1,5 @@
--- `fragments::flags::expected_after` meets its contract. Assumes nothing.
+-- `fragments::flags::expected_after` meets its contract: a copy and a reordered arrival change nothing, one with no more to come gives
+-- the next packet, any other the next fragment. Assumes nothing.
 use Rattle.fragments.specs.Order.{expectedAfter, inOrderAfter}
 use mathlib.Core.Path.{sym, _∙_}
 use borrow.Author.Tests.{eq-eqb, ne-eqb}
@@ -6,28 +7,13 @@ use borrow.Author.Needs.{needs}
 use Rattle.fragments.proofs.flags.expected_after.Statement.{statement}
 use Rattle.fragments.proofs.flags.expected_after.Tie as tie
 
-returns : tie.Need-returns
-returns c = search needs
-
-is-reordered-requires : tie.Need-is-reordered-requires
-is-reordered-requires c κs = search needs
-
 returns-2 : tie.Need-returns-2
 unfolding expectedAfter inOrderAfter
 returns-2 c = rw (c .before .before .if1 .left, sym (c .before .is-reordered .ensures) ∙ c .if2 .taken)
 
-add-t6 : tie.Need-add-t6
-add-t6 c = search needs
-
 returns-3 : tie.Need-returns-3
 unfolding expectedAfter inOrderAfter
 returns-3 c = rw (c .before .before .before .before .before .if1 .left, sym (c .before .before .before .before .is-reordered .ensures) ∙ c .before .before .before .if2 .left, eq-eqb _ _ (c .before .if3 .taken))
-
-cast-t7 : tie.Need-cast-t7
-cast-t7 c = search needs
-
-add-t8 : tie.Need-add-t8
-add-t8 c = search needs
 
 returns-4 : tie.Need-returns-4
 unfolding expectedAfter inOrderAfter
@@ -36,4 +22,4 @@ returns-4 c = rw (c .before .before .before .before .before .if1 .left, sym (c .
 pub expected-after-spec : {M : Type 1} → statement M
 expected-after-spec =
     tie.close
-    (tie.spec returns is-reordered-requires returns-2 add-t6 returns-3 cast-t7 add-t8 returns-4)
+    (tie.spec (λ c. search needs) (λ c κs. search needs) returns-2 (λ c. search needs) returns-3 (λ c. search needs) (λ c. search needs) returns-4)

@@ -1,4 +1,5 @@
--- `fragments::flags::is_reordered` meets its contract. Assumes nothing.
+-- `fragments::flags::is_reordered` meets its contract: each `return` decides one case of `isReorderedFragment`; the number is not
+-- below NextExp past the first. Assumes nothing.
 use Rattle.fragments.specs.Order.{isReorderedFragment}
 use borrow.Author.Tests.{lt-ltb, le-ltb, le-leb, eq-eqb, ne-eqb}
 use borrow.Author.Needs.{needs}
@@ -17,12 +18,9 @@ returns-3 : tie.Need-returns-3
 unfolding isReorderedFragment
 returns-3 c = rw (le-ltb _ _ (c .before .before .before .before .before .before .if1 .left), le-ltb _ _ (c .before .before .before .if2 .left), le-leb _ _ (c .before .before .before .before .before .before .if1 .left), ne-eqb _ _ (c .if3 .taken))
 
-cast-result : tie.Need-cast-result
-cast-result c = search needs
-
 returns-4 : tie.Need-returns-4
 unfolding isReorderedFragment
 returns-4 c = rw (le-ltb _ _ (c .before .before .before .before .before .before .before .before .if1 .left), le-ltb _ _ (c .before .before .before .before .before .if2 .left), le-leb _ _ (c .before .before .before .before .before .before .before .before .if1 .left), eq-eqb _ _ (c .before .before .if3 .left))
 
 pub is-reordered-spec : {M : Type 1} → statement M
-is-reordered-spec = tie.close (tie.spec returns returns-2 returns-3 cast-result returns-4)
+is-reordered-spec = tie.close (tie.spec returns returns-2 returns-3 (λ c. search needs) returns-4)

@@ -1,13 +1,11 @@
--- `fragments::judge::is_unfit` meets its contract. Assumes nothing.
+-- `fragments::judge::is_unfit` meets its contract: a whole packet is never unfit; of a fragment the tests in turn are those of
+-- `isUnfit`, that of the length by 8 only with more to come. Assumes nothing.
 use Rattle.fragments.specs.Judge.{isUnfit}
 use mathlib.Core.Path.{sym, _∙_}
 use borrow.Author.Tests.{eq-eqb, ne-eqb}
 use borrow.Author.Needs.{needs}
 use Rattle.fragments.proofs.judge.is_unfit.Statement.{statement}
 use Rattle.fragments.proofs.judge.is_unfit.Tie as tie
-
-is-whole-requires : tie.Need-is-whole-requires
-is-whole-requires c κs = search needs
 
 returns : tie.Need-returns
 unfolding isUnfit
@@ -17,9 +15,6 @@ returns-2 : tie.Need-returns-2
 unfolding isUnfit
 returns-2 c = simp (sym (c .before .before .before .is-whole .ensures) ∙ c .before .before .if1 .left, eq-eqb _ _ (c .if2 .taken))
 
-end-of-requires : tie.Need-end-of-requires
-end-of-requires c κs = search needs
-
 returns-3 : tie.Need-returns-3
 unfolding isUnfit
 returns-3 c = rw (sym (c .before .before .before .before .before .before .is-whole .ensures) ∙ c .before .before .before .before .before .if1 .left, ne-eqb _ _ (c .before .before .before .if2 .left), eq-eqb _ _ (c .before .if3 .taken), c .end-of .ensures)
@@ -27,9 +22,6 @@ returns-3 c = rw (sym (c .before .before .before .before .before .before .is-who
 returns-4 : tie.Need-returns-4
 unfolding isUnfit
 returns-4 c = rw (sym (c .before .before .before .before .before .before .before .is-whole .ensures) ∙ c .before .before .before .before .before .before .if1 .left, ne-eqb _ _ (c .before .before .before .before .if2 .left), ne-eqb _ _ (c .before .before .if3 .left), ne-eqb _ _ (c .if4 .taken))
-
-end-of-requires-2 : tie.Need-end-of-requires-2
-end-of-requires-2 c κs = search needs
 
 returns-5 : tie.Need-returns-5
 unfolding isUnfit
@@ -39,11 +31,11 @@ pub is-unfit-spec : {M : Type 1} → statement M
 is-unfit-spec =
     tie.close
     (tie.spec
-    is-whole-requires
+    (λ c κs. search needs)
     returns
     returns-2
-    end-of-requires
+    (λ c κs. search needs)
     returns-3
     returns-4
-    end-of-requires-2
+    (λ c κs. search needs)
     returns-5)

@@ -1,4 +1,5 @@
--- `fragments::judge::refusal_of` meets its contract. Assumes nothing.
+-- `fragments::judge::refusal_of` meets its contract: at each `return` the tests that led there say which refusal is the first; past
+-- the test of the lengths the lists may be read side by side. Assumes nothing.
 use lib.Dec.{ltb}
 use mathlib.Core.List.{[], _∷_}
 use Rattle.rfc4737.specs.Refusals.{inCase, outputShort}
@@ -15,22 +16,13 @@ use borrow.Author.Needs.{needs}
 use Rattle.fragments.proofs.judge.refusal_of.Statement.{statement}
 use Rattle.fragments.proofs.judge.refusal_of.Tie as tie
 
-outside-requires : tie.Need-outside-requires
-outside-requires c κs = search needs
-
 returns : tie.Need-returns
 unfolding orderRefusal
 returns c = rw (sym (c .before .outside .ensures) ∙ c .if1 .taken)
 
-outside-requires-2 : tie.Need-outside-requires-2
-outside-requires-2 c κs = search needs
-
 returns-2 : tie.Need-returns-2
 unfolding orderRefusal
 returns-2 c = rw (sym (c .before .before .before .outside .ensures) ∙ c .before .before .if1 .left, sym (c .before .outside2 .ensures) ∙ c .if2 .taken)
-
-same-lengths-requires : tie.Need-same-lengths-requires
-same-lengths-requires c κs = search needs
 
 returns-3 : tie.Need-returns-3
 unfolding orderRefusal
@@ -61,11 +53,11 @@ pub refusal-of-spec : {M : Type 1} → statement M
 refusal-of-spec =
     tie.close
     (tie.spec
-    outside-requires
+    (λ c κs. search needs)
     returns
-    outside-requires-2
+    (λ c κs. search needs)
     returns-2
-    same-lengths-requires
+    (λ c κs. search needs)
     returns-3
     judge-all-requires
     returns-4

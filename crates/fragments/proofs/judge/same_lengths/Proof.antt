@@ -1,4 +1,4 @@
--- `fragments::judge::same_lengths` meets its contract. Assumes nothing.
+-- `fragments::judge::same_lengths` meets its contract: each test is one conjunct of `sameLengths`. Assumes nothing.
 use Rattle.fragments.specs.Calls.{sameLengths}
 use borrow.Author.Tests.{eq-eqb, ne-eqb}
 use Rattle.fragments.proofs.judge.same_lengths.Statement.{statement}

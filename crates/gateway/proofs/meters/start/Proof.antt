@@ -35,16 +35,16 @@ use denote.Triple.Call.{calls-at}
 use denote.Triple.Entry.{onEntry}
 use denote.Triple.Spec.{Meets, tripleOf}
 use denote.Triple.Table.{entered, cited}
-use denote.Triple.Walked.{says, Stays, stay-ref, stay-none, walkOf, AllGo, goes-none, goes-ref, Walks, ends-at, walked, walk-meets}
+use denote.Triple.Walked.{says, Stays, stay-ref, stay-none, walkOf, AllGo, goes-none, goes-ref, ends-at, walked, walk-meets}
 use denote.Exit.{yes}
 use Rattle.meter.specs.declared.Meter.{Meter}
-use Rattle.meter.specs.declared.MeterStarted.{MeterStarted}
+use Rattle.meter.specs.declared.MeterStartAnswer.{MeterStartAnswer}
 use Rattle.meter.specs.Step.{meterStart}
 use Rattle.meter.proofs.Meters.{start-refused}
 use Rattle.meter.proofs.Meter as R
 use Rattle.meter.proofs.Meter.Laws as R′
-use Rattle.meter.proofs.MeterStarted as P
-use Rattle.meter.proofs.MeterStarted.Laws as P′
+use Rattle.meter.proofs.MeterStartAnswer as P
+use Rattle.meter.proofs.MeterStartAnswer.Laws as P′
 use Rattle.receiver.proofs.Returned.{returned}
 use Rattle.meter.proofs.Meter.start as inner
 use Rattle.meter.proofs.Meter.start.Symbol as inner-def
@@ -135,11 +135,11 @@ module _ {M : Type 1} (𝓤 : URA M) (H : Heap 𝓤) (A : Atoms 𝓤) (W : Given
       nothing ! $ join ! $ frame ! $ done !
 
   -- what `started_of` is handed, and `refusal_of` too: the start p, at its machine value
-  abbrev to-leaf : MeterStarted → Val → State 𝓤 H A at-mem run .Ghost
+  abbrev to-leaf : MeterStartAnswer → Val → State 𝓤 H A at-mem run .Ghost
   to-leaf p v = ((tt, tt, tt, (p, tt), (v ∷ [], tt)), tt)
 
   -- it is had for nothing
-  goes-leaf : (p : MeterStarted) (v : Val) → Is P.the-row p (v ∷ [])
+  goes-leaf : (p : MeterStartAnswer) (v : Val) → Is P.the-row p (v ∷ [])
       → ent 𝓤 (emp 𝓤) (State 𝓤 H A at-mem run .pre (to-leaf p v))
   goes-leaf p v is =
       qed W [] ∵ nothing ! $ owned ! P.the-row (Is P.the-row) (LL.makes P.the-type P′.the-plain 𝓤 H A) p _ is $
@@ -199,22 +199,10 @@ module _ {M : Type 1} (𝓤 : URA M) (H : Heap 𝓤) (A : Atoms 𝓤) (W : Given
         forget ! 11 refl $ forget ! 13 refl $ move ! (13 ∷ 14 ∷ []) $ free1 ! $ move ! (11 ∷ 12 ∷ []) $ free1 ! $
         move ! (9 ∷ 10 ∷ []) $ free1 ! $ move ! (7 ∷ 8 ∷ []) $ free1 ! $ move ! (5 ∷ 6 ∷ []) $ free1 ! $
         move ! (3 ∷ 4 ∷ []) $ free1 ! $ free0 ! $ keep ! (0 ∷ 1 ∷ 2 ∷ []) $
-        by ! (exits s v₃ is₃ h′ (e₃ ∙ ap (λ (p : MeterStarted). p .refusal) e₁) (e₂ ∙ ap (λ (p : MeterStarted). p .state) e₁))))))))))))))))
+        by ! (exits s v₃ is₃ h′ (e₃ ∙ ap (λ (p : MeterStartAnswer). p .refusal) e₁) (e₂ ∙ ap (λ (p : MeterStartAnswer). p .state) e₁))))))))))))))))
 
 module _ {M : Type 1} (𝓤 : URA M) (H : Heap 𝓤) (A : Atoms 𝓤) (W : Given 𝓤 H A) (at-mem : Memory → SProp 𝓤)
-    (run : Routine → Fun 𝓤) where
-  -- the walk, at all that is passed
-  start-walks : (C : Calls 𝓤 H) (Λ : Loops 𝓤 H) → FmC 𝓤 H (W .laws) C → Triple 𝓤 (C #inner) (Inner 𝓤 H A at-mem run)
-      → Triple 𝓤 (C #state) (State 𝓤 H A at-mem run) → Triple 𝓤 (C #said) (Saying 𝓤 H A at-mem run)
-      → Walks 𝓤 H A start.ended stayed (WpFn 𝓤 H C Λ code.function) (start.clauses 𝓤 H A at-mem run)
-  start-walks C Λ fm known-inner known-state known-said =
-      walked 𝓤 H A start.ended stayed (start.clauses 𝓤 H A at-mem run) (WpFn 𝓤 H C Λ code.function)
-      (λ κs. (ptr-vals, (uint-vals w32, (uint-vals w32, tt))))
-      (λ κs. (mut-tells (named 0) (κs .0) R.the-row, (uint-tells w32, (uint-tells w32, tt))))
-      (λ κs qs bounds a _ are. via 𝓤 _ (fst∗ 𝓤 _ (emp 𝓤))
-      (walk 𝓤 H A W at-mem run (κs .0) (qs .0) (a .0 .ptr .0) (a .0 .ptr .1) (a .0 .name) (a .0 .now) (a .1 .0)
-      (a .1 .1 .0) (are .1 .0 .1) (are .1 .1 .0 .1) C Λ fm known-inner known-state known-said))
-
+    (run : Routine → Fun 𝓤) (𝓣 : Tables 𝓤 H) where
   -- what is had of each parameter at exit is given up
   goes : AllGo 𝓤 H A W 1 (start.signature .params) (start.ended .kept) stayed
   goes = (
@@ -222,15 +210,21 @@ module _ {M : Type 1} (𝓤 : URA M) (H : Heap 𝓤) (A : Atoms 𝓤) (W : Given
     (goes-none 𝓤 H A W 1 (λ _. u32) yes (λ κs x f. refl), (goes-none 𝓤 H A W 1 (λ _. u32) yes (λ κs x f. refl), tt)),
   )
 
--- the MIR meets the contract
-start-meets : {M : Type 1} (𝓤 : URA M) (H : Heap 𝓤) (A : Atoms 𝓤) (W : Given 𝓤 H A) (at-mem : Memory → SProp 𝓤)
-    (run : Routine → Fun 𝓤) (𝓣 : Tables 𝓤 H) → Triple 𝓤 (𝓣 .C #inner) (Inner 𝓤 H A at-mem run)
-    → Triple 𝓤 (𝓣 .C #state) (State 𝓤 H A at-mem run) → Triple 𝓤 (𝓣 .C #said) (Saying 𝓤 H A at-mem run)
-    → Meets 𝓤 H A start.signature (WpFn 𝓤 H (𝓣 .C) (𝓣 .Λ) code.function) (start.spec 𝓤 H A at-mem run)
-start-meets 𝓤 H A W at-mem run 𝓣 known-inner known-state known-said =
-    walk-meets 𝓤 H A start.ended stayed W (goes 𝓤 H A W at-mem run) (start.clauses 𝓤 H A at-mem run)
-    (WpFn 𝓤 H (𝓣 .C) (𝓣 .Λ) code.function) (WpFn-mono 𝓤 H (W .laws) 𝓣 code.function)
-    (start-walks 𝓤 H A W at-mem run (𝓣 .C) (𝓣 .Λ) (fmOf 𝓤 H (W .laws) 𝓣) known-inner known-state known-said)
+  -- the MIR meets the contract: the walk, at all that is passed
+  meets : Triple 𝓤 (𝓣 .C #inner) (Inner 𝓤 H A at-mem run)
+      → Triple 𝓤 (𝓣 .C #state) (State 𝓤 H A at-mem run)
+      → Triple 𝓤 (𝓣 .C #said) (Saying 𝓤 H A at-mem run)
+      → Meets 𝓤 H A start.signature (WpFn 𝓤 H (𝓣 .C) (𝓣 .Λ) code.function) (start.spec 𝓤 H A at-mem run)
+  meets known-inner known-state known-said =
+      let fn = WpFn 𝓤 H (𝓣 .C) (𝓣 .Λ) code.function in
+      walk-meets 𝓤 H A start.ended stayed W goes (start.clauses 𝓤 H A at-mem run) fn (WpFn-mono 𝓤 H (W .laws) 𝓣 code.function)
+      (walked 𝓤 H A start.ended stayed (start.clauses 𝓤 H A at-mem run) fn
+      (λ κs. (ptr-vals, (uint-vals w32, (uint-vals w32, tt))))
+      (λ κs. (mut-tells (named 0) (κs .0) R.the-row, (uint-tells w32, (uint-tells w32, tt))))
+      (λ κs qs bounds a _ are. via 𝓤 _ (fst∗ 𝓤 _ (emp 𝓤))
+      (walk 𝓤 H A W at-mem run (κs .0) (qs .0) (a .0 .ptr .0) (a .0 .ptr .1) (a .0 .name) (a .0 .now) (a .1 .0)
+      (a .1 .1 .0) (are .1 .0 .1) (are .1 .1 .0 .1)
+      (𝓣 .C) (𝓣 .Λ) (fmOf 𝓤 H (W .laws) 𝓣) known-inner known-state known-said)))
 
 -- the function meets its contract
 pub start-spec : {M : Type 1} → stated.statement M
@@ -238,7 +232,7 @@ unfolding code.routine tablesOf
 start-spec 𝓤 H 𝓜 𝓖 𝓡 =
     entered 𝓤 H (tripleOf 𝓤 H (𝓖 .A) start.signature (start.spec 𝓤 H (𝓖 .A) (𝓜 .mem) (𝓡 .run)))
     (tables 𝓤 H 𝓜 𝓡 code.env .C) (tables 𝓤 H 𝓜 𝓡 code.env .Λ) #start code.function (code.unfolded 𝓤 H 𝓜 𝓡)
-    (start-meets 𝓤 H (𝓖 .A) (givenOf 𝓤 H 𝓜 𝓖) (𝓜 .mem) (𝓡 .run) (tablesOf 𝓤 H 𝓜 (tables 𝓤 H 𝓜 𝓡 code.env))
+    (meets 𝓤 H (𝓖 .A) (givenOf 𝓤 H 𝓜 𝓖) (𝓜 .mem) (𝓡 .run) (tablesOf 𝓤 H 𝓜 (tables 𝓤 H 𝓜 𝓡 code.env))
     (cited 𝓤 H (Inner 𝓤 H (𝓖 .A) (𝓜 .mem) (𝓡 .run)) 𝓜 𝓡 code.env #inner inner-def.routine
     code.calls-meter·Meter·start (inner-thm.met 𝓤 H 𝓜 𝓖 𝓡))
     (cited 𝓤 H (State 𝓤 H (𝓖 .A) (𝓜 .mem) (𝓡 .run)) 𝓜 𝓡 code.env #state state-def.routine

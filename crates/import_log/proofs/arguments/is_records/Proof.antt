@@ -1,6 +1,5 @@
--- `import_log::arguments::is_records` meets its contract. Assumes nothing.
-use mathlib.Core.Bool.{_&&_}
-use mathlib.Core.Path.{_≡_, ap, _∙_}
+-- `import_log::arguments::is_records` meets its contract: another length decides, else the value of the octets does. Assumes nothing.
+use mathlib.Core.Path.{ap}
 use borrow.Author.Needs.{needs}
 use borrow.Author.Tests.{eq-eqb, ne-eqb}
 use lib.Dec.{eqb}
@@ -8,7 +7,6 @@ use lib.ListN.{length}
 use Prim.Native.Nat.{ℕ}
 use denote.Ref.{now}
 use Rattle.octets.specs.BigEndian.{beValue}
-use Rattle.octets.specs.Memory.{part}
 use Rattle.import_log.specs.Arguments.{isRecords}
 use Rattle.import_log.proofs.arguments.is_records.Statement.{statement}
 use Rattle.import_log.proofs.arguments.is_records.Tie as tie
@@ -17,9 +15,6 @@ returns : tie.Need-returns
 unfolding isRecords
 returns c = rw (ne-eqb (length (now (c .before .before .args .word))) 7 (c .if1 .taken))
 
-number-at-requires : tie.Need-number-at-requires
-number-at-requires c κs = search needs
-
 returns-2 : tie.Need-returns-2
 unfolding isRecords beValue
 returns-2 c =
@@ -27,4 +22,4 @@ returns-2 c =
     rw (eq-eqb (length word) 7 (c .before .if1 .left)) (ap (λ (v : ℕ). eqb v 32199625090950259) (c .number-at .ensures))
 
 pub is-records-spec : {M : Type 1} → statement M
-is-records-spec = tie.close (tie.spec returns number-at-requires returns-2)
+is-records-spec = tie.close (tie.spec returns (λ c κs. search needs) returns-2)

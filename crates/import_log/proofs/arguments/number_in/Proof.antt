@@ -1,4 +1,5 @@
--- `import_log::arguments::number_in` meets its contract. Assumes nothing.
+-- `import_log::arguments::number_in` meets its contract: each `return` is one case of `argumentOf`, by the tests that led to it, taken of the digits
+-- that were read. Assumes nothing.
 use Prim.Native.Nat.{_-_, _^_}
 use mathlib.Core.Path.{_≡_, ap, _∙_}
 use borrow.Author.Needs.{needs}
@@ -9,9 +10,6 @@ use Rattle.import_log.specs.Arguments.{argumentOf}
 use Rattle.import_log.specs.declared.arguments.Argument.the-variants.{Given, Bad}
 use Rattle.import_log.proofs.arguments.number_in.Statement.{statement}
 use Rattle.import_log.proofs.arguments.number_in.Tie as tie
-
-number-at-requires : tie.Need-number-at-requires
-number-at-requires c κs = search needs
 
 returns : tie.Need-returns
 unfolding argumentOf
@@ -40,9 +38,6 @@ returns-3 c =
     rw (ne-eqb (r .result .end) 0 (c .before .before .before .if1 .left), le-ltb (r .result .end) (length word) (c .before .if2 .left), lt-ltb (2 ^ 32 - 1) (r .result .value) (c .if3 .taken)) in
     e ∙ ap (argumentOf (length word)) (r .ensures .0)
 
-cast-t6 : tie.Need-cast-t6
-cast-t6 c = search needs
-
 returns-4 : tie.Need-returns-4
 unfolding argumentOf
 returns-4 c =
@@ -53,4 +48,4 @@ returns-4 c =
     e ∙ ap (argumentOf (length word)) (r .ensures .0)
 
 pub number-in-spec : {M : Type 1} → statement M
-number-in-spec = tie.close (tie.spec number-at-requires returns returns-2 returns-3 cast-t6 returns-4)
+number-in-spec = tie.close (tie.spec (λ c κs. search needs) returns returns-2 returns-3 (λ c. search needs) returns-4)

@@ -1,101 +1,27 @@
--- `import_log::convert::convert` meets its contract: the log is refused, or its sample is written. Assumes nothing.
-use Prim.Native.Nat.{ℕ, _≤_}
-use native.Mathlib.Omega.{arith}
-use mathlib.Core.Path.{_≡_, refl, sym, ap, _∙_}
+-- `import_log::convert::convert` meets its contract: the lists have places for any log, so the answer of its import is the log's own, and they hold
+-- its arrivals where it is not refused. Assumes nothing.
 use borrow.Author.Needs.{needs}
-use lib.ListN.{length, take, replicate, length-replicate}
-use lib.Seq.{length-take-le}
-use denote.Ref.{now}
-use Rattle.rfc4737.specs.Judge.{numbersOf, timesOf}
-use Rattle.textlog.specs.Decode.{arrivalsIn, judgeLog}
-use Rattle.textlog.specs.declared.Imported.{Imported}
-use Rattle.import_log.proofs.Sampled.{log-answer, log-none, log-sent, log-lists, log-line, log-numbers, log-times, convert-refused, convert-written}
+use Rattle.import_log.proofs.Sampled.{room, log-answer, log-holds}
 use Rattle.import_log.proofs.convert.convert.Statement.{statement}
 use Rattle.import_log.proofs.convert.convert.Tie as tie
 
--- the places of each list
-room : 4096 ≤ length (replicate {A = ℕ} 4096 0)
-room = omega (arith, length-replicate {A = ℕ} 4096 0)
-
--- ---- where nothing is refused
-
-numbers : (c : tie.Else1)
-    → (c .before .before .before .before .import .result .arrivals ≤ length (c .before .before .before .before .import .last .1 .1 .0))
-    × (take (c .before .before .before .before .import .result .arrivals) (c .before .before .before .before .import .last .1 .1 .0)
-    ≡ numbersOf (arrivalsIn (now (c .before .before .before .before .before .before .before .before .before .args .log))))
-numbers c = log-numbers _ _ _ _ _ _ _ (c .before .before .before .before .import .ensures .0) room room (c .if1 .left)
-
-times : (c : tie.Else1)
-    → (c .before .before .before .before .import .result .arrivals ≤ length (c .before .before .before .before .import .last .1 .1 .1 .0))
-    × (take (c .before .before .before .before .import .result .arrivals) (c .before .before .before .before .import .last .1 .1 .1 .0)
-    ≡ timesOf (arrivalsIn (now (c .before .before .before .before .before .before .before .before .before .args .log))))
-times c = log-times _ _ _ _ _ _ _ (c .before .before .before .before .import .ensures .0) room room (c .if1 .left)
-
--- ---- the needs
-
-slice-aggregate-import : tie.Need-slice-aggregate-import
-slice-aggregate-import c = search needs
-
-slice-aggregate-import-2 : tie.Need-slice-aggregate-import-2
-slice-aggregate-import-2 c = search needs
-
-import-requires : tie.Need-import-requires
-import-requires c κs = search needs
+convert-lists-requires : tie.Need-convert-lists-requires
+convert-lists-requires c κs z = (_, log-holds _ _ _ _ _ _ _ (c .before .before .before .before .before .import .ensures .0) room room z)
 
 returns : tie.Need-returns
 returns c =
-    let a = c .before .before .before .before .before .before .before .before .before .args in
-    let i = c .before .before .before .before .import in
-    let e = log-answer (a .k) (now (a .log)) _ _ (i .result) _ _ (i .ensures .0) room room in
-    convert-refused (a .k) (a .size) (judgeLog (a .k) (now (a .log)) .refusal) (judgeLog (a .k) (now (a .log)) .line) (arrivalsIn (now (a .log))) (now (a .out))
-    (i .result .refusal) (i .result .line) (ap (λ (x : Imported). x .refusal) e) (ap (λ (x : Imported). x .line) e) (c .if1 .taken)
-
-cast-arrivals : tie.Need-cast-arrivals
-cast-arrivals c = search needs
-
-array-share-prefix-numbers : tie.Need-array-share-prefix-numbers
-array-share-prefix-numbers c = numbers (c .before) .0
-
-slice-aggregate-write-file : tie.Need-slice-aggregate-write-file
-slice-aggregate-write-file c = sym (length-take-le _ _ (numbers (c .before .before) .0))
-
-array-share-prefix-times : tie.Need-array-share-prefix-times
-array-share-prefix-times c = times (c .before .before) .0
-
-slice-aggregate-write-file-2 : tie.Need-slice-aggregate-write-file-2
-slice-aggregate-write-file-2 c = sym (length-take-le _ _ (times (c .before .before .before) .0))
-
-write-file-requires : tie.Need-write-file-requires
-write-file-requires c κs = log-sent _ _ _ _ _ _ _ (c .before .before .before .before .before .before .before .before .import .ensures .0) room room (c .before .before .before .before .if1 .left)
-
-same-length : tie.Need-same-length
-same-length c = search needs
-
-returns-2 : tie.Need-returns-2
-returns-2 c =
-    let a = c .before .before .before .before .before .before .before .before .before .before .before .before .before .before .before .before .args in
-    let kept = c .before .before .before .before .before .before .before in
-    let i = c .before .before .before .before .before .before .before .before .before .before .before .import in
-    let w = c .before .before .write-file in
-    let f = i .ensures .0 in
-    let z = kept .if1 .left in
-    convert-written (a .k) (a .size) (judgeLog (a .k) (now (a .log)) .refusal) (judgeLog (a .k) (now (a .log)) .line) (arrivalsIn (now (a .log))) (now (a .out)) (w .result) _
-    (log-none _ _ _ _ _ _ _ f room room z) (log-line _ _ _ _ _ _ _ f room room z) (log-lists _ _ _ _ _ _ _ f room room z)
-    (numbers kept .1) (times kept .1) (w .ensures)
+    let f = c .before .before .before .before .before .before .before .before .import .ensures .0 in
+    rw (← log-answer _ _ _ _ _ _ _ f room room) (c .before .before .convert-lists .ensures _ (log-holds _ _ _ _ _ _ _ f room room))
 
 pub convert-spec : {M : Type 1} → statement M
 convert-spec =
     tie.close
     (tie.spec
-    slice-aggregate-import
-    slice-aggregate-import-2
-    import-requires
-    returns
-    cast-arrivals
-    array-share-prefix-numbers
-    slice-aggregate-write-file
-    array-share-prefix-times
-    slice-aggregate-write-file-2
-    write-file-requires
-    same-length
-    returns-2)
+    (λ c. search needs)
+    (λ c. search needs)
+    (λ c κs. search needs)
+    (λ c. search needs)
+    (λ c. search needs)
+    convert-lists-requires
+    (λ c. search needs)
+    returns)

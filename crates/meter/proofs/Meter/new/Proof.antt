@@ -1,8 +1,8 @@
 -- `meter::Meter::new` meets its contract, which carries demand 3 and independence. Assumes nothing.
 use mathlib.Core.Path.{_≡_, ap, _∙_}
 use borrow.Author.Needs.{needs}
-use Rattle.receiver.specs.declared.Receiver.{Receiver}
-use Rattle.receiver.specs.declared.Started.{Started}
+use Rattle.receiver.specs.declared.FreshAnswer.{FreshAnswer}
+use Rattle.rfc4737.specs.Refusals.{outside}
 use Rattle.receiver.specs.Step.{madeFor, freshOf}
 use Rattle.meter.specs.declared.StreamState.{StreamState}
 use Rattle.meter.specs.declared.Meter.{Meter}
@@ -14,25 +14,16 @@ use Rattle.meter.proofs.Meter.new.Statement.{statement}
 use Rattle.meter.proofs.Meter.new.Tie as tie
 
 -- a meter of a fresh receiver's parts
-made : (f : Started) (t u : StreamState) → f ≡ freshOf 1 → t ≡ streamIn (f .state) → u ≡ streamIn (f .state)
+made : (f : FreshAnswer) (t u : StreamState) → f ≡ freshOf 1 → t ≡ streamIn (f .state) → u ≡ streamIn (f .state)
     → _≡_ {A = Meter} (record { first = t; second = u; places = f .state .places }) newMeter
-unfolding newMeter freshOf
+unfolding newMeter freshOf outside
 made f t u e a b =
-    let s : f .state ≡ madeFor 1 = ap (λ (x : Started). x .state) e in
+    let s : f .state ≡ madeFor 1 = ap (λ (x : FreshAnswer). x .state) e in
     λ i. record { first = (a ∙ ap streamIn s) i; second = (b ∙ ap streamIn s) i; places = s i .places }
-
-fresh-requires : tie.Need-fresh-requires
-fresh-requires c κs = search needs
-
-state-of-requires : tie.Need-state-of-requires
-state-of-requires c κs = search needs
-
-state-of-requires-2 : tie.Need-state-of-requires-2
-state-of-requires-2 c κs = search needs
 
 returns : tie.Need-returns
 returns c =
     (made _ _ _ (c .before .before .before .before .fresh .ensures .0) (c .before .state-of .ensures) (c .state-of2 .ensures), (demand3, independence))
 
 pub new-spec : {M : Type 1} → statement M
-new-spec = tie.close (tie.spec fresh-requires state-of-requires state-of-requires-2 returns)
+new-spec = tie.close (tie.spec (λ c κs. search needs) (λ c κs. search needs) (λ c κs. search needs) returns)

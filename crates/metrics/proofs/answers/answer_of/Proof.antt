@@ -1,6 +1,6 @@
 -- `answer_of` looks at the record asked for after those before it are noted. Assumes nothing.
 use mathlib.Core.Path.{_≡_, sym, _∙_}
-use Prim.Native.Nat.{_-_, _≤_}
+use Prim.Native.Nat.{_≤_}
 use native.Mathlib.Omega.{arith}
 use denote.Ref.{now}
 use Rattle.sample.specs.Decode.{decode}
@@ -23,9 +23,6 @@ inside c =
     let r = record-inside (decode (now (a .file))) (a .asked) (sym (refusal (c .before)) ∙ c .if1 .left) in
     (r .0, omega (arith, r .1, arrivals-laid _ _ (c .before .before .before .pre)))
 
-refusal-of-requires : tie.Need-refusal-of-requires
-refusal-of-requires c κs = search needs
-
 returns : tie.Need-returns
 returns c = answered-refused _ _ _ (refusal (c .before)) (c .if1 .taken)
 
@@ -43,4 +40,4 @@ returns-2 c = answered _ _ _ (refusal (c .before .before .before .before .before
 
 pub answer-of-spec : {M : Type 1} → statement M
 answer-of-spec =
-    tie.close (tie.spec refusal-of-requires returns sub-i follow-requires look-requires returns-2)
+    tie.close (tie.spec (λ c κs. search needs) returns sub-i follow-requires look-requires returns-2)

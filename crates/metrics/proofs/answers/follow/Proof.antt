@@ -4,8 +4,8 @@ use mathlib.Core.Path.{_≡_}
 use Prim.Native.Nat.{_≤_, _-_}
 use native.Mathlib.Omega.{arith}
 use Rattle.sample.specs.Decode.{decode}
-use Rattle.metrics.specs.Private.Sample.{before, Has}
-use Rattle.metrics.specs.Private.Tables.{Follows}
+use Rattle.metrics.specs.Private.Sample.{before, HasRecord}
+use Rattle.metrics.specs.Private.Tables.{EngineTables}
 use borrow.Author.Needs.{needs}
 use denote.Ref.{now}
 use Rattle.metrics.proofs.NotingArrivals.{noting, noted-follows}
@@ -13,17 +13,14 @@ use Rattle.metrics.proofs.answers.follow.Statement.{statement}
 use Rattle.metrics.proofs.answers.follow.Tie as tie
 
 abbrev Inv-loop : tie.InvT-loop
-Inv-loop file y n numbers₀ records₀ skipped₀ state₀ i₀ numbers records skipped state i = (i ≤ n) × Follows (before (decode file) i) numbers records skipped state
+Inv-loop file y n numbers₀ records₀ skipped₀ state₀ i₀ numbers records skipped state i = (i ≤ n) × EngineTables (before (decode file) i) numbers records skipped state
 
 abbrev μ-loop : tie.MeasureT-loop
 μ-loop file y n numbers₀ records₀ skipped₀ state₀ i₀ numbers records skipped state i = n - i
 
 -- record i + 1 is there
-here : (c : tie.In-loop Inv-loop μ-loop) → Has (decode (now (c .before .before .before .before .args .file))) (c .before .before .before .before .args .y) (c .before .loop .i)
+here : (c : tie.In-loop Inv-loop μ-loop) → HasRecord (decode (now (c .before .before .before .before .args .file))) (c .before .before .before .before .args .y) (c .before .loop .i)
 here c = let p = c .before .before .before .before .pre in record { file = p .0; inside = omega (arith, c .loop-test .taken, p .1) }
-
-start-requires : tie.Need-start-requires Inv-loop μ-loop
-start-requires c κs = search needs
 
 loop-holds : tie.Need-loop-holds Inv-loop μ-loop
 loop-holds c = (omega arith, rw (c .start .ensures) (c .before .before .pre .2))
@@ -58,7 +55,7 @@ follow-spec =
     (tie.spec
     Inv-loop
     μ-loop
-    start-requires
+    (λ c κs. search needs)
     loop-holds
     number-requires
     note-requires

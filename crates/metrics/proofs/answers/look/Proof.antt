@@ -8,10 +8,11 @@ use lib.ListN.{take}
 use Rattle.rfc4737.specs.declared.Arrival.{Arrival}
 use Rattle.rfc4737.specs.Arrivals.{firsts}
 use Rattle.rfc4737.specs.Extent.{byteOffset, largestN}
+use Rattle.rfc4737.specs.Judge.{sentMost}
 use Rattle.sample.specs.Decode.{decode}
 use Rattle.metrics.specs.Sample.{sizeOf}
 use Rattle.metrics.specs.Private.Sample.{arrivalAt, before}
-use Rattle.metrics.specs.Private.Tables.{Packets, Late, Tells}
+use Rattle.metrics.specs.Private.Tables.{Packets, LateRecord, ClassAnswer}
 use Rattle.metrics.proofs.AnswersByClass.{told, packets, late-place, late-alone}
 use Rattle.metrics.proofs.answers.look.Statement.{statement}
 use Rattle.metrics.proofs.answers.look.Tie as tie
@@ -21,21 +22,18 @@ number : (c : tie.After-arrival) → c .arrival .result .number ≡ arrivalAt (d
 number c = ap (λ (a : Arrival). a .number) (c .arrival .ensures .0)
 
 -- its class tells the answer
-class-told : (c : tie.After-class-of) → Tells (decode (now (c .before .before .before .args .file))) (c .before .before .before .args .i) (c .before .before .before .args .state .count) (c .class-of .result)
+class-told : (c : tie.After-class-of) → ClassAnswer (decode (now (c .before .before .before .args .file))) (c .before .before .before .args .i) (c .before .before .before .args .state .count) (c .class-of .result)
 class-told c =
     let n = c .before .arrival .ensures in
     told _ _ _ _ _ _ (c .before .before .before .pre .1) _ (number (c .before)) (n .1) (n .2) _ (c .class-of .ensures)
 
 -- where it is reordered the table has its discontinuity
-late : (c : tie.After-known-told) → Late (decode (now (c .before .before .before .before .before .before .args .file))) (c .before .before .before .before .before .before .args .i) (c .before .class .given .0 .0)
+late : (c : tie.After-known-told) → LateRecord (decode (now (c .before .before .before .before .before .before .args .file))) (c .before .before .before .before .before .before .args .i) (c .before .class .given .0 .0)
 late c = rw (c .before .class .given .1) at (class-told (c .before .before .before))
 
 -- there are few first arrivals before it, and their numbers are those of packets
-known : (c : tie.After-known-told) → (c .before .before .before .before .before .before .args .state .count ≤ 4096) × Packets (now (c .before .before .before .before .before .before .args .numbers)) (c .before .before .before .before .before .before .args .state .count) (c .before .before .before .before .before .before .args .y .sent)
+known : (c : tie.After-known-told) → (c .before .before .before .before .before .before .args .state .count ≤ sentMost) × Packets (now (c .before .before .before .before .before .before .args .numbers)) (c .before .before .before .before .before .before .args .state .count) (c .before .before .before .before .before .before .args .y .sent)
 known c = let p = c .before .before .before .before .before .before .pre in packets _ _ (c .before .before .before .before .before .before .args .i) (p .0 .file) _ _ (p .1 .numbered) (omega (arith, p .0 .inside))
-
-arrival-requires : tie.Need-arrival-requires
-arrival-requires c κs = search needs
 
 class-of-requires : tie.Need-class-of-requires
 class-of-requires c κs = c .arrival .ensures .2
@@ -49,17 +47,11 @@ answer-by-requires c κs =
     let is = c .enum-told .given .1 in
     (p .0, c .before .before .before .arrival .ensures .0, p .1 .numbered, p .1 .recorded, class-told (c .before .before), rw is, rw is)
 
-enum-told-2 : tie.Need-enum-told-2
-enum-told-2 c = search needs
-
 answer-by-requires-2 : tie.Need-answer-by-requires-2
 answer-by-requires-2 c κs =
     let p = c .before .before .before .before .before .pre in
     let is = c .enum-told2 .given .1 in
     (p .0, c .before .before .before .arrival .ensures .0, p .1 .numbered, p .1 .recorded, class-told (c .before .before), rw is, rw is)
-
-enum-known-class : tie.Need-enum-known-class
-enum-known-class c = search needs
 
 sub-offset : tie.Need-sub-offset
 sub-offset c = let p = c .before .before .before .before .before .before .pre in late-place _ _ _ _ _ (p .0) (late c) _ _ (p .1 .numbered) (p .1 .recorded) .0
@@ -100,13 +92,13 @@ pub look-spec : {M : Type 1} → statement M
 look-spec =
     tie.close
     (tie.spec
-    arrival-requires
+    (λ c κs. search needs)
     class-of-requires
     enum-told
     answer-by-requires
-    enum-told-2
+    (λ c. search needs)
     answer-by-requires-2
-    enum-known-class
+    (λ c. search needs)
     sub-offset
     offset-requires
     largest-requires

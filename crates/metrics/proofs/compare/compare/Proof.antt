@@ -4,14 +4,8 @@ use borrow.Author.Needs.{needs}
 use Rattle.metrics.proofs.compare.compare.Statement.{statement}
 use Rattle.metrics.proofs.compare.compare.Tie as tie
 
-slice-aggregate-pass : tie.Need-slice-aggregate-pass
-slice-aggregate-pass c = search needs
-
-pass-requires : tie.Need-pass-requires
-pass-requires c κs = search needs
-
 returns : tie.Need-returns
 returns c = c .before .pass .ensures .compared refl
 
 pub compare-spec : {M : Type 1} → statement M
-compare-spec = tie.close (tie.spec slice-aggregate-pass pass-requires returns)
+compare-spec = tie.close (tie.spec (λ c. search needs) (λ c κs. search needs) returns)

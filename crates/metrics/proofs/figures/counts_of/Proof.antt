@@ -5,11 +5,12 @@ use Prim.Native.Nat.{_≤_, _<_, _-_}
 use native.Mathlib.Omega.{arith}
 use denote.Ref.{now}
 use Rattle.rfc4737.specs.Runs.{counts}
+use Rattle.rfc4737.specs.Judge.{arrivalsMost}
 use Rattle.sample.specs.Decode.{decode}
-use Rattle.metrics.specs.Private.Sample.{before, answersTo, Has}
+use Rattle.metrics.specs.Private.Sample.{before, answersTo, HasRecord}
 use Rattle.metrics.specs.Private.Steps.{countsBy}
 use borrow.Author.Needs.{needs}
-use Rattle.metrics.proofs.OneArrivalMore.{answers-start, answers-end, answers-length, counts-none, counts-small}
+use Rattle.metrics.proofs.OneArrivalMore.{answers-start, answers-end, answers-length, counts-small}
 use Rattle.metrics.proofs.CountsBySeen.{Seen, seen-start, seen-next, counts-seen}
 use Rattle.metrics.proofs.figures.counts_of.Statement.{statement}
 use Rattle.metrics.proofs.figures.counts_of.Tie as tie
@@ -22,20 +23,17 @@ abbrev μ-loop : tie.MeasureT-loop
 μ-loop file y seen₀ next₀ c₀ i₀ seen next c i = y .arrivals - i
 
 -- record i + 1 is there
-here : (c : tie.After-kind-of Inv-loop μ-loop) → Has (decode (now (c .before .before .before .before .before .before .before .before .args .file))) (c .before .before .before .before .before .before .before .before .args .y) (c .before .before .before .before .before .loop .i)
+here : (c : tie.After-kind-of Inv-loop μ-loop) → HasRecord (decode (now (c .before .before .before .before .before .before .before .before .args .file))) (c .before .before .before .before .before .before .before .before .args .y) (c .before .before .before .before .before .loop .i)
 here c = record { file = c .before .before .before .before .before .before .before .before .pre; inside = c .before .before .before .if1 .taken }
 
 -- the arrivals before it are few
-few : (c : tie.After-kind-of Inv-loop μ-loop) → c .before .before .before .before .before .loop .i < 4096
+few : (c : tie.After-kind-of Inv-loop μ-loop) → c .before .before .before .before .before .loop .i < arrivalsMost
 few c = let h = here c in omega (arith, h .inside, h .file .few)
-
-no-counts-requires : tie.Need-no-counts-requires Inv-loop μ-loop
-no-counts-requires c κs = search needs
 
 loop-holds : tie.Need-loop-holds Inv-loop μ-loop
 loop-holds c =
     let d = decode (now (c .before .before .args .file)) in
-    (omega arith, seen-start d, c .no-counts .ensures ∙ sym (ap counts (answers-start d) ∙ counts-none))
+    (omega arith, seen-start d, c .no-counts .ensures ∙ sym (ap counts (answers-start d)))
 
 number-requires : tie.Need-number-requires Inv-loop μ-loop
 number-requires c κs = record { file = c .before .before .before .before .before .pre; inside = c .if1 .taken }
@@ -80,7 +78,7 @@ counts-of-spec =
     (tie.spec
     Inv-loop
     μ-loop
-    no-counts-requires
+    (λ c κs. search needs)
     loop-holds
     number-requires
     kind-of-requires

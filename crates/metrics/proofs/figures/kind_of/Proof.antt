@@ -6,9 +6,6 @@ use borrow.Author.Needs.{needs}
 use Rattle.metrics.proofs.figures.kind_of.Statement.{statement}
 use Rattle.metrics.proofs.figures.kind_of.Tie as tie
 
-element-copy-out-if1 : tie.Need-element-copy-out-if1
-element-copy-out-if1 c = search needs
-
 returns : tie.Need-returns
 unfolding kindBy
 returns c = rw (c .if1 .taken)
@@ -22,4 +19,4 @@ unfolding kindBy
 returns-3 c = rw (c .before .if1 .left) (simp (lt-leb (c .before .before .before .args .next) (c .before .before .before .args .number) (omega arith)))
 
 pub kind-of-spec : {M : Type 1} → statement M
-kind-of-spec = tie.close (tie.spec element-copy-out-if1 returns returns-2 returns-3)
+kind-of-spec = tie.close (tie.spec (λ c. search needs) returns returns-2 returns-3)

@@ -6,9 +6,6 @@ use borrow.Author.Needs.{needs}
 use Rattle.metrics.proofs.figures.next_after.Statement.{statement}
 use Rattle.metrics.proofs.figures.next_after.Tie as tie
 
-add-result : tie.Need-add-result
-add-result c = search needs
-
 returns : tie.Need-returns
 unfolding nextAfter
 returns c = simp (le-leb (c .before .args .next) (c .before .args .number) (omega arith))
@@ -18,4 +15,4 @@ unfolding nextAfter
 returns-2 c = simp (lt-leb (c .before .args .next) (c .before .args .number) (omega arith))
 
 pub next-after-spec : {M : Type 1} → statement M
-next-after-spec = tie.close (tie.spec add-result returns returns-2)
+next-after-spec = tie.close (tie.spec (λ c. search needs) returns returns-2)

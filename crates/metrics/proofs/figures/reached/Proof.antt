@@ -5,9 +5,6 @@ use borrow.Author.Needs.{needs}
 use Rattle.metrics.proofs.figures.reached.Statement.{statement}
 use Rattle.metrics.proofs.figures.reached.Tie as tie
 
-add-result : tie.Need-add-result
-add-result c = search needs
-
 returns : tie.Need-returns
 returns c = simp (le-leb (c .before .args .n) (c .before .args .most) (omega arith))
 
@@ -15,4 +12,4 @@ returns-2 : tie.Need-returns-2
 returns-2 c = simp (lt-leb (c .before .args .n) (c .before .args .most) (omega arith))
 
 pub reached-spec : {M : Type 1} → statement M
-reached-spec = tie.close (tie.spec add-result returns returns-2)
+reached-spec = tie.close (tie.spec (λ c. search needs) returns returns-2)

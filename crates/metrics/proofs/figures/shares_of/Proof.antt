@@ -1,16 +1,16 @@
 -- `shares_of` goes over the arrivals. The loop's invariant: the tables and the shares are those of the arrivals before i. The measure is
 -- what is left of the arrivals. Assumes nothing.
-use mathlib.Core.Path.{_≡_, sym, ap, _∙_}
+use mathlib.Core.Path.{sym, ap, _∙_}
 use Prim.Native.Nat.{_≤_, _-_}
 use native.Mathlib.Omega.{arith}
 use lib.Seq.{take-all}
 use denote.Ref.{now}
 use Rattle.sample.specs.Decode.{decode}
 use Rattle.metrics.specs.Sample.{sizeOf, sampleArrivals}
-use Rattle.metrics.specs.Private.Sample.{before, Has}
+use Rattle.metrics.specs.Private.Sample.{before, HasRecord}
 use Rattle.metrics.specs.Private.Steps.{sharesOf, ShareTables}
 use Rattle.metrics.proofs.Follow.{arrivals-laid, before-more, before-length}
-use Rattle.metrics.proofs.Running.{links-laid}
+use Rattle.metrics.proofs.EngineState.{links-laid}
 use Rattle.metrics.proofs.Shares.{shares-start, shares-few}
 use Rattle.metrics.proofs.figures.shares_of.Statement.{statement}
 use Rattle.metrics.proofs.figures.shares_of.Tie as tie
@@ -23,7 +23,7 @@ abbrev μ-loop : tie.MeasureT-loop
 μ-loop file y low high numbers₀ links₀ shares₀ i₀ numbers links shares i = y .arrivals - i
 
 -- record i + 1 is there
-here : (c : tie.After-number Inv-loop μ-loop) → Has (decode (now (c .before .before .before .before .before .args .file))) (c .before .before .before .before .before .args .y) (c .before .before .before .loop .i)
+here : (c : tie.After-number Inv-loop μ-loop) → HasRecord (decode (now (c .before .before .before .before .before .args .file))) (c .before .before .before .before .before .args .y) (c .before .before .before .loop .i)
 here c = record { file = c .before .before .before .before .before .pre; inside = c .before .if1 .taken }
 
 loop-holds : tie.Need-loop-holds Inv-loop μ-loop
@@ -35,9 +35,13 @@ number-requires c κs = record { file = c .before .before .before .before .pre; 
 share-requires : tie.Need-share-requires Inv-loop μ-loop
 share-requires c κs =
     let t = c .before .before .before .before .before .loop .inv .1 in
-    let h = here (c .before .before) in (
+    let h = here (c .before .before) in
+    let few = shares-few _ _ _ _ _ (t .shares) (omega (arith, before-length _ _ _ h, h .inside, h .file .few)) in (
       c .before .before .number .ensures .2,
-      rw (t .shares) (shares-few _ _ _ _ (omega (arith, before-length _ _ _ h, h .inside, h .file .few))),
+      few .0,
+      few .1,
+      few .2,
+      few .3,
       t .places .0,
       t .places .1,
       links-laid _ _ _ h _ _ _ _ (t .numbered) (t .linked) .1,

@@ -15,24 +15,12 @@ returns : tie.Need-returns
 unfolding tallyBy
 returns c = rw (c .enum-told .given .1)
 
-enum-told-2 : tie.Need-enum-told-2
-enum-told-2 c = search needs
-
 returns-2 : tie.Need-returns-2
 unfolding tallyBy
 returns-2 c = rw (c .enum-told2 .given .1)
 
-enum-known-class : tie.Need-enum-known-class
-enum-known-class c = search needs
-
-add-place-of : tie.Need-add-place-of
-add-place-of c = search needs
-
 sub-place-of : tie.Need-sub-place-of
 sub-place-of c = let p = rw (c .before .class .given .1) at (c .before .before .before .pre .3) in omega (arith, p)
-
-place-of-requires : tie.Need-place-of-requires
-place-of-requires c κs = search needs
 
 mul-t : tie.Need-mul-t
 mul-t c = omega (arith, c .place-of .ensures, place-lt (c .before .before .before .before .args .count + 1 - c .before .before .class .given .0 .0))
@@ -59,12 +47,12 @@ tallied-spec =
     (tie.spec
     enum-told
     returns
-    enum-told-2
+    (λ c. search needs)
     returns-2
-    enum-known-class
-    add-place-of
+    (λ c. search needs)
+    (λ c. search needs)
     sub-place-of
-    place-of-requires
+    (λ c κs. search needs)
     mul-t
     element-copy-out-t
     add-t

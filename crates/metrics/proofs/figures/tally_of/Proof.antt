@@ -7,11 +7,12 @@ use denote.Ref.{now}
 use lib.ListN.{getD}
 use Rattle.rfc4737.specs.Tally.{tally}
 use Rattle.rfc4737.proofs.Folds.{length-tally, tally-le}
+use Rattle.rfc4737.specs.Judge.{sentMost, arrivalsMost}
 use Rattle.sample.specs.Decode.{decode}
-use Rattle.metrics.specs.Private.Sample.{before, answersTo, Has}
-use Rattle.metrics.specs.Private.Tables.{Follows, Tells}
+use Rattle.metrics.specs.Private.Sample.{before, answersTo, HasRecord}
+use Rattle.metrics.specs.Private.Tables.{EngineTables, ClassAnswer}
 use borrow.Author.Needs.{needs}
-use Rattle.metrics.proofs.Follow.{count-le}
+use Rattle.metrics.proofs.Follow.{numbered-le}
 use Rattle.metrics.proofs.NotingArrivals.{noting, noted-follows}
 use Rattle.metrics.proofs.AnswersByClass.{told}
 use Rattle.metrics.proofs.OneArrivalMore.{follows-start, answers-start, answers-end, answers-length, inside-told, tally-none, tally-next}
@@ -20,28 +21,25 @@ use Rattle.metrics.proofs.figures.tally_of.Tie as tie
 
 abbrev Inv-loop : tie.InvT-loop
 Inv-loop file y numbers₀ records₀ skipped₀ t₀ state₀ i₀ numbers records skipped t state i =
-    (i ≤ y .arrivals) × Follows (before (decode file) i) numbers records skipped state × (t ≡ tally (answersTo (decode file) i))
+    (i ≤ y .arrivals) × EngineTables (before (decode file) i) numbers records skipped state × (t ≡ tally (answersTo (decode file) i))
 
 abbrev μ-loop : tie.MeasureT-loop
 μ-loop file y numbers₀ records₀ skipped₀ t₀ state₀ i₀ numbers records skipped t state i = y .arrivals - i
 
 -- record i + 1 is there
-here : (c : tie.After-class-of Inv-loop μ-loop) → Has (decode (now (c .before .before .before .before .before .before .before .before .before .args .file))) (c .before .before .before .before .before .before .before .before .before .args .y) (c .before .before .before .before .before .before .loop .i)
+here : (c : tie.After-class-of Inv-loop μ-loop) → HasRecord (decode (now (c .before .before .before .before .before .before .before .before .before .args .file))) (c .before .before .before .before .before .before .before .before .before .args .y) (c .before .before .before .before .before .before .loop .i)
 here c = record { file = c .before .before .before .before .before .before .before .before .before .pre; inside = c .before .before .before .before .if1 .taken }
 
 -- its class tells its answer
 class-told : (c : tie.After-class-of Inv-loop μ-loop)
-    → Tells (decode (now (c .before .before .before .before .before .before .before .before .before .args .file))) (c .before .before .before .before .before .before .loop .i) (c .before .before .before .before .before .before .loop .state .count) (c .class-of .result)
+    → ClassAnswer (decode (now (c .before .before .before .before .before .before .before .before .before .args .file))) (c .before .before .before .before .before .before .loop .i) (c .before .before .before .before .before .before .loop .state .count) (c .class-of .result)
 class-told c =
     let n = c .before .before .before .number .ensures in
     told _ _ _ _ _ _ (c .before .before .before .before .before .before .loop .inv .1) _ (n .0) (n .1) (n .2) _ (c .class-of .ensures)
 
 -- the first arrivals before it, and the arrivals, are few
-few : (c : tie.After-class-of Inv-loop μ-loop) → (c .before .before .before .before .before .before .loop .state .count ≤ c .before .before .before .before .before .before .loop .i) × (c .before .before .before .before .before .before .loop .i < 4096)
-few c = count-le _ _ _ (here c) _ _ _ _ (c .before .before .before .before .before .before .loop .inv .1)
-
-start-requires : tie.Need-start-requires Inv-loop μ-loop
-start-requires c κs = search needs
+few : (c : tie.After-class-of Inv-loop μ-loop) → (c .before .before .before .before .before .before .loop .state .count ≤ c .before .before .before .before .before .before .loop .i) × (c .before .before .before .before .before .before .loop .i < arrivalsMost)
+few c = numbered-le _ _ _ (here c) _ _ (c .before .before .before .before .before .before .loop .inv .1 .numbered)
 
 loop-holds : tie.Need-loop-holds Inv-loop μ-loop
 loop-holds c =
@@ -58,7 +56,7 @@ tallied-requires : tie.Need-tallied-requires Inv-loop μ-loop
 tallied-requires c κs =
     let l = c .before .before .before .before .before .before .before .loop in
     let at = c .before in
-    let most : (k : ℕ) → getD (tally (answersTo (decode (now (c .before .before .before .before .before .before .before .before .before .before .args .file))) (l .i))) k 0 ≤ 4096 =
+    let most : (k : ℕ) → getD (tally (answersTo (decode (now (c .before .before .before .before .before .before .before .before .before .before .args .file))) (l .i))) k 0 ≤ sentMost =
     λ k. omega (arith, few at, tally-le (answersTo (decode (now (c .before .before .before .before .before .before .before .before .before .before .args .file))) (l .i)) k, answers-length _ _ _ (here at)) in
     (rw (l .inv .2) (length-tally _), rw (l .inv .2) most, omega (arith, few at), inside-told _ _ _ (here at) _ _ _ _ (l .inv .1) (at .class-of .result) (class-told at))
 
@@ -89,7 +87,7 @@ tally-of-spec =
     (tie.spec
     Inv-loop
     μ-loop
-    start-requires
+    (λ c κs. search needs)
     loop-holds
     number-requires
     class-of-requires

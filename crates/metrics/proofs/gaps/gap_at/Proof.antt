@@ -11,21 +11,9 @@ use borrow.Author.Needs.{needs}
 use Rattle.metrics.proofs.gaps.gap_at.Statement.{statement}
 use Rattle.metrics.proofs.gaps.gap_at.Tie as tie
 
-mul-if1 : tie.Need-mul-if1
-mul-if1 c = search needs
-
-element-copy-out-if1 : tie.Need-element-copy-out-if1
-element-copy-out-if1 c = search needs
-
 returns : tie.Need-returns
 unfolding gapBy
 returns c = simp (eq-eqb _ 0 (c .if1 .taken))
-
-sub-last-to : tie.Need-sub-last-to
-sub-last-to c = search needs
-
-last-to-requires : tie.Need-last-to-requires
-last-to-requires c κs = search needs
 
 returns-2 : tie.Need-returns-2
 unfolding gapBy
@@ -44,12 +32,6 @@ mul-if3 c = omega (arith, c .before .last-to .ensures, near c)
 element-copy-out-if3 : tie.Need-element-copy-out-if3
 element-copy-out-if3 c = omega (arith, c .before .last-to .ensures, near c)
 
-mul-if3-2 : tie.Need-mul-if3-2
-mul-if3-2 c = search needs
-
-element-copy-out-if3-2 : tie.Need-element-copy-out-if3-2
-element-copy-out-if3-2 c = search needs
-
 sub-t18 : tie.Need-sub-t18
 sub-t18 c = omega (arith, c .before .before .before .before .last-to .ensures, near (c .before .before .before))
 
@@ -63,17 +45,17 @@ pub gap-at-spec : {M : Type 1} → statement M
 gap-at-spec =
     tie.close
     (tie.spec
-    mul-if1
-    element-copy-out-if1
+    (λ c. search needs)
+    (λ c. search needs)
     returns
-    sub-last-to
-    last-to-requires
+    (λ c. search needs)
+    (λ c κs. search needs)
     returns-2
     cast-neighbour
     mul-if3
     element-copy-out-if3
-    mul-if3-2
-    element-copy-out-if3-2
+    (λ c. search needs)
+    (λ c. search needs)
     sub-t18
     returns-3
     returns-4)

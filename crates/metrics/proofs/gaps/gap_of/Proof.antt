@@ -13,9 +13,6 @@ use Rattle.metrics.proofs.gaps.gap_of.Tie as tie
 refusal : (c : tie.After-refusal-of) → c .refusal-of .result ≡ recordRefusal (decode (now (c .before .before .args .file))) (c .before .before .args .asked)
 refusal c = laid-record _ _ (c .before .before .pre) _ (c .before .before .args .asked) (c .refusal-of .ensures)
 
-refusal-of-requires : tie.Need-refusal-of-requires
-refusal-of-requires c κs = search needs
-
 returns : tie.Need-returns
 returns c = gap-answered-refused _ _ _ (refusal (c .before)) (c .if1 .taken)
 
@@ -39,4 +36,4 @@ returns-3 c =
 pub gap-of-spec : {M : Type 1} → statement M
 gap-of-spec =
     tie.close
-    (tie.spec refusal-of-requires returns mark-all-requires returns-2 gap-at-requires returns-3)
+    (tie.spec (λ c κs. search needs) returns mark-all-requires returns-2 gap-at-requires returns-3)

@@ -13,33 +13,12 @@ returns : tie.Need-returns
 unfolding markBy
 returns c = rw (c .enum-told .given .1)
 
-enum-told-2 : tie.Need-enum-told-2
-enum-told-2 c = search needs
-
 returns-2 : tie.Need-returns-2
 unfolding markBy
 returns-2 c = rw (c .enum-told2 .given .1)
 
-enum-known-class : tie.Need-enum-known-class
-enum-known-class c = search needs
-
-cast-place : tie.Need-cast-place
-cast-place c = search needs
-
-mul-if1 : tie.Need-mul-if1
-mul-if1 c = search needs
-
 element-copy-out-if1 : tie.Need-element-copy-out-if1
 element-copy-out-if1 c = let p = rw (c .before .class .given .1) at (c .before .before .before .pre .2) in omega (arith, p)
-
-add-found : tie.Need-add-found
-add-found c = search needs
-
-cast-found : tie.Need-cast-found
-cast-found c = search needs
-
-mul-found : tie.Need-mul-found
-mul-found c = search needs
 
 element-write-found : tie.Need-element-write-found
 element-write-found c = let p = rw (c .before .before .before .class .given .1) at (c .before .before .before .before .before .pre .2) in omega (arith, p)
@@ -58,15 +37,15 @@ mark-spec =
     (tie.spec
     enum-told
     returns
-    enum-told-2
+    (λ c. search needs)
     returns-2
-    enum-known-class
-    cast-place
-    mul-if1
+    (λ c. search needs)
+    (λ c. search needs)
+    (λ c. search needs)
     element-copy-out-if1
-    add-found
-    cast-found
-    mul-found
+    (λ c. search needs)
+    (λ c. search needs)
+    (λ c. search needs)
     element-write-found
     returns-3
     returns-4)

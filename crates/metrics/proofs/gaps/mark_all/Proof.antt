@@ -6,11 +6,12 @@ use Prim.Native.Nat.{_≤_, _<_, _-_}
 use native.Mathlib.Omega.{arith}
 use denote.Ref.{now}
 use Rattle.sample.specs.Decode.{decode}
-use Rattle.metrics.specs.Private.Sample.{before, answerAt, answersTo, Has}
-use Rattle.metrics.specs.Private.Tables.{Follows, Tells}
+use Rattle.metrics.specs.Private.Sample.{before, answerAt, answersTo, HasRecord}
+use Rattle.metrics.specs.Private.Tables.{EngineTables, ClassAnswer}
 use Rattle.metrics.specs.Private.Steps.{placeIn, DiscoverersAt}
 use borrow.Author.Needs.{needs}
-use Rattle.metrics.proofs.Follow.{count-le}
+use Rattle.rfc4737.specs.Judge.{arrivalsMost}
+use Rattle.metrics.proofs.Follow.{numbered-le}
 use Rattle.metrics.proofs.NotingArrivals.{noting, noted-follows}
 use Rattle.metrics.proofs.AnswersByClass.{told, place-told}
 use Rattle.metrics.proofs.OneArrivalMore.{follows-start, answers-end, inside-told, marked-start, marked-next}
@@ -19,29 +20,26 @@ use Rattle.metrics.proofs.gaps.mark_all.Tie as tie
 
 abbrev Inv-loop : tie.InvT-loop
 Inv-loop file y asked found₀ numbers₀ records₀ skipped₀ state₀ position₀ i₀ found numbers records skipped state position i =
-    (i ≤ y .arrivals) × Follows (before (decode file) i) numbers records skipped state × DiscoverersAt (answersTo (decode file) i) found
+    (i ≤ y .arrivals) × EngineTables (before (decode file) i) numbers records skipped state × DiscoverersAt (answersTo (decode file) i) found
     × (asked ≤ i → position ≡ placeIn (answerAt (decode file) (asked - 1)))
 
 abbrev μ-loop : tie.MeasureT-loop
 μ-loop file y asked found₀ numbers₀ records₀ skipped₀ state₀ position₀ i₀ found numbers records skipped state position i = y .arrivals - i
 
 -- record i + 1 is there
-here : (c : tie.After-class-of Inv-loop μ-loop) → Has (decode (now (c .before .before .before .before .before .before .before .before .before .args .file))) (c .before .before .before .before .before .before .before .before .before .args .y) (c .before .before .before .before .before .before .loop .i)
+here : (c : tie.After-class-of Inv-loop μ-loop) → HasRecord (decode (now (c .before .before .before .before .before .before .before .before .before .args .file))) (c .before .before .before .before .before .before .before .before .before .args .y) (c .before .before .before .before .before .before .loop .i)
 here c = record { file = c .before .before .before .before .before .before .before .before .before .pre .0; inside = c .before .before .before .before .if1 .taken }
 
 -- its class tells its answer
 class-told : (c : tie.After-class-of Inv-loop μ-loop)
-    → Tells (decode (now (c .before .before .before .before .before .before .before .before .before .args .file))) (c .before .before .before .before .before .before .loop .i) (c .before .before .before .before .before .before .loop .state .count) (c .class-of .result)
+    → ClassAnswer (decode (now (c .before .before .before .before .before .before .before .before .before .args .file))) (c .before .before .before .before .before .before .loop .i) (c .before .before .before .before .before .before .loop .state .count) (c .class-of .result)
 class-told c =
     let n = c .before .before .before .number .ensures in
     told _ _ _ _ _ _ (c .before .before .before .before .before .before .loop .inv .1) _ (n .0) (n .1) (n .2) _ (c .class-of .ensures)
 
 -- the first arrivals before it, and the arrivals, are few
-few : (c : tie.After-class-of Inv-loop μ-loop) → (c .before .before .before .before .before .before .loop .state .count ≤ c .before .before .before .before .before .before .loop .i) × (c .before .before .before .before .before .before .loop .i < 4096)
-few c = count-le _ _ _ (here c) _ _ _ _ (c .before .before .before .before .before .before .loop .inv .1)
-
-start-requires : tie.Need-start-requires Inv-loop μ-loop
-start-requires c κs = search needs
+few : (c : tie.After-class-of Inv-loop μ-loop) → (c .before .before .before .before .before .before .loop .state .count ≤ c .before .before .before .before .before .before .loop .i) × (c .before .before .before .before .before .before .loop .i < arrivalsMost)
+few c = numbered-le _ _ _ (here c) _ _ (c .before .before .before .before .before .before .loop .inv .1 .numbered)
 
 loop-holds : tie.Need-loop-holds Inv-loop μ-loop
 loop-holds c =
@@ -105,7 +103,7 @@ mark-all-spec =
     (tie.spec
     Inv-loop
     μ-loop
-    start-requires
+    (λ c κs. search needs)
     loop-holds
     number-requires
     class-of-requires

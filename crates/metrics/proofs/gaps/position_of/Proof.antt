@@ -7,18 +7,6 @@ use Rattle.metrics.proofs.gaps.position_of.Tie as tie
 enum-told : tie.Need-enum-told
 enum-told c = search needs
 
-enum-told-2 : tie.Need-enum-told-2
-enum-told-2 c = search needs
-
-add-result : tie.Need-add-result
-add-result c = search needs
-
-enum-told-3 : tie.Need-enum-told-3
-enum-told-3 c = search needs
-
-add-result-2 : tie.Need-add-result-2
-add-result-2 c = search needs
-
 returns : tie.Need-returns
 unfolding placeBy
 returns c = rw (c .enum-told .given .1)
@@ -36,10 +24,10 @@ position-of-spec =
     tie.close
     (tie.spec
     enum-told
-    enum-told-2
-    add-result
-    enum-told-3
-    add-result-2
+    (λ c. search needs)
+    (λ c. search needs)
+    (λ c. search needs)
+    (λ c. search needs)
     returns
     returns-2
     returns-3)

@@ -10,31 +10,10 @@ use borrow.Author.Needs.{needs}
 use Rattle.metrics.proofs.input.arrival.Statement.{statement}
 use Rattle.metrics.proofs.input.arrival.Tie as tie
 
-arrivals-at-requires : tie.Need-arrivals-at-requires
-arrivals-at-requires c κs = search needs
-
-mul-start : tie.Need-mul-start
-mul-start c = search needs
-
-add-start : tie.Need-add-start
-add-start c = search needs
-
-add-end : tie.Need-add-end
-add-end c = search needs
-
-sub-twelve : tie.Need-sub-twelve
-sub-twelve c = search needs
-
-part-twelve-start : tie.Need-part-twelve-start
-part-twelve-start c = search needs
-
 part-twelve-end : tie.Need-part-twelve-end
 part-twelve-end c =
     let p = c .before .before .pre in
     omega (arith, c .arrivals-at .ensures, arrival-inside _ _ (p .file) _ (p .inside))
-
-arrival-of-requires : tie.Need-arrival-of-requires
-arrival-of-requires c κs = search needs
 
 returns : tie.Need-returns
 returns c =
@@ -46,12 +25,12 @@ pub arrival-spec : {M : Type 1} → statement M
 arrival-spec =
     tie.close
     (tie.spec
-    arrivals-at-requires
-    mul-start
-    add-start
-    add-end
-    sub-twelve
-    part-twelve-start
+    (λ c κs. search needs)
+    (λ c. search needs)
+    (λ c. search needs)
+    (λ c. search needs)
+    (λ c. search needs)
+    (λ c. search needs)
     part-twelve-end
-    arrival-of-requires
+    (λ c κs. search needs)
     returns)

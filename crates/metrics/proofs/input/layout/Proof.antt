@@ -4,11 +4,8 @@ use borrow.Author.Needs.{needs}
 use Rattle.metrics.proofs.input.layout.Statement.{statement}
 use Rattle.metrics.proofs.input.layout.Tie as tie
 
-check-requires : tie.Need-check-requires
-check-requires c κs = search needs
-
 returns : tie.Need-returns
 returns c = rw (c .check .ensures .0) (laid _ (λ i. c .before .shared-slice-known .given i .fits))
 
 pub layout-spec : {M : Type 1} → statement M
-layout-spec = tie.close (tie.spec check-requires returns)
+layout-spec = tie.close (tie.spec (λ c κs. search needs) returns)

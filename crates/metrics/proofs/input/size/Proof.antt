@@ -6,17 +6,8 @@ use borrow.Author.Needs.{needs}
 use Rattle.metrics.proofs.input.size.Statement.{statement}
 use Rattle.metrics.proofs.input.size.Tie as tie
 
-sub-payload-size : tie.Need-sub-payload-size
-sub-payload-size c = search needs
-
-payload-size-requires : tie.Need-payload-size-requires
-payload-size-requires c κs = search needs
-
-cast-result : tie.Need-cast-result
-cast-result c = search needs
-
 returns : tie.Need-returns
 returns c = let p = c .before .before .pre in (c .payload-size .ensures ∙ size-stands _ _ (p .0) _ (p .1) (p .2), omega arith)
 
 pub size-spec : {M : Type 1} → statement M
-size-spec = tie.close (tie.spec sub-payload-size payload-size-requires cast-result returns)
+size-spec = tie.close (tie.spec (λ c. search needs) (λ c κs. search needs) (λ c. search needs) returns)

@@ -13,21 +13,12 @@ use Rattle.metrics.proofs.lines.take_end.Tie as tie
 few : (c : tie.Start) → length (endLine (c .args .c)) ≤ 93
 few c = omega (arith, end-octets _ (c .pre .1))
 
-put-place-requires : tie.Need-put-place-requires
-put-place-requires c κs = search needs
-
-put-end-requires : tie.Need-put-end-requires
-put-end-requires c κs = search needs
-
 held-requires : tie.Need-held-requires
 held-requires c κs = line-ready _ _ _ _ (c .before .before .before .put-end .ensures .0) (few (c .before .before .before .before .before .before .before .before)) (c .before .before .before .before .before .before .before .before .pre .0) (c .before .before .before .before .put-place .ensures) (c .before .before .before .put-end .ensures .1)
-
-same-length : tie.Need-same-length
-same-length c = search needs
 
 returns : tie.Need-returns
 returns c = line-taken _ _ _ _ (c .before .before .before .before .put-end .ensures .0) (few (c .before .before .before .before .before .before .before .before .before)) (c .before .before .before .before .before .before .before .before .before .pre .0) (c .before .before .before .before .before .put-place .ensures) (c .before .before .before .before .put-end .ensures .1) (c .held .ensures)
 
 pub take-end-spec : {M : Type 1} → statement M
 take-end-spec =
-    tie.close (tie.spec put-place-requires put-end-requires held-requires same-length returns)
+    tie.close (tie.spec (λ c κs. search needs) (λ c κs. search needs) held-requires (λ c. search needs) returns)

@@ -13,17 +13,11 @@ use Rattle.metrics.proofs.lines.take_header.Tie as tie
 few : (c : tie.Start) → length (headerLine (c .args .k) (c .args .a)) ≤ 93
 few c = omega (arith, header-octets _ _ (c .pre .1) (c .pre .2))
 
-put-header-requires : tie.Need-put-header-requires
-put-header-requires c κs = search needs
-
 held-requires : tie.Need-held-requires
 held-requires c κs = line-ready _ _ _ 0 (c .before .before .before .put-header .ensures .0) (few (c .before .before .before .before .before .before .before)) (c .before .before .before .before .before .before .before .pre .0) (same-start (c .before .before .before .before .before .before .before .args .comparing)) (c .before .before .before .put-header .ensures .1)
-
-same-length : tie.Need-same-length
-same-length c = search needs
 
 returns : tie.Need-returns
 returns c = line-taken _ _ _ 0 (c .before .before .before .before .put-header .ensures .0) (few (c .before .before .before .before .before .before .before .before)) (c .before .before .before .before .before .before .before .before .pre .0) (same-start (c .before .before .before .before .before .before .before .before .args .comparing)) (c .before .before .before .before .put-header .ensures .1) (c .held .ensures)
 
 pub take-header-spec : {M : Type 1} → statement M
-take-header-spec = tie.close (tie.spec put-header-requires held-requires same-length returns)
+take-header-spec = tie.close (tie.spec (λ c κs. search needs) held-requires (λ c. search needs) returns)

@@ -13,21 +13,12 @@ use Rattle.metrics.proofs.lines.take_record.Tie as tie
 few : (c : tie.Start) → length (recordLine (c .args .«record») (c .args .number) (c .args .answer)) ≤ 93
 few c = omega (arith, record-octets (c .args .«record») (c .args .number) (c .args .answer) (c .pre .1) (c .pre .2) (c .pre .3))
 
-put-place-requires : tie.Need-put-place-requires
-put-place-requires c κs = search needs
-
-put-record-requires : tie.Need-put-record-requires
-put-record-requires c κs = search needs
-
 held-requires : tie.Need-held-requires
 held-requires c κs = line-ready _ _ _ _ (c .before .before .before .put-record .ensures .0) (few (c .before .before .before .before .before .before .before .before)) (c .before .before .before .before .before .before .before .before .pre .0) (c .before .before .before .before .put-place .ensures) (c .before .before .before .put-record .ensures .1)
-
-same-length : tie.Need-same-length
-same-length c = search needs
 
 returns : tie.Need-returns
 returns c = line-taken _ _ _ _ (c .before .before .before .before .put-record .ensures .0) (few (c .before .before .before .before .before .before .before .before .before)) (c .before .before .before .before .before .before .before .before .before .pre .0) (c .before .before .before .before .before .put-place .ensures) (c .before .before .before .before .put-record .ensures .1) (c .held .ensures)
 
 pub take-record-spec : {M : Type 1} → statement M
 take-record-spec =
-    tie.close (tie.spec put-place-requires put-record-requires held-requires same-length returns)
+    tie.close (tie.spec (λ c κs. search needs) (λ c κs. search needs) held-requires (λ c. search needs) returns)

@@ -7,17 +7,8 @@ use borrow.Author.Needs.{needs}
 use Rattle.metrics.proofs.look.answer_by.Statement.{statement}
 use Rattle.metrics.proofs.look.answer_by.Tie as tie
 
-enum-known-class : tie.Need-enum-known-class
-enum-known-class c = search needs
-
-enum-known-class-2 : tie.Need-enum-known-class-2
-enum-known-class-2 c = search needs
-
 add-t16 : tie.Need-add-t16
 add-t16 c = let p = c .before .before .before .before .pre in omega (arith, numbered-le _ _ _ (p .0) _ _ (p .2))
-
-enum-known-class-3 : tie.Need-enum-known-class-3
-enum-known-class-3 c = search needs
 
 reordered-requires : tie.Need-reordered-requires
 reordered-requires c κs =
@@ -31,18 +22,15 @@ returns c = sym (rw (c .before .class .given .1) at (c .before .before .before .
 returns-2 : tie.Need-returns-2
 returns-2 c = sym (rw (c .before .class2 .given .1) at (c .before .before .before .before .pre .4))
 
-returns-3 : tie.Need-returns-3
-returns-3 c = search needs
-
 pub answer-by-spec : {M : Type 1} → statement M
 answer-by-spec =
     tie.close
     (tie.spec
-    enum-known-class
-    enum-known-class-2
+    (λ c. search needs)
+    (λ c. search needs)
     add-t16
-    enum-known-class-3
+    (λ c. search needs)
     reordered-requires
     returns
     returns-2
-    returns-3)
+    (λ c. search needs))

@@ -6,15 +6,6 @@ use borrow.Author.Needs.{needs}
 use Rattle.metrics.proofs.look.class_of.Statement.{statement}
 use Rattle.metrics.proofs.look.class_of.Tie as tie
 
-mul-wide : tie.Need-mul-wide
-mul-wide c = search needs
-
-element-copy-out-wide : tie.Need-element-copy-out-wide
-element-copy-out-wide c = search needs
-
-wide-requires : tie.Need-wide-requires
-wide-requires c κs = search needs
-
 returns : tie.Need-returns
 unfolding classBy
 returns c =
@@ -27,15 +18,6 @@ returns-2 c =
     let e = c .before .before .wide .ensures in
     simp (eq-eqb _ 0 (sym e ∙ c .before .if1 .left), le-leb _ _ (c .if2 .taken))
 
-mul-wide-2 : tie.Need-mul-wide-2
-mul-wide-2 c = search needs
-
-element-copy-out-wide-2 : tie.Need-element-copy-out-wide-2
-element-copy-out-wide-2 c = search needs
-
-wide-requires-2 : tie.Need-wide-requires-2
-wide-requires-2 c κs = search needs
-
 returns-3 : tie.Need-returns-3
 unfolding classBy
 returns-3 c =
@@ -46,12 +28,12 @@ pub class-of-spec : {M : Type 1} → statement M
 class-of-spec =
     tie.close
     (tie.spec
-    mul-wide
-    element-copy-out-wide
-    wide-requires
+    (λ c. search needs)
+    (λ c. search needs)
+    (λ c κs. search needs)
     returns
     returns-2
-    mul-wide-2
-    element-copy-out-wide-2
-    wide-requires-2
+    (λ c. search needs)
+    (λ c. search needs)
+    (λ c κs. search needs)
     returns-3)

@@ -4,11 +4,12 @@ use Prim.Native.Nat.{_≤_}
 use native.Mathlib.Omega.{arith}
 use Rattle.metrics.proofs.AnswersByClass.{late-place, late-packet, late-record, late-answer}
 use borrow.Author.Needs.{needs}
+use Rattle.rfc4737.specs.Judge.{sentMost}
 use Rattle.metrics.proofs.look.reordered.Statement.{statement}
 use Rattle.metrics.proofs.look.reordered.Tie as tie
 
 -- the discontinuity is at one of the positions
-place : (c : tie.Start) → (1 ≤ c .args .at) × (c .args .at ≤ c .args .count) × (c .args .count ≤ 4096)
+place : (c : tie.Start) → (1 ≤ c .args .at) × (c .args .at ≤ c .args .count) × (c .args .count ≤ sentMost)
 place c =
     let p = c .pre in
     omega (arith, late-place _ _ _ _ _ (p .0) (p .1) _ _ (p .2) (p .3), p .0 .inside, p .0 .file .few)
@@ -16,31 +17,13 @@ place c =
 sub-place : tie.Need-sub-place
 sub-place c = omega (arith, place (c .before))
 
-cast-place : tie.Need-cast-place
-cast-place c = search needs
-
-mul-wide : tie.Need-mul-wide
-mul-wide c = search needs
-
 element-copy-out-wide : tie.Need-element-copy-out-wide
 element-copy-out-wide c = omega (arith, place (c .before))
-
-wide-requires : tie.Need-wide-requires
-wide-requires c κs = search needs
-
-cast-packet : tie.Need-cast-packet
-cast-packet c = search needs
-
-mul-wide-2 : tie.Need-mul-wide-2
-mul-wide-2 c = search needs
 
 element-copy-out-wide-2 : tie.Need-element-copy-out-wide-2
 element-copy-out-wide-2 c =
     let p = c .before .before .before .pre in
     omega (arith, late-packet _ _ _ _ _ (p .0) (p .1) _ _ (p .2) (p .3), c .wide .ensures)
-
-wide-requires-2 : tie.Need-wide-requires-2
-wide-requires-2 c κs = search needs
 
 sub-time : tie.Need-sub-time
 sub-time c =
@@ -63,9 +46,6 @@ add-t22 c = omega (arith, place (c .before .before .before .before .before .befo
 sub-t23 : tie.Need-sub-t23
 sub-t23 c = omega (arith, place (c .before .before .before .before .before .before))
 
-elapsed-requires : tie.Need-elapsed-requires
-elapsed-requires c κs = search needs
-
 returns : tie.Need-returns
 returns c =
     let p = c .before .before .before .before .before .before .before .pre in
@@ -81,18 +61,18 @@ reordered-spec =
     tie.close
     (tie.spec
     sub-place
-    cast-place
-    mul-wide
+    (λ c. search needs)
+    (λ c. search needs)
     element-copy-out-wide
-    wide-requires
-    cast-packet
-    mul-wide-2
+    (λ c κs. search needs)
+    (λ c. search needs)
+    (λ c. search needs)
     element-copy-out-wide-2
-    wide-requires-2
+    (λ c κs. search needs)
     sub-time
     time-requires
     add-t15
     add-t22
     sub-t23
-    elapsed-requires
+    (λ c κs. search needs)
     returns)

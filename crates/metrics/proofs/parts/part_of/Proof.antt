@@ -8,18 +8,6 @@ use Rattle.metrics.proofs.Common.{rest-part}
 use Rattle.metrics.proofs.parts.part_of.Statement.{statement}
 use Rattle.metrics.proofs.parts.part_of.Tie as tie
 
-sub-common : tie.Need-sub-common
-sub-common c = search needs
-
-part-common-start : tie.Need-part-common-start
-part-common-start c = search needs
-
-part-common-end : tie.Need-part-common-end
-part-common-end c = search needs
-
-common-requires : tie.Need-common-requires
-common-requires c κs = search needs
-
 returns : tie.Need-returns
 returns c =
     let a = c .before .before .before .before .args in
@@ -29,4 +17,4 @@ returns c =
 
 pub part-of-spec : {M : Type 1} → statement M
 part-of-spec =
-    tie.close (tie.spec sub-common part-common-start part-common-end common-requires returns)
+    tie.close (tie.spec (λ c. search needs) (λ c. search needs) (λ c. search needs) (λ c κs. search needs) returns)

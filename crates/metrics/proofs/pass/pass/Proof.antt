@@ -10,12 +10,6 @@ use Rattle.metrics.proofs.Passing.{first-taken, first-differs, record-d
 use Rattle.metrics.proofs.pass.pass.Statement.{statement}
 use Rattle.metrics.proofs.pass.pass.Tie as tie
 
-take-header-requires : tie.Need-take-header-requires
-take-header-requires c κs = search needs
-
-same-length : tie.Need-same-length
-same-length c = search needs
-
 returns : tie.Need-returns
 returns c = first-differs _ _ (c .before .before .before .before .before .before .before .before .before .pre .0) _ _ (c .before .before .before .before .take-header .ensures) (not-true _ (c .if1 .taken))
 
@@ -25,9 +19,6 @@ take-records-requires c κs =
     let first = c .before .before .before .before .before .take-header .ensures in
     let s = first-taken _ _ (h .0) _ _ first (not-false _ (c .before .if1 .left)) in
     (h .0, record { room = λ e. omega (arith, h .1 .room e, first .places); inside = λ e. s .compared e .most }, s)
-
-same-length-2 : tie.Need-same-length-2
-same-length-2 c = search needs
 
 returns-2 : tie.Need-returns-2
 returns-2 c = record-differs _ _ (c .before .before .before .before .before .before .before .before .before .before .before .before .before .before .before .before .pre .0) _ _ (c .before .before .before .before .before .before .before .before .before .before .before .take-header .ensures) _ (c .before .before .before .before .before .take-records .ensures) (not-true _ (c .if2 .taken))
@@ -48,9 +39,6 @@ after-requires c κs =
     last-fits (now (a .file)) (below-fits w8 (now (a .file)) (c .before .before .before .before .before .before .before .before .before .before .before .before .before .before .before .before .before .before .before .shared-slice-known .given)) (a .y) h (now (a .text)) (c .before .before .before .before .before .before .before .before .before .before .before .before .before .before .before .before .before .before .before .before .good .1 .1 .1 .0 .0) (a .comparing) _
     (last-taken _ _ h _ _ (c .before .before .before .before .before .before .before .before .before .before .before .before .before .before .before .take-header .ensures) (s .0) (s .1) (c .before .before .take-end .ensures))
 
-same-length-3 : tie.Need-same-length-3
-same-length-3 c = search needs
-
 returns-3 : tie.Need-returns-3
 returns-3 c =
     let s = c .before .before .before .before .before .before .before .before .before .before .take-records .ensures .all (not-false _ (c .before .before .before .before .before .if2 .left)) in
@@ -60,13 +48,13 @@ pub pass-spec : {M : Type 1} → statement M
 pass-spec =
     tie.close
     (tie.spec
-    take-header-requires
-    same-length
+    (λ c κs. search needs)
+    (λ c. search needs)
     returns
     take-records-requires
-    same-length-2
+    (λ c. search needs)
     returns-2
     take-end-requires
     after-requires
-    same-length-3
+    (λ c. search needs)
     returns-3)

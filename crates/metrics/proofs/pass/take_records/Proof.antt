@@ -10,22 +10,22 @@ use mir.Syntax.{w8}
 use Rattle.octets.proofs.Below.{below-fits}
 use Rattle.rfc4737.specs.declared.Arrival.{Arrival}
 use Rattle.rfc4737.specs.Runs.{counts}
+use Rattle.rfc4737.specs.Judge.{arrivalsMost}
 use Rattle.sample.specs.Decode.{decode}
-use Rattle.metrics.specs.Private.Engine.{Running}
+use Rattle.metrics.specs.Private.Engine.{EngineState}
 use Rattle.metrics.specs.Private.Passed.{PassedTo}
-use Rattle.metrics.specs.Private.Sample.{answersTo, Has}
+use Rattle.metrics.specs.Private.Sample.{answersTo, HasRecord}
 use Rattle.metrics.specs.Private.Steps.{countsBy}
-use Rattle.metrics.specs.Private.Tables.{classOf}
 use Rattle.metrics.proofs.DigitBounds.{answers-within}
-use Rattle.metrics.proofs.OneArrivalMore.{answers-start, answers-length, answers-next, counts-none, counts-small, counts-more}
+use Rattle.metrics.proofs.OneArrivalMore.{answers-start, answers-length, answers-next, counts-small, counts-more}
 use Rattle.metrics.proofs.Passing.{passed-next, passed-stop, passed-all, place-fits}
-use Rattle.metrics.proofs.Running.{running-start}
+use Rattle.metrics.proofs.EngineState.{running-start}
 use Rattle.metrics.proofs.pass.take_records.Statement.{statement}
 use Rattle.metrics.proofs.pass.take_records.Tie as tie
 
 abbrev Inv-loop : tie.InvT-loop
 Inv-loop file y out₀ text comparing start numbers₀ records₀ skipped₀ tree₀ engine₀ counts₀ at₀ i₀ out numbers records skipped tree engine known at i =
-    (i ≤ y .arrivals) × Running (decode file) i numbers records skipped tree engine × (known ≡ counts (answersTo (decode file) i))
+    (i ≤ y .arrivals) × EngineState (decode file) i numbers records skipped tree engine × (known ≡ counts (answersTo (decode file) i))
     × PassedTo (decode file) y text comparing i at out₀ out
 
 abbrev μ-loop : tie.MeasureT-loop
@@ -33,11 +33,11 @@ abbrev μ-loop : tie.MeasureT-loop
     y .arrivals - i
 
 -- record i + 1 is there
-here : (c : tie.Then1 Inv-loop μ-loop) → Has (decode (now (c .before .before .before .before .before .before .before .before .args .file))) (c .before .before .before .before .before .before .before .before .args .y) (c .before .before .loop .i)
+here : (c : tie.Then1 Inv-loop μ-loop) → HasRecord (decode (now (c .before .before .before .before .before .before .before .before .args .file))) (c .before .before .before .before .before .before .before .before .args .y) (c .before .before .loop .i)
 here c = record { file = c .before .before .before .before .before .before .before .before .pre .0; inside = c .if1 .taken }
 
 -- it is one of few
-few : (c : tie.Then1 Inv-loop μ-loop) → c .before .before .loop .i < 4096
+few : (c : tie.Then1 Inv-loop μ-loop) → c .before .before .loop .i < arrivalsMost
 few c = omega (arith, c .if1 .taken, c .before .before .before .before .before .before .before .before .pre .0 .few)
 
 -- the place after its line
@@ -47,26 +47,17 @@ fits c =
     place-fits (now (a .file)) (below-fits w8 (now (a .file)) (c .before .before .before .before .before .before .before .before .before .before .before .before .before .before .before .before .before .before .before .shared-slice-known .given)) (a .y) (now (a .text)) (c .before .before .before .before .before .before .before .before .before .before .before .before .before .before .before .before .before .before .before .before .good .1 .1 .1 .0 .0) (a .comparing)
     (here (c .before .before .before .before .before .before .before .before .before .before .before .before)) (c .before .before .before .before .before .before .before .before .before .before .before .before .before .before .loop .inv .3) (ap (λ (b : Arrival). b .number) (c .before .before .before .before .before .before .before .before .before .before .before .arrival .ensures .0)) (c .before .before .before .before .before .before .advance .ensures .0) (c .before .before .before .take-record .ensures)
 
-fresh-engine-requires : tie.Need-fresh-engine-requires Inv-loop μ-loop
-fresh-engine-requires c κs = search needs
-
-no-counts-requires : tie.Need-no-counts-requires Inv-loop μ-loop
-no-counts-requires c κs = search needs
-
 loop-holds : tie.Need-loop-holds Inv-loop μ-loop
 loop-holds c =
     let d = decode (now (c .before .before .before .before .before .args .file)) in (
       omega arith,
       rw (c .before .fresh-engine .ensures) (running-start d),
-      c .no-counts .ensures ∙ sym (ap counts (answers-start d) ∙ counts-none),
+      c .no-counts .ensures ∙ sym (ap counts (answers-start d)),
       c .before .before .before .before .before .pre .2,
     )
 
 arrival-requires : tie.Need-arrival-requires Inv-loop μ-loop
 arrival-requires c κs = here c
-
-slice-aggregate-advance : tie.Need-slice-aggregate-advance Inv-loop μ-loop
-slice-aggregate-advance c = search needs
 
 advance-requires : tie.Need-advance-requires Inv-loop μ-loop
 advance-requires c κs = (here (c .before .before .before .before .before), c .before .before .before .before .arrival .ensures .0, c .before .before .before .before .before .before .before .loop .inv .1)
@@ -99,8 +90,8 @@ returns c =
 add-at : tie.Need-add-at Inv-loop μ-loop
 add-at c = omega (arith, fits (c .before .before))
 
-counted-by-requires : tie.Need-counted-by-requires Inv-loop μ-loop
-counted-by-requires c κs =
+counted-requires : tie.Need-counted-requires Inv-loop μ-loop
+counted-requires c κs =
     let r = c .before .before .before .before .before .before .before .before .before .before .before .before .before .before in
     rw (c .before .before .before .before .before .before .before .before .before .before .before .before .before .before .before .before .loop .inv .2) (counts-small _ (omega (arith, answers-length _ _ _ (here r), few r)))
 
@@ -116,8 +107,8 @@ loop-again c =
     let h = here (c .before .before .before .before .before .before .before .before .before .before .before .before .before .before .before .before) in
     let step = c .before .before .before .before .before .before .before .before .before .before .advance .ensures in (
       omega (arith, h .inside),
-      step .1,
-      c .before .counted-by .ensures ∙ ap₂ countsBy (l .inv .2) (ap classOf (step .0)) ∙ sym (ap counts (answers-next _ _ _ h) ∙ counts-more _ _),
+      step .2,
+      c .before .counted .ensures ∙ ap₂ countsBy (l .inv .2) (step .1) ∙ sym (ap counts (answers-next _ _ _ h) ∙ counts-more _ _),
       passed-next _ _ _ _ h (l .inv .3) (ap (λ (b : Arrival). b .number) (c .before .before .before .before .before .before .before .before .before .before .before .before .before .before .before .arrival .ensures .0)) (step .0) (c .before .before .before .before .before .before .before .take-record .ensures)
           (not-false _ (c .before .before .before .if2 .left)),
     )
@@ -136,11 +127,11 @@ take-records-spec =
     (tie.spec
     Inv-loop
     μ-loop
-    fresh-engine-requires
-    no-counts-requires
+    (λ c κs. search needs)
+    (λ c κs. search needs)
     loop-holds
     arrival-requires
-    slice-aggregate-advance
+    (λ c. search needs)
     advance-requires
     add-take-record
     take-record-requires
@@ -148,7 +139,7 @@ take-records-spec =
     same-length
     returns
     add-at
-    counted-by-requires
+    counted-requires
     add-i
     loop-less
     loop-again

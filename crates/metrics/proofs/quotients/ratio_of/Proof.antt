@@ -9,12 +9,9 @@ returns : tie.Need-returns
 unfolding ratioOf
 returns c = simp (eq-eqb _ _ (c .if1 .taken))
 
-quotient-requires : tie.Need-quotient-requires
-quotient-requires c κs = search needs
-
 returns-2 : tie.Need-returns-2
 unfolding ratioOf
 returns-2 c = simp (ne-eqb _ _ (c .before .if1 .left), c .quotient .ensures)
 
 pub ratio-of-spec : {M : Type 1} → statement M
-ratio-of-spec = tie.close (tie.spec returns quotient-requires returns-2)
+ratio-of-spec = tie.close (tie.spec returns (λ c κs. search needs) returns-2)

@@ -9,15 +9,6 @@ returns : tie.Need-returns
 unfolding ratiosBy
 returns c = simp (eq-eqb _ _ (c .if1 .taken))
 
-quotient-requires : tie.Need-quotient-requires
-quotient-requires c κs = search needs
-
-quotient-requires-2 : tie.Need-quotient-requires-2
-quotient-requires-2 c κs = search needs
-
-quotient-requires-3 : tie.Need-quotient-requires-3
-quotient-requires-3 c κs = search needs
-
 returns-2 : tie.Need-returns-2
 unfolding ratiosBy
 returns-2 c =
@@ -26,4 +17,4 @@ returns-2 c =
 pub ratios-of-spec : {M : Type 1} → statement M
 ratios-of-spec =
     tie.close
-    (tie.spec returns quotient-requires quotient-requires-2 quotient-requires-3 returns-2)
+    (tie.spec returns (λ c κs. search needs) (λ c κs. search needs) (λ c κs. search needs) returns-2)

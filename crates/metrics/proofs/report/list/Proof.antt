@@ -10,9 +10,6 @@ use Rattle.metrics.proofs.Listed.{sample-within}
 use Rattle.metrics.proofs.report.list.Statement.{statement}
 use Rattle.metrics.proofs.report.list.Tie as tie
 
-slice-aggregate-pass : tie.Need-slice-aggregate-pass
-slice-aggregate-pass c = search needs
-
 pass-requires : tie.Need-pass-requires
 pass-requires c κs = (c .before .before .before .before .pre, record { room = λ e. absurd (true≢false (sym e)); inside = λ e. absurd (true≢false (sym e)) })
 
@@ -21,11 +18,8 @@ cast-result c =
     let a = c .before .before .before .before .before .before .before .before .args in
     omega (arith, c .before .before .before .pass .ensures .listed refl .0, sample-within (now (a .file)) (a .y) (c .before .before .before .before .before .before .before .before .pre) (below-fits w8 (now (a .file)) (c .before .before .before .before .before .before .before .shared-slice-known .given)))
 
-same-length : tie.Need-same-length
-same-length c = search needs
-
 returns : tie.Need-returns
 returns c = c .before .before .before .pass .ensures .listed refl
 
 pub list-spec : {M : Type 1} → statement M
-list-spec = tie.close (tie.spec slice-aggregate-pass pass-requires cast-result same-length returns)
+list-spec = tie.close (tie.spec (λ c. search needs) pass-requires cast-result (λ c. search needs) returns)

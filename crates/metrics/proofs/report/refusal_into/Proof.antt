@@ -1,5 +1,5 @@
 -- `refusal_into` gives the file's own refusal, then 8 by the length of the lines; any listing has room in LISTING_OCTETS. Assumes nothing.
-use mathlib.Core.Path.{_≡_, ap}
+use mathlib.Core.Path.{_≡_, sym, ap, _∙_}
 use Prim.Native.Nat.{_≤_}
 use native.Mathlib.Omega.{arith}
 use borrow.Author.Needs.{needs}
@@ -9,8 +9,9 @@ use mir.Syntax.{w8}
 use Rattle.octets.proofs.Below.{below-fits}
 use Rattle.sample.specs.Decode.{decode, decodedRefusal}
 use Rattle.sample.specs.declared.Layout.{Layout}
+use Rattle.sample.proofs.Output.{refusal-own, refusal-short, refusal-none}
 use Rattle.metrics.specs.Report.{sampleText}
-use Rattle.metrics.proofs.Listed.{sample-within, refused-own, refused-short, refused-none}
+use Rattle.metrics.proofs.Listed.{sample-within}
 use Rattle.metrics.proofs.report.refusal_into.Statement.{statement}
 use Rattle.metrics.proofs.report.refusal_into.Tie as tie
 
@@ -19,35 +20,26 @@ own : (c : tie.Start) → c .args .y .refusal ≡ decodedRefusal (decode (now (c
 own c = ap (λ (y : Layout). y .refusal) (c .pre .laid)
 
 returns : tie.Need-returns
-returns c = refused-own _ _ (own (c .before .before .before)) (c .if1 .taken)
+returns c = refusal-own _ _ _ _ (own (c .before .before .before)) (c .if1 .taken)
 
 returns-2 : tie.Need-returns-2
 returns-2 c =
     let s = c .before .before .before .before in
     let octets = below-fits w8 (now (s .args .file)) (c .before .before .before .shared-slice-known .given) in
     let fits : length (sampleText (decode (now (s .args .file)))) ≤ s .args .room = omega (arith, c .if2 .taken, sample-within (now (s .args .file)) (s .args .y) (s .pre) octets) in
-    refused-none _ _ (own s) (c .before .if1 .left) fits
-
-slice-aggregate-list : tie.Need-slice-aggregate-list
-slice-aggregate-list c = search needs
-
-list-requires : tie.Need-list-requires
-list-requires c κs = search needs
-
-cast-if3 : tie.Need-cast-if3
-cast-if3 c = search needs
+    refusal-none _ _ _ (sym (own s) ∙ c .before .if1 .left) fits
 
 returns-3 : tie.Need-returns-3
 returns-3 c =
     let s = c .before .before .before .before .before .before .before .before in
-    refused-short _ _ (own s) (c .before .before .before .before .before .if1 .left) (omega (arith, c .if3 .taken, c .before .before .list .ensures .0))
+    refusal-short _ _ _ (sym (own s) ∙ c .before .before .before .before .before .if1 .left) (omega (arith, c .if3 .taken, c .before .before .list .ensures .0))
 
 returns-4 : tie.Need-returns-4
 returns-4 c =
     let s = c .before .before .before .before .before .before .before .before in
-    refused-none _ _ (own s) (c .before .before .before .before .before .if1 .left) (omega (arith, c .if3 .left, c .before .before .list .ensures .0))
+    refusal-none _ _ _ (sym (own s) ∙ c .before .before .before .before .before .if1 .left) (omega (arith, c .if3 .left, c .before .before .list .ensures .0))
 
 pub refusal-into-spec : {M : Type 1} → statement M
 refusal-into-spec =
     tie.close
-    (tie.spec returns returns-2 slice-aggregate-list list-requires cast-if3 returns-3 returns-4)
+    (tie.spec returns returns-2 (λ c. search needs) (λ c κs. search needs) (λ c. search needs) returns-3 returns-4)

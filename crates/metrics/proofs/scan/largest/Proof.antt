@@ -16,32 +16,11 @@ abbrev μ-loop : tie.MeasureT-loop
 loop-holds : tie.Need-loop-holds Inv-loop μ-loop
 loop-holds c = above-none _ _ refl
 
-sub-place : tie.Need-sub-place Inv-loop μ-loop
-sub-place c = omega arith
-
-cast-place : tie.Need-cast-place Inv-loop μ-loop
-cast-place c = omega arith
-
-mul-wide : tie.Need-mul-wide Inv-loop μ-loop
-mul-wide c = omega arith
-
-element-copy-out-wide : tie.Need-element-copy-out-wide Inv-loop μ-loop
-element-copy-out-wide c = omega arith
-
-wide-requires : tie.Need-wide-requires Inv-loop μ-loop
-wide-requires c κs = search needs
-
 sub-result : tie.Need-sub-result Inv-loop μ-loop
 sub-result c = omega (arith, c .before .before .before .before .loop .inv .order)
 
 returns : tie.Need-returns Inv-loop μ-loop
 returns c = largest-back _ _ _ _ (c .before .before .before .before .loop .inv) (λ low. rw (c .before .wide .ensures) at (c .if1 .taken))
-
-sub-p : tie.Need-sub-p Inv-loop μ-loop
-sub-p c = omega arith
-
-loop-less : tie.Need-loop-less Inv-loop μ-loop
-loop-less c = omega arith
 
 loop-again : tie.Need-loop-again Inv-loop μ-loop
 loop-again c = above-back _ _ (omega arith) (rw (c .before .wide .ensures) at (c .if1 .left)) (c .before .before .before .before .loop .inv)
@@ -59,15 +38,15 @@ largest-spec =
     Inv-loop
     μ-loop
     loop-holds
-    sub-place
-    cast-place
-    mul-wide
-    element-copy-out-wide
-    wide-requires
+    (λ c. omega arith)
+    (λ c. omega arith)
+    (λ c. omega arith)
+    (λ c. omega arith)
+    (λ c κs. search needs)
     sub-result
     returns
-    sub-p
-    loop-less
+    (λ c. omega arith)
+    (λ c. omega arith)
     loop-again
     sub-result-2
     returns-2)

@@ -6,9 +6,10 @@ use native.Mathlib.Omega.{arith}
 use lib.ListN.{getD}
 use borrow.Author.Needs.{needs}
 use denote.Ref.{now}
+use Rattle.rfc4737.specs.Judge.{sentMost}
 use Rattle.metrics.specs.Private.Tables.{Above}
 use Rattle.metrics.proofs.Reordered.{above-none, largest-back}
-use Rattle.metrics.proofs.Linked.{above-link}
+use Rattle.metrics.proofs.Links.{above-link}
 use Rattle.metrics.proofs.scan.largest_by_links.Statement.{statement}
 use Rattle.metrics.proofs.scan.largest_by_links.Tie as tie
 
@@ -19,7 +20,7 @@ abbrev μ-loop : tie.MeasureT-loop
 μ-loop numbers links more count s p₀ p = p
 
 -- the packet of a place is one of the packets
-packet : (c : tie.Else1 Inv-loop μ-loop) → c .before .wide .result ≤ 4096
+packet : (c : tie.Else1 Inv-loop μ-loop) → c .before .wide .result ≤ sentMost
 packet c = rw (c .before .wide .ensures) (c .before .before .before .before .before .pre .1 .packet (c .before .before .before .before .loop .p - 1) (omega (arith, c .before .before .before .loop-test .taken, c .before .before .before .before .loop .inv .order)))
 
 -- its link leads to a place before it
@@ -33,21 +34,6 @@ link c =
 loop-holds : tie.Need-loop-holds Inv-loop μ-loop
 loop-holds c = above-none _ _ refl
 
-sub-place : tie.Need-sub-place Inv-loop μ-loop
-sub-place c = omega arith
-
-cast-place : tie.Need-cast-place Inv-loop μ-loop
-cast-place c = omega arith
-
-mul-wide : tie.Need-mul-wide Inv-loop μ-loop
-mul-wide c = omega arith
-
-element-copy-out-wide : tie.Need-element-copy-out-wide Inv-loop μ-loop
-element-copy-out-wide c = omega arith
-
-wide-requires : tie.Need-wide-requires Inv-loop μ-loop
-wide-requires c κs = search needs
-
 sub-result : tie.Need-sub-result Inv-loop μ-loop
 sub-result c = omega (arith, c .before .before .before .before .loop .inv .order)
 
@@ -55,9 +41,6 @@ returns : tie.Need-returns Inv-loop μ-loop
 returns c =
     let most = c .before .before .before .before .before .pre .0 in
     (omega arith, largest-back _ _ _ _ (c .before .before .before .before .loop .inv) (λ low. rw (c .before .wide .ensures) at (c .if1 .taken)))
-
-cast-packet : tie.Need-cast-packet Inv-loop μ-loop
-cast-packet c = omega arith
 
 sub-p : tie.Need-sub-p Inv-loop μ-loop
 sub-p c = omega (arith, link c)
@@ -67,9 +50,6 @@ mul-wide-2 c = omega (arith, packet c)
 
 element-copy-out-wide-2 : tie.Need-element-copy-out-wide-2 Inv-loop μ-loop
 element-copy-out-wide-2 c = omega (arith, packet c)
-
-wide-requires-2 : tie.Need-wide-requires-2 Inv-loop μ-loop
-wide-requires-2 c κs = search needs
 
 sub-p-2 : tie.Need-sub-p-2 Inv-loop μ-loop
 sub-p-2 c = omega (arith, link (c .before .before), c .wide2 .ensures)
@@ -94,18 +74,18 @@ largest-by-links-spec =
     Inv-loop
     μ-loop
     loop-holds
-    sub-place
-    cast-place
-    mul-wide
-    element-copy-out-wide
-    wide-requires
+    (λ c. omega arith)
+    (λ c. omega arith)
+    (λ c. omega arith)
+    (λ c. omega arith)
+    (λ c κs. search needs)
     sub-result
     returns
-    cast-packet
+    (λ c. omega arith)
     sub-p
     mul-wide-2
     element-copy-out-wide-2
-    wide-requires-2
+    (λ c κs. search needs)
     sub-p-2
     loop-less
     loop-again

@@ -6,44 +6,11 @@ use borrow.Author.Needs.{needs}
 use Rattle.metrics.proofs.tables.note.Statement.{statement}
 use Rattle.metrics.proofs.tables.note.Tie as tie
 
-mul-if1 : tie.Need-mul-if1
-mul-if1 c = search needs
-
-element-copy-out-if1 : tie.Need-element-copy-out-if1
-element-copy-out-if1 c = search needs
-
 returns : tie.Need-returns
 returns c = let p = c .before .before .pre in noted-copy _ _ _ _ _ _ (p .few) _ (p .low) (p .high) (c .if1 .taken)
 
-add-records : tie.Need-add-records
-add-records c = search needs
-
-cast-records : tie.Need-cast-records
-cast-records c = search needs
-
-mul-records : tie.Need-mul-records
-mul-records c = search needs
-
-element-write-records : tie.Need-element-write-records
-element-write-records c = search needs
-
-cast-place : tie.Need-cast-place
-cast-place c = search needs
-
-cast-numbers : tie.Need-cast-numbers
-cast-numbers c = search needs
-
-mul-numbers : tie.Need-mul-numbers
-mul-numbers c = search needs
-
 element-write-numbers : tie.Need-element-write-numbers
 element-write-numbers c = let p = c .before .before .pre in omega (arith, noting-few _ _ _ _ _ _ p)
-
-mul-skipped : tie.Need-mul-skipped
-mul-skipped c = search needs
-
-element-write-skipped : tie.Need-element-write-skipped
-element-write-skipped c = search needs
 
 add-t25 : tie.Need-add-t25
 add-t25 c = let p = c .before .before .before .pre in omega (arith, noting-few _ _ _ _ _ _ p)
@@ -57,14 +24,8 @@ add-skip c = let p = c .before .before .before .before .pre in omega (arith, not
 cast-skip : tie.Need-cast-skip
 cast-skip c = let p = c .before .before .before .before .pre in omega (arith, noting-few _ _ _ _ _ _ p)
 
-skip-requires : tie.Need-skip-requires
-skip-requires c κs = search needs
-
 add-t17 : tie.Need-add-t17
 add-t17 c = let p = c .before .before .before .before .before .pre in omega (arith, noting-few _ _ _ _ _ _ p)
-
-add-t28 : tie.Need-add-t28
-add-t28 c = search needs
 
 returns-3 : tie.Need-returns-3
 returns-3 c =
@@ -75,24 +36,24 @@ pub note-spec : {M : Type 1} → statement M
 note-spec =
     tie.close
     (tie.spec
-    mul-if1
-    element-copy-out-if1
+    (λ c. search needs)
+    (λ c. search needs)
     returns
-    add-records
-    cast-records
-    mul-records
-    element-write-records
-    cast-place
-    cast-numbers
-    mul-numbers
+    (λ c. search needs)
+    (λ c. search needs)
+    (λ c. search needs)
+    (λ c. search needs)
+    (λ c. search needs)
+    (λ c. search needs)
+    (λ c. search needs)
     element-write-numbers
-    mul-skipped
-    element-write-skipped
+    (λ c. search needs)
+    (λ c. search needs)
     add-t25
     returns-2
     add-skip
     cast-skip
-    skip-requires
+    (λ c κs. search needs)
     add-t17
-    add-t28
+    (λ c. search needs)
     returns-3)

@@ -4,6 +4,7 @@ use Prim.Native.Nat.{_+_, _≤_, _-_}
 use native.Mathlib.Omega.{arith}
 use lib.ListN.{length, length-set}
 use mathlib.Core.Path.{_≡_}
+use Rattle.metrics.specs.Private.Sample.{numberPlaces}
 use Rattle.metrics.specs.Private.Tables.{Filled}
 use Rattle.metrics.proofs.Follow.{filled-none, filled-more, filled-to}
 use Rattle.metrics.proofs.tables.skip.Statement.{statement}
@@ -11,28 +12,13 @@ use Rattle.metrics.proofs.tables.skip.Tie as tie
 
 abbrev Inv-loop : tie.InvT-loop
 Inv-loop skipped₀ from to position s₀ skipped s =
-    (from ≤ s) × (length skipped ≡ 4097) × Filled from s position skipped₀ skipped × (s ≤ from + (to - from))
+    (from ≤ s) × (length skipped ≡ numberPlaces) × Filled from s position skipped₀ skipped × (s ≤ from + (to - from))
 
 abbrev μ-loop : tie.MeasureT-loop
 μ-loop skipped₀ from to position s₀ skipped s = to - s
 
 loop-holds : tie.Need-loop-holds Inv-loop μ-loop
 loop-holds c = (omega arith, c .pre .1, filled-none _ _ _, omega arith)
-
-cast-at : tie.Need-cast-at Inv-loop μ-loop
-cast-at c = omega arith
-
-mul-skipped : tie.Need-mul-skipped Inv-loop μ-loop
-mul-skipped c = omega arith
-
-element-write-skipped : tie.Need-element-write-skipped Inv-loop μ-loop
-element-write-skipped c = omega arith
-
-add-s : tie.Need-add-s Inv-loop μ-loop
-add-s c = omega arith
-
-loop-less : tie.Need-loop-less Inv-loop μ-loop
-loop-less c = omega arith
 
 loop-again : tie.Need-loop-again Inv-loop μ-loop
 loop-again c =
@@ -49,10 +35,10 @@ skip-spec =
     Inv-loop
     μ-loop
     loop-holds
-    cast-at
-    mul-skipped
-    element-write-skipped
-    add-s
-    loop-less
+    (λ c. omega arith)
+    (λ c. omega arith)
+    (λ c. omega arith)
+    (λ c. omega arith)
+    (λ c. omega arith)
     loop-again
     returns)

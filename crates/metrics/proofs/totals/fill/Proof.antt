@@ -10,10 +10,11 @@ use lib.ListN.{length}
 use mir.Syntax.{w8}
 use Rattle.octets.proofs.Below.{below-fits}
 use Rattle.rfc4737.specs.declared.Arrival.{Arrival}
+use Rattle.rfc4737.specs.Judge.{sentMost}
 use Rattle.sample.specs.Decode.{decode}
 use Rattle.metrics.specs.Sample.{sizeOf}
-use Rattle.metrics.specs.Private.Tables.{Numbered}
-use Rattle.metrics.specs.Private.Engine.{Totalled}
+use Rattle.metrics.specs.Private.Tables.{NumberTable}
+use Rattle.metrics.specs.Private.Engine.{SizeTree}
 use Rattle.metrics.proofs.DigitBounds.{size-most}
 use Rattle.metrics.proofs.Pairs.{total-small, totalled-more}
 use Rattle.metrics.proofs.totals.fill.Statement.{statement}
@@ -22,8 +23,8 @@ use Rattle.metrics.proofs.totals.fill.Tie as tie
 abbrev Inv-loop : tie.InvT-loop
 Inv-loop file y numbers tree₀ count total₀ p₀ tree total p =
     (p ≤ count) × (length tree ≡ length tree₀)
-    × ((fs : List Arrival) → Numbered fs numbers count → Totalled (sizeOf (decode file)) fs tree₀ (record { filled = p₀; total = total₀ })
-    → Totalled (sizeOf (decode file)) fs tree (record { filled = p; total = total }))
+    × ((fs : List Arrival) → NumberTable fs numbers count → SizeTree (sizeOf (decode file)) fs tree₀ (record { filled = p₀; total = total₀ })
+    → SizeTree (sizeOf (decode file)) fs tree (record { filled = p; total = total }))
 
 abbrev μ-loop : tie.MeasureT-loop
 μ-loop file y numbers tree₀ count total₀ p₀ tree total p = count - p
@@ -33,7 +34,7 @@ sizes : (c : tie.After-shared-slice-known Inv-loop μ-loop) (s : ℕ) → sizeOf
 sizes c = size-most (now (c .before .args .file)) (below-fits w8 (now (c .before .args .file)) (c .shared-slice-known .given))
 
 -- the number of a place is that of a packet
-packet : (c : tie.After-wide Inv-loop μ-loop) → (1 ≤ c .wide .result) × (c .wide .result ≤ c .before .before .before .before .before .before .args .y .sent) × (c .wide .result ≤ 4096)
+packet : (c : tie.After-wide Inv-loop μ-loop) → (1 ≤ c .wide .result) × (c .wide .result ≤ c .before .before .before .before .before .before .args .y .sent) × (c .wide .result ≤ sentMost)
 packet c =
     let k = c .before .before .before .before .before .before .pre in
     omega (arith, k .packets .inside (c .before .before .before .loop .p) (c .before .before .loop-test .taken), c .wide .ensures, k .file .sentFew)
@@ -41,26 +42,14 @@ packet c =
 loop-holds : tie.Need-loop-holds Inv-loop μ-loop
 loop-holds c = let k = c .before .before .pre in (omega (arith, k .totalled .some, k .numbered .all), refl, λ fs n t. t)
 
-cast-place : tie.Need-cast-place Inv-loop μ-loop
-cast-place c = omega arith
-
-mul-wide : tie.Need-mul-wide Inv-loop μ-loop
-mul-wide c = omega arith
-
 element-copy-out-wide : tie.Need-element-copy-out-wide Inv-loop μ-loop
 element-copy-out-wide c = omega (arith, c .before .before .before .before .pre .few)
-
-wide-requires : tie.Need-wide-requires Inv-loop μ-loop
-wide-requires c κs = search needs
 
 size-requires : tie.Need-size-requires Inv-loop μ-loop
 size-requires c κs = let k = c .before .before .before .before .before .before .pre in (k .file, omega (arith, packet c), omega (arith, packet c))
 
 add-add : tie.Need-add-add Inv-loop μ-loop
 add-add c = omega (arith, packet (c .before .before))
-
-add-requires : tie.Need-add-requires Inv-loop μ-loop
-add-requires c κs = search needs
 
 add-total : tie.Need-add-total Inv-loop μ-loop
 add-total c =
@@ -103,13 +92,13 @@ fill-spec =
     Inv-loop
     μ-loop
     loop-holds
-    cast-place
-    mul-wide
+    (λ c. omega arith)
+    (λ c. omega arith)
     element-copy-out-wide
-    wide-requires
+    (λ c κs. search needs)
     size-requires
     add-add
-    add-requires
+    (λ c κs. search needs)
     add-total
     add-p
     loop-less

@@ -6,8 +6,9 @@ use mathlib.Core.Path.{_≡_, refl, _∙_}
 use mathlib.Core.List.{map}
 use lib.ListN.{getD, drop}
 use denote.Ref.{now}
-use Rattle.owamp.specs.Record.{recordCount, recordsIn, arrivalsIn}
-use Rattle.owamp.specs.Private.Reading.{noArrival, judgeRecord}
+use Rattle.owamp.specs.Record.{recordCount, recordsIn, recordsArrivals}
+use Rattle.sample.specs.Places.{noArrival}
+use Rattle.owamp.specs.Private.Reading.{judgeRecord}
 use Rattle.rfc4737.specs.Refusals.{firstOf}
 use Rattle.owamp.proofs.Reading.{records-length, judge-all}
 use Rattle.owamp.proofs.Turn.{turn-stop, turn-next, turn-done}
@@ -31,28 +32,13 @@ found c =
 loop-holds : tie.Need-loop-holds Inv-loop μ-loop
 loop-holds c = (search needs, refl)
 
-number-of-requires : tie.Need-number-of-requires Inv-loop μ-loop
-number-of-requires c κs = search needs
-
-time-of-requires : tie.Need-time-of-requires Inv-loop μ-loop
-time-of-requires c κs = search needs
-
-judge-record-requires : tie.Need-judge-record-requires Inv-loop μ-loop
-judge-record-requires c κs = search needs
-
 returns : tie.Need-returns Inv-loop μ-loop
-unfolding arrivalsIn
+unfolding recordsArrivals
 returns c =
     let l = c .before .before .before .before .before in
     let a = c .before .before .before .before .before .before .before .args in
     let m = records-length (now (a .records)) in
     turn-stop (judgeRecord (a .k)) (recordsIn (now (a .records))) (l .loop .i) (l .loop .inv .1) noArrival (record { number = c .before .before .before .number-of .result; time = c .before .before .time-of .result }) (omega arith) (found (c .before .before)) (c .before .judge-record .result) (c .before .judge-record .ensures) (c .if1 .taken) ∙ judge-all (a .k) (recordsIn (now (a .records)))
-
-add-i : tie.Need-add-i Inv-loop μ-loop
-add-i c = search needs
-
-loop-less : tie.Need-loop-less Inv-loop μ-loop
-loop-less c = search needs
 
 loop-again : tie.Need-loop-again Inv-loop μ-loop
 loop-again c =
@@ -62,7 +48,7 @@ loop-again c =
     (search needs, turn-next (judgeRecord (a .k)) (recordsIn (now (a .records))) (l .loop .i) (l .loop .inv .1) noArrival (record { number = c .before .before .before .number-of .result; time = c .before .before .time-of .result }) (omega arith) (found (c .before .before)) (c .before .judge-record .result) (c .before .judge-record .ensures) (c .if1 .left))
 
 returns-2 : tie.Need-returns-2 Inv-loop μ-loop
-unfolding arrivalsIn
+unfolding recordsArrivals
 returns-2 c =
     let l = c .before in
     let a = c .before .before .before .args in
@@ -76,11 +62,11 @@ judge-numbers-spec =
     Inv-loop
     μ-loop
     loop-holds
-    number-of-requires
-    time-of-requires
-    judge-record-requires
+    (λ c κs. search needs)
+    (λ c κs. search needs)
+    (λ c κs. search needs)
     returns
-    add-i
-    loop-less
+    (λ c. search needs)
+    (λ c. search needs)
     loop-again
     returns-2)

@@ -10,9 +10,6 @@ returns : tie.Need-returns
 unfolding judgeRecord judgeNumber
 returns c = simp (eq-eqb _ _ (c .if1 .taken))
 
-outside-requires : tie.Need-outside-requires
-outside-requires c κs = search needs
-
 returns-2 : tie.Need-returns-2
 unfolding judgeRecord judgeNumber
 returns-2 c = simp (ne-eqb _ _ (c .before .before .if1 .left), ← c .before .outside .ensures, c .if2 .taken)
@@ -22,4 +19,4 @@ unfolding judgeRecord judgeNumber
 returns-3 c = simp (ne-eqb _ _ (c .before .before .if1 .left), ← c .before .outside .ensures, c .if2 .left)
 
 pub judge-record-spec : {M : Type 1} → statement M
-judge-record-spec = tie.close (tie.spec returns outside-requires returns-2 returns-3)
+judge-record-spec = tie.close (tie.spec returns (λ c κs. search needs) returns-2 returns-3)

@@ -11,7 +11,7 @@ use Rattle.rfc4737.specs.declared.Arrival.{Arrival}
 use Rattle.sample.specs.Decode.{decode, sampleOf}
 use Rattle.owamp.specs.Judge.{judgeTime, judgeSeconds}
 use Rattle.owamp.specs.Calls.{arrivalsOfFile}
-use Rattle.owamp.specs.Private.Reading.{noArrival}
+use Rattle.sample.specs.Places.{noArrival}
 use Rattle.sample.proofs.Accepted.{found-sample, arrival-found}
 use Rattle.rfc4737.specs.Refusals.{firstOf}
 use Rattle.owamp.proofs.Turn.{turn-stop, turn-next, turn-done}
@@ -38,12 +38,6 @@ there c =
 loop-holds : tie.Need-loop-holds Inv-loop μ-loop
 loop-holds c = (search needs, refl)
 
-arrival-requires : tie.Need-arrival-requires Inv-loop μ-loop
-arrival-requires c κs = search needs
-
-judge-time-requires : tie.Need-judge-time-requires Inv-loop μ-loop
-judge-time-requires c κs = search needs
-
 returns : tie.Need-returns Inv-loop μ-loop
 unfolding judgeSeconds
 returns c =
@@ -52,12 +46,6 @@ returns c =
     let m = found-many (now (a .args .file)) (a .args .found) (a .pre) in
     let xs = arrivalsOfFile (now (a .args .file)) in
     turn-stop judgeArrival xs (l .loop .i) (l .loop .inv .1) noArrival (getD xs (l .loop .i) noArrival) (omega arith) refl (c .before .judge-time .result) (c .before .judge-time .ensures ∙ ap judgeArrival (there (c .before .before))) (c .if1 .taken)
-
-add-i : tie.Need-add-i Inv-loop μ-loop
-add-i c = search needs
-
-loop-less : tie.Need-loop-less Inv-loop μ-loop
-loop-less c = search needs
 
 loop-again : tie.Need-loop-again Inv-loop μ-loop
 loop-again c =
@@ -83,10 +71,10 @@ judge-seconds-spec =
     Inv-loop
     μ-loop
     loop-holds
-    arrival-requires
-    judge-time-requires
+    (λ c κs. search needs)
+    (λ c κs. search needs)
     returns
-    add-i
-    loop-less
+    (λ c. search needs)
+    (λ c. search needs)
     loop-again
     returns-2)

@@ -9,9 +9,6 @@ use Rattle.owamp.specs.Judge.{secondsMost, judgeTime}
 use Rattle.owamp.proofs.judge.judge_time.Statement.{statement}
 use Rattle.owamp.proofs.judge.judge_time.Tie as tie
 
-seconds-of-requires : tie.Need-seconds-of-requires
-seconds-of-requires c κs = search needs
-
 returns : tie.Need-returns
 unfolding judgeTime
 returns c =
@@ -25,4 +22,4 @@ returns-2 c =
     simp (le-ltb _ _ h)
 
 pub judge-time-spec : {M : Type 1} → statement M
-judge-time-spec = tie.close (tie.spec seconds-of-requires returns returns-2)
+judge-time-spec = tie.close (tie.spec (λ c κs. search needs) returns returns-2)

@@ -6,7 +6,8 @@ use denote.Ref.{now}
 use borrow.Author.Tests.{eq-eqb, ne-eqb}
 use mathlib.Core.Bool.{true, false}
 use Rattle.rfc4737.specs.Refusals.{outside}
-use Rattle.owamp.specs.Record.{arrivalsIn}
+use Rattle.rfc4737.specs.Judge.{arrivalsMost}
+use Rattle.owamp.specs.Record.{recordsArrivals}
 use Rattle.owamp.specs.Judge.{recordsRefusal, judgeNumbers}
 use Rattle.rfc4737.proofs.Due.{first-one}
 use Rattle.owamp.proofs.judge.refusal_in.Statement.{statement}
@@ -16,45 +17,36 @@ returns : tie.Need-returns
 unfolding recordsRefusal
 returns c = simp (ne-eqb _ _ (c .if1 .taken))
 
-outside-requires : tie.Need-outside-requires
-outside-requires c κs = search needs
-
 returns-2 : tie.Need-returns-2
 unfolding recordsRefusal
 returns-2 c =
     let h = sym (c .before .outside .ensures) ∙ c .if2 .taken in
     simp (eq-eqb _ _ (c .before .before .if1 .left), h)
 
-outside-requires-2 : tie.Need-outside-requires-2
-outside-requires-2 c κs = search needs
-
 returns-3 : tie.Need-returns-3
 unfolding recordsRefusal
 returns-3 c =
     let a = c .before .before .before .before .before .before in
     let h = sym (c .before .before .before .outside .ensures) ∙ c .before .before .if2 .left in
-    let g : outside 0 4096 (length (arrivalsIn (now (a .args .records)))) ≡ true = ap (outside 0 4096) (sym (a .pre)) ∙ sym (c .before .outside2 .ensures) ∙ c .if3 .taken in
+    let g : outside 0 arrivalsMost (length (recordsArrivals (now (a .args .records)))) ≡ true = ap (outside 0 arrivalsMost) (sym (a .pre)) ∙ sym (c .before .outside2 .ensures) ∙ c .if3 .taken in
     simp (eq-eqb _ _ (c .before .before .before .before .if1 .left), h, g)
-
-judge-numbers-requires : tie.Need-judge-numbers-requires
-judge-numbers-requires c κs = search needs
 
 returns-4 : tie.Need-returns-4
 unfolding recordsRefusal
 returns-4 c =
     let a = c .before .before .before .before .before .before .before in
     let h = sym (c .before .before .before .before .outside .ensures) ∙ c .before .before .before .if2 .left in
-    let g : outside 0 4096 (length (arrivalsIn (now (a .args .records)))) ≡ false = ap (outside 0 4096) (sym (a .pre)) ∙ sym (c .before .before .outside2 .ensures) ∙ c .before .if3 .left in
-    simp (eq-eqb _ _ (c .before .before .before .before .before .if1 .left), h, g, first-one (judgeNumbers (a .args .k) (arrivalsIn (now (a .args .records))))) (c .judge-numbers .ensures)
+    let g : outside 0 arrivalsMost (length (recordsArrivals (now (a .args .records)))) ≡ false = ap (outside 0 arrivalsMost) (sym (a .pre)) ∙ sym (c .before .before .outside2 .ensures) ∙ c .before .if3 .left in
+    simp (eq-eqb _ _ (c .before .before .before .before .before .if1 .left), h, g, first-one (judgeNumbers (a .args .k) (recordsArrivals (now (a .args .records))))) (c .judge-numbers .ensures)
 
 pub refusal-in-spec : {M : Type 1} → statement M
 refusal-in-spec =
     tie.close
     (tie.spec
     returns
-    outside-requires
+    (λ c κs. search needs)
     returns-2
-    outside-requires-2
+    (λ c κs. search needs)
     returns-3
-    judge-numbers-requires
+    (λ c κs. search needs)
     returns-4)

@@ -10,15 +10,6 @@ use Rattle.owamp.proofs.Reading.{number-stands}
 use Rattle.owamp.proofs.records.number_of.Statement.{statement}
 use Rattle.owamp.proofs.records.number_of.Tie as tie
 
-mul-number-at : tie.Need-mul-number-at
-mul-number-at c = search needs
-
-add-number-at : tie.Need-add-number-at
-add-number-at c = search needs
-
-number-at-requires : tie.Need-number-at-requires
-number-at-requires c κs = search needs
-
 add-result : tie.Need-add-result
 add-result c =
     let a = c .before .before .args in
@@ -29,4 +20,4 @@ returns : tie.Need-returns
 returns c = number-stands (now (c .before .before .args .records)) (c .before .before .args .i) (search needs) (c .number-at .ensures)
 
 pub number-of-spec : {M : Type 1} → statement M
-number-of-spec = tie.close (tie.spec mul-number-at add-number-at number-at-requires add-result returns)
+number-of-spec = tie.close (tie.spec (λ c. search needs) (λ c. search needs) (λ c κs. search needs) add-result returns)

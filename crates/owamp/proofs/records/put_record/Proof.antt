@@ -5,55 +5,36 @@ use Rattle.owamp.proofs.Writing.{record-put}
 use Rattle.owamp.proofs.records.put_record.Statement.{statement}
 use Rattle.owamp.proofs.records.put_record.Tie as tie
 
-sub-put-number : tie.Need-sub-put-number
-sub-put-number c = search needs
-
-put-number-requires : tie.Need-put-number-requires
-put-number-requires c κs = search needs
-
-put-number-requires-2 : tie.Need-put-number-requires-2
-put-number-requires-2 c κs = search needs
-
-put-number-requires-3 : tie.Need-put-number-requires-3
-put-number-requires-3 c κs = search needs
-
-put-number-requires-4 : tie.Need-put-number-requires-4
-put-number-requires-4 c κs = search needs
-
-seconds-of-requires : tie.Need-seconds-of-requires
-seconds-of-requires c κs = search needs
-
-put-number-requires-5 : tie.Need-put-number-requires-5
-put-number-requires-5 c κs = search needs
-
-fraction-of-requires : tie.Need-fraction-of-requires
-fraction-of-requires c κs = search needs
-
-put-number-requires-6 : tie.Need-put-number-requires-6
-put-number-requires-6 c κs = search needs
-
-put-number-requires-7 : tie.Need-put-number-requires-7
-put-number-requires-7 c κs = search needs
-
-same-length : tie.Need-same-length
-same-length c = search needs
-
 returns : tie.Need-returns
-returns c = record-put (c .before .before .before .before .before .before .before .before .before .before .before .before .before .before .before .before .before .before .before .before .before .before .before .before .before .before .before .before .before .before .before .args .number) (c .before .before .before .before .before .before .before .before .before .before .before .before .before .before .before .before .before .before .before .before .before .before .before .before .before .before .before .before .before .before .before .args .time) (now (c .before .before .before .before .before .before .before .before .before .before .before .before .before .before .before .before .before .before .before .before .before .before .before .before .before .before .before .before .before .before .before .args .lent)) (c .before .before .before .before .before .before .before .before .before .before .before .before .before .before .before .before .before .before .before .before .before .before .before .before .before .before .before .before .before .before .before .pre .1) (c .before .before .before .before .before .before .before .before .before .before .before .before .before .before .before .before .before .before .before .before .before .before .before .before .before .before .before .before .put-number .ensures .0) (c .before .before .before .before .before .before .before .before .before .before .before .before .before .before .before .before .before .before .before .before .before .before .before .before .put-number2 .ensures .0) (c .before .before .before .before .before .before .before .before .before .before .before .before .before .before .before .before .before .before .before .before .put-number3 .ensures .0) (c .before .before .before .before .before .before .before .before .before .before .before .before .before .before .before .before .put-number4 .ensures .0) (c .before .before .before .before .before .before .before .before .before .before .before .before .seconds-of .ensures) (c .before .before .before .before .before .before .before .before .before .before .before .put-number5 .ensures .0) (c .before .before .before .before .before .before .before .fraction-of .ensures) (c .before .before .before .before .before .before .put-number6 .ensures .0) (c .before .before .put-number7 .ensures .0)
+returns c =
+    let put7 = c .before .before in
+    let put6 = put7 .before .before .before .before in
+    let fraction = put6 .before in
+    let put5 = fraction .before .before .before .before in
+    let seconds = put5 .before in
+    let put4 = seconds .before .before .before .before in
+    let put3 = put4 .before .before .before .before in
+    let put2 = put3 .before .before .before .before in
+    let put1 = put2 .before .before .before .before in
+    let start = put1 .before .before .before in
+    record-put (start .args .number) (start .args .time) (now (start .args .lent)) (start .pre .1)
+    (put1 .put-number .ensures .0) (put2 .put-number2 .ensures .0) (put3 .put-number3 .ensures .0) (put4 .put-number4 .ensures .0)
+    (seconds .seconds-of .ensures) (put5 .put-number5 .ensures .0) (fraction .fraction-of .ensures) (put6 .put-number6 .ensures .0)
+    (put7 .put-number7 .ensures .0)
 
 pub put-record-spec : {M : Type 1} → statement M
 put-record-spec =
     tie.close
     (tie.spec
-    sub-put-number
-    put-number-requires
-    put-number-requires-2
-    put-number-requires-3
-    put-number-requires-4
-    seconds-of-requires
-    put-number-requires-5
-    fraction-of-requires
-    put-number-requires-6
-    put-number-requires-7
-    same-length
+    (λ c. search needs)
+    (λ c κs. search needs)
+    (λ c κs. search needs)
+    (λ c κs. search needs)
+    (λ c κs. search needs)
+    (λ c κs. search needs)
+    (λ c κs. search needs)
+    (λ c κs. search needs)
+    (λ c κs. search needs)
+    (λ c κs. search needs)
+    (λ c. search needs)
     returns)

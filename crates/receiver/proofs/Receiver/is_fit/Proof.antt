@@ -1,4 +1,5 @@
--- `receiver::Receiver::is_fit` meets its contract. Assumes nothing.
+-- `receiver::Receiver::is_fit` meets its contract: the fit test is that of the stream's numbers and then that of the places, which may
+-- be asked once the numbers are fit. Assumes nothing.
 use mathlib.Core.Path.{sym, _∙_}
 use native.Mathlib.Omega.{arith}
 use borrow.Author.Tests.{not-true, not-false}
@@ -7,9 +8,6 @@ use Rattle.receiver.specs.Fit.{fit}
 use Rattle.receiver.proofs.Fits.{stream-facts}
 use Rattle.receiver.proofs.Receiver.is_fit.Statement.{statement}
 use Rattle.receiver.proofs.Receiver.is_fit.Tie as tie
-
-stream-fit-requires : tie.Need-stream-fit-requires
-stream-fit-requires c κs = search needs
 
 returns : tie.Need-returns
 unfolding fit
@@ -28,4 +26,4 @@ returns-2 c =
     simp (sym (s .before .stream-fit .ensures) ∙ not-false _ (s .if1 .left), c .places-fit .ensures)
 
 pub is-fit-spec : {M : Type 1} → statement M
-is-fit-spec = tie.close (tie.spec stream-fit-requires returns places-fit-requires returns-2)
+is-fit-spec = tie.close (tie.spec (λ c κs. search needs) returns places-fit-requires returns-2)

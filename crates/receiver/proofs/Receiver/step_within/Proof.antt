@@ -5,9 +5,6 @@ use borrow.Author.Needs.{needs}
 use Rattle.receiver.proofs.Receiver.step_within.Statement.{statement}
 use Rattle.receiver.proofs.Receiver.step_within.Tie as tie
 
-at-most-requires : tie.Need-at-most-requires
-at-most-requires c κs = search needs
-
 advance-within-requires : tie.Need-advance-within-requires
 advance-within-requires c κs =
     let e = c .before .before .before .before .before .before .before .before .at-most .ensures in
@@ -19,4 +16,4 @@ returns c =
     (c .before .before .before .advance-within .ensures)
 
 pub step-within-spec : {M : Type 1} → statement M
-step-within-spec = tie.close (tie.spec at-most-requires advance-within-requires returns)
+step-within-spec = tie.close (tie.spec (λ c κs. search needs) advance-within-requires returns)

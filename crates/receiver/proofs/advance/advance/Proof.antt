@@ -1,6 +1,5 @@
--- `receiver::advance::advance` meets its contract. Assumes nothing.
+-- `receiver::advance::advance` meets its contract: it is `advance_within` where at most 64 jumps are kept. Assumes nothing.
 use native.Mathlib.Omega.{arith}
-use borrow.Author.Needs.{needs}
 use Rattle.receiver.proofs.advance.advance.Statement.{statement}
 use Rattle.receiver.proofs.advance.advance.Tie as tie
 

@@ -33,9 +33,6 @@ small-stream a =
 accepted : (c : tie.Else1) → Unrefused (stateAt (c .before .before .before .before .before .before .before)) (c .before .before .before .before .before .before .before .args .number)
 accepted c = said-accepted _ _ _ true _ (c .before .before .decide .ensures) (c .if1 .left)
 
-decide-requires : tie.Need-decide-requires
-decide-requires c κs = search needs
-
 returns : tie.Need-returns
 returns c = step-refused _ _ _ _ _ (c .before .before .decide .ensures) (c .if1 .taken)
 
@@ -46,9 +43,6 @@ after-duplicate-requires : tie.Need-after-duplicate-requires
 after-duplicate-requires c κs =
     let a = accepted (c .before .before) in
     omega (arith, a .stream .accepted-high)
-
-enum-known-noted : tie.Need-enum-known-noted
-enum-known-noted c = search needs
 
 after-in-order-requires : tie.Need-after-in-order-requires
 after-in-order-requires c κs =
@@ -117,11 +111,11 @@ pub advance-within-spec : {M : Type 1} → statement M
 advance-within-spec =
     tie.close
     (tie.spec
-    decide-requires
+    (λ c κs. search needs)
     returns
     enum-told
     after-duplicate-requires
-    enum-known-noted
+    (λ c. search needs)
     after-in-order-requires
     mark-requires
     add-push

@@ -26,9 +26,6 @@ accepted : (c : tie.Else1) →
     Unrefused (whole (c .before .before .args .s) [] (c .before .before .args .positions .now) (c .before .before .args .numbers .now) (c .before .before .args .times .now)) (c .before .before .args .number)
 accepted c = accepted-facts _ _ _ (sym (c .before .refusal-of .ensures) ∙ c .if1 .left)
 
-refusal-of-requires : tie.Need-refusal-of-requires
-refusal-of-requires c κs = search needs
-
 returns : tie.Need-returns
 unfolding stepRefusal fit
 returns c =
@@ -64,7 +61,7 @@ pub decide-spec : {M : Type 1} → statement M
 decide-spec =
     tie.close
     (tie.spec
-    refusal-of-requires
+    (λ c κs. search needs)
     returns
     is-marked-requires
     returns-2

@@ -13,12 +13,6 @@ use Rattle.receiver.proofs.decide.late.Tie as tie
 abbrev heldAt : tie.Start → Held
 heldAt c = heldOf (c .args .s) (placesOf (c .args .positions .now) (c .args .numbers .now) (c .args .times .now))
 
-place-above-requires : tie.Need-place-above-requires
-place-above-requires c κs = search needs
-
-cast-if1 : tie.Need-cast-if1
-cast-if1 c = search needs
-
 returns : tie.Need-returns
 unfolding keptOf
 returns c =
@@ -26,9 +20,6 @@ returns c =
     let h = heldAt s in
     late-none h _ (s .args .number) (s .args .time)
     (search-none (h .places) (s .args .number) (h .kept) _ (c .if1 .taken) (c .before .before .place-above .ensures))
-
-add-lateness-from : tie.Need-add-lateness-from
-add-lateness-from c = search needs
 
 lateness-from-requires : tie.Need-lateness-from-requires
 lateness-from-requires c κs =
@@ -45,9 +36,6 @@ returns-2 c =
     (c .before .before .if2 .taken)
     (oldest-kept h (omega (arith, c .before .before .before .before .if1 .left)))
     (c .lateness-from .ensures (getD (h .places .numbers) 0 0))
-
-add-lateness-from-2 : tie.Need-add-lateness-from-2
-add-lateness-from-2 c = search needs
 
 lateness-from-requires-2 : tie.Need-lateness-from-requires-2
 lateness-from-requires-2 c κs =
@@ -68,12 +56,12 @@ pub late-spec : {M : Type 1} → statement M
 late-spec =
     tie.close
     (tie.spec
-    place-above-requires
-    cast-if1
+    (λ c κs. search needs)
+    (λ c. search needs)
     returns
-    add-lateness-from
+    (λ c. search needs)
     lateness-from-requires
     returns-2
-    add-lateness-from-2
+    (λ c. search needs)
     lateness-from-requires-2
     returns-3)

@@ -1,10 +1,10 @@
 -- `receiver::decide::refusal_of` meets its contract: each return is a case of the definition, in its order. Assumes nothing.
-use Prim.Native.Nat.{_<_, _≤_}
 use mathlib.Core.Path.{_≡_, sym, _∙_}
 use mathlib.Core.Bool.{true}
 use native.Mathlib.Omega.{arith}
-use borrow.Author.Tests.{not-true, not-false, eq-eqb, ne-eqb, le-leb, lt-leb}
+use borrow.Author.Tests.{not-true, not-false, eq-eqb, ne-eqb}
 use borrow.Author.Needs.{needs}
+use Rattle.rfc4737.proofs.Due.{first-one}
 use Rattle.receiver.specs.Private.Parts.{placesOf}
 use Rattle.receiver.specs.Step.{stepRefusal}
 use Rattle.receiver.specs.Fit.{streamFit, placesFit, fit}
@@ -20,9 +20,6 @@ stream-known c = sym (c .before .before .before .stream-fit .ensures) ∙ not-fa
 places-known : (c : tie.Else2) →
     placesFit (c .before .before .before .before .args .s) (placesOf (c .before .before .before .before .args .positions .now) (c .before .before .before .before .args .numbers .now) (c .before .before .before .before .args .times .now)) ≡ true
 places-known c = sym (c .before .places-fit .ensures) ∙ not-false _ (c .if2 .left)
-
-stream-fit-requires : tie.Need-stream-fit-requires
-stream-fit-requires c κs = search needs
 
 returns : tie.Need-returns
 unfolding stepRefusal fit
@@ -55,50 +52,20 @@ returns-3 c =
 returns-4 : tie.Need-returns-4
 unfolding stepRefusal fit
 returns-4 c =
-    let f = stream-known (c .before .before .before) in
-    let p = places-known (c .before .before .before) in
-    let low : c .before .before .before .before .before .before .before .args .number < 1 = omega (arith, c .if4 .taken) in
-    simp (f, p, ne-eqb _ _ (c .before .if3 .left), lt-leb _ _ low)
-
-returns-5 : tie.Need-returns-5
-unfolding stepRefusal fit
-returns-5 c =
-    let f = stream-known (c .before .before .before .before .before) in
-    let p = places-known (c .before .before .before .before .before) in
-    let low : 1 ≤ c .before .before .before .before .before .before .before .before .before .args .number = omega (arith, c .before .before .if4 .left) in
-    simp (f, p, ne-eqb _ _ (c .before .before .before .if3 .left), le-leb _ _ low, lt-leb _ _ (c .if5 .taken))
-
-too-early-requires : tie.Need-too-early-requires
-too-early-requires c κs = search needs
-
-returns-6 : tie.Need-returns-6
-unfolding stepRefusal fit
-returns-6 c =
-    let f = stream-known (c .before .before .before .before .before .before .before) in
-    let p = places-known (c .before .before .before .before .before .before .before) in
-    let low : 1 ≤ c .before .before .before .before .before .before .before .before .before .before .before .args .number = omega (arith, c .before .before .before .before .if4 .left) in
-    simp (f, p, ne-eqb _ _ (c .before .before .before .before .before .if3 .left), le-leb _ _ low, le-leb _ _ (c .before .before .if5 .left), sym (c .before .too-early .ensures) ∙ c .if6 .taken)
-
-returns-7 : tie.Need-returns-7
-unfolding stepRefusal fit
-returns-7 c =
-    let f = stream-known (c .before .before .before .before .before .before .before) in
-    let p = places-known (c .before .before .before .before .before .before .before) in
-    let low : 1 ≤ c .before .before .before .before .before .before .before .before .before .before .before .args .number = omega (arith, c .before .before .before .before .if4 .left) in
-    simp (f, p, ne-eqb _ _ (c .before .before .before .before .before .if3 .left), le-leb _ _ low, le-leb _ _ (c .before .before .if5 .left), sym (c .before .too-early .ensures) ∙ c .if6 .left)
+    let f = stream-known (c .before .before .before .before) in
+    let p = places-known (c .before .before .before .before) in
+    simp (f, p, ne-eqb _ _ (c .before .before .if3 .left)) (c .judge-one .ensures ∙ sym (first-one _))
 
 pub refusal-of-spec : {M : Type 1} → statement M
 refusal-of-spec =
     tie.close
     (tie.spec
-    stream-fit-requires
+    (λ c κs. search needs)
     returns
     places-fit-requires
     returns-2
     add-if3
     returns-3
-    returns-4
-    returns-5
-    too-early-requires
-    returns-6
-    returns-7)
+    (λ c. search needs)
+    (λ c κs. search needs)
+    returns-4)

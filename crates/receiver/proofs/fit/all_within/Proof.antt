@@ -1,7 +1,7 @@
 -- `receiver::fit::all_within` meets its contract. The loop's invariant: the flag says whether each value so far passes. The
 -- measure is the number of values left. Assumes nothing.
 use Prim.Native.Nat.{_-_, _≤_}
-use mathlib.Core.Path.{_≡_, refl}
+use mathlib.Core.Path.{_≡_}
 use borrow.Author.Needs.{needs}
 use Rattle.rfc4737.specs.Refusals.{within}
 use Rattle.receiver.specs.Private.Decision.{firstPass}
@@ -18,24 +18,6 @@ abbrev μ-loop : tie.MeasureT-loop
 loop-holds : tie.Need-loop-holds Inv-loop μ-loop
 loop-holds c = (search needs, pass-none _ _)
 
-mul-is-within : tie.Need-mul-is-within Inv-loop μ-loop
-mul-is-within c = search needs
-
-element-copy-out-is-within : tie.Need-element-copy-out-is-within Inv-loop μ-loop
-element-copy-out-is-within c = search needs
-
-is-within-requires : tie.Need-is-within-requires Inv-loop μ-loop
-is-within-requires c κs = search needs
-
-both-requires : tie.Need-both-requires Inv-loop μ-loop
-both-requires c κs = search needs
-
-add-i : tie.Need-add-i Inv-loop μ-loop
-add-i c = search needs
-
-loop-less : tie.Need-loop-less Inv-loop μ-loop
-loop-less c = search needs
-
 loop-again : tie.Need-loop-again Inv-loop μ-loop
 loop-again c = (search needs, pass-more _ _ _ _ _ _ (c .before .before .before .before .loop .inv .1) (c .before .is-within .ensures) (c .both .ensures))
 
@@ -49,11 +31,11 @@ all-within-spec =
     Inv-loop
     μ-loop
     loop-holds
-    mul-is-within
-    element-copy-out-is-within
-    is-within-requires
-    both-requires
-    add-i
-    loop-less
+    (λ c. search needs)
+    (λ c. search needs)
+    (λ c κs. search needs)
+    (λ c κs. search needs)
+    (λ c. search needs)
+    (λ c. search needs)
     loop-again
     returns)

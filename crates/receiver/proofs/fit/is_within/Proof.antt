@@ -1,6 +1,5 @@
 -- `receiver::fit::is_within` meets its contract: of the two sides, 0 fails the first, and any other number meets it.
 -- Assumes nothing.
-use mathlib.Core.Bool.{_&&_}
 use native.Mathlib.Omega.{arith}
 use borrow.Author.Tests.{le-leb, lt-leb}
 use Rattle.receiver.proofs.fit.is_within.Statement.{statement}

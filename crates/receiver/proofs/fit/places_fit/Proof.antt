@@ -9,35 +9,17 @@ use Rattle.receiver.proofs.FitTests.{positions-unfit, numbers-unfit, ti
 use Rattle.receiver.proofs.fit.places_fit.Statement.{statement}
 use Rattle.receiver.proofs.fit.places_fit.Tie as tie
 
-cast-kept : tie.Need-cast-kept
-cast-kept c = search needs
-
 returns : tie.Need-returns
 returns c = places-false _ _ (λ h. omega arith)
 
 returns-2 : tie.Need-returns-2
 returns-2 c = places-false _ _ (λ h. omega arith)
 
-cast-all-within : tie.Need-cast-all-within
-cast-all-within c = search needs
-
-all-within-requires : tie.Need-all-within-requires
-all-within-requires c κs = search needs
-
 returns-3 : tie.Need-returns-3
 returns-3 c = positions-unfit _ _ (sym (c .before .all-within .ensures) ∙ not-true _ (c .if3 .taken))
 
-cast-all-within-2 : tie.Need-cast-all-within-2
-cast-all-within-2 c = search needs
-
-all-within-requires-2 : tie.Need-all-within-requires-2
-all-within-requires-2 c κs = search needs
-
 returns-4 : tie.Need-returns-4
 returns-4 c = numbers-unfit _ _ (sym (c .before .all-within2 .ensures) ∙ not-true _ (c .if4 .taken))
-
-none-after-requires : tie.Need-none-after-requires
-none-after-requires c κs = search needs
 
 returns-5 : tie.Need-returns-5
 returns-5 c =
@@ -48,14 +30,14 @@ pub places-fit-spec : {M : Type 1} → statement M
 places-fit-spec =
     tie.close
     (tie.spec
-    cast-kept
+    (λ c. search needs)
     returns
     returns-2
-    cast-all-within
-    all-within-requires
+    (λ c. search needs)
+    (λ c κs. search needs)
     returns-3
-    cast-all-within-2
-    all-within-requires-2
+    (λ c. search needs)
+    (λ c κs. search needs)
     returns-4
-    none-after-requires
+    (λ c κs. search needs)
     returns-5)

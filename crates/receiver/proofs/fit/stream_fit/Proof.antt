@@ -15,9 +15,6 @@ returns-2 c = stream-false _ (λ h. omega arith)
 returns-3 : tie.Need-returns-3
 returns-3 c = stream-false _ (λ h. omega arith)
 
-sub-if4 : tie.Need-sub-if4
-sub-if4 c = search needs
-
 returns-4 : tie.Need-returns-4
 returns-4 c = stream-false _ (λ h. omega arith)
 
@@ -35,9 +32,6 @@ returns-8 c = stream-false _ (λ h. omega arith)
 
 returns-9 : tie.Need-returns-9
 returns-9 c = stream-false _ (λ h. omega arith)
-
-sub-if10 : tie.Need-sub-if10
-sub-if10 c = search needs
 
 returns-10 : tie.Need-returns-10
 returns-10 c = stream-false _ (λ h. omega arith)
@@ -57,13 +51,13 @@ stream-fit-spec =
     returns
     returns-2
     returns-3
-    sub-if4
+    (λ c. search needs)
     returns-4
     returns-5
     returns-6
     returns-7
     returns-8
     returns-9
-    sub-if10
+    (λ c. search needs)
     returns-10
     returns-11)

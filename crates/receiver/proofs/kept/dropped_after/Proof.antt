@@ -1,4 +1,4 @@
--- `receiver::kept::dropped_after` meets its contract. Assumes nothing.
+-- `receiver::kept::dropped_after` meets its contract: each return is a case of the definition, by the two tests. Assumes nothing.
 use borrow.Author.Tests.{eq-eqb, ne-eqb, lt-ltb, le-ltb}
 use borrow.Author.Needs.{needs}
 use Rattle.receiver.proofs.kept.dropped_after.Statement.{statement}
@@ -10,15 +10,9 @@ returns c = simp (eq-eqb _ _ (c .if1 .taken))
 returns-2 : tie.Need-returns-2
 returns-2 c = simp (ne-eqb _ _ (c .before .if1 .left), lt-ltb _ _ (c .if2 .taken))
 
-element-copy-out-wide : tie.Need-element-copy-out-wide
-element-copy-out-wide c = search needs
-
-wide-requires : tie.Need-wide-requires
-wide-requires c κs = search needs
-
 returns-3 : tie.Need-returns-3
 returns-3 c =
     simp (ne-eqb _ _ (c .before .before .before .if1 .left), le-ltb _ _ (c .before .before .if2 .left), c .wide .ensures)
 
 pub dropped-after-spec : {M : Type 1} → statement M
-dropped-after-spec = tie.close (tie.spec returns returns-2 element-copy-out-wide wide-requires returns-3)
+dropped-after-spec = tie.close (tie.spec returns returns-2 (λ c. search needs) (λ c κs. search needs) returns-3)

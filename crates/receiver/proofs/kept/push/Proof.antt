@@ -1,13 +1,12 @@
 -- `receiver::kept::push` meets its contract, by the tests and what `put_last` ensures. Assumes nothing.
-use Prim.Native.Nat.{ℕ, _+_, _-_, _≤_, _<_}
+use Prim.Native.Nat.{ℕ, _+_, _-_, _≤_}
 use mathlib.Core.Bool.{false}
 use mathlib.Core.List.{List}
-use mathlib.Core.Path.{_≡_, refl, ap, _∙_}
+use mathlib.Core.Path.{_≡_, ap, _∙_}
 use native.Mathlib.Omega.{arith}
 use borrow.Author.Tests.{lt-ltb, le-ltb}
 use borrow.Author.Needs.{needs}
 use lib.Dec.{ltb}
-use Rattle.receiver.specs.Limits.{window}
 use Rattle.receiver.specs.Kept.{pushed}
 use Rattle.receiver.proofs.kept.push.Statement.{statement}
 use Rattle.receiver.proofs.kept.push.Tie as tie
@@ -17,30 +16,9 @@ no-room : (kept most last : ℕ) → most ≤ kept → last + 1 ≡ kept → (l 
     → t ≡ pushed (ltb kept most) kept l v
 no-room kept most last h e l t v p = rw (le-ltb kept most h) (p ∙ ap (λ (n : ℕ). pushed false n l v) e)
 
-mul-positions : tie.Need-mul-positions
-mul-positions c = search needs
-
-element-write-positions : tie.Need-element-write-positions
-element-write-positions c = search needs
-
-mul-numbers : tie.Need-mul-numbers
-mul-numbers c = search needs
-
-element-write-numbers : tie.Need-element-write-numbers
-element-write-numbers c = search needs
-
-mul-times : tie.Need-mul-times
-mul-times c = search needs
-
-element-write-times : tie.Need-element-write-times
-element-write-times c = search needs
-
 returns : tie.Need-returns
 unfolding pushed
 returns c = (simp (lt-ltb _ _ (c .if1 .taken)), (simp (lt-ltb _ _ (c .if1 .taken)), simp (lt-ltb _ _ (c .if1 .taken))))
-
-put-last-requires : tie.Need-put-last-requires
-put-last-requires c κs = search needs
 
 returns-2 : tie.Need-returns-2
 returns-2 c =
@@ -52,12 +30,6 @@ returns-2 c =
       no-room (a .kept) (a .most) 63 h e (a .positions .now) _ _ (p .0),
       (no-room (a .kept) (a .most) 63 h e (a .numbers .now) _ _ (p .1 .0), no-room (a .kept) (a .most) 63 h e (a .times .now) _ _ (p .1 .1)),
     )
-
-sub-put-last : tie.Need-sub-put-last
-sub-put-last c = search needs
-
-put-last-requires-2 : tie.Need-put-last-requires-2
-put-last-requires-2 c κs = search needs
 
 returns-3 : tie.Need-returns-3
 returns-3 c =
@@ -74,15 +46,15 @@ pub push-spec : {M : Type 1} → statement M
 push-spec =
     tie.close
     (tie.spec
-    mul-positions
-    element-write-positions
-    mul-numbers
-    element-write-numbers
-    mul-times
-    element-write-times
+    (λ c. search needs)
+    (λ c. search needs)
+    (λ c. search needs)
+    (λ c. search needs)
+    (λ c. search needs)
+    (λ c. search needs)
     returns
-    put-last-requires
+    (λ c κs. search needs)
     returns-2
-    sub-put-last
-    put-last-requires-2
+    (λ c. search needs)
+    (λ c κs. search needs)
     returns-3)

@@ -20,57 +20,6 @@ abbrev μ-loop : tie.MeasureT-loop
 loop-holds : tie.Need-loop-holds Inv-loop μ-loop
 loop-holds c = (search needs, (refl, (refl, refl)))
 
-add-times : tie.Need-add-times Inv-loop μ-loop
-add-times c = search needs
-
-mul-times : tie.Need-mul-times Inv-loop μ-loop
-mul-times c = search needs
-
-element-copy-out-times : tie.Need-element-copy-out-times Inv-loop μ-loop
-element-copy-out-times c = search needs
-
-mul-times-2 : tie.Need-mul-times-2 Inv-loop μ-loop
-mul-times-2 c = search needs
-
-element-write-times : tie.Need-element-write-times Inv-loop μ-loop
-element-write-times c = search needs
-
-add-positions : tie.Need-add-positions Inv-loop μ-loop
-add-positions c = search needs
-
-mul-positions : tie.Need-mul-positions Inv-loop μ-loop
-mul-positions c = search needs
-
-element-copy-out-positions : tie.Need-element-copy-out-positions Inv-loop μ-loop
-element-copy-out-positions c = search needs
-
-mul-positions-2 : tie.Need-mul-positions-2 Inv-loop μ-loop
-mul-positions-2 c = search needs
-
-element-write-positions : tie.Need-element-write-positions Inv-loop μ-loop
-element-write-positions c = search needs
-
-add-numbers : tie.Need-add-numbers Inv-loop μ-loop
-add-numbers c = search needs
-
-mul-numbers : tie.Need-mul-numbers Inv-loop μ-loop
-mul-numbers c = search needs
-
-element-copy-out-numbers : tie.Need-element-copy-out-numbers Inv-loop μ-loop
-element-copy-out-numbers c = search needs
-
-mul-numbers-2 : tie.Need-mul-numbers-2 Inv-loop μ-loop
-mul-numbers-2 c = search needs
-
-element-write-numbers : tie.Need-element-write-numbers Inv-loop μ-loop
-element-write-numbers c = search needs
-
-add-i : tie.Need-add-i Inv-loop μ-loop
-add-i c = search needs
-
-loop-less : tie.Need-loop-less Inv-loop μ-loop
-loop-less c = search needs
-
 loop-again : tie.Need-loop-again Inv-loop μ-loop
 loop-again c =
     let s = c .before .before .before .before .before in
@@ -88,24 +37,6 @@ loop-again c =
         ),
       ),
     )
-
-mul-positions-3 : tie.Need-mul-positions-3 Inv-loop μ-loop
-mul-positions-3 c = search needs
-
-element-write-positions-2 : tie.Need-element-write-positions-2 Inv-loop μ-loop
-element-write-positions-2 c = search needs
-
-mul-numbers-3 : tie.Need-mul-numbers-3 Inv-loop μ-loop
-mul-numbers-3 c = search needs
-
-element-write-numbers-2 : tie.Need-element-write-numbers-2 Inv-loop μ-loop
-element-write-numbers-2 c = search needs
-
-mul-times-3 : tie.Need-mul-times-3 Inv-loop μ-loop
-mul-times-3 c = search needs
-
-element-write-times-2 : tie.Need-element-write-times-2 Inv-loop μ-loop
-element-write-times-2 c = search needs
 
 returns : tie.Need-returns Inv-loop μ-loop
 returns c =
@@ -130,28 +61,28 @@ put-last-spec =
     Inv-loop
     μ-loop
     loop-holds
-    add-times
-    mul-times
-    element-copy-out-times
-    mul-times-2
-    element-write-times
-    add-positions
-    mul-positions
-    element-copy-out-positions
-    mul-positions-2
-    element-write-positions
-    add-numbers
-    mul-numbers
-    element-copy-out-numbers
-    mul-numbers-2
-    element-write-numbers
-    add-i
-    loop-less
+    (λ c. search needs)
+    (λ c. search needs)
+    (λ c. search needs)
+    (λ c. search needs)
+    (λ c. search needs)
+    (λ c. search needs)
+    (λ c. search needs)
+    (λ c. search needs)
+    (λ c. search needs)
+    (λ c. search needs)
+    (λ c. search needs)
+    (λ c. search needs)
+    (λ c. search needs)
+    (λ c. search needs)
+    (λ c. search needs)
+    (λ c. search needs)
+    (λ c. search needs)
     loop-again
-    mul-positions-3
-    element-write-positions-2
-    mul-numbers-3
-    element-write-numbers-2
-    mul-times-3
-    element-write-times-2
+    (λ c. search needs)
+    (λ c. search needs)
+    (λ c. search needs)
+    (λ c. search needs)
+    (λ c. search needs)
+    (λ c. search needs)
     returns)

@@ -12,33 +12,6 @@ use Rattle.receiver.specs.Marks.{wordOf, bitOf, withMark}
 use Rattle.receiver.proofs.marking.mark.Statement.{statement}
 use Rattle.receiver.proofs.marking.mark.Tie as tie
 
-sub-at : tie.Need-sub-at
-sub-at c = search needs
-
-cast-at : tie.Need-cast-at
-cast-at c = search needs
-
-mul-word : tie.Need-mul-word
-mul-word c = search needs
-
-element-copy-out-word : tie.Need-element-copy-out-word
-element-copy-out-word c = search needs
-
-sub-marks : tie.Need-sub-marks
-sub-marks c = search needs
-
-cast-marks : tie.Need-cast-marks
-cast-marks c = search needs
-
-shl-marks : tie.Need-shl-marks
-shl-marks c = search needs
-
-mul-marks : tie.Need-mul-marks
-mul-marks c = search needs
-
-element-write-marks : tie.Need-element-write-marks
-element-write-marks c = search needs
-
 returns : tie.Need-returns
 unfolding withMark
 returns c =
@@ -51,13 +24,13 @@ pub mark-spec : {M : Type 1} → statement M
 mark-spec =
     tie.close
     (tie.spec
-    sub-at
-    cast-at
-    mul-word
-    element-copy-out-word
-    sub-marks
-    cast-marks
-    shl-marks
-    mul-marks
-    element-write-marks
+    (λ c. search needs)
+    (λ c. search needs)
+    (λ c. search needs)
+    (λ c. search needs)
+    (λ c. search needs)
+    (λ c. search needs)
+    (λ c. search needs)
+    (λ c. search needs)
+    (λ c. search needs)
     returns)

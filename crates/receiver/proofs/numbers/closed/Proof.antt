@@ -6,9 +6,6 @@ use Rattle.receiver.proofs.Squares.{square-high}
 use Rattle.receiver.proofs.numbers.closed.Statement.{statement}
 use Rattle.receiver.proofs.numbers.closed.Tie as tie
 
-add-t2 : tie.Need-add-t2
-add-t2 c = search needs
-
 mul-t3 : tie.Need-mul-t3
 mul-t3 c = let h = square-high _ (c .before .before .pre .0) in search needs
 
@@ -20,4 +17,4 @@ unfolding ended
 returns c = refl
 
 pub closed-spec : {M : Type 1} → statement M
-closed-spec = tie.close (tie.spec add-t2 mul-t3 add-t4 returns)
+closed-spec = tie.close (tie.spec (λ c. search needs) mul-t3 add-t4 returns)

@@ -1,12 +1,9 @@
--- `receiver::numbers::next_after` meets its contract. Assumes nothing.
+-- `receiver::numbers::next_after` meets its contract: each return is a case of the definition. Assumes nothing.
 use borrow.Author.Needs.{needs}
 use borrow.Author.Tests.{le-leb, lt-leb}
 use Rattle.rfc4737.specs.Order.{nextAfter}
 use Rattle.receiver.proofs.numbers.next_after.Statement.{statement}
 use Rattle.receiver.proofs.numbers.next_after.Tie as tie
-
-add-result : tie.Need-add-result
-add-result c = search needs
 
 returns : tie.Need-returns
 unfolding nextAfter
@@ -17,4 +14,4 @@ unfolding nextAfter
 returns-2 c = simp (lt-leb _ _ (c .if1 .left))
 
 pub next-after-spec : {M : Type 1} → statement M
-next-after-spec = tie.close (tie.spec add-result returns returns-2)
+next-after-spec = tie.close (tie.spec (λ c. search needs) returns returns-2)

@@ -36,24 +36,9 @@ loop-holds : tie.Need-loop-holds Inv-loop μ-loop
 loop-holds c =
     (search needs, refl)
 
-mul-time : tie.Need-mul-time Inv-loop μ-loop
-mul-time c = search needs
-
-shared-slice-read-time : tie.Need-shared-slice-read-time Inv-loop μ-loop
-shared-slice-read-time c = search needs
-
-mul-judge-one : tie.Need-mul-judge-one Inv-loop μ-loop
-mul-judge-one c = search needs
-
-shared-slice-read-judge-one : tie.Need-shared-slice-read-judge-one Inv-loop μ-loop
-shared-slice-read-judge-one c = search needs
-
 cast-judge-one : tie.Need-cast-judge-one Inv-loop μ-loop
 cast-judge-one c =
     omega (arith, c .shared-slice-known4 .given (c .before .before .before .loop .i))
-
-judge-one-requires : tie.Need-judge-one-requires Inv-loop μ-loop
-judge-one-requires c κs = search needs
 
 returns : tie.Need-returns Inv-loop μ-loop
 returns c =
@@ -63,15 +48,6 @@ returns c =
     (record { number = getD (now (a .numbers)) (l .loop .i) 0; time = getD (now (a .times)) (l .loop .i) 0 })
     (turn (c .before .before .before .before)) (arrivals-getD (now (a .numbers)) (now (a .times)) (l .loop .i) none (search needs) (c .before .before .before .before .loop-test .taken)) (l .loop .inv .1)
     (c .before .judge-one .result) (c .before .judge-one .ensures) (c .if1 .taken)
-
-next-reference-requires : tie.Need-next-reference-requires Inv-loop μ-loop
-next-reference-requires c κs = search needs
-
-add-i : tie.Need-add-i Inv-loop μ-loop
-add-i c = search needs
-
-loop-less : tie.Need-loop-less Inv-loop μ-loop
-loop-less c = search needs
 
 loop-again : tie.Need-loop-again Inv-loop μ-loop
 loop-again c =
@@ -98,15 +74,15 @@ judge-lists-spec =
     Inv-loop
     μ-loop
     loop-holds
-    mul-time
-    shared-slice-read-time
-    mul-judge-one
-    shared-slice-read-judge-one
+    (λ c. search needs)
+    (λ c. search needs)
+    (λ c. search needs)
+    (λ c. search needs)
     cast-judge-one
-    judge-one-requires
+    (λ c κs. search needs)
     returns
-    next-reference-requires
-    add-i
-    loop-less
+    (λ c κs. search needs)
+    (λ c. search needs)
+    (λ c. search needs)
     loop-again
     returns-2)

@@ -5,12 +5,6 @@ use borrow.Author.Needs.{needs}
 use Rattle.rfc4737.proofs.judge.judge_one.Statement.{statement}
 use Rattle.rfc4737.proofs.judge.judge_one.Tie as tie
 
-outside-requires : tie.Need-outside-requires
-outside-requires c κs = search needs
-
-too-early-requires : tie.Need-too-early-requires
-too-early-requires c κs = search needs
-
 returns : tie.Need-returns
 unfolding judgeOne
 returns c =
@@ -28,4 +22,4 @@ returns-3 c =
 
 pub judge-one-spec : {M : Type 1} → statement M
 judge-one-spec =
-    tie.close (tie.spec outside-requires too-early-requires returns returns-2 returns-3)
+    tie.close (tie.spec (λ c κs. search needs) (λ c κs. search needs) returns returns-2 returns-3)

@@ -7,15 +7,9 @@ use Rattle.rfc4737.proofs.Due.{first-one}
 use Rattle.rfc4737.proofs.judge.refusal_of_lists.Statement.{statement}
 use Rattle.rfc4737.proofs.judge.refusal_of_lists.Tie as tie
 
-outside-requires : tie.Need-outside-requires
-outside-requires c κs = search needs
-
 returns : tie.Need-returns
 unfolding refusalOfLists
 returns c = simp (sym (c .before .outside .ensures) ∙ c .if1 .taken)
-
-outside-requires-2 : tie.Need-outside-requires-2
-outside-requires-2 c κs = search needs
 
 returns-2 : tie.Need-returns-2
 unfolding refusalOfLists
@@ -27,9 +21,6 @@ unfolding refusalOfLists
 returns-3 c =
     simp (sym (c .before .before .before .before .outside .ensures) ∙ c .before .before .before .if1 .left, sym (c .before .before .outside2 .ensures) ∙ c .before .if2 .left, ne-eqb _ _ (c .if3 .taken))
 
-judge-lists-requires : tie.Need-judge-lists-requires
-judge-lists-requires c κs = search needs
-
 returns-4 : tie.Need-returns-4
 unfolding refusalOfLists
 returns-4 c =
@@ -38,4 +29,4 @@ returns-4 c =
 
 pub refusal-of-lists-spec : {M : Type 1} → statement M
 refusal-of-lists-spec =
-    tie.close (tie.spec outside-requires returns outside-requires-2 returns-2 returns-3 judge-lists-requires returns-4)
+    tie.close (tie.spec (λ c κs. search needs) returns (λ c κs. search needs) returns-2 returns-3 (λ c κs. search needs) returns-4)

@@ -5,9 +5,6 @@ use Rattle.rfc4737.specs.Times.{elapsed}
 use Rattle.rfc4737.proofs.time.elapsed.Statement.{statement}
 use Rattle.rfc4737.proofs.time.elapsed.Tie as tie
 
-sub-t4 : tie.Need-sub-t4
-sub-t4 c = search needs
-
 returns : tie.Need-returns
 unfolding elapsed
 returns c = simp (lt-ltb _ _ (c .if1 .taken))
@@ -17,4 +14,4 @@ unfolding elapsed
 returns-2 c = simp (le-ltb _ _ (c .if1 .left))
 
 pub elapsed-spec : {M : Type 1} → statement M
-elapsed-spec = tie.close (tie.spec sub-t4 returns returns-2)
+elapsed-spec = tie.close (tie.spec (λ c. search needs) returns returns-2)

@@ -11,14 +11,14 @@ use denote.Ref.{now}
 use Rattle.octets.specs.BigEndian.{beValue}
 use Rattle.octets.proofs.Below.{below-fits}
 use Rattle.octets.proofs.Memory.{fill-length, fill-next, fill-done}
-use Rattle.sample.specs.Format.{itemsIn}
+use Rattle.sample.specs.Format.{sizeWidth, itemsIn}
 use Rattle.sample.proofs.Items.{items-length, taken-fits, size-found}
 use Rattle.sample.proofs.fill.fill_sizes.Statement.{statement}
 use Rattle.sample.proofs.fill.fill_sizes.Tie as tie
 
 -- the payload sizes, so many, which stand from a place on
 abbrev sizesFrom : List ℕ → ℕ → ℕ → List ℕ
-sizesFrom file at count = itemsIn 2 beValue count (drop at file)
+sizesFrom file at count = itemsIn sizeWidth beValue count (drop at file)
 
 abbrev Inv-loop : tie.InvT-loop
 Inv-loop file at count sizes₀ i₀ sizes i =
@@ -32,7 +32,7 @@ abbrev μ-loop : tie.MeasureT-loop
 kept : (c : tie.At-loop Inv-loop μ-loop) → length (c .loop .sizes) ≡ length (now (c .before .before .before .args .sizes))
 kept c =
     let a = c .before .before .before .args in
-    let e = items-length 2 beValue (a .count) (drop (a .at) (now (a .file))) in
+    let e = items-length sizeWidth beValue (a .count) (drop (a .at) (now (a .file))) in
     let p : c .loop .i ≤ length (sizesFrom (now (a .file)) (a .at) (a .count)) = omega arith in
     let q : c .loop .i ≤ length (now (a .sizes)) = omega arith in
     ap length (c .loop .inv .1) ∙ fill-length (sizesFrom (now (a .file)) (a .at) (a .count)) (now (a .sizes)) (c .loop .i) p q
@@ -41,53 +41,23 @@ loop-holds : tie.Need-loop-holds Inv-loop μ-loop
 loop-holds c =
     (search needs, refl)
 
-mul-start : tie.Need-mul-start Inv-loop μ-loop
-mul-start c = search needs
-
-add-start : tie.Need-add-start Inv-loop μ-loop
-add-start c = search needs
-
-add-end : tie.Need-add-end Inv-loop μ-loop
-add-end c = search needs
-
-sub-size : tie.Need-sub-size Inv-loop μ-loop
-sub-size c = search needs
-
-part-size-start : tie.Need-part-size-start Inv-loop μ-loop
-part-size-start c = search needs
-
-part-size-end : tie.Need-part-size-end Inv-loop μ-loop
-part-size-end c = search needs
-
-number-at-requires : tie.Need-number-at-requires Inv-loop μ-loop
-number-at-requires c κs = search needs
-
 cast-sizes : tie.Need-cast-sizes Inv-loop μ-loop
 cast-sizes c =
     let a = c .before .before .before .before .before .before .args in
     let o = below-fits w8 (now (a .file)) (c .before .before .before .before .before .shared-slice-known .given) in
-    let b : c .number-at .result < 2 ^ 16 = taken-fits (a .at + 2 * c .before .before .before .loop .i) 2 0 2 (now (a .file)) o (c .number-at .ensures) in
+    let b : c .number-at .result < 2 ^ 16 = taken-fits (a .at + sizeWidth * c .before .before .before .loop .i) sizeWidth 0 sizeWidth (now (a .file)) o (c .number-at .ensures) in
     omega arith
-
-mul-sizes : tie.Need-mul-sizes Inv-loop μ-loop
-mul-sizes c = search needs
 
 slice-write-sizes : tie.Need-slice-write-sizes Inv-loop μ-loop
 slice-write-sizes c =
     let s = kept (c .before .before .before) in
     omega arith
 
-add-i : tie.Need-add-i Inv-loop μ-loop
-add-i c = search needs
-
-loop-less : tie.Need-loop-less Inv-loop μ-loop
-loop-less c = search needs
-
 loop-again : tie.Need-loop-again Inv-loop μ-loop
 loop-again c =
     let l = c .before .before .before in
     let a = l .before .before .before .args in
-    let e = items-length 2 beValue (a .count) (drop (a .at) (now (a .file))) in
+    let e = items-length sizeWidth beValue (a .count) (drop (a .at) (now (a .file))) in
     let p : l .loop .i < length (sizesFrom (now (a .file)) (a .at) (a .count)) = omega arith in
     let q : l .loop .i < length (now (a .sizes)) = omega arith in (
       search needs,
@@ -102,7 +72,7 @@ same-length c =
 returns : tie.Need-returns Inv-loop μ-loop
 returns c =
     let a = c .before .before .before .before .args in
-    let e = items-length 2 beValue (a .count) (drop (a .at) (now (a .file))) in
+    let e = items-length sizeWidth beValue (a .count) (drop (a .at) (now (a .file))) in
     fill-done (sizesFrom (now (a .file)) (a .at) (a .count)) (now (a .sizes)) (c .before .loop .i) (omega arith) (c .before .loop .inv .1)
 
 pub fill-sizes-spec : {M : Type 1} → statement M
@@ -112,18 +82,18 @@ fill-sizes-spec =
     Inv-loop
     μ-loop
     loop-holds
-    mul-start
-    add-start
-    add-end
-    sub-size
-    part-size-start
-    part-size-end
-    number-at-requires
+    (λ c. search needs)
+    (λ c. search needs)
+    (λ c. search needs)
+    (λ c. search needs)
+    (λ c. search needs)
+    (λ c. search needs)
+    (λ c κs. search needs)
     cast-sizes
-    mul-sizes
+    (λ c. search needs)
     slice-write-sizes
-    add-i
-    loop-less
+    (λ c. search needs)
+    (λ c. search needs)
     loop-again
     same-length
     returns)

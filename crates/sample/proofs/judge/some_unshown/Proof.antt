@@ -26,26 +26,14 @@ wide h = record { fits = omega (arith, h .fits) }
 loop-holds : tie.Need-loop-holds Inv-loop μ-loop
 loop-holds c = (search needs, refl)
 
-shared-slice-read-outside : tie.Need-shared-slice-read-outside Inv-loop μ-loop
-shared-slice-read-outside c = search needs
-
 cast-outside : tie.Need-cast-outside Inv-loop μ-loop
 cast-outside c = wide (c .shared-slice-known2 .given _)
-
-outside-requires : tie.Need-outside-requires Inv-loop μ-loop
-outside-requires c κs = search needs
 
 returns : tie.Need-returns Inv-loop μ-loop
 returns c =
     let l = c .before .before .before .before in
     unshown-stop (now (l .before .before .args .octets)) (l .loop .i) (c .before .before .before .loop-test .taken) (l .loop .inv .1)
     (sym (c .before .outside .ensures) ∙ c .if1 .taken)
-
-add-i : tie.Need-add-i Inv-loop μ-loop
-add-i c = search needs
-
-loop-less : tie.Need-loop-less Inv-loop μ-loop
-loop-less c = search needs
 
 loop-again : tie.Need-loop-again Inv-loop μ-loop
 loop-again c =
@@ -66,11 +54,11 @@ some-unshown-spec =
     Inv-loop
     μ-loop
     loop-holds
-    shared-slice-read-outside
+    (λ c. search needs)
     cast-outside
-    outside-requires
+    (λ c κs. search needs)
     returns
-    add-i
-    loop-less
+    (λ c. search needs)
+    (λ c. search needs)
     loop-again
     returns-2)

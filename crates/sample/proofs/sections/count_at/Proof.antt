@@ -8,16 +8,10 @@ use borrow.Author.Needs.{needs}
 use Rattle.sample.proofs.sections.count_at.Statement.{statement}
 use Rattle.sample.proofs.sections.count_at.Tie as tie
 
-add-if1 : tie.Need-add-if1
-add-if1 c = search needs
-
 returns : tie.Need-returns
 unfolding countReading
 returns c =
     simp (lt-ltb _ _ (c .if1 .taken))
-
-number-at-requires : tie.Need-number-at-requires
-number-at-requires c κs = search needs
 
 returns-2 : tie.Need-returns-2
 unfolding countReading countAt
@@ -25,4 +19,4 @@ returns-2 c =
     simp (le-ltb _ _ (c .before .if1 .left)) (ap Value (c .number-at .ensures))
 
 pub count-at-spec : {M : Type 1} → statement M
-count-at-spec = tie.close (tie.spec add-if1 returns number-at-requires returns-2)
+count-at-spec = tie.close (tie.spec (λ c. search needs) returns (λ c κs. search needs) returns-2)

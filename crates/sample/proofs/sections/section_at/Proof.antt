@@ -1,6 +1,6 @@
 -- `sample::sections::section_at` meets its contract: at each `return` the readings that led there say which refusal is the first.
 -- Assumes nothing.
-use Prim.Native.Nat.{ℕ, _+_, _*_, _^_, _≤_, _<_}
+use Prim.Native.Nat.{ℕ, _*_, _^_, _≤_, _<_}
 use native.Mathlib.Omega.{arith}
 use mathlib.Core.Bool.{false}
 use mathlib.Core.Path.{_≡_, sym, ap, ap₂, _∙_}
@@ -10,7 +10,8 @@ use mir.Syntax.{w8}
 use denote.Ref.{now}
 use Rattle.octets.proofs.Below.{below-fits}
 use Rattle.rfc4737.specs.Refusals.{outside}
-use Rattle.sample.specs.Decode.{countAt, endOf}
+use Rattle.sample.specs.Format.{arrivalWidth, itemsAt, endOf}
+use Rattle.sample.specs.Decode.{countAt}
 use Rattle.sample.specs.declared.sections.Section.the-variants.{Whole}
 use Rattle.sample.proofs.Readings.{count-ended, count-valued, place-ended, place-valued, count-fits, section-fits, section-ended, section-judged, section-short, section-whole}
 use borrow.Author.Needs.{needs}
@@ -18,25 +19,19 @@ use Rattle.sample.proofs.sections.section_at.Statement.{statement}
 use Rattle.sample.proofs.sections.section_at.Tie as tie
 
 -- after the count was read: the file has it, and it is that count
-counted : (c : tie.After-known-told) → (ltb (length (now (c .before .before .before .before .before .args .file))) (c .before .before .before .before .before .args .at + 2) ≡ false)
+counted : (c : tie.After-known-told) → (ltb (length (now (c .before .before .before .before .before .args .file))) (itemsAt (c .before .before .before .before .before .args .at)) ≡ false)
     × (c .before .count .given .0 .0 ≡ countAt (c .before .before .before .before .before .args .at) (now (c .before .before .before .before .before .args .file)))
 counted c =
     let a = c .before .before .before .before .before .args in
     count-valued (a .at) (now (a .file)) (sym (c .before .before .before .count-at .ensures) ∙ c .before .count .given .1)
 
--- its items have no more octets than twelve for each that two octets can count
-items : (c : tie.After-known-told) → c .before .before .before .before .before .args .width * c .before .count .given .0 .0 ≤ 12 * 65535
+-- its items have no more octets than so many arrivals as a count can count
+items : (c : tie.After-known-told) → c .before .before .before .before .before .args .width * c .before .count .given .0 .0 ≤ arrivalWidth * 65535
 items c =
     let a = c .before .before .before .before .before .args in
     let o = below-fits w8 (now (a .file)) (c .before .before .before .before .shared-slice-known .given) in
     let b : c .before .count .given .0 .0 < 2 ^ 16 = rw (counted c .1) (count-fits (a .at) (now (a .file)) o) in
     section-fits (a .width) (c .before .count .given .0 .0) (c .before .before .before .before .before .pre .1) b
-
-count-at-requires : tie.Need-count-at-requires
-count-at-requires c κs = search needs
-
-enum-known-count : tie.Need-enum-known-count
-enum-known-count c = search needs
 
 enum-told : tie.Need-enum-told
 enum-told c = search needs
@@ -47,9 +42,6 @@ returns c =
     section-ended (a .at) (a .width) (a .least) (a .most) (a .refusal) (now (a .file))
     (count-ended (a .at) (now (a .file)) (sym (c .before .before .count-at .ensures) ∙ c .enum-told .given .1))
 
-outside-requires : tie.Need-outside-requires
-outside-requires c κs = search needs
-
 returns-2 : tie.Need-returns-2
 returns-2 c =
     let a = c .before .before .before .before .before .before .before .args in
@@ -57,63 +49,44 @@ returns-2 c =
     section-judged (a .at) (a .width) (a .least) (a .most) (a .refusal) (now (a .file)) (k .0) (search needs)
     (sym (ap (outside (a .least) (a .most)) (k .1)) ∙ sym (c .before .outside .ensures) ∙ c .if1 .taken)
 
-add-place-in : tie.Need-add-place-in
-add-place-in c = search needs
-
-mul-place-in : tie.Need-mul-place-in
-mul-place-in c =
+end-of-requires : tie.Need-end-of-requires
+end-of-requires c κs =
     let p = items (c .before .before) in
     omega arith
-
-add-place-in-2 : tie.Need-add-place-in-2
-add-place-in-2 c =
-    let p = items (c .before .before) in
-    omega arith
-
-place-in-requires : tie.Need-place-in-requires
-place-in-requires c κs = search needs
-
-enum-known-end : tie.Need-enum-known-end
-enum-known-end c = search needs
-
-enum-told-2 : tie.Need-enum-told-2
-enum-told-2 c = search needs
 
 returns-3 : tie.Need-returns-3
 returns-3 c =
-    let a = c .before .before .before .before .before .before .before .before .before .before .args in
-    let k = counted (c .before .before .before .before .before) in
-    let e = ap (λ (n : ℕ). endOf (a .at) (a .width) n) (k .1) in
+    let a = c .before .before .before .before .before .before .before .before .before .before .before .args in
+    let k = counted (c .before .before .before .before .before .before) in
+    let e = c .before .before .before .end-of .ensures ∙ ap (endOf (a .at) (a .width)) (k .1) in
     section-short (a .at) (a .width) (a .least) (a .most) (a .refusal) (now (a .file)) (k .0)
-    (sym (ap (outside (a .least) (a .most)) (k .1)) ∙ sym (c .before .before .before .before .outside .ensures) ∙ c .before .before .before .if1 .left)
-    (sym (ap (λ (n : ℕ). ltb (length (now (a .file))) n) e) ∙ place-ended _ (now (a .file)) (sym (c .before .before .place-in .ensures) ∙ c .enum-told2 .given .1))
+    (sym (ap (outside (a .least) (a .most)) (k .1)) ∙ sym (c .before .before .before .before .before .outside .ensures) ∙ c .before .before .before .before .if1 .left)
+    (sym (ap (ltb (length (now (a .file)))) e) ∙ place-ended _ (now (a .file)) (sym (c .before .before .place-in .ensures) ∙ c .enum-told2 .given .1))
 
 returns-4 : tie.Need-returns-4
 returns-4 c =
-    let a = c .before .before .before .before .before .before .before .before .before .before .before .args in
-    let k = counted (c .before .before .before .before .before .before) in
-    let e = ap (λ (n : ℕ). endOf (a .at) (a .width) n) (k .1) in
+    let a = c .before .before .before .before .before .before .before .before .before .before .before .before .args in
+    let k = counted (c .before .before .before .before .before .before .before) in
+    let e = c .before .before .before .before .end-of .ensures ∙ ap (endOf (a .at) (a .width)) (k .1) in
     let p = place-valued _ (now (a .file)) (sym (c .before .before .before .place-in .ensures) ∙ c .before .end .given .1) in
     ap₂ (λ (m n : ℕ). Whole m n) (k .1) (p .1 ∙ e)
     ∙ section-whole (a .at) (a .width) (a .least) (a .most) (a .refusal) (now (a .file)) (k .0)
-    (sym (ap (outside (a .least) (a .most)) (k .1)) ∙ sym (c .before .before .before .before .before .outside .ensures) ∙ c .before .before .before .before .if1 .left)
-    (sym (ap (λ (n : ℕ). ltb (length (now (a .file))) n) e) ∙ p .0)
+    (sym (ap (outside (a .least) (a .most)) (k .1)) ∙ sym (c .before .before .before .before .before .before .outside .ensures) ∙ c .before .before .before .before .before .if1 .left)
+    (sym (ap (ltb (length (now (a .file)))) e) ∙ p .0)
 
 pub section-at-spec : {M : Type 1} → statement M
 section-at-spec =
     tie.close
     (tie.spec
-    count-at-requires
-    enum-known-count
+    (λ c κs. search needs)
+    (λ c. search needs)
     enum-told
     returns
-    outside-requires
+    (λ c κs. search needs)
     returns-2
-    add-place-in
-    mul-place-in
-    add-place-in-2
-    place-in-requires
-    enum-known-end
-    enum-told-2
+    end-of-requires
+    (λ c κs. search needs)
+    (λ c. search needs)
+    (λ c. search needs)
     returns-3
     returns-4)

@@ -5,18 +5,10 @@ use native.Mathlib.Omega.{arith}
 use lib.ListN.{length}
 use denote.Ref.{now}
 use Rattle.octets.proofs.Memory.{put-room}
+use Rattle.sample.specs.Format.{countWidth}
 use Rattle.sample.proofs.Writing.{section-done}
 use Rattle.sample.proofs.sections.write_label.Statement.{statement}
 use Rattle.sample.proofs.sections.write_label.Tie as tie
-
-put-number-requires : tie.Need-put-number-requires
-put-number-requires c κs = search needs
-
-put-octets-requires : tie.Need-put-octets-requires
-put-octets-requires c κs = search needs
-
-same-length : tie.Need-same-length
-same-length c = search needs
 
 returns : tie.Need-returns
 returns c =
@@ -24,7 +16,7 @@ returns c =
     let k = c .before .before .before .before .before .before .put-number .kept .0 in
     section-done 0 (length (now (a .label))) (now (a .label)) (now (a .out)) (search needs)
     (c .before .before .before .before .before .before .put-number .ensures .0)
-    (c .before .before .put-octets .ensures ∙ put-room 2 (now (a .label)) (c .before .before .before .before .before .before .put-number .last .0) (omega arith))
+    (c .before .before .put-octets .ensures ∙ put-room countWidth (now (a .label)) (c .before .before .before .before .before .before .put-number .last .0) (omega arith))
 
 pub write-label-spec : {M : Type 1} → statement M
-write-label-spec = tie.close (tie.spec put-number-requires put-octets-requires same-length returns)
+write-label-spec = tie.close (tie.spec (λ c κs. search needs) (λ c κs. search needs) (λ c. search needs) returns)

@@ -1,5 +1,4 @@
--- `clear` sets the first 4,096 places to 0. The loop's invariant: those before k are 0. The measure is the places that are left.
--- Assumes nothing.
+-- `clear` sets the first 4,096 places to 0. The loop's invariant: those before k are 0. The measure is the places that are left. Assumes nothing.
 use Prim.Native.Nat.{ℕ, _-_, _≤_}
 use native.Mathlib.Omega.{arith}
 use borrow.Author.Needs.{needs}
@@ -27,17 +26,8 @@ kept c =
 loop-holds : tie.Need-loop-holds Inv-loop μ-loop
 loop-holds c = (omega arith, c .pre, refl)
 
-mul-table : tie.Need-mul-table Inv-loop μ-loop
-mul-table c = search needs
-
 slice-write-table : tie.Need-slice-write-table Inv-loop μ-loop
 slice-write-table c = let h = kept (c .before) in omega arith
-
-add-k : tie.Need-add-k Inv-loop μ-loop
-add-k c = omega arith
-
-loop-less : tie.Need-loop-less Inv-loop μ-loop
-loop-less c = omega arith
 
 loop-again : tie.Need-loop-again Inv-loop μ-loop
 loop-again c = let l = c .before .loop in (omega arith, l .inv .1, fill-next (replicate places 0) _ (l .k) 0 (simp length-replicate (omega arith)) (omega arith) (l .inv .2) (sym (getD-replicate places (l .k) 0 0 (omega arith))))
@@ -55,10 +45,10 @@ clear-spec =
     Inv-loop
     μ-loop
     loop-holds
-    mul-table
+    (λ c. search needs)
     slice-write-table
-    add-k
-    loop-less
+    (λ c. omega arith)
+    (λ c. omega arith)
     loop-again
     same-length
     returns)

@@ -18,17 +18,8 @@ abbrev μ-loop : tie.MeasureT-loop
 loop-holds : tie.Need-loop-holds Inv-loop μ-loop
 loop-holds c = (omega arith, c .pre .0, c .pre .1, skipping-none _ _ _)
 
-mul-table : tie.Need-mul-table Inv-loop μ-loop
-mul-table c = omega arith
-
 slice-write-table : tie.Need-slice-write-table Inv-loop μ-loop
 slice-write-table c = let h = c .before .loop .inv .3 .filled .same in omega arith
-
-add-k : tie.Need-add-k Inv-loop μ-loop
-add-k c = omega arith
-
-loop-less : tie.Need-loop-less Inv-loop μ-loop
-loop-less c = omega arith
 
 loop-again : tie.Need-loop-again Inv-loop μ-loop
 loop-again c = let l = c .before .loop in (omega arith, omega arith, l .inv .2, skipping-more _ _ _ _ _ (l .inv .0) (omega (arith, l .inv .3 .filled .same)) (l .inv .3))
@@ -46,10 +37,10 @@ skip-spec =
     Inv-loop
     μ-loop
     loop-holds
-    mul-table
+    (λ c. omega arith)
     slice-write-table
-    add-k
-    loop-less
+    (λ c. omega arith)
+    (λ c. omega arith)
     loop-again
     same-length
     returns)

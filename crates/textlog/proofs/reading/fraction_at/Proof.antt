@@ -3,12 +3,10 @@ use native.Mathlib.Omega.{arith}
 use mathlib.Core.Path.{sym, _∙_}
 use borrow.Author.Needs.{needs}
 use denote.Ref.{now}
+use Rattle.octets.specs.Text.{lineFeed}
 use Rattle.textlog.proofs.Places.{onward, within-log, fraction-none, fraction-many, fraction-other, small, fraction-ends}
 use Rattle.textlog.proofs.reading.fraction_at.Statement.{statement}
 use Rattle.textlog.proofs.reading.fraction_at.Tie as tie
-
-number-at-requires : tie.Need-number-at-requires
-number-at-requires c κs = search needs
 
 sub-count : tie.Need-sub-count
 sub-count c =
@@ -26,9 +24,6 @@ returns-2 c =
     let a = c .before .before .before .before .args in
     let r = c .before .before .number-at in
     fraction-many (now (a .log)) (a .at) (r .result) (r .ensures .0) (a .number) (a .whole) (c .if2 .taken)
-
-octet-at-requires : tie.Need-octet-at-requires
-octet-at-requires c κs = search needs
 
 returns-3 : tie.Need-returns-3
 returns-3 c =
@@ -51,11 +46,8 @@ add-in-range : tie.Need-add-in-range
 add-in-range c =
     let a = c .before .before .before .before .before .before .before .args in
     let r = c .before .before .before .before .before .number-at in
-    let b = within-log (now (a .log)) (a .at) (r .result) (r .ensures .0) 10 (sym (c .before .before .octet-at .ensures) ∙ c .before .if3 .left) (omega arith) in
+    let b = within-log (now (a .log)) (a .at) (r .result) (r .ensures .0) lineFeed (sym (c .before .before .octet-at .ensures) ∙ c .before .if3 .left) (omega arith) in
     omega arith
-
-in-range-requires : tie.Need-in-range-requires
-in-range-requires c κs = search needs
 
 returns-4 : tie.Need-returns-4
 returns-4 c =
@@ -70,13 +62,13 @@ pub fraction-at-spec : {M : Type 1} → statement M
 fraction-at-spec =
     tie.close
     (tie.spec
-    number-at-requires
+    (λ c κs. search needs)
     sub-count
     returns
     returns-2
-    octet-at-requires
+    (λ c κs. search needs)
     returns-3
     thousandths-requires
     add-in-range
-    in-range-requires
+    (λ c κs. search needs)
     returns-4)

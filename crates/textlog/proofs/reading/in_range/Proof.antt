@@ -1,4 +1,4 @@
--- `textlog::reading::in_range` meets its contract. Assumes nothing.
+-- `textlog::reading::in_range` meets its contract: neither the whole milliseconds nor the sum may be over the range. Assumes nothing.
 use Prim.Native.Nat.{_+_, _*_}
 use native.Mathlib.Omega.{arith}
 use borrow.Author.Needs.{needs}
@@ -12,22 +12,13 @@ returns : tie.Need-returns
 unfolding inRange
 returns c = rw (lt-leb (1000 * c .before .args .whole + c .before .args .fraction) timeMost (omega arith))
 
-mul-time : tie.Need-mul-time
-mul-time c = search needs
-
-sub-if2 : tie.Need-sub-if2
-sub-if2 c = search needs
-
 returns-2 : tie.Need-returns-2
 unfolding inRange
 returns-2 c = rw (lt-leb (1000 * c .before .before .args .whole + c .before .before .args .fraction) timeMost (omega arith))
-
-add-t7 : tie.Need-add-t7
-add-t7 c = search needs
 
 returns-3 : tie.Need-returns-3
 unfolding inRange
 returns-3 c = rw (le-leb (1000 * c .before .before .args .whole + c .before .before .args .fraction) timeMost (omega arith))
 
 pub in-range-spec : {M : Type 1} → statement M
-in-range-spec = tie.close (tie.spec returns mul-time sub-if2 returns-2 add-t7 returns-3)
+in-range-spec = tie.close (tie.spec returns (λ c. search needs) (λ c. search needs) returns-2 (λ c. search needs) returns-3)

@@ -1,4 +1,4 @@
--- `textlog::reading::is_mark` meets its contract. Assumes nothing.
+-- `textlog::reading::is_mark` meets its contract: a comma, or else a point. Assumes nothing.
 use borrow.Author.Tests.{eq-eqb, ne-eqb}
 use Rattle.textlog.specs.Decode.{mark}
 use Rattle.textlog.proofs.reading.is_mark.Statement.{statement}

@@ -3,12 +3,10 @@ use native.Mathlib.Omega.{arith}
 use mathlib.Core.Path.{sym, _∙_}
 use borrow.Author.Needs.{needs}
 use denote.Ref.{now}
+use Rattle.textlog.specs.Form.{semicolon}
 use Rattle.textlog.proofs.Places.{within-log, line-none, line-over, line-other, line-time}
 use Rattle.textlog.proofs.reading.line_at.Statement.{statement}
 use Rattle.textlog.proofs.reading.line_at.Tie as tie
-
-number-at-requires : tie.Need-number-at-requires
-number-at-requires c κs = search needs
 
 returns : tie.Need-returns
 returns c =
@@ -22,9 +20,6 @@ returns-2 c =
     let r = c .before .before .number-at in
     line-over (now (a .log)) (a .at) (r .result) (r .ensures .0) (c .before .if1 .left) (c .if2 .taken)
 
-octet-at-requires : tie.Need-octet-at-requires
-octet-at-requires c κs = search needs
-
 returns-3 : tie.Need-returns-3
 returns-3 c =
     let a = c .before .before .before .before .before .before .args in
@@ -36,14 +31,8 @@ add-time-at : tie.Need-add-time-at
 add-time-at c =
     let a = c .before .before .before .before .before .before .args in
     let r = c .before .before .before .before .number-at in
-    let b = within-log (now (a .log)) (a .at) (r .result) (r .ensures .0) 59 (sym (c .before .octet-at .ensures) ∙ c .if3 .left) (omega arith) in
+    let b = within-log (now (a .log)) (a .at) (r .result) (r .ensures .0) semicolon (sym (c .before .octet-at .ensures) ∙ c .if3 .left) (omega arith) in
     omega arith
-
-cast-time-at : tie.Need-cast-time-at
-cast-time-at c = search needs
-
-time-at-requires : tie.Need-time-at-requires
-time-at-requires c κs = search needs
 
 returns-4 : tie.Need-returns-4
 returns-4 c =
@@ -56,12 +45,12 @@ pub line-at-spec : {M : Type 1} → statement M
 line-at-spec =
     tie.close
     (tie.spec
-    number-at-requires
+    (λ c κs. search needs)
     returns
     returns-2
-    octet-at-requires
+    (λ c κs. search needs)
     returns-3
     add-time-at
-    cast-time-at
-    time-at-requires
+    (λ c. search needs)
+    (λ c κs. search needs)
     returns-4)

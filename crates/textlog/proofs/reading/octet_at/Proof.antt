@@ -1,4 +1,4 @@
--- `textlog::reading::octet_at` meets its contract. Assumes nothing.
+-- `textlog::reading::octet_at` meets its contract: past the end the octet is the default, 0. Assumes nothing.
 use mathlib.Core.Path.{sym}
 use borrow.Author.Needs.{needs}
 use denote.Ref.{now}
@@ -6,14 +6,8 @@ use lib.ListN.{List·getD-eq-default}
 use Rattle.textlog.proofs.reading.octet_at.Statement.{statement}
 use Rattle.textlog.proofs.reading.octet_at.Tie as tie
 
-shared-slice-read-result : tie.Need-shared-slice-read-result
-shared-slice-read-result c = search needs
-
-returns : tie.Need-returns
-returns c = search needs
-
 returns-2 : tie.Need-returns-2
 returns-2 c = sym (List·getD-eq-default (now (c .before .args .log)) 0 (c .if1 .left))
 
 pub octet-at-spec : {M : Type 1} → statement M
-octet-at-spec = tie.close (tie.spec shared-slice-read-result returns returns-2)
+octet-at-spec = tie.close (tie.spec (λ c. search needs) (λ c. search needs) returns-2)

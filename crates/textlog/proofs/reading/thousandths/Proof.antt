@@ -1,18 +1,12 @@
--- `textlog::reading::thousandths` meets its contract. Assumes nothing.
+-- `textlog::reading::thousandths` meets its contract: the count is 1, 2 or 3. Assumes nothing.
 use mathlib.Core.Path.{_≡_}
 use native.Mathlib.Omega.{arith}
 use borrow.Author.Needs.{needs}
 use Rattle.textlog.proofs.reading.thousandths.Statement.{statement}
 use Rattle.textlog.proofs.reading.thousandths.Tie as tie
 
-mul-result : tie.Need-mul-result
-mul-result c = search needs
-
 returns : tie.Need-returns
 returns c = rw (c .if1 .taken)
-
-mul-result-2 : tie.Need-mul-result-2
-mul-result-2 c = search needs
 
 returns-2 : tie.Need-returns-2
 returns-2 c = rw (c .if2 .taken)
@@ -21,4 +15,4 @@ returns-3 : tie.Need-returns-3
 returns-3 c = let e : c .before .before .args .count ≡ 3 = omega arith in rw e (omega arith)
 
 pub thousandths-spec : {M : Type 1} → statement M
-thousandths-spec = tie.close (tie.spec mul-result returns mul-result-2 returns-2 returns-3)
+thousandths-spec = tie.close (tie.spec (λ c. search needs) returns (λ c. search needs) returns-2 returns-3)

@@ -4,13 +4,11 @@ use mathlib.Core.Path.{sym, _∙_}
 use borrow.Author.Needs.{needs}
 use borrow.Author.Tests.{not-true, not-false}
 use denote.Ref.{now}
+use Rattle.octets.specs.Text.{lineFeed}
 use Rattle.textlog.proofs.Begun.{mark-present}
 use Rattle.textlog.proofs.Places.{within-log, time-none, time-ends, time-other, time-parted}
 use Rattle.textlog.proofs.reading.time_at.Statement.{statement}
 use Rattle.textlog.proofs.reading.time_at.Tie as tie
-
-number-at-requires : tie.Need-number-at-requires
-number-at-requires c κs = search needs
 
 returns : tie.Need-returns
 returns c =
@@ -18,18 +16,12 @@ returns c =
     let r = c .before .number-at in
     time-none (now (a .log)) (a .at) (r .result) (r .ensures .0) (a .number) (c .if1 .taken)
 
-octet-at-requires : tie.Need-octet-at-requires
-octet-at-requires c κs = search needs
-
 add-in-range : tie.Need-add-in-range
 add-in-range c =
     let a = c .before .before .before .before .before .args in
     let r = c .before .before .before .number-at in
-    let b = within-log (now (a .log)) (a .at) (r .result) (r .ensures .0) 10 (sym (c .before .octet-at .ensures) ∙ c .if2 .taken) (omega arith) in
+    let b = within-log (now (a .log)) (a .at) (r .result) (r .ensures .0) lineFeed (sym (c .before .octet-at .ensures) ∙ c .if2 .taken) (omega arith) in
     omega arith
-
-in-range-requires : tie.Need-in-range-requires
-in-range-requires c κs = search needs
 
 returns-2 : tie.Need-returns-2
 returns-2 c =
@@ -37,9 +29,6 @@ returns-2 c =
     let r = c .before .before .before .before .number-at in
     time-ends (now (a .log)) (a .at) (r .result) (r .ensures .0) (a .number) (c .before .before .before .if1 .left)
     (sym (c .before .before .octet-at .ensures) ∙ c .before .if2 .taken) (c .in-range .ensures)
-
-is-mark-requires : tie.Need-is-mark-requires
-is-mark-requires c κs = search needs
 
 returns-3 : tie.Need-returns-3
 returns-3 c =
@@ -57,9 +46,6 @@ add-fraction-at c =
     let b = mark-present (now (a .log)) (r .result .end) (rw (← o) (sym (c .before .is-mark .ensures) ∙ not-false _ (c .if3 .left))) in
     omega arith
 
-fraction-at-requires : tie.Need-fraction-at-requires
-fraction-at-requires c κs = search needs
-
 returns-4 : tie.Need-returns-4
 returns-4 c =
     let a = c .before .before .before .before .before .before .before .before .args in
@@ -73,14 +59,14 @@ pub time-at-spec : {M : Type 1} → statement M
 time-at-spec =
     tie.close
     (tie.spec
-    number-at-requires
+    (λ c κs. search needs)
     returns
-    octet-at-requires
+    (λ c κs. search needs)
     add-in-range
-    in-range-requires
+    (λ c κs. search needs)
     returns-2
-    is-mark-requires
+    (λ c κs. search needs)
     returns-3
     add-fraction-at
-    fraction-at-requires
+    (λ c κs. search needs)
     returns-4)

@@ -24,30 +24,9 @@ loop-holds : tie.Need-loop-holds Inv-loop μ-loop
 unfolding itemOctets
 loop-holds c = (search needs, refl, search needs)
 
-mul-line-length : tie.Need-mul-line-length Inv-loop μ-loop
-mul-line-length c = search needs
-
-shared-slice-read-line-length : tie.Need-shared-slice-read-line-length Inv-loop μ-loop
-shared-slice-read-line-length c = search needs
-
-mul-line-length-2 : tie.Need-mul-line-length-2 Inv-loop μ-loop
-mul-line-length-2 c = search needs
-
-shared-slice-read-line-length-2 : tie.Need-shared-slice-read-line-length-2 Inv-loop μ-loop
-shared-slice-read-line-length-2 c = search needs
-
-line-length-requires : tie.Need-line-length-requires Inv-loop μ-loop
-line-length-requires c κs = search needs
-
 add-total : tie.Need-add-total Inv-loop μ-loop
 add-total c =
     omega (arith, c .before .before .before .before .loop .inv .2, c .before .before .before .before .before .before .before .pre .1, c .line-length .ensures .1)
-
-add-i : tie.Need-add-i Inv-loop μ-loop
-add-i c = search needs
-
-loop-less : tie.Need-loop-less Inv-loop μ-loop
-loop-less c = search needs
 
 loop-again : tie.Need-loop-again Inv-loop μ-loop
 loop-again c =
@@ -70,13 +49,13 @@ log-length-spec =
     Inv-loop
     μ-loop
     loop-holds
-    mul-line-length
-    shared-slice-read-line-length
-    mul-line-length-2
-    shared-slice-read-line-length-2
-    line-length-requires
+    (λ c. search needs)
+    (λ c. search needs)
+    (λ c. search needs)
+    (λ c. search needs)
+    (λ c κs. search needs)
     add-total
-    add-i
-    loop-less
+    (λ c. search needs)
+    (λ c. search needs)
     loop-again
     returns)

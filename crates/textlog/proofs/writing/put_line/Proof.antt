@@ -1,80 +1,39 @@
 -- `textlog::writing::put_line` meets its contract: the line is put in four parts, one after the other. Assumes nothing.
-use Prim.Native.Nat.{ℕ, _+_, _/_, _%_}
+use Prim.Native.Nat.{ℕ, _+_, _/_, _%_, _≤_}
 use native.Mathlib.Omega.{arith}
-use mathlib.Core.List.{List, [], _∷_}
+use mathlib.Core.List.{List, [], _∷_, _++_}
 use mathlib.Core.Path.{_≡_, ap}
 use borrow.Author.Needs.{needs}
+use lib.ListN.{length}
 use denote.Ref.{now}
 use Rattle.decimal.specs.Decimal.{decimalOf}
 use Rattle.octets.specs.Memory.{put}
-use Rattle.textlog.specs.Form.{lineOf}
+use Rattle.octets.specs.Text.{lineFeed}
+use Rattle.textlog.specs.Form.{comma, threeDigits, lineOf}
 use Rattle.textlog.proofs.Written.{line-long, put-parts}
 use Rattle.textlog.proofs.writing.put_line.Statement.{statement}
 use Rattle.textlog.proofs.writing.put_line.Tie as tie
 
-put-decimal-requires : tie.Need-put-decimal-requires
-put-decimal-requires c κs = search needs
+-- there is room for the digits of the number and six octets and the digits of the milliseconds after them
+room : (c : tie.After-put-decimal)
+    → c .before .before .before .args .at + c .put-decimal .result + 6 + length (decimalOf (c .before .before .before .args .time / 1000)) ≤ length (now (c .before .before .before .args .out))
+room c =
+    let a = c .before .before .before .args in
+    omega (arith, line-long (record { number = a .number; time = a .time }), c .before .before .before .pre, c .put-decimal .ensures .0)
 
 add-first : tie.Need-add-first
-add-first c =
-    let start = c .before .before .before .before .before in
-    let l = line-long (record { number = start .args .number; time = start .args .time }) in
-    let p = start .pre in
-    let e = c .before .before .put-decimal .ensures .0 in
-    omega arith
-
-slice-aggregate-put-octets : tie.Need-slice-aggregate-put-octets
-slice-aggregate-put-octets c = search needs
-
-put-octets-requires : tie.Need-put-octets-requires
-put-octets-requires c κs = search needs
+add-first c = omega (arith, room (c .before .before))
 
 add-second : tie.Need-add-second
-add-second c =
-    let start = c .before .before .before .before .before .before .before .before .before .before in
-    let l = line-long (record { number = start .args .number; time = start .args .time }) in
-    let p = start .pre in
-    let e = c .before .before .before .before .before .before .before .put-decimal .ensures .0 in
-    omega arith
-
-put-decimal-requires-2 : tie.Need-put-decimal-requires-2
-put-decimal-requires-2 c κs = search needs
+add-second c = omega (arith, room (c .before .before .before .before .before .before .before))
 
 add-third : tie.Need-add-third
 add-third c =
-    let start = c .before .before .before .before .before .before .before .before .before .before .before .before .before .before in
-    let l = line-long (record { number = start .args .number; time = start .args .time }) in
-    let p = start .pre in
-    let e = c .before .before .before .before .before .before .before .before .before .before .before .put-decimal .ensures .0 in
-    let f = c .before .before .put-decimal2 .ensures .0 in
-    omega arith
-
-digit-of-requires : tie.Need-digit-of-requires
-digit-of-requires c κs = search needs
-
-digit-of-requires-2 : tie.Need-digit-of-requires-2
-digit-of-requires-2 c κs = search needs
-
-digit-of-requires-3 : tie.Need-digit-of-requires-3
-digit-of-requires-3 c κs = search needs
-
-slice-aggregate-put-octets-2 : tie.Need-slice-aggregate-put-octets-2
-slice-aggregate-put-octets-2 c = search needs
-
-put-octets-requires-2 : tie.Need-put-octets-requires-2
-put-octets-requires-2 c κs = search needs
+    omega (arith, room (c .before .before .before .before .before .before .before .before .before .before .before), c .before .before .put-decimal2 .ensures .0)
 
 add-result : tie.Need-add-result
 add-result c =
-    let start = c .before .before .before .before .before .before .before .before .before .before .before .before .before .before .before .before .before .before .before .before .before .before in
-    let l = line-long (record { number = start .args .number; time = start .args .time }) in
-    let p = start .pre in
-    let e = c .before .before .before .before .before .before .before .before .before .before .before .before .before .before .before .before .before .before .before .put-decimal .ensures .0 in
-    let f = c .before .before .before .before .before .before .before .before .before .before .put-decimal2 .ensures .0 in
-    omega arith
-
-same-length : tie.Need-same-length
-same-length c = search needs
+    omega (arith, room (c .before .before .before .before .before .before .before .before .before .before .before .before .before .before .before .before .before .before .before), c .before .before .before .before .before .before .before .before .before .before .put-decimal2 .ensures .0)
 
 returns : tie.Need-returns
 unfolding lineOf
@@ -89,8 +48,7 @@ returns c =
     let rest = c .before .before .put-octets2 in
     let first = a .at + number .result in
     let third = a .at + number .result + 1 + whole .result in
-    let z : List ℕ =
-    44 ∷ (48 + a .time % 1000 / 100) ∷ (48 + a .time % 1000 / 10 % 10) ∷ (48 + a .time % 1000 % 10) ∷ 10 ∷ [] in
+    let z : List ℕ = comma ∷ (threeDigits (a .time % 1000) ++ (lineFeed ∷ [])) in
     let d : rest .last .0 ≡ put third z (whole .last .0) =
     rw (← c .before .before .before .before .before .before .before .digit-of .ensures, ← c .before .before .before .before .before .before .digit-of2 .ensures, ← c .before .before .before .before .before .digit-of3 .ensures) (rest .ensures) in (
       omega (arith, number .ensures .0, whole .ensures .0),
@@ -104,18 +62,18 @@ pub put-line-spec : {M : Type 1} → statement M
 put-line-spec =
     tie.close
     (tie.spec
-    put-decimal-requires
+    (λ c κs. search needs)
     add-first
-    slice-aggregate-put-octets
-    put-octets-requires
+    (λ c. search needs)
+    (λ c κs. search needs)
     add-second
-    put-decimal-requires-2
+    (λ c κs. search needs)
     add-third
-    digit-of-requires
-    digit-of-requires-2
-    digit-of-requires-3
-    slice-aggregate-put-octets-2
-    put-octets-requires-2
+    (λ c κs. search needs)
+    (λ c κs. search needs)
+    (λ c κs. search needs)
+    (λ c. search needs)
+    (λ c κs. search needs)
     add-result
-    same-length
+    (λ c. search needs)
     returns)

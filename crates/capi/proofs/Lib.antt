@@ -1,0 +1,2 @@
+-- The walk that two functions share. Assumes nothing.
+pub mod LocalStep

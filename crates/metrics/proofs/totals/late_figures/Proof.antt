@@ -1,0 +1,68 @@
+-- `late_figures` goes by the class; of a reordered packet it goes along the links, and asks the tree, which has all first arrivals by
+-- then. Assumes nothing.
+use mathlib.Core.Path.{ap, _∙_}
+use Prim.Native.Nat.{ℕ, _-_, _≤_}
+use native.Mathlib.Omega.{arith}
+use denote.Ref.{now}
+use mir.Syntax.{w8}
+use Rattle.octets.proofs.Below.{below-fits}
+use Rattle.sample.specs.Decode.{decode}
+use Rattle.metrics.specs.Sample.{sizeOf}
+use Rattle.metrics.proofs.DigitBounds.{size-most}
+use Rattle.metrics.proofs.Pairs.{total-sum, offset-summed}
+use borrow.Author.Needs.{needs}
+use Rattle.metrics.proofs.totals.late_figures.Statement.{statement}
+use Rattle.metrics.proofs.totals.late_figures.Tie as tie
+
+-- every payload size fits two octets
+sizes : (c : tie.After-shared-slice-known) (s : ℕ) → sizeOf (decode (now (c .before .args .file))) s ≤ 65535
+sizes c = size-most (now (c .before .args .file)) (below-fits w8 (now (c .before .args .file)) (c .shared-slice-known .given))
+
+enum-told : tie.Need-enum-told
+enum-told c = search needs
+
+sub-t19 : tie.Need-sub-t19
+sub-t19 c =
+    let s = c .before .before .before .before .before .before .before .before .before .before .before .before in
+    let k = s .pre .0 in
+    let f = c .before .before .before .before .before .fill .ensures (k .fs) (k .numbered) (k .totalled) in
+    omega (arith, c .before .sum-to .ensures, total-sum _ (sizes (c .before .before .before .before .before .before .before .before .before .before .before)) (k .fs) (omega (arith, k .numbered .all, k .few)) _ _ (s .args .s) (f .1 ∙ k .numbered .all) (s .pre .2) (f .0))
+
+returns : tie.Need-returns
+returns c = (omega arith, λ fs n t. (t, rw (c .enum-told .given .1), λ new. rw (c .enum-told .given .1)))
+
+returns-2 : tie.Need-returns-2
+returns-2 c = (omega arith, λ fs n t. (t, rw (c .enum-told2 .given .1), λ new. rw (c .enum-told2 .given .1)))
+
+returns-3 : tie.Need-returns-3
+returns-3 c =
+    let s = c .before .before .before .before .before .before .before .before .before .before .before .before in
+    let is = c .before .before .before .before .before .before .before .before .enum-told3 .given .1 in
+    let l = c .before .before .before .before .before .before .before .largest-by-links .ensures in (
+      l .0,
+      λ fs n t.
+          let f = c .before .before .before .before .before .fill .ensures fs n t in (
+            f .0,
+            rw is (l .1 fs n),
+            λ new.
+                rw is
+                (ap (λ (m : ℕ). c .before .before .before .before .before .fill .result .total - m) (c .before .sum-to .ensures)
+                ∙ offset-summed _ (sizes (c .before .before .before .before .before .before .before .before .before .before .before)) fs (omega (arith, n .all, s .pre .0 .few)) _ _ (s .args .s) (f .1 ∙ n .all) (s .pre .1) (s .pre .2) (f .0) (rw is at new)),
+          ),
+    )
+
+pub late-figures-spec : {M : Type 1} → statement M
+late-figures-spec =
+    tie.close
+    (tie.spec
+    enum-told
+    (λ c. search needs)
+    (λ c. search needs)
+    (λ c κs. search needs)
+    (λ c κs. search needs)
+    (λ c κs. search needs)
+    sub-t19
+    returns
+    returns-2
+    (λ c. search needs)
+    returns-3)
