@@ -197,7 +197,10 @@ fn windows(run: &mut Run) {
     let last = fed(run, "window to 130, then 3", 130, &evens(130, 3));
     run.equal("window to 130, then 3", last, accepted(Step::Exact { extent: 64, late_time: LateTime::After(640) }));
     let truth = answers(&file(&evens(130, 1)))[65];
-    run.check("the true extent is 65", matches!(truth, Answer::Reordered { extent: 65, late_time: LateTime::After(650), .. }));
+    run.check(
+        "the true extent is 65",
+        matches!(truth, Answer::Reordered { extent: 65, late_time: LateTime::After(650), .. }),
+    );
 }
 
 /// A late packet after and before its discontinuity, of a file and of a receiver; then a copy that raises the greatest time.

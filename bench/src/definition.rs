@@ -5,8 +5,8 @@ use std::cell::RefCell;
 
 use crate::boundary::{Meter, Place};
 use crate::reference::{
-    Answer, Answered, Counts, Degree, DegreeCounts, Figures, Fresh, Gap, LateTime, Ratios, Read, Receiver, RecordAnswer,
-    Step, Stepped, Tally, Written, LISTING_ROOM,
+    Answer, Answered, Counts, Degree, DegreeCounts, Figures, Fresh, Gap, LateTime, Ratios, Read, Receiver,
+    RecordAnswer, Step, Stepped, Tally, Written, LISTING_ROOM,
 };
 
 /// A wrong reading.
