@@ -1,9 +1,12 @@
 //! The total of disorder: the archive's call, and a plain Rust implementation beside it.
 
+use std::hint::black_box;
+
 use crate::archive::pointer;
 use crate::compare::Seen;
-use crate::generate::sample_case;
+use crate::generate::{measured, sample_case, Order};
 use crate::reference::{answer, check, number_and_time, Answer};
+use crate::time::{calls, measure};
 
 /// The refusal, and the total.
 #[repr(C)]
@@ -89,4 +92,21 @@ fn one(file: &[u8], seen: &mut Seen) -> Result<u32, String> {
         seen.kind("disorder: the greatest total");
     }
     Ok(a.total)
+}
+
+// The measurement.
+
+/// Nanoseconds of a call.
+pub fn time(orders: &[Order], amounts: &[usize]) {
+    println!("{:22} {:>5} {:>11} {:>11} {:>6}", "disorder", "A", "library", "reference", "ratio");
+    for &order in orders {
+        for &many in amounts {
+            let file = measured(order, many).file();
+            let f = &file[..];
+            let [library, reference] =
+                measure([calls(|| by_library(black_box(f))), calls(|| by_reference(black_box(f)))]);
+            let (name, ratio) = (format!("{order:?}"), library / reference);
+            println!("{name:22} {many:5} {library:11.0} {reference:11.0} {ratio:6.2}");
+        }
+    }
 }

@@ -2,12 +2,14 @@
 //! on.
 
 use std::collections::{HashMap, HashSet};
+use std::hint::black_box;
 
 use crate::archive::{pointer, pointer_mut};
 use crate::compare::Seen;
 use crate::generate::{clock_step, number_outside, Random};
 use crate::reference::{ARRIVAL_COUNT, LISTS_DIFFER, MOST_ARRIVALS, MOST_BACK, MOST_SENT, NUMBER, OUTPUT_SHORT};
 use crate::reference::{SENT_COUNT, TIME};
+use crate::time::{calls, measure};
 
 const FRAGMENT_UNFIT: u32 = 17;
 const END_MOST: u32 = 65_535;
@@ -150,8 +152,8 @@ fn copies(all: &[Piece]) -> Vec<bool> {
         .collect()
 }
 
-/// The three cases of B.3, and what is expected after an arrival that is in order.
-fn flags(all: &[Piece], copies: &[bool], seen: &mut Seen) -> Vec<u8> {
+/// The three cases of B.3, and what is expected after an arrival that is in order. `note` is told the case of each reordered one.
+fn flags(all: &[Piece], copies: &[bool], mut note: impl FnMut(&'static str)) -> Vec<u8> {
     let (mut next, mut packet, mut fragment) = (1, 0, 0);
     let mut flag = |p: &Piece, copy: bool| {
         if copy {
@@ -168,7 +170,7 @@ fn flags(all: &[Piece], copies: &[bool], seen: &mut Seen) -> Vec<u8> {
             (next, packet, fragment) = if p.last { (p.number + 1, 0, 0) } else { (next, p.number, offset + 1) };
             return IN_ORDER;
         };
-        seen.kind(case);
+        note(case);
         REORDERED
     };
     all.iter().zip(copies).map(|(p, &copy)| flag(p, copy)).collect()
@@ -189,7 +191,7 @@ fn complete(all: &[Piece]) -> HashSet<u32> {
     packets.iter_mut().filter_map(|(&number, parts)| covers(parts).then_some(number)).collect()
 }
 
-fn by_reference(sent: u32, l: &Lists, out: &mut Lent, seen: &mut Seen) -> u32 {
+fn by_reference(sent: u32, l: &Lists, out: &mut Lent, mut note: impl FnMut(&'static str)) -> u32 {
     let all = match judge(sent, l) {
         Ok(all) => all,
         Err(refusal) => return refusal,
@@ -198,10 +200,10 @@ fn by_reference(sent: u32, l: &Lists, out: &mut Lent, seen: &mut Seen) -> u32 {
         return OUTPUT_SHORT;
     }
     let (copies, complete) = (copies(&all), complete(&all));
-    out.flags[..all.len()].copy_from_slice(&flags(&all, &copies, seen));
+    out.flags[..all.len()].copy_from_slice(&flags(&all, &copies, &mut note));
     for (place, (p, copy)) in out.usable.iter_mut().zip(all.iter().zip(&copies)) {
         *place = u8::from(!copy && complete.contains(&p.number));
-        seen.kind(if *place == 1 { "fragments: usable" } else { "fragments: not usable" });
+        note(if *place == 1 { "fragments: usable" } else { "fragments: not usable" });
     }
     0
 }
@@ -360,7 +362,7 @@ fn one(random: &mut Random, seen: &mut Seen) -> Result<(), String> {
     let mut left = Lent { flags: vec![99; room(random)], usable: vec![88; room(random)] };
     let mut right = left.clone();
     let a = by_library(sent, &l, &mut left);
-    let b = by_reference(sent, &l, &mut right, seen);
+    let b = by_reference(sent, &l, &mut right, |kind| seen.kind(kind));
     seen.call("fragments", a);
     if (a, &left) != (b, &right) {
         return Err(format!("K {sent} {l:?}\n left {a} {left:?}\nright {b} {right:?}\n"));
@@ -369,4 +371,44 @@ fn one(random: &mut Random, seen: &mut Seen) -> Result<(), String> {
         seen.kind("fragments: 4,096 arrivals");
     }
     Ok(())
+}
+
+// The measurement.
+
+/// Packets that are whole, of four fragments each in the order in which they are sent, or all fragments of one packet, the last
+/// one first.
+fn measured(many: usize) -> [(&'static str, u32, Lists); 3] {
+    let piece = |record: usize, number: usize, part: usize, parts: usize| Piece {
+        number: number as u32,
+        time: 10 * record as u64,
+        length: 8,
+        last: part + 1 == parts,
+        offset: part as u16,
+    };
+    let of = |all: Vec<Piece>| lists(&mut Random::new(1, 1), &all);
+    let wholes = (0..many).map(|i| piece(i, i + 1, 0, 1)).collect();
+    let fours = (0..many).map(|i| piece(i, i / 4 + 1, i % 4, 4)).collect();
+    let one = (0..many).map(|i| piece(i, 1, many - 1 - i, many)).collect();
+    [
+        ("whole packets", many as u32, of(wholes)),
+        ("four each", many as u32 / 4, of(fours)),
+        ("one reversed", 1, of(one)),
+    ]
+}
+
+/// Nanoseconds of a call.
+pub fn time(amounts: &[usize]) {
+    println!("{:22} {:>5} {:>11} {:>11} {:>6}", "fragments", "A", "library", "reference", "ratio");
+    for &many in amounts {
+        for (name, sent, l) in measured(many) {
+            let mut lent = [(); 2].map(|()| Lent { flags: vec![0; many], usable: vec![0; many] });
+            let [a, b] = lent.each_mut();
+            let [library, reference] = measure([
+                calls(|| by_library(sent, black_box(&l), a)),
+                calls(|| by_reference(sent, black_box(&l), b, |_| {})),
+            ]);
+            let ratio = library / reference;
+            println!("{name:22} {many:5} {library:11.0} {reference:11.0} {ratio:6.2}");
+        }
+    }
 }

@@ -15,7 +15,7 @@ const USAGE: &str = "\
 bench cases [samples [lists [states]]]         self-check of the reference
 bench diff [samples [lists [states [seed]]]]   library against reference, call by call
 bench time [TABLE..]                           library and reference measured: all tables, or listing, figures, others, text,
-                                               records, sweep, steps, meter
+                                               records, checker, sweep, disorder, fragments, steps, short, meter
 bench steps in-order|window library|reference value|lent TIMES
                                                feeds 4,096 arrivals so many times, for counting instructions
 bench layout                                   sizes and offsets of the structs that the library is called with

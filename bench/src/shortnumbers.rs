@@ -1,10 +1,13 @@
 //! Short sequence numbers: the archive's calls for 8 and for 10 bits, and a plain Rust implementation beside them.
 
+use std::hint::black_box;
+
 use crate::archive::{c, from_archive, noted, pointer, pointer_mut, to_archive};
 use crate::compare::Seen;
-use crate::generate::{arrival_list, sample_case, state_case, Draft, Random};
+use crate::generate::{arrival_list, measured, sample_case, state_case, Draft, Order, Random};
 use crate::reference::{Receiver, Stepped, LISTS_DIFFER, MOST_ARRIVALS, MOST_BACK, MOST_SENT, OUTPUT_SHORT};
 use crate::reference::{ARRIVAL_COUNT, NUMBER, SENT_COUNT, TIME};
+use crate::time::{calls, measure};
 
 /// How many bits a short number has.
 #[derive(Clone, Copy, PartialEq, Eq, Debug)]
@@ -104,11 +107,15 @@ fn list_by_reference(width: Width, sent: u32, shorts: &[u16], times: &[u64], out
     }
 }
 
-/// The step with the number found; one that is no packet's is given as 0, which no receiver takes.
-fn step_by_reference(width: Width, receiver: &Receiver, short: u16, time: u64) -> Stepped {
+/// The number found by a receiver; one that is no packet's is given as 0, which no receiver takes.
+fn number_by(width: Width, receiver: &Receiver, short: u16) -> u32 {
     let greatest = i64::from(receiver.next_expected) - 1;
-    let number = width.full(greatest, short).and_then(|n| u32::try_from(n).ok()).unwrap_or(0);
-    receiver.clone().step(number, time)
+    width.full(greatest, short).and_then(|n| u32::try_from(n).ok()).unwrap_or(0)
+}
+
+/// The step with the number found.
+fn step_by_reference(width: Width, receiver: &Receiver, short: u16, time: u64) -> Stepped {
+    receiver.clone().step(number_by(width, receiver, short), time)
 }
 
 // The comparison.
@@ -191,6 +198,63 @@ fn step(width: Width, receiver: &Receiver, short: u16, time: u64, seen: &mut See
         return Err(format!("short {short} time {time}\n left {left:?}\nright {right:?}\nbefore {receiver:?}\n"));
     }
     Ok(left.receiver)
+}
+
+// The measurement.
+
+/// Short numbers fed by value to a fresh receiver for K = 4,096; its L.
+fn feed_library(width: Width, shorts: &[u16], times: &[u64]) -> u32 {
+    let call = match width {
+        Width::Eight => krakobran_step_8,
+        Width::Ten => krakobran_step_10,
+    };
+    // SAFETY: states are passed by value.
+    let mut state = unsafe { c::krakobran_fresh(Receiver::PACKETS as u32) }.state;
+    for (&short, &time) in shorts.iter().zip(times) {
+        let s = unsafe { call(state, short, time) };
+        black_box((s.refusal, s.noted));
+        state = s.state;
+    }
+    state.stream.arrived
+}
+
+/// The same by the reference, handed over by C's convention.
+fn feed_reference(width: Width, shorts: &[u16], times: &[u64]) -> u32 {
+    let mut receiver = Receiver::fresh(Receiver::PACKETS as u32).receiver;
+    for (&short, &time) in shorts.iter().zip(times) {
+        let number = number_by(width, &receiver, short);
+        let stepped = receiver.step_by_c(number, time);
+        black_box((stepped.refusal, stepped.answer));
+        receiver = stepped.receiver;
+    }
+    receiver.first_arrivals
+}
+
+/// Nanoseconds of a list call and of a step by value, for arrivals in order: a number out of order by half the range or more would not be found.
+pub fn time(amounts: &[usize]) {
+    println!("{:22} {:>5} {:>11} {:>11} {:>6}", "short numbers", "A", "library", "reference", "ratio");
+    for width in [Width::Eight, Width::Ten] {
+        for &many in amounts {
+            let draft = measured(Order::InOrder, many);
+            let shorts: Vec<u16> = draft.numbers.iter().map(|&number| shortened(width, number)).collect();
+            let (sent, s, times) = (many as u32, &shorts[..], &draft.times[..]);
+            let mut outs = [(); 2].map(|()| vec![0; many]);
+            let [a, b] = outs.each_mut();
+            let list = measure([
+                calls(|| list_by_library(width, sent, black_box(s), times, a)),
+                calls(|| list_by_reference(width, sent, black_box(s), times, b)),
+            ]);
+            let steps = measure([
+                calls(|| feed_library(width, black_box(s), times)),
+                calls(|| feed_reference(width, black_box(s), times)),
+            ]);
+            let each = steps.map(|whole| whole / many as f64);
+            for (call, [library, reference]) in [("list", list), ("step", each)] {
+                let (name, ratio) = (format!("{call}, {} bits", width.range().ilog2()), library / reference);
+                println!("{name:22} {many:5} {library:11.1} {reference:11.1} {ratio:6.2}");
+            }
+        }
+    }
 }
 
 #[cfg(test)]

@@ -5,7 +5,7 @@ use std::hint::black_box;
 use crate::boundary::{Meter, Reference, LIBRARY, LIBRARY_NAME};
 use crate::generate::{measured, Order};
 use crate::reference::*;
-use crate::{checker, meter, records, sweep, text};
+use crate::{checker, disorder, fragments, meter, records, shortnumbers, sweep, text};
 
 const AMOUNTS: [usize; 3] = [256, 1024, 4096];
 const ORDERS: [Order; 3] = [Order::InOrder, Order::Shuffled, Order::Reversed];
@@ -64,7 +64,7 @@ pub fn measure<const N: usize>(mut columns: [Calls; N]) -> [f64; N] {
 }
 
 /// The tables in their order, each by its name.
-const TABLES: [(&str, fn()); 9] = [
+const TABLES: [(&str, fn()); 12] = [
     ("listing", || each(listings, "listing", ["lanes", "swift"])),
     ("figures", || each(figures, "figure", ["by answers", "swift"])),
     ("others", || each(others, "other call", ["", ""])),
@@ -72,7 +72,10 @@ const TABLES: [(&str, fn()); 9] = [
     ("records", || records::time(&AMOUNTS)),
     ("checker", || checker::time(&ORDERS, &AMOUNTS)),
     ("sweep", || sweep::time(&ORDERS, &AMOUNTS)),
+    ("disorder", || disorder::time(&ORDERS, &AMOUNTS)),
+    ("fragments", || fragments::time(&AMOUNTS)),
     ("steps", receiver_steps),
+    ("short", || shortnumbers::time(&AMOUNTS)),
     ("meter", || meter::time(&AMOUNTS)),
 ];
 
