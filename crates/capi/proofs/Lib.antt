@@ -1,2 +1,3 @@
--- The walk that two functions share. Assumes nothing.
+-- The walks that two functions share. Assumes nothing.
 pub mod LocalStep
+mod PassedOn

@@ -3,7 +3,7 @@
 use Prim.Native.Nat.{ℕ}
 use Rattle.checker.specs.declared.Verdict.{Verdict}
 use Rattle.checker.specs.declared.Verdict.the-variants.{Agrees, WrongLine}
-use Rattle.capi.specs.declared.checked.VerdictFigures.{VerdictFigures}
+use Rattle.capi.specs.declared.verdicts.VerdictFigures.{VerdictFigures}
 
 -- a verdict beside its refusal
 abbrev pub verdictFigures : ℕ → Verdict → VerdictFigures

@@ -3,19 +3,19 @@
 // slice as a pointer and a length, and a result by cases as the number of its case and the figures of all cases, 0
 // where a case does not have one. include/krakobran.h declares them for C.
 
-mod checked;
 mod figures;
-pub mod held;
 mod label;
 mod link;
+pub mod local_step;
 mod meters;
 mod outcomes;
 mod pieces;
 mod records;
 mod short;
-mod swept;
+mod sweeps;
 mod text;
 mod total;
+mod verdicts;
 
 use figures::AnswerFigures;
 use figures::DegreeFigures;
@@ -25,9 +25,9 @@ use figures::answer_figures;
 use figures::degree_figures;
 use figures::gap_figures;
 use figures::ratios_figures;
-use held::held_step;
 use label::LabelPart;
 use label::label_part;
+use local_step::local_step;
 use metrics::DegreeCounts;
 use metrics::SampleCounts;
 use metrics::SampleTally;
@@ -186,7 +186,7 @@ pub extern "C" fn krakobran_fresh(sent: u32) -> FreshAnswer
 pub extern "C" fn krakobran_step(state: Receiver, number: u32, time: u64) -> StepFigures
     ensures { λ r. ⌜ r ≡ stepFigures (stepOf state number time) ⌝ }
 {
-    step_figures(held_step(state, number, time))
+    step_figures(local_step(state, number, time))
 }
 
 // A step by reference: the answer to an arrival; the lent receiver holds the state after it.

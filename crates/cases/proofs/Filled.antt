@@ -1,5 +1,7 @@
--- Lists and the numbers of a text. A loop fills a list with them, one a turn, as far as it has places: after i turns the first i stand
--- there, and then what stood there. The laws of its invariant serve every width. Assumes nothing.
+-- Lists and the numbers of a text t. A loop fills a list with them, one a turn, as far as it has places: after i turns the first i of those that
+-- it takes stand there, and then what stood there (`Filled`); a turn stores number i, cut to the greatest that a place holds (`filled-next`),
+-- and at the end all are there (`filled-done`). The laws serve every width: most is the greatest, old the list where the loop begins, d at its
+-- head, x the number stored. `first-taken`: the first values of a list l, at most n, end at the lesser of n and its length. Assumes nothing.
 use Prim.Native.Nat.{ℕ, zero, suc, _+_, _-_, _≤_, _<_, min}
 use native.Mathlib.Nat.{zero-min, min-zero, suc-min-suc}
 use native.Mathlib.Omega.{arith}
@@ -37,7 +39,6 @@ module _ {most : ℕ} {t old : List ℕ} {i : ℕ} {d : List ℕ} (f : Filled mo
   abbrev taken : List ℕ
   taken = numbersWithin most (length old) t
 
-  -- how many they are
   taken-length : length taken ≡ min (length old) (length (cutAt 32 t))
   taken-length =
       length-take (length old) (map (λ (n : ℕ). min n most) (numbersIn t))
@@ -51,7 +52,6 @@ module _ {most : ℕ} {t old : List ℕ} {i : ℕ} {d : List ℕ} (f : Filled mo
       ∙ ap (getD (map (λ (n : ℕ). min n most) (numbersIn t)) i) o
       ∙ List·getD-map (λ (n : ℕ). min n most) (numbersIn t) i 0)
 
-  -- the length stays
   pub filled-length : length d ≡ length old
   filled-length =
       let l = taken-length in

@@ -1,18 +1,21 @@
--- The parts of a text, found from place to place: an induction over the text gives its first part and the parts after it, and the
--- loops cite what follows of that at a place. Assumes nothing.
+-- The parts of a text t between separators s, found from place to place. The search for a separator is at `Counted`: none stands from `from` up
+-- to `end`; another octet is one more, and a separator or the end of the text ends it. A text that is not empty is its first part, up to the
+-- first separator, and then the parts of what stands after that (`split`, by induction on the text with one octet o more before it). So from a
+-- place `at` on, where that part ends at `end`, part 0 stands in between (`part-first`), part `left` is part left - 1 of what stands from
+-- end + 1 on (`part-later`), and there is one part more than there (`count-more`). n and left count parts from 0. Assumes nothing.
 use Prim.Native.Nat.{ℕ, suc, _+_, _-_, _≤_, _<_}
-use native.Mathlib.Nat.{add-zero}
 use native.Mathlib.Omega.{arith}
 use mathlib.Core.Bool.{Bool, true, false, cond}
 use mathlib.Core.Path.{_≡_, refl, sym, ap, _∙_}
 use mathlib.Core.List.{List, [], _∷_}
 use lib.Dec.{eqb}
 use lib.ListN.{length, getD, take, drop, length-drop, drop-of-length-le, List·getD-map}
-use lib.Seq.{getD-drop, drop-drop}
+use lib.Seq.{drop-drop}
 use Rattle.decimal.specs.Decimal.{decimalValue}
 use Rattle.decimal.specs.Reading.{digitCount}
+use Rattle.decimal.proofs.Leading.{Counted, stands, counted-more, counted-all}
 use Rattle.cases.specs.Text.{onto, cutAt, partNumber, numbersIn}
-use Rattle.cases.specs.Private.Places.{separatorAt}
+use Rattle.cases.specs.Private.{separatorAt}
 
 -- ---- the octets before a separator
 
@@ -29,45 +32,19 @@ before-more s [] e h = absurd (omega arith)
 before-more s (o ∷ t) e h = rw e
 
 -- no separator stands from a place on up to another
-pub record Sought (t : List ℕ) (s from end : ℕ) : Type 0 where
-  pub onward : from ≤ end
-  pub within : end ≤ length t
-  pub passed : separatorAt s (drop from t) ≡ end - from + separatorAt s (drop end t)
-
-pub sought-none : (t : List ℕ) (s from : ℕ) → from ≤ length t → Sought t s from from
-sought-none t s from h = record { onward = omega arith; within = h; passed = omega arith }
-
-module _ {t : List ℕ} {s from end : ℕ} (p : Sought t s from end) where
-  -- what stands there
-  here : getD (drop end t) 0 0 ≡ getD t end 0
-  here = getD-drop end t 0 0 ∙ ap (λ (k : ℕ). getD t k 0) (add-zero end)
-
-  -- something does
-  some : end < length t → 0 < length (drop end t)
-  some h = simp length-drop (omega arith)
-
+module _ (s : ℕ) {t : List ℕ} {from end : ℕ} (p : Counted (separatorAt s) t from end) where
   -- another octet stands there
-  pub sought-more : end < length t → eqb (getD t end 0) s ≡ false → Sought t s from (end + 1)
-  sought-more h e =
-      let b : from ≤ end = p .onward in
-      let c : separatorAt s (drop end t) ≡ suc (separatorAt s (drop (end + 1) t)) =
-      before-more s (drop end t) (rw here e) (some h) ∙ ap (λ (l : List ℕ). suc (separatorAt s l)) (drop-drop 1 end t) in
-      record { onward = omega arith; within = omega arith; passed = omega (arith, p .passed) }
+  pub no-separator-more : end < length t → eqb (getD t end 0) s ≡ false → Counted (separatorAt s) t from (end + 1)
+  no-separator-more h e = counted-more p (before-more s (drop end t) (rw (stands t end) e) (simp length-drop (omega arith)))
 
   -- a separator stands there
-  pub sought-here : end < length t → eqb (getD t end 0) s ≡ true → (end ≡ from + separatorAt s (drop from t)) × (end ≤ length t)
-  sought-here h e =
-      let b : from ≤ end = p .onward in
-      let z : separatorAt s (drop end t) ≡ 0 = before-here s (drop end t) (rw here e) (some h) in
-      (omega (arith, p .passed), omega arith)
+  pub no-separator-here : end < length t → eqb (getD t end 0) s ≡ true → end ≡ from + separatorAt s (drop from t)
+  no-separator-here h e = counted-all p (before-here s (drop end t) (rw (stands t end) e) (simp length-drop (omega arith)))
 
   -- the text ends there
-  pub sought-past : length t ≤ end → (end ≡ from + separatorAt s (drop from t)) × (end ≤ length t)
+  pub no-separator-past : length t ≤ end → end ≡ from + separatorAt s (drop from t)
   unfolding separatorAt
-  sought-past h =
-      let b : from ≤ end = p .onward in
-      let z : separatorAt s (drop end t) ≡ 0 = ap (separatorAt s) (drop-of-length-le t h) in
-      (omega (arith, p .passed), p .within)
+  no-separator-past h = counted-all p (ap (separatorAt s) (drop-of-length-le t h))
 
 -- ---- the first part, and those after it
 

@@ -1,2 +1,10 @@
--- What private functions say to each other: no public contract reaches these definitions. Assumes nothing.
-pub mod Places
+-- What private functions say to each other, which no public contract reaches: the places of a text. Assumes nothing.
+use Prim.Native.Nat.{ℕ, suc}
+use mathlib.Core.Bool.{cond}
+use mathlib.Core.List.{List, [], _∷_}
+use lib.Dec.{eqb}
+
+-- how many octets stand before the first separator
+unfoldable pub separatorAt : ℕ → List ℕ → ℕ
+separatorAt separator [] = 0
+separatorAt separator (o ∷ t) = cond (eqb o separator) 0 (suc (separatorAt separator t))

@@ -5,5 +5,12 @@ pub mod lists;
 pub mod print;
 pub mod same;
 pub mod series;
-pub mod sums;
 pub mod text;
+pub mod totals;
+
+use rfc4737::judge::ARRIVALS_MOST;
+
+// The most arrivals of a sample, which are as many as the most packets; and one more.
+pub const MOST: usize = ARRIVALS_MOST as usize;
+
+pub const OVER: usize = MOST + 1;

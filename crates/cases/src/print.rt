@@ -1,6 +1,6 @@
 // What the programs of cases write on standard output: words, numbers, answers and lists.
-use crate::sums::wide_8;
-use crate::sums::wide_32;
+use crate::totals::wide_8;
+use crate::totals::wide_32;
 use libc::STDOUT_FILENO;
 
 // Writes a word.

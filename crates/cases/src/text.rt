@@ -4,8 +4,10 @@ ghost use Prim.Native.Nat.{_+_, _≤_};
 ghost use lib.ListN.{length, getD, drop};
 ghost use mathlib.Core.List.{[]};
 ghost use Rattle.cases.specs.Text.{cutAt, numbersIn};
-ghost use Rattle.cases.specs.Private.Places.{separatorAt};
+ghost use Rattle.cases.specs.Private.{separatorAt};
+use crate::lists::first_8;
 use decimal::reading::number_at;
+use libc::STDIN_FILENO;
 
 // What stands between the numbers of a text.
 pub const BLANK: u8 = b' ';
@@ -66,4 +68,10 @@ pub fn number(text: &[u8], n: usize) -> u64
 {
     let digits = number_at(part(text, BLANK, n), 0);
     digits.value
+}
+
+// What stands on standard input, as far as there is room for it, as the first octets of that room.
+pub fn input(room: &mut [u8]) -> &[u8] {
+    let n = io::read_full(STDIN_FILENO, room);
+    first_8(room, n)
 }

@@ -7,7 +7,7 @@ ghost use Prim.Native.Nat.{ℕ, _+_};
 ghost use lib.ListN.{take};
 ghost use Rattle.listing.specs.Room.{listingOctets};
 ghost use Rattle.sample.specs.Decode.{decode};
-ghost use Rattle.checker.specs.Verdict.{checked};
+ghost use Rattle.checker.specs.Verdict.{sampleVerdict};
 use checker::SampleVerdict;
 use checker::Verdict;
 use libc::STDOUT_FILENO;
@@ -22,7 +22,7 @@ const LISTING_ROOM: usize = LISTING_OCTETS + 1;
 
 // Checks the start of a listing, of which so many octets decide: the answer is that for the whole listing.
 fn check_start(file: &[u8], start: &[u8]) -> SampleVerdict
-    ensures { λ r. ⌜ ((whole : List ℕ) → now (start .entry) ≡ take (listingOctets + 1) whole → r ≡ checked (decode (now (file .entry))) whole) ⌝ }
+    ensures { λ r. ⌜ ((whole : List ℕ) → now (start .entry) ≡ take (listingOctets + 1) whole → r ≡ sampleVerdict (decode (now (file .entry))) whole) ⌝ }
 {
     checker::check(file, start)
 }
@@ -45,7 +45,7 @@ fn write_verdict(verdict: Verdict) {
 }
 
 // Writes what was found.
-fn write_checked(found: SampleVerdict) {
+fn write_sample_verdict(found: SampleVerdict) {
     if found.refusal != NONE {
         write_word(b"refused ");
         io::print_decimal(STDOUT_FILENO, found.refusal as u64);
@@ -62,7 +62,7 @@ fn check_files(sample: i32, listing: i32) {
     let m = io::read_full(sample, &mut file);
     let mut start = [0u8; LISTING_ROOM];
     let n = io::read_full(listing, &mut start);
-    write_checked(check_start(&file[..m], &start[..n]));
+    write_sample_verdict(check_start(&file[..m], &start[..n]));
 }
 
 // Opens the file that the argument at a place names; the answer is negative where it can't be.

@@ -1,5 +1,6 @@
--- The checker's answer, from what metrics found of a listing: its refusal is the sample's; without one, `same` says yes, and else the octets that agree give
--- the wrong line (`by-prefix`). Assumes nothing.
+-- The checker's answer, from what metrics found of a listing: its refusal is the sample's; without one, `same` says yes, and else the
+-- octets that agree give the wrong line (`by-prefix`).
+-- Here d is the decoded sample, found what was found, is that it was found of this listing, and z that it has no refusal. Assumes nothing.
 use Prim.Native.Nat.{ℕ, zero, suc, _≤_}
 use mathlib.Core.Path.{_≡_, refl, sym, ap, _∙_}
 use mathlib.Core.Bool.{true, false}
@@ -14,8 +15,8 @@ use Rattle.metrics.specs.declared.SampleAgreement.{SampleAgreement}
 use Rattle.metrics.proofs.Common.{common-le}
 use Rattle.checker.specs.declared.Verdict.{Verdict}
 use Rattle.checker.specs.declared.SampleVerdict.{SampleVerdict}
-use Rattle.checker.specs.Verdict.{verdictOn, verdictUnless, checked}
-use Rattle.checker.specs.Private.Feeds.{wrongAfter}
+use Rattle.checker.specs.Verdict.{verdictOn, verdictUnless, sampleVerdict}
+use Rattle.checker.specs.Private.{wrongAfter}
 use Rattle.checker.proofs.Lines.{by-prefix}
 
 -- the refusal of an agreement
@@ -30,8 +31,8 @@ module _ (d : Decoded) (listing : List ℕ) (found : SampleAgreement) (is : foun
   own = ap (λ (a : SampleAgreement). a .refusal) is ∙ agreement-refusal (decodedRefusal d) (sampleText d) listing
 
   -- with one, line 0
-  pub checked-refused : (found .refusal ≡ 0 → ⊥) → record { refusal = found .refusal; verdict = Verdict.WrongLine 0 } ≡ checked d listing
-  unfolding checked
+  pub checked-refused : (found .refusal ≡ 0 → ⊥) → record { refusal = found .refusal; verdict = Verdict.WrongLine 0 } ≡ sampleVerdict d listing
+  unfolding sampleVerdict
   checked-refused n = rw own (go (decodedRefusal d) (λ e. n (own ∙ e)))
     where
       go : (r : ℕ) → (r ≡ 0 → ⊥)
@@ -58,16 +59,16 @@ module _ (d : Decoded) (listing : List ℕ) (found : SampleAgreement) (is : foun
     octets-most h = omega (arith, octets-are, common-le (sampleText d) listing)
 
     -- the same text
-    pub checked-same : found .same ≡ true → record { refusal = 0; verdict = Verdict.Agrees } ≡ checked d listing
-    unfolding checked
+    pub checked-same : found .same ≡ true → record { refusal = 0; verdict = Verdict.Agrees } ≡ sampleVerdict d listing
+    unfolding sampleVerdict
     checked-same q =
         let e : sameText (sampleText d) listing ≡ true = sym same-is ∙ q in
         let r : decodedRefusal d ≡ 0 = sym own ∙ z in
         rw (r, by-prefix (sampleText d) listing, e)
 
     -- another one
-    pub checked-wrong : found .same ≡ false → (v : Verdict) → v ≡ wrongAfter (found .octets) listing → record { refusal = 0; verdict = v } ≡ checked d listing
-    unfolding checked
+    pub checked-wrong : found .same ≡ false → (v : Verdict) → v ≡ wrongAfter (found .octets) listing → record { refusal = 0; verdict = v } ≡ sampleVerdict d listing
+    unfolding sampleVerdict
     checked-wrong q v w =
         let e : sameText (sampleText d) listing ≡ false = sym same-is ∙ q in
         let r : decodedRefusal d ≡ 0 = sym own ∙ z in

@@ -3,9 +3,9 @@ use mathlib.Core.Path.{refl}
 use mathlib.Core.List.{flatten}
 use Rattle.octets.specs.Text.{lines}
 use Rattle.metrics.specs.Agreement.{sameText}
-use Rattle.checker.specs.Verdict.{judged, verdictOn}
+use Rattle.checker.specs.Verdict.{verdictOnLines, verdictOn}
 use Rattle.checker.specs.Cases.{listingCases, ListingCasesHold}
 
 pub cases-hold : ListingCasesHold
-unfolding lines judged verdictOn sameText listingCases flatten
+unfolding lines verdictOnLines verdictOn sameText listingCases flatten
 cases-hold = refl

@@ -1,4 +1,8 @@
--- Yes is said exactly of the listing that the sample must give, and the start of a listing decides. Assumes nothing.
+-- Yes is said exactly of the listing that the sample must give, and the start of a listing decides. By the longest common prefix
+-- (`by-prefix`) the verdict is yes exactly if the two texts are the same octet by octet, and then they are equal (`same-text`, by induction
+-- over both); with a refusal it is never yes. Of a listing no more is looked at than one octet more than the sample's text has
+-- (`verdict-start`), and no sample's text has more than `listingOctets`.
+-- Here e is the text that must be given, t another, and d the decoded sample. Assumes nothing.
 use Prim.Native.Nat.{ℕ, zero, suc, _≤_}
 use mathlib.Core.Path.{_≡_, refl, sym, ap, ap₂, _∙_}
 use mathlib.Core.Bool.{Bool, true, false, cond, _&&_, true≢false}
@@ -12,14 +16,14 @@ use Rattle.sample.specs.Decode.{Decoded, decodedRefusal}
 use Rattle.metrics.specs.Agreement.{common, sameText}
 use Rattle.metrics.specs.Report.{sampleText}
 use Rattle.checker.specs.declared.Verdict.{Verdict}
-use Rattle.checker.specs.Verdict.{verdictOn, verdictUnless, checked}
+use Rattle.checker.specs.Verdict.{verdictOn, verdictUnless, sampleVerdict}
 use Rattle.checker.specs.Claims.{AgreesExactly, StartDecides}
-use Rattle.checker.specs.Private.Feeds.{wrongAfter}
+use Rattle.checker.specs.Private.{wrongAfter}
 use Rattle.checker.proofs.Lines.{by-prefix, verdict-start}
 
 -- ---- the same text
 
--- it is the same
+-- texts that are the same octet by octet are equal
 same-text : (e t : List ℕ) → sameText e t ≡ true → t ≡ e
 unfolding sameText
 same-text [] [] q = refl
@@ -40,12 +44,11 @@ same-self (x ∷ e) = rw (eq-eqb x x refl, same-self e)
 
 -- ---- yes
 
--- whether a verdict is yes
 abbrev isYes : Verdict → Bool
 isYes Verdict.Agrees = true
 isYes (Verdict.WrongLine n) = false
 
--- yes to the one text
+-- yes is said of the one text alone
 verdict-only : (e t : List ℕ) → verdictOn e t ≡ Verdict.Agrees → t ≡ e
 verdict-only e t q = same-text e t (go (sameText e t) (sym (by-prefix e t) ∙ q))
   where
@@ -53,22 +56,20 @@ verdict-only e t q = same-text e t (go (sameText e t) (sym (by-prefix e t) ∙ q
     go true r = refl
     go false r = absurd (true≢false (sym (ap isYes r)))
 
--- and to that
+-- and it is said of that
 verdict-self : (e : List ℕ) → verdictOn e e ≡ Verdict.Agrees
 verdict-self e = by-prefix e e ∙ rw (same-self e)
 
 -- ---- the claims
 
--- yes is said exactly of the listing that the sample must give
 pub agrees-exactly : (d : Decoded) → AgreesExactly d
-unfolding checked
+unfolding sampleVerdict
 agrees-exactly d = record { only = λ listing q. go listing (decodedRefusal d) q; always = λ z. rw z (verdict-self (sampleText d)) }
   where
     go : (listing : List ℕ) (r : ℕ) → verdictUnless r (verdictOn (sampleText d) listing) ≡ Verdict.Agrees → (r ≡ 0) × (listing ≡ sampleText d)
     go listing zero q = (refl, verdict-only (sampleText d) listing q)
     go listing (suc r) q = absurd (true≢false (sym (ap isYes q)))
 
--- the start of a listing decides
 pub start-decides : (d : Decoded) → length (sampleText d) ≤ listingOctets → StartDecides d
-unfolding checked
+unfolding sampleVerdict
 start-decides d h = record { start = λ listing n g. rw (verdict-start n (sampleText d) listing (omega arith)) }

@@ -10,7 +10,7 @@ use lib.Dec.{eqb}
 use lib.ListN.{length, take, getD, length-take}
 use lib.Seq.{take-suc}
 use Rattle.octets.specs.Text.{lineFeed}
-use Rattle.checker.specs.Private.Feeds.{feeds}
+use Rattle.checker.specs.Private.{feeds}
 
 -- those of one octet more
 feeds-more : (l : List ℕ) (x : ℕ) → feeds (l ++ (x ∷ [])) ≡ cond (eqb x lineFeed) (feeds l + 1) (feeds l)
@@ -33,7 +33,7 @@ feeds-next l i f h e = rw (add-one, take-suc l i 0 h, feeds-more (take i l) (get
     go false = omega arith
 
 -- at most as many as there are octets
-pub feeds-le : (l : List ℕ) → feeds l ≤ length l
+feeds-le : (l : List ℕ) → feeds l ≤ length l
 unfolding feeds
 feeds-le [] = omega arith
 feeds-le (x ∷ l) = go (eqb x lineFeed) (feeds-le l)

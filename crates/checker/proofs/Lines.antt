@@ -1,5 +1,8 @@
--- The verdict by lines is that by the longest common prefix: the wrong line is 1 more than its line feeds. Both are shown to be the verdict octet by
--- octet: an octet more in front of the first lines of both changes nothing, unless it is a line feed, since no line is empty. Assumes nothing.
+-- The verdict by lines is that by the longest common prefix: the wrong line is 1 more than its line feeds (`by-prefix`). Both are shown to be
+-- the verdict octet by octet, by induction over both texts: an octet more in front of the first lines of both changes nothing, unless it is a
+-- line feed, since no line is empty (`judged-lines`); and each octet that agrees is one more of the prefix, and one line more if it is a line
+-- feed (`stepped-prefix`). Octet by octet, no more of the listing is looked at than one octet more than the text has (`stepped-start`).
+-- Here e is the text that must be given, t the listing, x and y their next octets, n or m the number of the line. Assumes nothing.
 use Prim.Native.Nat.{ℕ, zero, suc, _+_, _<_}
 use mathlib.Core.Path.{_≡_, refl, sym, ap, _∙_}
 use mathlib.Core.Bool.{Bool, true, false, cond, _&&_}
@@ -13,14 +16,14 @@ use Rattle.octets.specs.Text.{lineFeed, inFront, lines}
 use Rattle.octets.proofs.Text.{first-line}
 use Rattle.metrics.specs.Agreement.{common, sameText}
 use Rattle.checker.specs.declared.Verdict.{Verdict}
-use Rattle.checker.specs.Verdict.{judged, verdictOn}
-use Rattle.checker.specs.Private.Feeds.{feeds, wrongAfter}
+use Rattle.checker.specs.Verdict.{verdictOnLines, verdictOn}
+use Rattle.checker.specs.Private.{feeds, wrongAfter}
 
 -- ---- lines, octet by octet
 
 -- an octet more in front of both changes nothing
-judged-in-front : (n x : ℕ) (e t : List ℕ) → judged n (inFront x (lines e)) (inFront x (lines t)) ≡ judged n (lines e) (lines t)
-unfolding lines judged sameText
+judged-in-front : (n x : ℕ) (e t : List ℕ) → verdictOnLines n (inFront x (lines e)) (inFront x (lines t)) ≡ verdictOnLines n (lines e) (lines t)
+unfolding lines verdictOnLines sameText
 judged-in-front n x [] [] = rw (eq-eqb x x refl)
 judged-in-front n x [] (y ∷ t) = rw (first-line y t .lead, eq-eqb x x refl)
 judged-in-front n x (z ∷ e) [] = rw (first-line z e .lead, eq-eqb x x refl)
@@ -34,20 +37,20 @@ stepped n (x ∷ e) [] = Verdict.WrongLine n
 stepped n (x ∷ e) (y ∷ t) = cond (eqb x y) (stepped (cond (eqb x lineFeed) (n + 1) n) e t) (Verdict.WrongLine n)
 
 -- by lines it is the same
-judged-lines : (n : ℕ) (e t : List ℕ) → judged n (lines e) (lines t) ≡ stepped n e t
-unfolding judged lines stepped sameText
+judged-lines : (n : ℕ) (e t : List ℕ) → verdictOnLines n (lines e) (lines t) ≡ stepped n e t
+unfolding verdictOnLines lines stepped sameText
 judged-lines n [] [] = refl
 judged-lines n [] (y ∷ t) = rw (first-line y t .lead)
 judged-lines n (x ∷ e) [] = rw (first-line x e .lead)
 judged-lines n (x ∷ e) (y ∷ t) = go (λ m. judged-lines m e t) (eqb x y) refl
   where
-    both : ((m : ℕ) → judged m (lines e) (lines t) ≡ stepped m e t) → (b : Bool)
-        → judged n (cond b ((x ∷ []) ∷ lines e) (inFront x (lines e))) (cond b ((x ∷ []) ∷ lines t) (inFront x (lines t))) ≡ stepped (cond b (n + 1) n) e t
+    both : ((m : ℕ) → verdictOnLines m (lines e) (lines t) ≡ stepped m e t) → (b : Bool)
+        → verdictOnLines n (cond b ((x ∷ []) ∷ lines e) (inFront x (lines e))) (cond b ((x ∷ []) ∷ lines t) (inFront x (lines t))) ≡ stepped (cond b (n + 1) n) e t
     both h true = rw (eq-eqb x x refl) (h (n + 1))
     both h false = judged-in-front n x e t ∙ h n
 
-    go : ((m : ℕ) → judged m (lines e) (lines t) ≡ stepped m e t) → (b : Bool) → eqb x y ≡ b
-        → judged n (lines (x ∷ e)) (lines (y ∷ t)) ≡ cond b (stepped (cond (eqb x lineFeed) (n + 1) n) e t) (Verdict.WrongLine n)
+    go : ((m : ℕ) → verdictOnLines m (lines e) (lines t) ≡ stepped m e t) → (b : Bool) → eqb x y ≡ b
+        → verdictOnLines n (lines (x ∷ e)) (lines (y ∷ t)) ≡ cond b (stepped (cond (eqb x lineFeed) (n + 1) n) e t) (Verdict.WrongLine n)
     go h true q = let s : x ≡ y = eqb-true x y q in rw (← s) (both h (eqb x lineFeed))
     go h false q = rw (first-line x e .lead, first-line y t .lead, q)
 

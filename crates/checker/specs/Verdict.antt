@@ -11,15 +11,15 @@ use Rattle.checker.specs.declared.SampleVerdict.{SampleVerdict}
 
 -- the first wrong line of those given, against those that must be given, where the first has the number n: one that differs, is
 -- missing or is extra, at its place
-unfoldable pub judged : ℕ → List (List ℕ) → List (List ℕ) → Verdict
-judged n [] [] = Verdict.Agrees
-judged n [] (l ∷ ls) = Verdict.WrongLine n
-judged n (e ∷ es) [] = Verdict.WrongLine n
-judged n (e ∷ es) (l ∷ ls) = cond (sameText e l) (judged (n + 1) es ls) (Verdict.WrongLine n)
+unfoldable pub verdictOnLines : ℕ → List (List ℕ) → List (List ℕ) → Verdict
+verdictOnLines n [] [] = Verdict.Agrees
+verdictOnLines n [] (l ∷ ls) = Verdict.WrongLine n
+verdictOnLines n (e ∷ es) [] = Verdict.WrongLine n
+verdictOnLines n (e ∷ es) (l ∷ ls) = cond (sameText e l) (verdictOnLines (n + 1) es ls) (Verdict.WrongLine n)
 
 -- a listing against the text that must be given
 unfoldable pub verdictOn : List ℕ → List ℕ → Verdict
-verdictOn expected listing = judged 1 (lines expected) (lines listing)
+verdictOn expected listing = verdictOnLines 1 (lines expected) (lines listing)
 
 -- a verdict, or line 0 with a refusal
 abbrev pub verdictUnless : ℕ → Verdict → Verdict
@@ -27,5 +27,5 @@ verdictUnless zero v = v
 verdictUnless (suc r) v = Verdict.WrongLine 0
 
 -- the checker's answer: the sample's refusal, with which the listing is not looked at, and the verdict
-unfoldable pub checked : Decoded → List ℕ → SampleVerdict
-checked d listing = record { refusal = decodedRefusal d; verdict = verdictUnless (decodedRefusal d) (verdictOn (sampleText d) listing) }
+unfoldable pub sampleVerdict : Decoded → List ℕ → SampleVerdict
+sampleVerdict d listing = record { refusal = decodedRefusal d; verdict = verdictUnless (decodedRefusal d) (verdictOn (sampleText d) listing) }

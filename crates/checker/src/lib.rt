@@ -7,10 +7,10 @@ ghost use lib.ListN.{length};
 ghost use Rattle.listing.specs.Room.{listingOctets};
 ghost use Rattle.octets.specs.Text.{lineFeed};
 ghost use Rattle.sample.specs.Decode.{decode};
-ghost use Rattle.checker.specs.Verdict.{checked};
+ghost use Rattle.checker.specs.Verdict.{sampleVerdict};
 ghost use Rattle.checker.specs.Claims.{AgreesExactly, StartDecides};
 ghost use Rattle.checker.specs.Cases.{ListingCasesHold};
-ghost use Rattle.checker.specs.Private.Feeds.{feeds, wrongAfter};
+ghost use Rattle.checker.specs.Private.{feeds, wrongAfter};
 use rfc4737::refusal::NONE;
 
 // What is said of a listing: that it agrees, or the number of its first wrong line, from 1.
@@ -26,7 +26,7 @@ pub struct SampleVerdict {
 }
 
 // 1 for a line feed, else 0.
-fn feed(x: u8) -> usize
+fn one_if_line_feed(x: u8) -> usize
     ensures { λ r. ⌜ r ≡ cond (eqb x lineFeed) 1 0 ⌝ }
 {
     if x == b'\n' {
@@ -36,13 +36,13 @@ fn feed(x: u8) -> usize
 }
 
 // The line feeds of a text.
-fn feeds_in(text: &[u8]) -> usize
+fn line_feeds_in(text: &[u8]) -> usize
     ensures { λ r. ⌜ r ≡ feeds (now (text .entry)) ⌝ }
 {
     let mut found: usize = 0;
     let mut i: usize = 0;
     while i < text.len() {
-        found += feed(text[i]);
+        found += one_if_line_feed(text[i]);
         i += 1;
     }
     found
@@ -53,13 +53,13 @@ fn wrong_line(listing: &[u8], octets: usize) -> Verdict
     requires { ⌜ (octets ≤ length (now listing)) × (octets ≤ listingOctets) ⌝ }
     ensures { λ r. ⌜ r ≡ wrongAfter octets (now (listing .entry)) ⌝ }
 {
-    Verdict::WrongLine((1 + feeds_in(&listing[..octets])) as u32)
+    Verdict::WrongLine((1 + line_feeds_in(&listing[..octets])) as u32)
 }
 
 // Checks a listing against a sample: yes exactly if it is the one that the sample must give, else the number of its first wrong
 // line. It costs what comparing the two costs, and once more the octets that agree.
 pub fn check(file: &[u8], listing: &[u8]) -> SampleVerdict
-    ensures { λ r. ⌜ r ≡ checked (decode (now (file .entry))) (now (listing .entry)) ⌝ }
+    ensures { λ r. ⌜ r ≡ sampleVerdict (decode (now (file .entry))) (now (listing .entry)) ⌝ }
     ensures exactly { λ _. ⌜ AgreesExactly (decode (now (file .entry))) ⌝ }
     ensures start { λ _. ⌜ StartDecides (decode (now (file .entry))) ⌝ }
     ensures cases { λ _. ⌜ ListingCasesHold ⌝ }

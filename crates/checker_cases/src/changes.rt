@@ -26,7 +26,7 @@ fn found_at(sample: &[u8], listing: &[u8], line: u32) -> u32 {
 }
 
 // Changes an octet, which is on this line, to another, checks, and changes it back: 1 if that is found, else 0.
-fn change(sample: &[u8], listing: &mut [u8], at: usize, octet: u8, line: u32) -> u32 {
+fn change_octet(sample: &[u8], listing: &mut [u8], at: usize, octet: u8, line: u32) -> u32 {
     if listing.len() <= at {
         return 0;
     }
@@ -44,7 +44,7 @@ fn change(sample: &[u8], listing: &mut [u8], at: usize, octet: u8, line: u32) ->
 fn changes_at(sample: &[u8], listing: &mut [u8], at: usize, line: u32) -> u32 {
     let mut found: u32 = 0;
     for octet in 0..256u32 {
-        let one = change(sample, listing, at, octet as u8, line);
+        let one = change_octet(sample, listing, at, octet as u8, line);
         found = wrapping_add_u32(found, one);
     }
     found

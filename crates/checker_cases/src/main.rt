@@ -12,12 +12,12 @@ use cases::lists::first_8;
 use cases::print::write_number;
 use cases::print::write_word;
 use cases::text::count;
+use cases::text::input;
 use cases::text::part;
 use changes::OCTETS;
 use changes::every_change;
 use checker::Verdict;
 use checker::check;
-use libc::STDIN_FILENO;
 use sample_text::ROOM;
 use sample_text::put_sample;
 use std::num::wrapping_add_usize;
@@ -34,7 +34,7 @@ fn octets_from(s: &[u8], n: usize) -> &[u8] {
 }
 
 // Writes what is found of a listing.
-fn write_checked(name: &[u8], sample: &[u8], listing: &[u8]) {
+fn write_sample_verdict(name: &[u8], sample: &[u8], listing: &[u8]) {
     let found = check(sample, listing);
     let verdict = found.verdict;
     write_word(name);
@@ -65,7 +65,7 @@ fn run(listing: &[u8], line: &[u8]) {
     let mut text = [0u8; 256];
     let n = put_sample(field(line, 1), &mut file);
     let m = put_edited(listing, line, &mut text);
-    write_checked(field(line, 0), first_8(&file, n), first_8(&text, m));
+    write_sample_verdict(field(line, 0), first_8(&file, n), first_8(&text, m));
 }
 
 // Runs the cases of all lines, and makes every change of an octet for the sample of the first.
@@ -76,14 +76,9 @@ fn run_all(listing: &[u8], lines: &[u8]) {
     every_change(field(part(lines, b'\n', 0), 1), listing);
 }
 
-// Runs all cases on what was read.
-fn run_both(text: &[u8]) {
-    run_all(first_8(text, OCTETS), octets_from(text, OCTETS));
-}
-
 // Runs all cases.
 fn main() {
-    let mut text = [0u8; MOST];
-    let n = io::read_full(STDIN_FILENO, &mut text);
-    run_both(first_8(&text, n));
+    let mut room = [0u8; MOST];
+    let text = input(&mut room);
+    run_all(first_8(text, OCTETS), octets_from(text, OCTETS));
 }

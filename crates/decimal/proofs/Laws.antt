@@ -1,4 +1,8 @@
--- Laws of a number in decimal: its digits by the number of its tens, what they read as, how many there are. Assumes nothing.
+-- A number in decimal. `by-tens` is the induction over digits: a number below ten, and a longer one from the number of its tens, n / 10. Digits do
+-- not depend on the bound of steps (`same-steps`), so `decimalOf` is one digit below ten (`one-digit`), else the digits of the tens and then the
+-- last one (`more-digits`). By this induction the digits read back as n (`reads-back`) and there is always one. How many there are goes by powers of
+-- ten: each division by ten takes one off, so below 10 ^ k there are at most k, and from 10 ^ k on more than k (`at-most`, `at-least`, `exactly`).
+-- Here n is a number, k a count of digits, f, g and steps bounds, os octets and o one. Assumes nothing.
 use mathlib.Core.Path.{_≡_, refl, ap}
 use mathlib.Core.List.{List, [], _∷_, _++_, foldl-append}
 use Prim.Native.Nat.{ℕ, zero, suc, _+_, _-_, _*_, _/_, _%_, _^_, _≤_, _<_}
@@ -38,7 +42,7 @@ unfolding significant
 none zero = refl
 none (suc f) = refl
 
--- another number has those of its tens and its last digit, as in decimal
+-- a number above 0 has the digits of its decimal form
 some : (f n : ℕ) → 0 < n → n ≤ f → significant f n ≡ decimalOf n
 unfolding significant decimalOf
 some zero n p h = absurd (omega arith)
@@ -89,7 +93,7 @@ cut-off (suc k) n h =
     rw d (omega (arith, one-more n (omega arith), cut-off k (n / 10) (omega arith)))
 
 -- there is always a digit
-pub never-empty : (n : ℕ) → 0 < length (decimalOf n)
+never-empty : (n : ℕ) → 0 < length (decimalOf n)
 never-empty =
     by-tens (λ (n : ℕ). 0 < length (decimalOf n)) (λ n h. omega (arith, ap length (one-digit n h)))
     (λ n h some. omega (arith, one-more n h))

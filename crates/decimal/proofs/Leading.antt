@@ -1,4 +1,9 @@
--- The digits that a text begins with: how many there are, a loop over them, and a number in decimal read back. Assumes nothing.
+-- The digits that a text begins with. How many there are goes by the first octet, a digit or not (`count-none`, `count-one`). A number in
+-- decimal is digits alone, by induction over its digits (`count-decimal`); so where no digit follows exactly its digits are read, and they read
+-- as the number (`back`). A loop that counts octets is at `Counted`: those from `at` to `end` are counted; so is the loop that reads digits, and
+-- `value` is their number or the greatest of 64 bits (`Passed`). A digit more keeps it (`passed-more`), since a number cut to the greatest stays
+-- there with every digit more (`least-more`); where no digit stands all are read (`passed-all`).
+-- Here o is an octet, t a text, n a number, l and os octets. Assumes nothing.
 use Prim.Native.Nat.{ℕ, suc, _+_, _*_, _-_, _%_, _/_, _≤_, _<_, min}
 use native.Mathlib.Nat.{add-zero}
 use native.Mathlib.Omega.{arith}
@@ -77,48 +82,66 @@ back n earlier later h z =
     let m : min n wordMost ≡ n = omega arith in
     rw (t, v, m, ← c)
 
--- ---- a loop over them
+-- ---- a loop that counts octets, of which a text begins with `count`
 
--- a digit after a number that is the greatest at most
-pub least-more : (v d : ℕ) → min (min v wordMost * 10 + d) wordMost ≡ min (v * 10 + d) wordMost
+-- those from `at` to `end` are counted
+pub record Counted (count : List ℕ → ℕ) (os : List ℕ) (at end : ℕ) : Type 0 where
+  pub onward : at ≤ end
+  pub counted : count (drop at os) ≡ end - at + count (drop end os)
+
+pub counted-none : (count : List ℕ → ℕ) (os : List ℕ) (at : ℕ) → Counted count os at at
+counted-none count os at = record { onward = omega arith; counted = omega arith }
+
+-- what stands at a place
+pub stands : (os : List ℕ) (at : ℕ) → getD (drop at os) 0 0 ≡ getD os at 0
+stands os at = getD-drop at os 0 0 ∙ ap (λ (k : ℕ). getD os k 0) (add-zero at)
+
+module _ {count : List ℕ → ℕ} {os : List ℕ} {at end : ℕ} (p : Counted count os at end) where
+  -- one more
+  pub counted-more : count (drop end os) ≡ suc (count (drop 1 (drop end os))) → Counted count os at (end + 1)
+  counted-more e =
+      let b : at ≤ end = p .onward in
+      let c : count (drop end os) ≡ suc (count (drop (end + 1) os)) = e ∙ ap (λ (t : List ℕ). suc (count t)) (drop-drop 1 end os) in
+      record { onward = omega arith; counted = omega (arith, p .counted) }
+
+  -- no more: all are counted
+  pub counted-all : count (drop end os) ≡ 0 → end ≡ at + count (drop at os)
+  counted-all z = omega (arith, p .onward, p .counted)
+
+-- ---- the loop that reads digits
+
+-- cutting before a digit more changes nothing: what is cut is the greatest after it too
+least-more : (v d : ℕ) → min (min v wordMost * 10 + d) wordMost ≡ min (v * 10 + d) wordMost
 least-more v d = omega arith
 
 -- the digits from `at` to `end` are passed, and `value` is their number
 pub record Passed (os : List ℕ) (at value end : ℕ) : Type 0 where
-  pub onward : at ≤ end
-  pub count : digitCount (drop at os) ≡ end - at + digitCount (drop end os)
+  pub digits : Counted digitCount os at end
   pub number : value ≡ min (decimalValue (part at (end - at) os)) wordMost
 
 pub passed-none : (os : List ℕ) (at : ℕ) → Passed os at 0 at
 unfolding decimalValue
 passed-none os at =
     let z : at - at ≡ 0 = omega arith in
-    record { onward = omega arith; count = omega arith; number = rw z }
+    record { digits = counted-none digitCount os at; number = rw z }
 
 module _ (os : List ℕ) (at value end : ℕ) (p : Passed os at value end) where
-  -- what stands there
-  here : getD (drop end os) 0 0 ≡ getD os end 0
-  here = getD-drop end os 0 0 ∙ ap (λ (k : ℕ). getD os k 0) (add-zero end)
-
   -- a digit more
   pub passed-more : (value′ : ℕ) → end < length os → digit (getD os end 0) ≡ true
       → value′ ≡ min (value * 10 + (getD os end 0 - 48)) wordMost → Passed os at value′ (end + 1)
   passed-more value′ h d e =
-      let b : at ≤ end = p .onward in
+      let b : at ≤ end = p .digits .onward in
       let place : at + (end - at) ≡ end = omega arith in
       let long : end + 1 - at ≡ end - at + 1 = omega arith in
       let room : at + (end - at) < length os = omega arith in
       let some : 0 < length (drop end os) = simp length-drop (omega arith) in
-      let c : digitCount (drop end os) ≡ suc (digitCount (drop (end + 1) os)) =
-      count-one (drop end os) some (rw here d) ∙ ap (λ (t : List ℕ). suc (digitCount t)) (drop-drop 1 end os) in
       let v : decimalValue (part at (end + 1 - at) os) ≡ decimalValue (part at (end - at) os) * 10 + (getD os end 0 - 48) =
       ap (λ (k : ℕ). decimalValue (part at k os)) long
       ∙ ap decimalValue (part-snoc at (end - at) os 0 room)
       ∙ value-more (part at (end - at) os) (getD os (at + (end - at)) 0)
       ∙ ap (λ (k : ℕ). decimalValue (part at (end - at) os) * 10 + (getD os k 0 - 48)) place in
       record {
-        onward = omega arith;
-        count = omega (arith, p .count);
+        digits = counted-more (p .digits) (count-one (drop end os) some (rw (stands os end) d));
         number = e
             ∙ ap (λ (k : ℕ). min (k * 10 + (getD os end 0 - 48)) wordMost) (p .number)
             ∙ least-more (decimalValue (part at (end - at) os)) (getD os end 0 - 48)
@@ -128,10 +151,8 @@ module _ (os : List ℕ) (at value end : ℕ) (p : Passed os at value end) where
   -- no digit stands there: all are passed
   pub passed-all : digit (getD os end 0) ≡ false → record { end = end; value = value } ≡ numberAt at os
   passed-all d =
-      let z : digitCount (drop end os) ≡ 0 = count-none (drop end os) (rw here d) in
-      let b : at ≤ end = p .onward in
-      let c : end - at ≡ digitCount (drop at os) = omega (arith, p .count) in
-      let e : end ≡ at + digitCount (drop at os) = omega arith in
+      let e : end ≡ at + digitCount (drop at os) = counted-all (p .digits) (count-none (drop end os) (rw (stands os end) d)) in
+      let c : end - at ≡ digitCount (drop at os) = omega arith in
       let v : value ≡ min (leadingValue (drop at os)) wordMost =
       p .number ∙ ap (λ (k : ℕ). min (decimalValue (part at k os)) wordMost) c in
       rw (← e, ← v)

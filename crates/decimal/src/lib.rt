@@ -30,14 +30,14 @@ pub fn count(v: u64) -> usize
 }
 
 // The last digit of a number, as an ASCII octet.
-fn last(n: u64) -> u8
+fn last_digit(n: u64) -> u8
     ensures { λ r. ⌜ r ≡ 48 + n % 10 ⌝ }
 {
     (48 + n % 10) as u8
 }
 
 // Writes the `n` digits of `v` from `at` on, the last ones first and two at a time.
-fn write(out: &mut [u8], at: usize, n: usize, v: u64)
+fn write_decimal(out: &mut [u8], at: usize, n: usize, v: u64)
     requires { ⌜ (n ≡ length (decimalOf v)) × (at + n ≤ length (now out)) ⌝ }
     ensures { λ _. ⌜ now (out .exit) ≡ splice at (decimalOf v) (now (out .entry)) ⌝ }
 {
@@ -47,12 +47,12 @@ fn write(out: &mut [u8], at: usize, n: usize, v: u64)
         i -= 2;
         let place = at + i;
         let pair = rest % 100;
-        out[place + 1] = last(pair);
-        out[place] = last(pair / 10);
+        out[place + 1] = last_digit(pair);
+        out[place] = last_digit(pair / 10);
         rest = rest / 100;
     }
     if 0 < i {
-        out[at] = last(rest);
+        out[at] = last_digit(rest);
     }
 }
 
@@ -63,7 +63,7 @@ pub fn put_decimal(out: &mut [u8], at: usize, v: u64) -> usize
     let n = count(v);
     if at <= out.len() {
         if n <= out.len() - at {
-            write(out, at, n, v);
+            write_decimal(out, at, n, v);
         }
     }
     n

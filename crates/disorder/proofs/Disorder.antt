@@ -1,5 +1,12 @@
--- The total of disorder. With every payload size 1 the sum of the byte offsets is the number of pairs of first arrivals in the wrong
--- order; and this is the least number of exchanges of neighbours that puts them in rising order. Assumes nothing.
+-- The total of disorder. With every payload size 1 a byte offset is how many numbers before it are greater (`offset-higher`), none for a
+-- packet in order (`higher-next`), and so many pairs in the wrong order are added by one first arrival more at the end (`wrong-snoc`); so
+-- the sum of the byte offsets is the number of these pairs (`sum-wrong`, by induction over the arrivals from the end). That number is the
+-- least number of exchanges of neighbours that puts first arrivals in rising order (`wrong-least`). Fewer do not: an exchange changes the
+-- order of one pair alone, so it takes at most one from the wrong ones (`exchange-wrong`), and in rising order there is none
+-- (`rising-none`). So many do: from the last arrival on, each passes those of a smaller number in the rising order of the arrivals behind
+-- it (`insert`), and these are its wrong pairs (`sort`); for that the numbers of first arrivals differ (`firsts-differ`).
+-- Here l and m are arrivals before and after an exchange, a and b two of them, fs first arrivals, s a number, p a test and n how many
+-- exchanges. Assumes nothing.
 use Prim.Native.Nat.{ℕ, suc, _+_, _≤_, _<_}
 use mathlib.Core.Path.{_≡_, refl, sym, ap, _∙_}
 use mathlib.Core.Bool.{Bool, true, false, cond, _||_}
@@ -17,34 +24,23 @@ use Rattle.rfc4737.specs.Extent.{byteOffset, discontinuity}
 use Rattle.rfc4737.specs.Answer.{inOrderAnswer, reorderedAnswer, firstAnswer, answerTo, answers}
 use Rattle.disorder.specs.Disorder.{offsetIn, offsetSum, pairs, isWrong, wrongPairs, Exchange, here, after, Exchanges, none, one, Rising, Least, OffsetsCountPairs}
 use Rattle.rfc4737.proofs.Lists.{snoc-ind, All, Ordered, all-left, all-right, all-weaken, ordered-more}
-use Rattle.rfc4737.proofs.Arrivals.{fold-more, count-more, firsts-more, has-firsts, with-duplicate, with-first}
-use Rattle.rfc4737.proofs.Folds.{next-more, offset-more, answers-more, answer-duplicate, answer-first}
+use Rattle.rfc4737.proofs.Arrivals.{fold-more, firsts-more, has-firsts, with-duplicate, with-first}
+use Rattle.rfc4737.proofs.Folds.{oneIf, count-plus, next-more, offset-more, answers-more, answer-duplicate, answer-first}
 use Rattle.rfc4737.proofs.Packets.{with-cases, all-firsts}
 
 -- ---- counts from the front
-
--- 1 for a test that is passed
-abbrev oneIf : Bool → ℕ
-oneIf t = cond t 1 0
-
-one-more : (n : ℕ) (t : Bool) → cond t (n + 1) n ≡ n + oneIf t
-one-more n true = refl
-one-more n false = omega arith
 
 one-most : (t : Bool) → oneIf t ≤ 1
 one-most true = omega arith
 one-most false = omega arith
 
 module _ {A : Type 0} (p : A → Bool) where
-  count-snoc : (l : List A) (a : A) → count p (l ++ (a ∷ [])) ≡ count p l + oneIf (p a)
-  count-snoc l a = count-more p l a ∙ one-more (count p l) (p a)
-
   count-cons : (a : A) (l : List A) → count p (a ∷ l) ≡ oneIf (p a) + count p l
   unfolding count
   count-cons a = snoc-ind (λ (l : List A). count p (a ∷ l) ≡ oneIf (p a) + count p l) more (sym (add-zero (oneIf (p a))))
     where
       more : (l : List A) (b : A) → count p (a ∷ l) ≡ oneIf (p a) + count p l → count p (a ∷ l ++ (b ∷ [])) ≡ oneIf (p a) + count p (l ++ (b ∷ []))
-      more l b e = omega (arith, e, count-snoc (a ∷ l) b, count-snoc l b)
+      more l b e = omega (arith, e, count-plus p (a ∷ l) b, count-plus p l b)
 
   count-append : (l m : List A) → count p (l ++ m) ≡ count p l + count p m
   unfolding count
@@ -84,7 +80,7 @@ wrong-snoc (a ∷ l) b =
       wrong-cons a (l ++ (b ∷ [])),
       wrong-cons a l,
       wrong-snoc l b,
-      count-snoc (λ (b : Arrival). ltb (b .number) (a .number)) l b,
+      count-plus (λ (b : Arrival). ltb (b .number) (a .number)) l b,
       count-cons (λ (a : Arrival). ltb (b .number) (a .number)) a l,
     )
 
@@ -102,10 +98,10 @@ offset-higher size s = snoc-ind (λ (fs : List Arrival). All (SizeOne size) fs �
     more : (fs : List Arrival) (a : Arrival) → (All (SizeOne size) fs → byteOffset size fs s ≡ higher s fs)
         → All (SizeOne size) (fs ++ (a ∷ [])) → byteOffset size (fs ++ (a ∷ [])) s ≡ higher s (fs ++ (a ∷ []))
     more fs a h g =
-        rw (offset-more size fs s a, count-snoc (λ (b : Arrival). ltb s (b .number)) fs a, all-right (SizeOne size) fs (a ∷ []) g .0, h (all-left (SizeOne size) fs (a ∷ []) g))
+        rw (offset-more size fs s a, count-plus (λ (b : Arrival). ltb s (b .number)) fs a, all-right (SizeOne size) fs (a ∷ []) g .0, h (all-left (SizeOne size) fs (a ∷ []) g))
 
 -- where every size is 1
-pub all-ones : (l : List Arrival) → All (SizeOne (λ _. 1)) l
+all-ones : (l : List Arrival) → All (SizeOne (λ _. 1)) l
 all-ones [] = tt
 all-ones (a ∷ l) = (refl, all-ones l)
 
@@ -122,7 +118,7 @@ higher-next s = snoc-ind (λ (fs : List Arrival). nextExp fs ≤ s → higher s 
     more fs a h g = go (leb (nextExp fs) (a .number)) refl (rw (next-more fs a) at g)
       where
         last : a .number ≤ s → nextExp fs ≤ s → higher s (fs ++ (a ∷ [])) ≡ 0
-        last low k = rw (count-snoc (λ (b : Arrival). ltb s (b .number)) fs a, le-ltb s (a .number) low, h k)
+        last low k = rw (count-plus (λ (b : Arrival). ltb s (b .number)) fs a, le-ltb s (a .number) low, h k)
 
         go : (t : Bool) → leb (nextExp fs) (a .number) ≡ t → cond t (a .number + 1) (nextExp fs) ≤ s → higher s (fs ++ (a ∷ [])) ≡ 0
         go true e k = last (omega arith) (omega (arith, leb-true (nextExp fs) (a .number) e))
@@ -285,7 +281,7 @@ sort (a ∷ l) d =
     omega (arith, wrong-cons a l, exchanges-count (λ (c : Arrival). ltb (c .number) (a .number)) (s .reached)) in
     record { order = t .order; rises = t .rises; reached = rw n (exchanges-join (exchanges-after a (s .reached)) (t .reached)) }
 
--- the packets of first arrivals differ
+-- a packet that is not among some differs from each of them
 has-none : (a : Arrival) (l : List Arrival) → has (a .number) l ≡ false → All (λ (b : Arrival). Differ b a) l
 unfolding has
 has-none a [] e = tt
@@ -295,6 +291,7 @@ has-none a (b ∷ l) e = go (has-none a l) (eqb (b .number) (a .number)) refl e
     go rest true q z = let n : _≡_ {A = ℕ} 0 1 = cc in absurd (omega arith)
     go rest false q z = (eqb-false (b .number) (a .number) q, rest z)
 
+-- so the packets of first arrivals differ
 firsts-differ : (l : List Arrival) → Ordered Differ (firsts l)
 unfolding firsts
 firsts-differ = snoc-ind (λ (l : List Arrival). Ordered Differ (firsts l)) more tt
@@ -314,6 +311,6 @@ wrong-least l =
       least = λ m gs r x. omega (arith, exchanges-wrong x, rising-none gs r);
     }
 
--- the theorems
+-- with the size that is 1 of any packet
 pub offsets-count-pairs : OffsetsCountPairs
 offsets-count-pairs l = sum-wrong (λ _. 1) l (all-ones l)

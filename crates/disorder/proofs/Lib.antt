@@ -1,3 +1,3 @@
 -- Laws of disorder, and of a file. Assumes nothing.
 pub mod Disorder
-mod Disordered
+mod DisorderInFile

@@ -1,2 +1,26 @@
--- What private functions say to each other: no public contract reaches these definitions. Assumes nothing.
-pub mod Pairs
+-- What private functions say to each other, which no public contract reaches: the pairs of some first arrivals, and the tree that counts them. Assumes nothing.
+use mathlib.Core.Path.{_≡_}
+use mathlib.Core.List.{List}
+use Prim.Native.Nat.{ℕ, _+_, _*_, _≤_, _<_}
+use lib.ListN.{length}
+use Rattle.rfc4737.specs.declared.Arrival.{Arrival}
+use Rattle.rfc4737.specs.Judge.{sentMost, arrivalsMost}
+use Rattle.rfc4737.specs.Extent.{byteOffset}
+use Rattle.disorder.specs.Disorder.{wrongPairs}
+use Rattle.sums.specs.Tree.{Summed}
+use Rattle.disorder.specs.declared.pairs.Pairs.{Pairs}
+
+-- a tree and the pairs of some first arrivals
+pub record PairTree (fs : List Arrival) (tree : List ℕ) (p : Pairs) : Type 0 where
+  pub places : length tree ≡ sentMost + 1
+  pub summed : Summed (byteOffset (λ _. 1) fs) tree
+  pub count : p .count ≡ length fs
+  pub whole : p .count ≡ byteOffset (λ _. 1) fs 0
+  pub wrong : p .wrong ≡ wrongPairs fs
+  pub small : p .wrong ≤ arrivalsMost * p .count
+
+-- of fewer than 4,096
+pub record FewPairs (tree : List ℕ) (p : Pairs) : Type 0 where
+  pub fs : List Arrival
+  pub paired : PairTree fs tree p
+  pub few : p .count < arrivalsMost

@@ -8,7 +8,7 @@ ghost use Rattle.rfc4737.specs.Judge.{sentMost};
 ghost use Rattle.sample.specs.Decode.{decode};
 ghost use Rattle.metrics.specs.Private.Sample.{FileLayout};
 ghost use Rattle.disorder.specs.Sample.{disorderOf};
-ghost use Rattle.disorder.specs.Private.Pairs.{PairTree, FewPairs};
+ghost use Rattle.disorder.specs.Private.{PairTree, FewPairs};
 use rfc4737::judge::SENT_MOST;
 use sample::Layout;
 
@@ -29,7 +29,7 @@ fn no_pairs() -> Pairs
 }
 
 // Of one arrival more, whose packet has arrived or not: it is in a wrong pair with each greater number.
-fn paired(counts: &mut [u32], arrived: bool, number: u32, p: Pairs) -> Pairs
+fn pairs_after(counts: &mut [u32], arrived: bool, number: u32, p: Pairs) -> Pairs
     requires { ⌜ (1 ≤ number) × (number ≤ sentMost) × FewPairs (now counts) p ⌝ }
     ensures { λ r. ⌜ ((fs : List Arrival) (a : Arrival) → a .number ≡ number → PairTree fs (now (counts .entry)) p
         → PairTree (cond arrived fs (fs ++ (a ∷ []))) (now (counts .exit)) r) ⌝ }
@@ -58,7 +58,7 @@ pub(crate) fn disorder_of(file: &[u8], y: Layout) -> u32
         let number = sample::arrival(file, y, i).number;
         let at = number as usize;
         let arrived = seen[at];
-        p = paired(&mut counts, arrived, number, p);
+        p = pairs_after(&mut counts, arrived, number, p);
         seen[at] = true;
         i += 1;
     }

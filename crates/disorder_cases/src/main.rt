@@ -5,8 +5,8 @@ use cases::lists::first_8;
 use cases::print::write_number;
 use cases::print::write_word;
 use cases::text::count;
+use cases::text::input;
 use cases::text::part;
-use libc::STDIN_FILENO;
 use sample_text::ROOM;
 use sample_text::put_sample;
 
@@ -25,15 +25,10 @@ fn run(line: &[u8]) {
 }
 
 // Runs the cases of all lines.
-fn run_all(text: &[u8]) {
+fn main() {
+    let mut room = [0u8; MOST];
+    let text = input(&mut room);
     for i in 0..count(text, b'\n') {
         run(part(text, b'\n', i));
     }
-}
-
-// Runs all cases.
-fn main() {
-    let mut text = [0u8; MOST];
-    let n = io::read_full(STDIN_FILENO, &mut text);
-    run_all(first_8(&text, n));
 }

@@ -1,2 +1,2 @@
 -- Laws of the log of a sample.
-mod Logged
+mod SampleLog

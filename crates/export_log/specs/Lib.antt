@@ -1,2 +1,2 @@
 -- What the program writes of a sample.
-pub mod Logged
+pub mod SampleLog

@@ -1,6 +1,6 @@
 // The text log of a sample's arrivals, in lent octets.
 ghost use Rattle.sample.specs.Decode.{decode};
-ghost use Rattle.export_log.specs.Logged.{LoggedTo};
+ghost use Rattle.export_log.specs.SampleLog.{LoggedTo};
 use rfc4737::judge::ARRIVALS_MOST;
 use sample::WriteAnswer;
 

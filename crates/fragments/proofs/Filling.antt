@@ -1,18 +1,20 @@
--- One turn of the loop that fills the two lists, on plain values: l are the arrivals, a the one at i, copy and e what was found of it
--- and expected before it; what is put at i is what the lists have there. Assumes nothing.
+-- One turn of the loop that fills the two lists, on plain values: l are the arrivals, a the one at i, copy and e what was found of it and
+-- expected before it; by `each-at` what is put at i is what the lists have there (`flag-here`, `usable-here`, w being the table's value for the
+-- packet), and by `expected-more` what is expected after it follows (`expected-here`). Assumes nothing.
 use Prim.Native.Nat.{ℕ, _+_, _<_}
 use mathlib.Core.Bool.{Bool, true, false, cond, not, _&&_}
 use mathlib.Core.Path.{_≡_, refl, sym, ap, _∙_}
 use mathlib.Core.List.{List, [], _∷_, _++_, flatten}
 use lib.ListN.{length, getD, take}
 use Rattle.rfc4737.specs.Arrivals.{each, eachAfter}
+use Rattle.rfc4737.specs.Numbering.{inOrderNumber, reorderedAfterNumber, duplicateNumber}
 use Rattle.rfc4737.proofs.Arrivals.{take-more, length-each}
 use Rattle.fragments.specs.declared.Piece.{Piece}
 use Rattle.fragments.specs.declared.Expected.{Expected}
 use Rattle.fragments.specs.Pieces.{isCopy, noCopies}
 use Rattle.fragments.specs.Order.{atStart, isReorderedFragment, expectedAfter, expected, flagAfter, flags}
 use Rattle.fragments.specs.Usable.{complete, usableAfter, usable}
-use Rattle.fragments.specs.Private.Engine.{noPiece}
+use Rattle.fragments.specs.Private.{noPiece}
 use Rattle.fragments.proofs.Judged.{each-at}
 use Rattle.fragments.proofs.Whole.{expected-more}
 
@@ -26,7 +28,7 @@ usable-many l = length-each (usableAfter l) l
 
 module _ (l : List Piece) (i : ℕ) (a : Piece) (e : Expected) (copy : Bool) (h : i < length l) (here : a ≡ getD l i noPiece)
     (c : copy ≡ isCopy (take i l) a) (x : e ≡ expected (take i l)) where
-  pub flag-here : (r : ℕ) → r ≡ cond copy 3 (cond (isReorderedFragment e a) 1 0) → r ≡ getD (flags l) i 0
+  pub flag-here : (r : ℕ) → r ≡ cond copy duplicateNumber (cond (isReorderedFragment e a) reorderedAfterNumber inOrderNumber) → r ≡ getD (flags l) i 0
   unfolding flags each flagAfter
   flag-here r q = q ∙ rw (c, x) refl ∙ ap (flagAfter (take i l)) here ∙ sym (each-at flagAfter l i h)
 

@@ -1,4 +1,9 @@
--- Laws of `some`, and a packet's completeness by its first uncovered octet. Assumes nothing.
+-- Laws of `some`, and a packet's completeness by its first uncovered octet. `some` holds exactly if one element passes: by induction on the
+-- list, at a place (`some-at`) or at none (`some-none`). Where r is the first octet of packet s that is not covered, every octet below n is
+-- covered exactly if n is at most r (`below-reach`, by induction on n), so s is complete exactly if an arrival of it with no more to come ends
+-- by r (`complete-ends`). The five lists, read side by side, give at each place the arrival of the values there (`pieces-getD`).
+-- Here p and q are tests, l is a list, a and b its elements, i a place and z what is read past the end, o an octet; ns, ts, ls, ms and os are
+-- the five lists. Assumes nothing.
 use Prim.Native.Nat.{ℕ, zero, suc, _+_, _≤_, _<_}
 use native.Mathlib.Omega.{arith}
 use mathlib.Core.Bool.{Bool, true, false, _&&_, _||_, or-assoc, or-false, or-true}
@@ -10,10 +15,9 @@ use lib.ListN.{length, getD, drop}
 use lib.Seq.{getD-drop}
 use Rattle.fragments.specs.declared.Piece.{Piece}
 use Rattle.fragments.specs.Pieces.{piecesOf, some, isLast, pieceEnd, copies}
-use Rattle.fragments.specs.Private.Engine.{noPiece, endsBy, Reach}
+use Rattle.fragments.specs.Private.{noPiece, endsBy, Growth}
 use Rattle.fragments.specs.Usable.{hasOctet, everyBelow, covered, complete}
 
--- both of two tests
 pub both : (a b : Bool) → (a && b) ≡ true → (a ≡ true) × (b ≡ true)
 both true b e = (refl, e)
 both false b e = absurd (let z : _≡_ {A = ℕ} 0 1 = cc in omega arith)
@@ -39,13 +43,13 @@ module _ {ℓ} {A : Type ℓ} (p : A → Bool) where
   some-more (b ∷ l) a = rw (some-more l a) (sym (or-assoc (p b) (some p l) (p a)))
 
 -- of two tests that agree
-pub some-same {ℓ} : {A : Type ℓ} (p q : A → Bool) → ((a : A) → p a ≡ q a) → (l : List A) → some p l ≡ some q l
+some-same {ℓ} : {A : Type ℓ} (p q : A → Bool) → ((a : A) → p a ≡ q a) → (l : List A) → some p l ≡ some q l
 unfolding some
 some-same p q h [] = refl
 some-same p q h (a ∷ l) = rw (h a, some-same p q h l)
 
 -- a test that the numbers below r pass, and r does not, is passed by every number below n exactly if n is at most r
-pub below-reach : (p : ℕ → Bool) (r : ℕ) → ((o : ℕ) → o < r → p o ≡ true) → p r ≡ false → (n : ℕ) → everyBelow n p ≡ leb n r
+below-reach : (p : ℕ → Bool) (r : ℕ) → ((o : ℕ) → o < r → p o ≡ true) → p r ≡ false → (n : ℕ) → everyBelow n p ≡ leb n r
 unfolding everyBelow
 below-reach p r h k zero = sym (le-leb 0 r (omega arith))
 below-reach p r h k (suc n) = go (below-reach p r h k n) (leb (suc n) r) refl
@@ -61,11 +65,10 @@ below-reach p r h k (suc n) = go (below-reach p r h k n) (leb (suc n) r) refl
     go b false e = rw b (past (leb n r) refl (omega (arith, leb-false (suc n) r e)))
 
 -- packet s is complete exactly if one of its arrivals with no more to come ends by its first uncovered octet
-pub complete-reach : (l : List Piece) (s r : ℕ) → ((o : ℕ) → o < r → some (hasOctet s o) l ≡ true) → some (hasOctet s r) l ≡ false
-    → complete l s ≡ some (λ (a : Piece). eqb (a .number) s && (isLast a && leb (pieceEnd a) r)) l
-unfolding complete covered
-complete-reach l s r h k =
-    some-same _ _ (λ (a : Piece). ap (λ (t : Bool). eqb (a .number) s && (isLast a && t)) (below-reach (λ (o : ℕ). some (hasOctet s o) l) r h k (pieceEnd a))) l
+pub complete-ends : (l : List Piece) (s r : ℕ) → Growth l s r r → complete l s ≡ some (endsBy s r) l
+unfolding complete covered endsBy
+complete-ends l s r h =
+    some-same _ _ (λ (a : Piece). ap (λ (t : Bool). eqb (a .number) s && (isLast a && t)) (below-reach (λ (o : ℕ). some (hasOctet s o) l) r (h .covered) (h .stays refl) (pieceEnd a))) l
 
 -- ---- the arrivals of lists
 
@@ -84,7 +87,7 @@ pieces-getD (n ∷ ns) ts ls ms os (suc i) h =
     pieces-getD ns (drop 1 ts) (drop 1 ls) (drop 1 ms) (drop 1 os) i (omega arith)
     ∙ simp (getD-drop, e)
 
--- whether none of the arrivals is a copy, an octet's holder, or the like: those outside a packet's span are of other packets
+-- an arrival of another packet has none of the packet's octets, does not end it, and is no copy of its arrivals
 pub octet-of : (s o : ℕ) (a : Piece) → (a .number ≡ s → ⊥) → hasOctet s o a ≡ false
 unfolding hasOctet
 octet-of s o a h = rw ne-eqb
@@ -96,8 +99,3 @@ ends-of s r a h = rw ne-eqb
 pub copy-of : (a b : Piece) → (b .number ≡ a .number → ⊥) → copies a b ≡ false
 unfolding copies
 copy-of a b h = rw ne-eqb
-
--- the same, by the test for an arrival's end
-pub complete-ends : (l : List Piece) (s r : ℕ) → Reach l s r → complete l s ≡ some (endsBy s r) l
-unfolding endsBy
-complete-ends l s r h = complete-reach l s r (h .covered .below) (h .uncovered)

@@ -1,18 +1,26 @@
--- A packet's arrivals stand in a part of the list: a search there is a search of the whole, and a packet's reach grows there. Assumes nothing.
-use Prim.Native.Nat.{ℕ, zero, suc, _+_, _-_, _≤_, _<_}
+-- A packet's arrivals stand in a part of the list, from `from` to `to` (w), so a search there is a search of the whole: outside only arrivals
+-- of other packets stand, and they fail the test (`none-start`, `none-done`). In one pass an arrival that has the octet r takes the reach to
+-- its end, which covers all octets up to there; and as long as the reach stays no arrival passed has its octet (`PartPass`, `going-next`). The
+-- tables of places: storing i + 1 for each arrival in turn leaves for each packet a place after all its arrivals (`lasts-next`), and storing i
+-- from the last arrival to the first one at or before them all (`firsts-next`); both since an arrival of the same packet finds what was just
+-- stored, and any other what it found before (`stored`). So the tables give the part that the searches need (`spans-within`, `before-within`).
+-- Here l are the arrivals, a is one, s a packet, p a test or a packet's place in a table d, o an octet, r and r′ the reach before and after an
+-- arrival, reach that before the pass, i, j and m places; ns, ts, ls, ms and os are the five lists. Assumes nothing.
+use Prim.Native.Nat.{ℕ, _+_, _-_, _≤_, _<_}
 use native.Mathlib.Omega.{arith}
 use mathlib.Core.Bool.{Bool, true, false, cond, _&&_}
 use mathlib.Core.Path.{_≡_, refl, sym, ap, _∙_, subst}
 use mathlib.Core.List.{List}
 use borrow.Author.Tests.{lt-ltb, ltb-true, ltb-false, le-leb, leb-true, eqb-true, eqb-false, eq-eqb}
 use lib.Dec.{leb, ltb, eqb}
-use lib.ListN.{length, getD, take, set, length-set, replicate}
+use lib.ListN.{length, getD, take, set, length-set, replicate, length-replicate}
 use lib.Seq.{getD-set-same, getD-set-other, getD-take, length-take-le}
 use Rattle.rfc4737.specs.Judge.{sentMost}
+use Rattle.rfc4737.proofs.Lists.{zeros}
 use Rattle.fragments.specs.declared.Piece.{Piece}
 use Rattle.fragments.specs.Pieces.{piecesOf, some, pieceStart, pieceEnd}
 use Rattle.fragments.specs.Usable.{hasOctet, complete}
-use Rattle.fragments.specs.Private.Engine.{noPiece, Within, Cover, Growth, In, Zero, Lasts, Firsts, Completeness, NumbersWithin, CompletenessAt}
+use Rattle.fragments.specs.Private.{noPiece, Within, Cover, Growth, NumbersWithin, Lasts, Firsts, Completeness}
 use Rattle.fragments.proofs.Laws.{both, some-at, some-none, octet-of, pieces-length, pieces-getD}
 
 -- none of the first j passes a test
@@ -20,6 +28,7 @@ pub record None (p : Piece → Bool) (l : List Piece) (j : ℕ) : Type 0 where
   pub at : (m : ℕ) → m < j → m < length l → p (getD l m noPiece) ≡ false
 
 module _ (p : Piece → Bool) (l : List Piece) where
+  -- one arrival more
   pub none-more : (j : ℕ) → None p l j → p (getD l j noPiece) ≡ false → None p l (j + 1)
   none-more j h e = record { at = λ (m : ℕ) (k : m < j + 1) (g : m < length l). go m (ltb m j) refl k g }
     where
@@ -28,15 +37,17 @@ module _ (p : Piece → Bool) (l : List Piece) where
       go m false q k g = let o : m ≡ j = omega (arith, ltb-false m j q) in rw o e
 
   module _ (s from to : ℕ) (only : (a : Piece) → (a .number ≡ s → ⊥) → p a ≡ false) (w : Within l s from to) where
+    -- before the part no arrival passes
     pub none-start : None p l from
-    none-start = record { at = λ (m : ℕ) (k : m < from) (g : m < length l). only (getD l m noPiece) (λ q. absurd (omega (arith, w .low m g q))) }
+    none-start = record { at = λ (m : ℕ) (k : m < from) (g : m < length l). only (getD l m noPiece) (λ q. absurd (omega (arith, w .at m g q))) }
 
+    -- nor does any after it
     pub none-done : (j : ℕ) → to ≤ j → None p l j → some p l ≡ false
     none-done j h n = some-none p l noPiece (λ (m : ℕ) (g : m < length l). go m (ltb m j) refl g)
       where
         go : (m : ℕ) (t : Bool) → ltb m j ≡ t → m < length l → p (getD l m noPiece) ≡ false
         go m true q g = n .at m (ltb-true m j q) g
-        go m false q g = only (getD l m noPiece) (λ e. absurd (omega (arith, w .high m g e, ltb-false m j q)))
+        go m false q g = only (getD l m noPiece) (λ e. absurd (omega (arith, w .at m g e, ltb-false m j q)))
 
 -- what it means that an arrival has an octet
 octet-facts : (s o : ℕ) (a : Piece) → hasOctet s o a ≡ true → (a .number ≡ s) × ((pieceStart a ≤ o) × (o < pieceEnd a))
@@ -57,21 +68,22 @@ pub record PartPass (l : List Piece) (s reach r j : ℕ) : Type 0 where
   pub stays : r ≡ reach → None (hasOctet s reach) l j
 
 module _ (l : List Piece) (s reach : ℕ) where
+  -- before the first of the part
   pub going-start : (from to : ℕ) → Within l s from to → Cover l s reach → PartPass l s reach reach from
   going-start from to w h =
       record { least = omega arith; covered = h; stays = λ _. none-start (hasOctet s reach) l s from to (λ a n. octet-of s reach a n) w }
 
+  -- one arrival more
   pub going-next : (r j r′ : ℕ) (a : Piece) → PartPass l s reach r j → j < length l → a ≡ getD l j noPiece
       → r′ ≡ cond (hasOctet s r a) (pieceEnd a) r
-      → r′ < 4294967296
       → PartPass l s reach r′ (j + 1)
-  going-next r j r′ a g h here e f = go (hasOctet s r a) refl e
+  going-next r j r′ a g h here e = go (hasOctet s r a) refl e
     where
       held : (o : ℕ) (t : Bool) → hasOctet s o a ≡ t → hasOctet s o (getD l j noPiece) ≡ t
       held o t q = rw (← here) q
 
       each : (o : ℕ) (t : Bool) → ltb o r ≡ t → o < r′ → hasOctet s r a ≡ true → r′ ≡ pieceEnd a → some (hasOctet s o) l ≡ true
-      each o true q p k e = g .covered .below o (ltb-true o r q)
+      each o true q p k e = g .covered o (ltb-true o r q)
       each o false q p k e =
           let n : r ≤ o = ltb-false o r q in
           let k = octet-facts s r a k in
@@ -84,7 +96,7 @@ module _ (l : List Piece) (s reach : ℕ) where
           let high : r < r′ = omega arith in
           record {
             least = omega arith;
-            covered = record { fits = f; below = λ (o : ℕ) (p : o < r′). each o (ltb o r) refl p q e };
+            covered = λ (o : ℕ) (p : o < r′). each o (ltb o r) refl p q e;
             stays = λ (p : r′ ≡ reach). absurd (omega arith);
           }
       go false q e =
@@ -95,6 +107,7 @@ module _ (l : List Piece) (s reach : ℕ) where
             stays = λ (p : r ≡ reach). none-more (hasOctet s reach) l j (g .stays p) (held reach false (subst (λ (o : ℕ). hasOctet s o a ≡ false) p q));
           })
 
+  -- after the last of the part
   pub going-done : (from to r j : ℕ) → Within l s from to → to ≤ j → PartPass l s reach r j → Growth l s reach r
   going-done from to r j w h g =
       record { least = g .least; covered = g .covered; stays = λ (p : r ≡ reach). none-done (hasOctet s reach) l s from to (λ a n. octet-of s reach a n) w j h (g .stays p) }
@@ -109,26 +122,27 @@ stored d p q v h P f g = go (eqb q p) refl
     go true e = let k : q ≡ p = eqb-true q p e in rw (k, getD-set-same d p v 0 h) (f k)
     go false e = rw (getD-set-other d p q v 0 (eqb-false q p e)) (g (eqb-false q p e))
 
--- the number at a place of the list
-pub number-within : (numbers : List ℕ) → In numbers → (i : ℕ) → i < length numbers → (1 ≤ getD numbers i 0) × (getD numbers i 0 ≤ sentMost)
-number-within numbers n i h = (n .low i h, n .high i h)
+-- numbers within k are within m, where k is at most m
+pub within-more : (k m : ℕ) (numbers : List ℕ) → k ≤ m → NumbersWithin k numbers → NumbersWithin m numbers
+within-more k m numbers h n = record { at = λ (j : ℕ) (g : j < length numbers). (n .at j g .0, omega (arith, n .at j g .1)) }
 
 -- of two places of one list that hold different values, one is not the other
 pub apart : (numbers : List ℕ) (i j : ℕ) → (getD numbers j 0 - 1 ≡ getD numbers i 0 - 1 → ⊥) → j ≡ i → ⊥
 apart numbers i j n e = n (ap (λ (k : ℕ). getD numbers k 0 - 1) e)
 
+-- of the first i arrivals each stands before the place that the table has for its packet
 pub record LastsTo (numbers d : List ℕ) (i : ℕ) : Type 0 where
   pub long : length d ≡ sentMost
   pub most : (p : ℕ) → getD d p 0 ≤ length numbers
   pub high : (j : ℕ) → j < i → j < length numbers → j < getD d (getD numbers j 0 - 1) 0
 
-pub lasts-start : (numbers d : List ℕ) → length d ≡ sentMost → Zero d → LastsTo numbers d 0
-lasts-start numbers d e z =
-    record { long = e; most = λ (p : ℕ). omega (arith, z p); high = λ (j : ℕ) (h : j < 0) (k : j < length numbers). absurd (omega arith) }
+pub lasts-start : (numbers : List ℕ) → LastsTo numbers (replicate sentMost 0) 0
+lasts-start numbers =
+    record { long = length-replicate {A = ℕ} sentMost 0; most = λ (p : ℕ). omega (arith, zeros sentMost p); high = λ (j : ℕ) (h : j < 0) (k : j < length numbers). absurd (omega arith) }
 
-pub lasts-next : (numbers d : List ℕ) (i : ℕ) → In numbers → i < length numbers → LastsTo numbers d i → LastsTo numbers (set d (getD numbers i 0 - 1) (i + 1)) (i + 1)
+pub lasts-next : (numbers d : List ℕ) (i : ℕ) → NumbersWithin sentMost numbers → i < length numbers → LastsTo numbers d i → LastsTo numbers (set d (getD numbers i 0 - 1) (i + 1)) (i + 1)
 lasts-next numbers d i n h g =
-    let b : getD numbers i 0 - 1 < length d = omega (arith, number-within numbers n i h, g .long) in
+    let b : getD numbers i 0 - 1 < length d = omega (arith, n .at i h, g .long) in
     record {
       long = length-set d (getD numbers i 0 - 1) (i + 1) ∙ g .long;
       most = λ (p : ℕ). stored d (getD numbers i 0 - 1) p (i + 1) b (λ (v : ℕ). v ≤ length numbers) (λ _. omega arith) (λ _. g .most p);
@@ -140,6 +154,7 @@ lasts-next numbers d i n h g =
 pub lasts-done : (numbers d : List ℕ) (i : ℕ) → length numbers ≤ i → LastsTo numbers d i → Lasts numbers d
 lasts-done numbers d i h g = record { most = g .most; high = λ (j : ℕ) (k : j < length numbers). g .high j (omega arith) k }
 
+-- of the arrivals from i on each stands at or after it
 pub record FirstsFrom (numbers d : List ℕ) (i : ℕ) : Type 0 where
   pub long : length d ≡ sentMost
   pub low : (j : ℕ) → i ≤ j → j < length numbers → getD d (getD numbers j 0 - 1) 0 ≤ j
@@ -147,9 +162,9 @@ pub record FirstsFrom (numbers d : List ℕ) (i : ℕ) : Type 0 where
 pub firsts-start : (numbers d : List ℕ) → length d ≡ sentMost → FirstsFrom numbers d (length numbers)
 firsts-start numbers d e = record { long = e; low = λ (j : ℕ) (h : length numbers ≤ j) (k : j < length numbers). absurd (omega arith) }
 
-pub firsts-next : (numbers d : List ℕ) (i : ℕ) → In numbers → i < length numbers → FirstsFrom numbers d (i + 1) → FirstsFrom numbers (set d (getD numbers i 0 - 1) i) i
+pub firsts-next : (numbers d : List ℕ) (i : ℕ) → NumbersWithin sentMost numbers → i < length numbers → FirstsFrom numbers d (i + 1) → FirstsFrom numbers (set d (getD numbers i 0 - 1) i) i
 firsts-next numbers d i n h g =
-    let b : getD numbers i 0 - 1 < length d = omega (arith, number-within numbers n i h, g .long) in
+    let b : getD numbers i 0 - 1 < length d = omega (arith, n .at i h, g .long) in
     record {
       long = length-set d (getD numbers i 0 - 1) i ∙ g .long;
       low = λ (j : ℕ) (k : i ≤ j) (m : j < length numbers).
@@ -174,14 +189,10 @@ spans-within ns ts ls ms os firsts lasts p f l =
     let e = pieces-length ns ts ls ms os in
     record {
       most = omega (arith, l .most p);
-      low = λ (j : ℕ) (h : j < length (piecesOf ns ts ls ms os)) (q : getD (piecesOf ns ts ls ms os) j noPiece .number ≡ p + 1).
+      at = λ (j : ℕ) (h : j < length (piecesOf ns ts ls ms os)) (q : getD (piecesOf ns ts ls ms os) j noPiece .number ≡ p + 1).
           let n = pieces-number ns ts ls ms os j h in
           let k : getD ns j 0 - 1 ≡ p = omega arith in
-          subst (λ (x : ℕ). getD firsts x 0 ≤ j) k (f j (omega arith));
-      high = λ (j : ℕ) (h : j < length (piecesOf ns ts ls ms os)) (q : getD (piecesOf ns ts ls ms os) j noPiece .number ≡ p + 1).
-          let n = pieces-number ns ts ls ms os j h in
-          let k : getD ns j 0 - 1 ≡ p = omega arith in
-          subst (λ (x : ℕ). j < getD lasts x 0) k (l .high j (omega arith));
+          (subst (λ (x : ℕ). getD firsts x 0 ≤ j) k (f j (omega arith)), subst (λ (x : ℕ). j < getD lasts x 0) k (l .high j (omega arith)));
     }
 
 -- and those among the first i from its first place on
@@ -192,32 +203,30 @@ before-within ns ts ls ms os firsts i s b f =
     let m : length (take i (piecesOf ns ts ls ms os)) ≡ i = length-take-le i (piecesOf ns ts ls ms os) (omega arith) in
     record {
       most = omega arith;
-      low = λ (j : ℕ) (h : j < length (take i (piecesOf ns ts ls ms os))) (q : getD (take i (piecesOf ns ts ls ms os)) j noPiece .number ≡ s).
+      at = λ (j : ℕ) (h : j < length (take i (piecesOf ns ts ls ms os))) (q : getD (take i (piecesOf ns ts ls ms os)) j noPiece .number ≡ s).
           let t = getD-take i (piecesOf ns ts ls ms os) j noPiece (omega arith) in
           let n = pieces-number ns ts ls ms os j (omega arith) in
           let k : getD ns j 0 ≡ s = sym n ∙ ap (λ (a : Piece). a .number) (sym t) ∙ q in
-          subst (λ (x : ℕ). getD firsts (x - 1) 0 ≤ j) k (f j (omega arith));
-      high = λ (j : ℕ) (h : j < length (take i (piecesOf ns ts ls ms os))) (q : getD (take i (piecesOf ns ts ls ms os)) j noPiece .number ≡ s). omega arith;
+          (subst (λ (x : ℕ). getD firsts (x - 1) 0 ≤ j) k (f j (omega arith)), omega arith);
     }
 
--- one packet more
-pub completed-next : (l : List Piece) (d : List ℕ) (p v : ℕ) → p < length d → Completeness p l d → v ≡ cond (complete l (p + 1)) 1 0 → Completeness (p + 1) l (set d p v)
-completed-next l d p v h c e =
-    record { at = λ (q : ℕ) (k : q < p + 1). stored d p q v h (λ (x : ℕ). x ≡ cond (complete l (q + 1)) 1 0) (λ (r : q ≡ p). rw r e) (λ (r : q ≡ p → ⊥). c .at q (omega arith)) }
+module _ (k : ℕ) (ns ts ls ms os : List ℕ) (n : NumbersWithin k ns) where
+  -- an arrival's number lies in 1 to k
+  pub piece-within : (j : ℕ) → j < length (piecesOf ns ts ls ms os)
+      → (1 ≤ getD (piecesOf ns ts ls ms os) j noPiece .number) × (getD (piecesOf ns ts ls ms os) j noPiece .number ≤ k)
+  piece-within j h = rw (pieces-number ns ts ls ms os j h) (n .at j (omega (arith, pieces-length ns ts ls ms os)))
 
--- a table of zeros
-pub zeros : (n p : ℕ) → _≡_ {A = ℕ} (getD (replicate n 0) p 0) 0
-zeros zero p = refl
-zeros (suc n) zero = refl
-zeros (suc n) (suc p) = zeros n p
+  -- one packet more
+  pub completed-next : (d : List ℕ) (p v : ℕ) → p < length d → Completeness p (piecesOf ns ts ls ms os) d → v ≡ cond (complete (piecesOf ns ts ls ms os) (p + 1)) 1 0
+      → Completeness (p + 1) (piecesOf ns ts ls ms os) (set d p v)
+  completed-next d p v h c e =
+      record {
+        at = λ (j : ℕ) (g : j < length (piecesOf ns ts ls ms os)) (m : getD (piecesOf ns ts ls ms os) j noPiece .number ≤ p + 1).
+            let low = piece-within j g .0 in
+            stored d p (getD (piecesOf ns ts ls ms os) j noPiece .number - 1) v h (λ (x : ℕ). x ≡ cond (complete (piecesOf ns ts ls ms os) (getD (piecesOf ns ts ls ms os) j noPiece .number)) 1 0)
+            (λ r. let o : p + 1 ≡ getD (piecesOf ns ts ls ms os) j noPiece .number = omega arith in rw o at e) (λ r. c .at j g (omega (arith, r)));
+      }
 
--- the table holds what is asked of every arrival's packet
-pub filled : (k : ℕ) (l : List Piece) (d : List ℕ) → Completeness k l d → NumbersWithin k l → CompletenessAt l d
-filled k l d c n =
-    record {
-      at = λ (j : ℕ) (h : j < length l).
-          let lo = n .low j h in
-          let hi = n .high j h in
-          let e : getD l j noPiece .number - 1 + 1 ≡ getD l j noPiece .number = omega arith in
-          c .at (getD l j noPiece .number - 1) (omega arith) ∙ ap (λ (s : ℕ). cond (complete l s) 1 0) e;
-    }
+  -- all packets
+  pub completed-all : (d : List ℕ) (m : ℕ) → Completeness k (piecesOf ns ts ls ms os) d → Completeness m (piecesOf ns ts ls ms os) d
+  completed-all d m c = record { at = λ j h _. c .at j h (piece-within j h .1) }

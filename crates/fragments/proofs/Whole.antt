@@ -1,4 +1,8 @@
--- Where no arrival is a fragment, the flags are those of the base. Assumes nothing.
+-- Where no arrival is a fragment, the flags are those of the base. A copy is then an arrival whose number came before (`copy-whole`), and
+-- FragSeq# and NextExpFrag stay 0, so an arrival is reordered exactly if its number is below NextExp, and NextExp moves as the base's does
+-- (`reordered-whole`, `after-whole`): by induction with one arrival more at the end, what is expected is the base's NextExp alone
+-- (`expected-whole`). So each flag is that of the base's answer (`flag-whole`), and so are all of them.
+-- Here l are the arrivals before, a the next one, n NextExp, c says that no arrival is cut and w that a is whole. Assumes nothing.
 use Prim.Native.Nat.{ℕ, _+_}
 use native.Mathlib.Omega.{arith}
 use mathlib.Core.Bool.{Bool, true, false, cond, not, or-false, and-true, and-false}
@@ -11,6 +15,7 @@ use Rattle.rfc4737.specs.Arrivals.{has, withArrival, each, eachAfter}
 use Rattle.rfc4737.specs.Arrivals as base
 use Rattle.rfc4737.specs.Order.{nextAfter, nextExp, isInOrder}
 use Rattle.rfc4737.specs.Answer.{inOrderAnswer, reorderedAnswer, firstAnswer, answerTo, answers}
+use Rattle.rfc4737.specs.Numbering.{inOrderNumber, reorderedAfterNumber, duplicateNumber}
 use Rattle.rfc4737.specs.Extent.{discontinuity}
 use Rattle.rfc4737.proofs.Lists.{snoc-ind, each-more, flatten-more}
 use Rattle.rfc4737.proofs.Arrivals.{fold-more, firsts-more, has-firsts}
@@ -20,7 +25,7 @@ use Rattle.fragments.specs.declared.Expected.{Expected}
 use Rattle.fragments.specs.Pieces.{arrivalOf, some, isLast, isWhole, copies, isCopy, firstAfter, noCopies}
 use Rattle.fragments.specs.Order.{atStart, isReorderedFragment, inOrderAfter, expectedAfter, expected, flagAfter, flags}
 use Rattle.fragments.specs.Whole.{orderFlag, WholeFlags}
-use Rattle.rfc4737.proofs.Due as due
+use Rattle.rfc4737.proofs.Due.{neither}
 use Rattle.fragments.proofs.Laws.{both, some-more}
 
 -- some arrival is a fragment
@@ -32,12 +37,13 @@ copy-whole : (l : List Piece) (a : Piece) → isWhole a ≡ true → cut l ≡ f
 unfolding isCopy some copies has
 copy-whole [] a w c = refl
 copy-whole (b ∷ l) a w c =
-    let n = due.or-false (not (isWhole b)) (cut l) c in
+    let n = neither (not (isWhole b)) (cut l) c in
     rw (w, not-false (isWhole b) (n .0), and-true (eqb (b .number) (a .number)), copy-whole l a w (n .1))
 
 -- ---- under one arrival more
 
-pub firsts-more-piece : (l : List Piece) (a : Piece) → noCopies (l ++ (a ∷ [])) ≡ noCopies l ++ firstAfter l a
+-- those that are no copies
+firsts-more-piece : (l : List Piece) (a : Piece) → noCopies (l ++ (a ∷ [])) ≡ noCopies l ++ firstAfter l a
 unfolding noCopies
 firsts-more-piece l a = rw (each-more firstAfter l a) (flatten-more (each firstAfter l) (firstAfter l a))
 
@@ -53,11 +59,12 @@ expected-more l a = ap (foldl expectedAfter atStart) (firsts-more-piece l a) ∙
 -- some arrival is cut, under one arrival more
 uncut : (l : List Piece) (a : Piece) → cut (l ++ (a ∷ [])) ≡ false → (cut l ≡ false) × (isWhole a ≡ true)
 uncut l a c =
-    let n = due.or-false (cut l) (not (isWhole a)) (sym (some-more (λ (a : Piece). not (isWhole a)) l a) ∙ c) in
+    let n = neither (cut l) (not (isWhole a)) (sym (some-more (λ (a : Piece). not (isWhole a)) l a) ∙ c) in
     (n .0, not-false (isWhole a) (n .1))
 
 -- ---- no fragment is under evaluation
 
+-- NextExp alone
 abbrev nextOnly : ℕ → Expected
 nextOnly n = record { next = n; packet = 0; fragment = 0 }
 
@@ -87,6 +94,7 @@ baseNext-more l a = rw (map-append arrivalOf l (a ∷ []), firsts-more (map arri
     go true = refl
     go false = next-more (base.firsts (map arrivalOf l)) (arrivalOf a)
 
+-- what is expected is the base's NextExp alone
 expected-whole : (l : List Piece) → cut l ≡ false → expected l ≡ nextOnly (baseNext l)
 unfolding expected noCopies each eachAfter flatten baseNext base.firsts nextExp
 expected-whole = snoc-ind (λ (l : List Piece). cut l ≡ false → expected l ≡ nextOnly (baseNext l)) more (λ c. refl)
@@ -108,7 +116,7 @@ flag-whole l a size c w =
     rw (copy-whole l a w c, expected-whole l c, reordered-whole (baseNext l) a) (go (has (a .number) (map arrivalOf l)) (leb (baseNext l) (a .number)) refl)
   where
     go : (t u : Bool) → leb (baseNext l) (a .number) ≡ u
-        → cond t 3 (cond (ltb (a .number) (baseNext l)) 1 0)
+        → cond t duplicateNumber (cond (ltb (a .number) (baseNext l)) reorderedAfterNumber inOrderNumber)
         ≡ orderFlag (cond t (Duplicate (record { first = base.firstRecord (a .number) (map arrivalOf l) }))
         (cond u (inOrderAnswer (base.firsts (map arrivalOf l)) (arrivalOf a)) (reorderedAnswer size (base.firsts (map arrivalOf l)) (arrivalOf a) (discontinuity (base.firsts (map arrivalOf l)) (a .number)))))
     go true u e = refl

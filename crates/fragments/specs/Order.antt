@@ -1,6 +1,6 @@
 -- The order flag of fragments (RFC 4737, section B.3). Assumes nothing.
 use Prim.Native.Nat.{ℕ, _+_}
-use mathlib.Core.Bool.{Bool, cond, not, _&&_, _||_}
+use mathlib.Core.Bool.{Bool, cond, _&&_, _||_}
 use mathlib.Core.List.{List, foldl}
 use lib.Dec.{leb, ltb, eqb}
 use Rattle.rfc4737.specs.Arrivals.{each}

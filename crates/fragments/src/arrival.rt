@@ -3,7 +3,7 @@ ghost use mathlib.Core.Path.{_≡_};
 ghost use Prim.Native.Nat.{_<_};
 ghost use lib.ListN.{length, getD};
 ghost use Rattle.fragments.specs.Pieces.{piecesOf, isWhole, pieceEnd};
-ghost use Rattle.fragments.specs.Private.Engine.{noPiece, Lists};
+ghost use Rattle.fragments.specs.Private.{noPiece, Lists};
 use crate::Piece;
 
 // The arrival at a place of the lists.
@@ -38,7 +38,7 @@ pub(crate) fn is_whole(a: Piece) -> bool
 }
 
 // The place after its last octet.
-pub(crate) fn end_of(a: Piece) -> u32
+pub(crate) fn piece_end(a: Piece) -> u32
     ensures { λ r. ⌜ r ≡ pieceEnd a ⌝ }
 {
     8 * (a.offset as u32) + a.length as u32

@@ -3,10 +3,10 @@ ghost use mathlib.Core.Path.{_≡_};
 ghost use mathlib.Core.Bool.{cond};
 ghost use Rattle.fragments.specs.Pieces.{piecesOf, pieceEnd};
 ghost use Rattle.fragments.specs.Usable.{hasOctet, complete};
-ghost use Rattle.fragments.specs.Private.Engine.{Lists, Within, Cover, Reach, Growth, endsBy};
+ghost use Rattle.fragments.specs.Private.{Lists, Within, Cover, Growth, endsBy};
 use crate::Piece;
-use crate::arrival::end_of;
 use crate::arrival::piece_at;
+use crate::arrival::piece_end;
 
 // Whether an arrival is of packet s and has its octet o.
 fn has_octet(s: u32, o: u32, a: Piece) -> bool
@@ -18,21 +18,21 @@ fn has_octet(s: u32, o: u32, a: Piece) -> bool
     if o < 8 * (a.offset as u32) {
         return false;
     }
-    o < end_of(a)
+    o < piece_end(a)
 }
 
 // How far an arrival takes a packet that is covered up to r.
-fn grown(s: u32, r: u32, a: Piece) -> u32
+fn reach_after(s: u32, r: u32, a: Piece) -> u32
     ensures { λ n. ⌜ n ≡ cond (hasOctet s r a) (pieceEnd a) r ⌝ }
 {
     if has_octet(s, r, a) {
-        return end_of(a);
+        return piece_end(a);
     }
     r
 }
 
 // One pass over a packet's arrivals.
-fn pass(
+fn reach_after_pass(
     numbers: &[u32],
     times: &[u64],
     lengths: &[u16],
@@ -52,7 +52,7 @@ fn pass(
     let mut j = from;
     while j < to {
         let a = piece_at(numbers, times, lengths, mores, offsets, j);
-        r = grown(s, r, a);
+        r = reach_after(s, r, a);
         j += 1;
     }
     r
@@ -71,13 +71,13 @@ fn reach_of(
 ) -> u32
     requires { ⌜ Lists (now numbers) (now times) (now lengths) (now mores) (now offsets)
         × Within (piecesOf (now numbers) (now times) (now lengths) (now mores) (now offsets)) s from to ⌝ }
-    ensures { λ r. ⌜ Reach (piecesOf (now (numbers .entry)) (now (times .entry)) (now (lengths .entry)) (now (mores .entry)) (now (offsets .entry))) s r ⌝ }
+    ensures { λ r. ⌜ Growth (piecesOf (now (numbers .entry)) (now (times .entry)) (now (lengths .entry)) (now (mores .entry)) (now (offsets .entry))) s r r ⌝ }
 {
     let mut reach: u32 = 0;
-    let mut next = pass(numbers, times, lengths, mores, offsets, s, from, to, 0);
+    let mut next = reach_after_pass(numbers, times, lengths, mores, offsets, s, from, to, 0);
     while reach < next {
         reach = next;
-        next = pass(numbers, times, lengths, mores, offsets, s, from, to, reach);
+        next = reach_after_pass(numbers, times, lengths, mores, offsets, s, from, to, reach);
     }
     reach
 }
@@ -92,7 +92,7 @@ fn ends_by(s: u32, r: u32, a: Piece) -> bool
     if a.more != 0 {
         return false;
     }
-    end_of(a) <= r
+    piece_end(a) <= r
 }
 
 // Whether packet s is complete; its arrivals stand in a part of the lists.

@@ -3,7 +3,7 @@ ghost use mathlib.Core.Path.{_≡_};
 ghost use mathlib.Core.Bool.{_&&_};
 ghost use lib.ListN.{take};
 ghost use Rattle.fragments.specs.Pieces.{piecesOf, isWhole, copies, isCopy};
-ghost use Rattle.fragments.specs.Private.Engine.{Lists, Within};
+ghost use Rattle.fragments.specs.Private.{Lists, Within};
 use crate::Piece;
 use crate::arrival::is_whole;
 use crate::arrival::piece_at;

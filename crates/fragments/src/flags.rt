@@ -4,17 +4,18 @@ ghost use mathlib.Core.Bool.{cond};
 ghost use Prim.Native.Nat.{_≤_, _<_};
 ghost use lib.ListN.{length};
 ghost use Rattle.octets.specs.Memory.{over};
+ghost use Rattle.rfc4737.specs.Judge.{sentMost};
 ghost use Rattle.rfc4737.specs.Numbering.{inOrderNumber, reorderedAfterNumber, duplicateNumber};
 ghost use Rattle.fragments.specs.Pieces.{piecesOf};
 ghost use Rattle.fragments.specs.Order.{isReorderedFragment, expectedAfter, flags};
 ghost use Rattle.fragments.specs.Usable.{usable};
-ghost use Rattle.fragments.specs.Private.Engine.{Lists, In, Firsts, CompletenessAt};
+ghost use Rattle.fragments.specs.Private.{Lists, NumbersWithin, Firsts, Completeness};
 use crate::Expected;
 use crate::PACKETS;
 use crate::Piece;
 use crate::arrival::piece_at;
 use crate::duplicates::is_copy;
-use crate::tables::place;
+use crate::tables::index_of;
 use rfc4737::numbering::DUPLICATE;
 use rfc4737::numbering::IN_ORDER;
 use rfc4737::numbering::REORDERED_AFTER;
@@ -91,7 +92,7 @@ fn usable_of(copy: bool, whole: u8) -> u8
 }
 
 // Fills the two lists.
-pub(crate) fn fill(
+pub(crate) fn fill_flags_and_used(
     numbers: &[u32],
     times: &[u64],
     lengths: &[u16],
@@ -102,8 +103,8 @@ pub(crate) fn fill(
     flagged: &mut [u8],
     used: &mut [u8],
 )
-    requires { ⌜ Lists (now numbers) (now times) (now lengths) (now mores) (now offsets) × In (now numbers) × Firsts (now numbers) (now firsts)
-        × CompletenessAt (piecesOf (now numbers) (now times) (now lengths) (now mores) (now offsets)) (now table)
+    requires { ⌜ Lists (now numbers) (now times) (now lengths) (now mores) (now offsets) × NumbersWithin sentMost (now numbers) × Firsts (now numbers) (now firsts)
+        × Completeness sentMost (piecesOf (now numbers) (now times) (now lengths) (now mores) (now offsets)) (now table)
         × (length (now numbers) ≤ length (now flagged)) × (length (now numbers) ≤ length (now used)) ⌝ }
     ensures { λ _. ⌜ (now (flagged .exit) ≡ over (flags (piecesOf (now (numbers .entry)) (now (times .entry)) (now (lengths .entry)) (now (mores .entry)) (now (offsets .entry)))) (now (flagged .entry)))
         × (now (used .exit) ≡ over (usable (piecesOf (now (numbers .entry)) (now (times .entry)) (now (lengths .entry)) (now (mores .entry)) (now (offsets .entry)))) (now (used .entry))) ⌝ }
@@ -124,7 +125,7 @@ pub(crate) fn fill(
             mores,
             offsets,
             a,
-            place(firsts[p]),
+            index_of(firsts[p]),
             i,
         );
         flagged[i] = flag_of(copy, e, a);

@@ -2,12 +2,12 @@
 ghost use mathlib.Core.Path.{_≡_};
 ghost use Rattle.fragments.specs.Pieces.{piecesOf};
 ghost use Rattle.fragments.specs.Judge.{isUnfit, judgePiece, judgePieces};
-ghost use Rattle.fragments.specs.Private.Engine.{Lists};
+ghost use Rattle.fragments.specs.Private.{Lists};
 ghost use Rattle.fragments.specs.Calls.{sameLengths, orderRefusal};
 use crate::Piece;
-use crate::arrival::end_of;
 use crate::arrival::is_whole;
 use crate::arrival::piece_at;
+use crate::arrival::piece_end;
 use rfc4737::judge::ARRIVALS_MOST;
 use rfc4737::judge::SENT_MOST;
 use rfc4737::judge::outside;
@@ -35,16 +35,16 @@ fn is_unfit(a: Piece) -> bool
         return true;
     }
     if a.more == 0 {
-        return END_MOST < end_of(a);
+        return END_MOST < piece_end(a);
     }
     if a.length % 8 != 0 {
         return true;
     }
-    END_MOST < end_of(a)
+    END_MOST < piece_end(a)
 }
 
 // One arrival: 6, 17, 7.
-fn judge_one(k: u64, reference: u64, a: Piece) -> u32
+fn judge_piece(k: u64, reference: u64, a: Piece) -> u32
     ensures { λ r. ⌜ r ≡ judgePiece k reference a ⌝ }
 {
     if outside(1, k, a.number as u64) {
@@ -60,7 +60,7 @@ fn judge_one(k: u64, reference: u64, a: Piece) -> u32
 }
 
 // The arrivals in turn.
-fn judge_all(
+fn judge_pieces(
     k: u64,
     numbers: &[u32],
     times: &[u64],
@@ -75,7 +75,7 @@ fn judge_all(
     let mut i = 0;
     while i < numbers.len() {
         let a = piece_at(numbers, times, lengths, mores, offsets, i);
-        let refusal = judge_one(k, reference, a);
+        let refusal = judge_piece(k, reference, a);
         if refusal != 0 {
             return refusal;
         }
@@ -102,7 +102,7 @@ fn same_lengths(n: usize, times: usize, lengths: usize, mores: usize, offsets: u
 }
 
 // The first refusal that is due, 0 if none is.
-pub(crate) fn refusal_of(
+pub(crate) fn order_refusal(
     k: u32,
     numbers: &[u32],
     times: &[u64],
@@ -129,7 +129,7 @@ pub(crate) fn refusal_of(
     ) {
         return LISTS_DIFFER;
     }
-    let refusal = judge_all(k as u64, numbers, times, lengths, mores, offsets);
+    let refusal = judge_pieces(k as u64, numbers, times, lengths, mores, offsets);
     if refusal != 0 {
         return refusal;
     }

@@ -4,11 +4,11 @@ ghost use mathlib.Core.Path.{_≡_};
 ghost use Prim.Native.Nat.{_≤_};
 ghost use lib.ListN.{length};
 ghost use Rattle.octets.specs.Memory.{over};
-ghost use Rattle.rfc4737.specs.Judge.{sentMost};
+ghost use Rattle.rfc4737.specs.Judge.{sentMost, arrivalsMost};
 ghost use Rattle.fragments.specs.Pieces.{piecesOf};
 ghost use Rattle.fragments.specs.Order.{flags};
 ghost use Rattle.fragments.specs.Usable.{usable};
-ghost use Rattle.fragments.specs.Private.Engine.{Lists, In, NumbersWithin};
+ghost use Rattle.fragments.specs.Private.{Lists, NumbersWithin};
 ghost use Rattle.fragments.specs.Calls.{OrderedTo};
 ghost use Rattle.fragments.specs.Whole.{WholeFlags};
 ghost use Rattle.fragments.specs.Cases.{FlaggedAsGiven};
@@ -20,12 +20,12 @@ mod flags;
 mod judge;
 mod tables;
 
-use flags::fill;
-use judge::refusal_of;
+use flags::fill_flags_and_used;
+use judge::order_refusal;
 use rfc4737::judge::SENT_MOST;
-use tables::mark_complete;
-use tables::mark_firsts;
-use tables::mark_lasts;
+use tables::fill_complete;
+use tables::fill_firsts;
+use tables::fill_lasts;
 
 // How many packets there are at most.
 const PACKETS: usize = SENT_MOST as usize;
@@ -47,7 +47,7 @@ pub struct Expected {
 }
 
 // Fills the two lists of arrivals that are accepted.
-fn mark(
+fn order_accepted(
     k: u32,
     numbers: &[u32],
     times: &[u64],
@@ -57,8 +57,8 @@ fn mark(
     flagged: &mut [u8],
     used: &mut [u8],
 )
-    requires { ⌜ (k ≤ sentMost) × Lists (now numbers) (now times) (now lengths) (now mores) (now offsets) × In (now numbers)
-        × NumbersWithin k (piecesOf (now numbers) (now times) (now lengths) (now mores) (now offsets))
+    requires { ⌜ (k ≤ sentMost) × Lists (now numbers) (now times) (now lengths) (now mores) (now offsets)
+        × NumbersWithin k (now numbers) × (length (now numbers) ≤ arrivalsMost)
         × (length (now numbers) ≤ length (now flagged)) × (length (now numbers) ≤ length (now used)) ⌝ }
     ensures { λ _. ⌜ (now (flagged .exit) ≡ over (flags (piecesOf (now (numbers .entry)) (now (times .entry)) (now (lengths .entry)) (now (mores .entry)) (now (offsets .entry)))) (now (flagged .entry)))
         × (now (used .exit) ≡ over (usable (piecesOf (now (numbers .entry)) (now (times .entry)) (now (lengths .entry)) (now (mores .entry)) (now (offsets .entry)))) (now (used .entry))) ⌝ }
@@ -66,9 +66,9 @@ fn mark(
     let mut firsts = [0u16; PACKETS];
     let mut lasts = [0u16; PACKETS];
     let mut table = [0u8; PACKETS];
-    mark_firsts(numbers, &mut firsts);
-    mark_lasts(numbers, &mut lasts);
-    mark_complete(
+    fill_firsts(numbers, &mut firsts);
+    fill_lasts(numbers, &mut lasts);
+    fill_complete(
         k,
         numbers,
         times,
@@ -79,7 +79,7 @@ fn mark(
         &lasts,
         &mut table,
     );
-    fill(
+    fill_flags_and_used(
         numbers,
         times,
         lengths,
@@ -109,7 +109,7 @@ pub fn order(
     ensures whole { λ _. ⌜ WholeFlags (piecesOf (now (numbers .entry)) (now (times .entry)) (now (lengths .entry)) (now (mores .entry)) (now (offsets .entry))) ⌝ }
     ensures cases { λ _. ⌜ FlaggedAsGiven ⌝ }
 {
-    let refusal = refusal_of(
+    let refusal = order_refusal(
         k,
         numbers,
         times,
@@ -122,6 +122,6 @@ pub fn order(
     if refusal != 0 {
         return refusal;
     }
-    mark(k, numbers, times, lengths, mores, offsets, flagged, used);
+    order_accepted(k, numbers, times, lengths, mores, offsets, flagged, used);
     0
 }

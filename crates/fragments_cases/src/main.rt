@@ -2,6 +2,7 @@
 // usable arrivals, at most 6; the case's name; K; the lists of numbers, times, lengths, more-fragments flags and offsets; and where it
 // is no list that is given, how many numbers there are, each of them 6. A line is written for each case, with both lists after it; they
 // are filled with 9 before.
+use cases::OVER;
 use cases::fields::field;
 use cases::fields::number_in_32;
 use cases::lists::fill_8;
@@ -17,10 +18,10 @@ use cases::print::write_8;
 use cases::print::write_number;
 use cases::print::write_word;
 use cases::text::count;
+use cases::text::input;
 use cases::text::number;
 use cases::text::part;
 use fragments::order;
-use libc::STDIN_FILENO;
 
 // How many octets of cases are read at most.
 const MOST: usize = 8192;
@@ -44,7 +45,7 @@ fn write_lists(name: &[u8], refusal: u32, flags: &[u8], usable: &[u8]) {
 
 // Runs the case of a line with lent lists.
 fn run_into(line: &[u8], flags: &mut [u8], usable: &mut [u8]) {
-    let mut numbers = [6u32; 4097];
+    let mut numbers = [6u32; OVER];
     let mut times = [0u64; 6];
     let mut lengths = [0u16; 6];
     let mut mores = [0u8; 6];
@@ -77,15 +78,10 @@ fn run(line: &[u8]) {
 }
 
 // Runs the cases of all lines.
-fn run_all(text: &[u8]) {
+fn main() {
+    let mut room = [0u8; MOST];
+    let text = input(&mut room);
     for i in 0..count(text, b'\n') {
         run(part(text, b'\n', i));
     }
-}
-
-// Runs all cases.
-fn main() {
-    let mut text = [0u8; MOST];
-    let n = io::read_full(STDIN_FILENO, &mut text);
-    run_all(first_8(&text, n));
 }

@@ -9,14 +9,14 @@ ghost use mathlib.Core.Path.{_≡_};
 ghost use Rattle.receiver.specs.Lent.{AsStep};
 
 // The state after a step.
-fn state_of(s: StepAnswer) -> Receiver
+fn step_state(s: StepAnswer) -> Receiver
     ensures { λ r. ⌜ r ≡ s .state ⌝ }
 {
     s.state
 }
 
 // What a step says.
-fn outcome_of(s: StepAnswer) -> Outcome
+fn step_outcome(s: StepAnswer) -> Outcome
     ensures { λ r. ⌜ r ≡ s .outcome ⌝ }
 {
     s.outcome
@@ -27,6 +27,6 @@ pub fn step(r: &mut Receiver, number: u32, time: u64) -> Outcome
     ensures { λ outcome. ⌜ AsStep (now (r .entry)) number time outcome (now (r .exit)) ⌝ }
 {
     let s = Receiver::step(*r, number, time);
-    *r = state_of(s);
-    outcome_of(s)
+    *r = step_state(s);
+    step_outcome(s)
 }

@@ -8,28 +8,28 @@ ghost use mathlib.Core.Path.{_≡_};
 ghost use Rattle.meter.specs.Lent.{AsMeterStep, AsMeterStart};
 
 // The meter after a step.
-fn state_of(s: MeterStepAnswer) -> Meter
+fn step_state(s: MeterStepAnswer) -> Meter
     ensures { λ r. ⌜ r ≡ s .state ⌝ }
 {
     s.state
 }
 
 // What a step says.
-fn outcome_of(s: MeterStepAnswer) -> Outcome
+fn step_outcome(s: MeterStepAnswer) -> Outcome
     ensures { λ r. ⌜ r ≡ s .outcome ⌝ }
 {
     s.outcome
 }
 
 // The meter after a start.
-fn started_of(s: MeterStartAnswer) -> Meter
+fn start_state(s: MeterStartAnswer) -> Meter
     ensures { λ r. ⌜ r ≡ s .state ⌝ }
 {
     s.state
 }
 
 // The refusal of a start.
-fn refusal_of(s: MeterStartAnswer) -> u32
+fn start_refusal(s: MeterStartAnswer) -> u32
     ensures { λ r. ⌜ r ≡ s .refusal ⌝ }
 {
     s.refusal
@@ -40,8 +40,8 @@ pub fn step(m: &mut Meter, stream: u32, number: u32, time: u64) -> Outcome
     ensures { λ outcome. ⌜ AsMeterStep (now (m .entry)) stream number time outcome (now (m .exit)) ⌝ }
 {
     let s = Meter::step(*m, stream, number, time);
-    *m = state_of(s);
-    outcome_of(s)
+    *m = step_state(s);
+    step_outcome(s)
 }
 
 // A stream started afresh for k packets, as the start's of the meter lent, which holds the start's state afterwards.
@@ -49,6 +49,6 @@ pub fn start(m: &mut Meter, stream: u32, k: u32) -> u32
     ensures { λ refusal. ⌜ AsMeterStart (now (m .entry)) stream k refusal (now (m .exit)) ⌝ }
 {
     let s = Meter::start(*m, stream, k);
-    *m = started_of(s);
-    refusal_of(s)
+    *m = start_state(s);
+    start_refusal(s)
 }

@@ -1,5 +1,6 @@
 // Feeds a list of arrivals to a receiver that is lent by reference, to one that is handed in by value, and to one that is
 // stepped in place. For each arrival it writes what is said of it and what the receiver then holds, of each.
+use cases::MOST;
 use cases::print::write_number;
 use cases::print::write_word;
 use receiver::Receiver;
@@ -8,13 +9,16 @@ use receiver_text::write_outcome;
 ghost use mathlib.Core.Path.{_≡_};
 ghost use Rattle.receiver.specs.Step.{stepOf};
 
+// As many arrivals as a receiver accepts.
+const ARRIVALS: u32 = MOST as u32;
+
 // An arrival fed by reference: the receiver is held in a local, which is lent to the gateway's step.
 fn by_reference(state: Receiver, number: u32, time: u64) -> StepAnswer
     ensures { λ r. ⌜ r ≡ stepOf state number time ⌝ }
 {
     let mut held = state;
     let outcome = gateway::step(&mut held, number, time);
-    capi::held::stepped(outcome, held)
+    capi::local_step::step_answer(outcome, held)
 }
 
 // Writes a line: by which way, what is said, and some of what the receiver holds.
@@ -52,7 +56,7 @@ fn thrice(state: Receiver) -> Three {
 fn feed(p: Three, number: u32, time: u64) -> Three {
     let a = by_reference(p.lent, number, time);
     let b = p.value.step(number, time);
-    let c = capi::held::held_step(p.place, number, time);
+    let c = capi::local_step::local_step(p.place, number, time);
     write_number(b"", number as u64);
     write_number(b" at ", time);
     write_word(b"\n");
@@ -96,7 +100,7 @@ fn main() {
 // first arrivals than packets (10), and one in which a reordered packet finds no greater jump (10).
 fn refused_states(state: Receiver) {
     let mut full = state;
-    full.stream.duplicates = 4096;
+    full.stream.duplicates = ARRIVALS;
     let p = thrice(full);
     feed(p, 1, 10);
     let mut unfit = state;

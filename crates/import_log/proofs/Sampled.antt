@@ -1,5 +1,10 @@
--- The sample file of a log or of records: what is imported, and what is answered where it is refused and where its sample is written.
--- Assumes nothing.
+-- The sample file of a log or of records. Lists of 4,096 places are long enough, so the answer of an import is the input's own (`log-answer`,
+-- `records-refusal`); where nothing is refused it has been accepted, K is in its range, and the first places hold its arrivals, since they were
+-- written over the start (`log-holds`, `records-hold`). What is answered: the input's refusal (`convert-refused`), or that of the sample's
+-- writer, which with no label and K sizes of one size refuses nothing of its own where nothing of K and the lists is, and writes the file of
+-- the sample (`convert-written`).
+-- Here k is K, y the answer of the import, f that it is so, numbers′ and times′ the lists after it; l are the arrivals, out and out′ the lent
+-- octets before and after. Assumes nothing.
 use Prim.Native.Nat.{ℕ, zero, suc, _≤_}
 use native.Mathlib.Omega.{arith}
 use mathlib.Core.Path.{_≡_, refl, sym, ap, _∙_, subst}
@@ -26,7 +31,7 @@ use Rattle.textlog.proofs.Filling.{lines-length}
 use Rattle.textlog.proofs.Accepted.{accepted-log, accepted-lists}
 use Rattle.textlog.proofs.Answers.{import-room}
 use Rattle.owamp.specs.Judge.{recordsRefusal}
-use Rattle.owamp.specs.Calls.{imported, importRefusal, RecordsImportedFrom}
+use Rattle.owamp.specs.Calls.{importedArrivals, importRefusal, RecordsImportedFrom}
 use Rattle.owamp.specs.declared.RecordsImport.{RecordsImport}
 use Rattle.owamp.proofs.Accepted.{accepted-lists as records-accepted}
 use Rattle.owamp.proofs.Answers.{none-refused, import-room as records-room}
@@ -39,10 +44,6 @@ pub take-equal : (k n size : ℕ) → k ≤ n → take k (replicate n size) ≡ 
 take-equal zero n size h = refl
 take-equal (suc k) zero size h = absurd (omega arith)
 take-equal (suc k) (suc n) size h = ap (λ (l : List ℕ). size ∷ l) (take-equal k n size (omega arith))
-
--- the places of each list
-pub room : arrivalsMost ≤ length (replicate {A = ℕ} arrivalsMost 0)
-room = omega (arith, length-replicate {A = ℕ} arrivalsMost 0)
 
 module _ (k : ℕ) (log numbers times : List ℕ) (y : LogImport) (numbers′ times′ : List ℕ)
     (f : LogImportedFrom k log numbers times y numbers′ times′) (n : arrivalsMost ≤ length numbers) (t : arrivalsMost ≤ length times) where
@@ -74,19 +75,19 @@ module _ (k : ℕ) (os numbers times : List ℕ) (y : RecordsImport) (numbers′
   records-refusal = f .refusal ∙ records-room k (length numbers) (length times) os n t
 
   -- and where nothing is refused, the first places hold their arrivals
-  pub records-hold : y .refusal ≡ 0 → Holds k (y .arrivals) numbers′ times′ (imported os)
+  pub records-hold : y .refusal ≡ 0 → Holds k (y .arrivals) numbers′ times′ (importedArrivals os)
   records-hold z =
       let none : recordsRefusal k os ≡ 0 = sym records-refusal ∙ z in
       let into : importRefusal k (length numbers) (length times) os ≡ 0 = sym (f .refusal) ∙ z in
-      let many : y .arrivals ≡ length (imported os) = f .arrivals ∙ ap (λ (r : ℕ). length (unlessRefused r (numbersOf (imported os)))) into ∙ length-map (imported os) _ in
+      let many : y .arrivals ≡ length (importedArrivals os) = f .arrivals ∙ ap (λ (r : ℕ). length (unlessRefused r (numbersOf (importedArrivals os)))) into ∙ length-map (importedArrivals os) _ in
       record {
         sent = none-refused k os none .most;
         inNumbers =
-            over-first (numbersOf (imported os)) numbers (many ∙ sym (length-map (imported os) _))
-            (f .filledNumbers ∙ ap (λ (r : ℕ). over (unlessRefused r (numbersOf (imported os))) numbers) into);
+            over-first (numbersOf (importedArrivals os)) numbers (many ∙ sym (length-map (importedArrivals os) _))
+            (f .filledNumbers ∙ ap (λ (r : ℕ). over (unlessRefused r (numbersOf (importedArrivals os))) numbers) into);
         inTimes =
-            over-first (timesOf (imported os)) times (many ∙ sym (length-map (imported os) _))
-            (f .filledTimes ∙ ap (λ (r : ℕ). over (unlessRefused r (timesOf (imported os))) times) into);
+            over-first (timesOf (importedArrivals os)) times (many ∙ sym (length-map (importedArrivals os) _))
+            (f .filledTimes ∙ ap (λ (r : ℕ). over (unlessRefused r (timesOf (importedArrivals os))) times) into);
         judged = records-accepted k os none .lists;
       }
 

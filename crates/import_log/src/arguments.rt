@@ -18,7 +18,7 @@ pub(crate) enum Argument {
 }
 
 // The number that a word is in decimal.
-pub(crate) fn number_in(word: &[u8]) -> Argument
+pub(crate) fn argument_in(word: &[u8]) -> Argument
     ensures { λ r. ⌜ r ≡ argumentIn (now (word .entry)) ⌝ }
 {
     let number = decimal::reading::number_at(word, 0);

@@ -5,7 +5,7 @@ ghost use Rattle.rfc4737.specs.declared.Arrival.{Arrival};
 ghost use Rattle.textlog.specs.Decode.{judgeLog, logArrivals};
 ghost use Rattle.textlog.specs.RoundTrip.{sampleWith};
 ghost use Rattle.owamp.specs.Judge.{recordsRefusal};
-ghost use Rattle.owamp.specs.Calls.{imported};
+ghost use Rattle.owamp.specs.Calls.{importedArrivals};
 ghost use Rattle.import_log.specs.Convert.{Holds, ConvertedTo};
 use rfc4737::judge::ARRIVALS_MOST;
 use textlog::LogImport;
@@ -53,7 +53,7 @@ fn convert_lists(
 }
 
 // Writes the sample file of a log from the start of `out`. With a refusal `out` stays as it was.
-pub(crate) fn convert(log: &[u8], k: u32, size: u16, out: &mut [u8]) -> Conversion
+pub(crate) fn convert_log(log: &[u8], k: u32, size: u16, out: &mut [u8]) -> Conversion
     ensures { λ r. ⌜ ConvertedTo (judgeLog k (now (log .entry)) .refusal) (judgeLog k (now (log .entry)) .line) (sampleWith k size (logArrivals (now (log .entry)))) (now (out .entry)) r (now (out .exit)) ⌝ }
 {
     let mut numbers = [0u32; PLACES];
@@ -64,7 +64,7 @@ pub(crate) fn convert(log: &[u8], k: u32, size: u16, out: &mut [u8]) -> Conversi
 
 // The same of OWAMP records.
 pub(crate) fn convert_records(records: &[u8], k: u32, size: u16, out: &mut [u8]) -> Conversion
-    ensures { λ r. ⌜ ConvertedTo (recordsRefusal k (now (records .entry))) 0 (sampleWith k size (imported (now (records .entry)))) (now (out .entry)) r (now (out .exit)) ⌝ }
+    ensures { λ r. ⌜ ConvertedTo (recordsRefusal k (now (records .entry))) 0 (sampleWith k size (importedArrivals (now (records .entry)))) (now (out .entry)) r (now (out .exit)) ⌝ }
 {
     let mut numbers = [0u32; PLACES];
     let mut times = [0u64; PLACES];

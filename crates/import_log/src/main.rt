@@ -6,10 +6,10 @@ mod arguments;
 mod convert;
 
 use arguments::Argument;
+use arguments::argument_in;
 use arguments::is_records;
-use arguments::number_in;
 use convert::Conversion;
-use convert::convert;
+use convert::convert_log;
 use convert::convert_records;
 use libc::STDIN_FILENO;
 use libc::STDOUT_FILENO;
@@ -48,7 +48,7 @@ fn convert_input(records: bool, input: &[u8], k: u32, size: u16, out: &mut [u8])
     if records {
         return convert_records(input, k, size, out);
     }
-    convert(input, k, size, out)
+    convert_log(input, k, size, out)
 }
 
 // Writes the sample file of the input, or the refusal.
@@ -77,7 +77,7 @@ fn import(records: bool, k: u32, size: u16) {
 fn argument(place: usize) -> Argument {
     let mut word = [0u8; 32];
     let n = os::arg(place, &mut word);
-    number_in(&word[..n])
+    argument_in(&word[..n])
 }
 
 // Says that an argument is no payload size.

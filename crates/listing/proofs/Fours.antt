@@ -1,5 +1,7 @@
--- A number n in decimal by pairs of digits and by fours: the law of its last digit, taken twice, is that of its last two, and so on to its last four and
--- eight. Assumes nothing.
+-- A number n in decimal by pairs of digits and by fours: the law of its last digit (decimal's `more-digits`), taken twice, is that of its
+-- last two (`more-pairs`), that one taken twice is that of its last four (`more-fours`), and so on to its last eight. In these a, b and c
+-- say that the quotients and remainders by 10 or 100 in turn are those by 100 or 10,000; in `more-eights` a says it of two quotients by
+-- 10,000, and b is the law of the last four of n / 10,000. Assumes nothing.
 use Prim.Native.Nat.{ℕ, _+_, _/_, _%_, _≤_, _<_}
 use native.Mathlib.Omega.{arith}
 use mathlib.Core.Path.{_≡_, ap, _∙_}
@@ -8,12 +10,11 @@ use Rattle.decimal.specs.Decimal.{decimalOf}
 use Rattle.decimal.proofs.Laws.{one-digit, more-digits}
 use Rattle.listing.specs.Private.Written.{pair, four}
 
--- two digits
 pub two-digits : (n : ℕ) → 10 ≤ n → n < 100 → decimalOf n ≡ pair n
 two-digits n low high = more-digits n low ∙ ap (λ (l : List ℕ). l ++ ((48 + n % 10) ∷ [])) (one-digit (n / 10) (omega arith))
 
--- the last two
-pub more-pairs : (n : ℕ) → 100 ≤ n → decimalOf n ≡ decimalOf (n / 100) ++ pair (n % 100)
+-- the last two digits of a longer number
+more-pairs : (n : ℕ) → 100 ≤ n → decimalOf n ≡ decimalOf (n / 100) ++ pair (n % 100)
 more-pairs n h =
     let a : n / 10 / 10 ≡ n / 100 = omega arith in
     let b : n / 10 % 10 ≡ n % 100 / 10 = omega arith in
@@ -22,11 +23,9 @@ more-pairs n h =
     ∙ append-assoc (decimalOf (n / 10 / 10)) ((48 + n / 10 % 10) ∷ []) ((48 + n % 10) ∷ [])
     ∙ rw (a, b, c)
 
--- three digits
 pub three-digits : (n : ℕ) → 100 ≤ n → n < 1000 → decimalOf n ≡ ((48 + n / 100) ∷ []) ++ pair (n % 100)
 three-digits n low high = more-pairs n low ∙ ap (λ (l : List ℕ). l ++ pair (n % 100)) (one-digit (n / 100) (omega arith))
 
--- four digits
 pub four-digits : (n : ℕ) → 1000 ≤ n → n < 10000 → decimalOf n ≡ four n
 four-digits n low high = more-pairs n (omega arith) ∙ ap (λ (l : List ℕ). l ++ pair (n % 100)) (two-digits (n / 100) (omega arith) (omega arith))
 

@@ -4,4 +4,3 @@ mod Parts
 mod Fours
 pub mod Lengths
 pub mod Records
-pub mod Listed

@@ -1,4 +1,9 @@
--- Parts of a line written one after the other, and a line that is written whole. Assumes nothing.
+-- Parts of a line, and a line that is written whole. A part written and one at the place after it are one part, since splicing in xs and
+-- then ys right behind them is splicing in xs ++ ys (`then`); its bound is the sum of theirs. So a line is written part by part. Where
+-- there is room for the longest it is a line put (`whole`); else it is written at the start of a buffer, stands in the buffer's first
+-- places, and copied from there is a line put too (`copied`).
+-- Here at is the place of a part, most the bound of its octets, next the place after it, xs and ys are octets, old, new and newer memory
+-- before and after each part, text the buffer, and w and v that a part is written. Assumes nothing.
 use Prim.Native.Nat.{ℕ, _+_, _≤_, _<_}
 use native.Mathlib.Omega.{arith}
 use mathlib.Core.Path.{_≡_, refl, sym, ap, _∙_}
@@ -15,7 +20,6 @@ use Rattle.listing.specs.Words.{space}
 use Rattle.listing.specs.Lines.{number, sign, lateTime, line, answerFields, recordLine}
 use Rattle.listing.specs.Private.Written.{PartWritten}
 
--- nothing written
 pub nothing : (at : ℕ) (old : List ℕ) → PartWritten at 1 at [] old old
 nothing at old = record { place = omega arith; within = omega arith; memory = sym (splice-nil at old) }
 
@@ -42,7 +46,7 @@ with-after at xs x old h =
 pub weaken : {at most next : ℕ} {xs old new : List ℕ} (more : ℕ) → most ≤ more → PartWritten at most next xs old new → PartWritten at more next xs old new
 weaken more h w = record { place = w .place; within = omega arith; memory = w .memory }
 
--- a part by another name
+-- a part of octets that are equal to others is one of those
 pub named : {at most next : ℕ} {xs ys old new : List ℕ} (more : ℕ) → xs ≡ ys → length ys ≤ more → PartWritten at most next xs old new
     → PartWritten at more next ys old new
 named more e h w = record { place = rw e at (w .place); within = h; memory = rw e at (w .memory) }

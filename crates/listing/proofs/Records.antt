@@ -1,4 +1,5 @@
--- The lines of records l with answers m under one record more, x with y: by induction on both, counted from r. Assumes nothing.
+-- The lines of records l with answers m under one record more, x with y: by induction on both, which have the same length, counted from r.
+-- Assumes nothing.
 use Prim.Native.Nat.{ℕ, suc, _+_}
 use native.Mathlib.Nat.{add-zero}
 use native.Mathlib.Omega.{arith}

@@ -1,4 +1,3 @@
 -- What private functions say to each other: no public contract reaches these definitions. Assumes nothing.
 pub mod DigitBounds
-pub mod Listed
 pub mod Written

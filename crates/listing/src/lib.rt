@@ -85,7 +85,7 @@ fn write_four(out: &mut [u8], at: usize, v: u32) -> usize
 }
 
 // Writes a number below 10,000.
-fn write_few(out: &mut [u8], at: usize, v: u32) -> usize
+fn write_up_to_four(out: &mut [u8], at: usize, v: u32) -> usize
     requires { ⌜ (at + 4 ≤ length (now out)) × (v < 10000) ⌝ }
     ensures { λ r. ⌜ PartWritten at 4 r (number v) (now (out .entry)) (now (out .exit)) ⌝ }
 {
@@ -103,18 +103,18 @@ fn write_few(out: &mut [u8], at: usize, v: u32) -> usize
 }
 
 // Writes a number of 32 bits, four digits at a time.
-fn write_all(out: &mut [u8], at: usize, v: u32) -> usize
+fn write_up_to_ten(out: &mut [u8], at: usize, v: u32) -> usize
     requires { ⌜ at + 10 ≤ length (now out) ⌝ }
     ensures { λ r. ⌜ PartWritten at 10 r (number v) (now (out .entry)) (now (out .exit)) ⌝ }
 {
     if v < 10000 {
-        return write_few(out, at, v);
+        return write_up_to_four(out, at, v);
     }
     if v < 100000000 {
-        let low = write_few(out, at, v / 10000);
+        let low = write_up_to_four(out, at, v / 10000);
         return write_four(out, low, v % 10000);
     }
-    let middle = write_few(out, at, v / 100000000);
+    let middle = write_up_to_four(out, at, v / 100000000);
     let low = write_four(out, middle, v / 10000 % 10000);
     write_four(out, low, v % 10000)
 }
@@ -124,7 +124,7 @@ fn write_number(out: &mut [u8], at: usize, n: u32, after: u8) -> usize
     requires { ⌜ at + 11 ≤ length (now out) ⌝ }
     ensures { λ r. ⌜ PartWritten at 11 r (number n ++ (after ∷ [])) (now (out .entry)) (now (out .exit)) ⌝ }
 {
-    let end = write_all(out, at, n);
+    let end = write_up_to_ten(out, at, n);
     out[end] = after;
     end + 1
 }
@@ -145,7 +145,7 @@ fn write_sign(out: &mut [u8], at: usize, late: LateTime) -> usize
 }
 
 // Writes a late time and the octet after it.
-fn write_time(out: &mut [u8], at: usize, late: LateTime, after: u8) -> usize
+fn write_late_time(out: &mut [u8], at: usize, late: LateTime, after: u8) -> usize
     requires { ⌜ at + 22 ≤ length (now out) ⌝ }
     ensures { λ r. ⌜ PartWritten at 22 r (lateTime late ++ (after ∷ [])) (now (out .entry)) (now (out .exit)) ⌝ }
 {
@@ -175,7 +175,7 @@ pub fn put_header(out: &mut [u8], at: usize, k: u32, a: u32) -> usize
 }
 
 // Writes the answer of a duplicate.
-fn write_copy(out: &mut [u8], at: usize, f: DuplicateFigures) -> usize
+fn write_duplicate(out: &mut [u8], at: usize, f: DuplicateFigures) -> usize
     requires { ⌜ at + 16 ≤ length (now out) ⌝ }
     ensures { λ r. ⌜ PartWritten at 16 r (line (answerFields (Duplicate f))) (now (out .entry)) (now (out .exit)) ⌝ }
 {
@@ -184,7 +184,7 @@ fn write_copy(out: &mut [u8], at: usize, f: DuplicateFigures) -> usize
 }
 
 // Writes the answer of an in-order packet.
-fn write_in(out: &mut [u8], at: usize, f: InOrderFigures) -> usize
+fn write_in_order(out: &mut [u8], at: usize, f: InOrderFigures) -> usize
     requires { ⌜ at + 25 ≤ length (now out) ⌝ }
     ensures { λ r. ⌜ PartWritten at 25 r (line (answerFields (InOrder f))) (now (out .entry)) (now (out .exit)) ⌝ }
 {
@@ -194,7 +194,7 @@ fn write_in(out: &mut [u8], at: usize, f: InOrderFigures) -> usize
 }
 
 // Writes the answer of a reordered packet.
-fn write_late(out: &mut [u8], at: usize, f: ReorderedFigures) -> usize
+fn write_reordered(out: &mut [u8], at: usize, f: ReorderedFigures) -> usize
     requires { ⌜ at + 71 ≤ length (now out) ⌝ }
     ensures { λ r. ⌜ PartWritten at 71 r (line (answerFields (Reordered f))) (now (out .entry)) (now (out .exit)) ⌝ }
 {
@@ -202,7 +202,7 @@ fn write_late(out: &mut [u8], at: usize, f: ReorderedFigures) -> usize
     let extent = write_number(out, position, f.position, SPACE);
     let time = write_number(out, extent, f.extent, SPACE);
     let late = f.late;
-    let offset = write_time(out, time, late, SPACE);
+    let offset = write_late_time(out, time, late, SPACE);
     let largest = write_number(out, offset, f.offset, SPACE);
     write_number(out, largest, f.largest, LINE_FEED)
 }
@@ -213,9 +213,9 @@ fn write_answer(out: &mut [u8], at: usize, answer: Answer) -> usize
     ensures { λ r. ⌜ PartWritten at 71 r (line (answerFields answer)) (now (out .entry)) (now (out .exit)) ⌝ }
 {
     match answer {
-        Answer::Duplicate(f) => write_copy(out, at, f),
-        Answer::InOrder(f) => write_in(out, at, f),
-        Answer::Reordered(f) => write_late(out, at, f),
+        Answer::Duplicate(f) => write_duplicate(out, at, f),
+        Answer::InOrder(f) => write_in_order(out, at, f),
+        Answer::Reordered(f) => write_reordered(out, at, f),
     }
 }
 

@@ -1,4 +1,10 @@
--- Demand 3 holds on a meter: by one induction over the calls the meter carries the account. Assumes nothing.
+-- Demand 3 holds on a meter: by one induction over the calls the meter carries the account (`calls-carry`). A call on no stream changes
+-- nothing; an arrival on a stream goes by `carries-step` and `carries-after`, and a start is refused by 4 and changes nothing, or goes by
+-- `carries-started`. So each reply is the account's (`reply-agrees`), which is never 10 (`never-unfit`), and a reordered packet is
+-- answered as a receiver's is, for the split by the stream's window (`late-answered`). After the calls a stream's counts are those of its
+-- part, and its window is the last of its jumps: all of them where none was dropped, else 16 or more (`stream-agrees`).
+-- Here m is the meter, s a stream, o the stream of a call, if it is on one, n its number, c a call, k is K, h a part of the account, and g
+-- says that it is carried. Assumes nothing.
 use Prim.Native.Nat.{ℕ, _+_, _-_, _≤_, min}
 use mathlib.Core.Path.{_≡_, refl, sym, ap, subst, _∙_}
 use mathlib.Core.Bool.{Bool, true, false, cond}
@@ -32,10 +38,10 @@ use Rattle.meter.specs.declared.MeterStepAnswer.{MeterStepAnswer}
 use Rattle.meter.specs.declared.MeterStartAnswer.{MeterStartAnswer}
 use Rattle.meter.specs.Streams.{Side, one, two, sideOf, receiverOf, streamIn, withStream, withReceiver}
 use Rattle.meter.specs.Step.{meterStep, notStarted, startOn, meterStart}
-use Rattle.meter.specs.Account.{Call, arrives, starts, numberOf, Reply, said, started, Part, freshPart, partAfter, replyIn, Account, withPart, accountAfter, meterAccountOf, accountReply}
+use Rattle.meter.specs.Account.{Call, arrives, starts, streamNumberOf, Reply, said, started, Part, freshPart, partAfter, replyIn, Account, withPart, accountAfter, meterAccountOf, accountReply}
 use Rattle.meter.specs.Demand3.{metAfter, replyOf, meterAfter, meterReply, refusalSaid, streamNumbers, Agrees, MeterDemand3}
-use Rattle.meter.proofs.Sides.{stepFor, startFor, accountFor, replyFor}
-use Rattle.meter.proofs.Carries.{Carried, Carries, carries-fit, receiverThen, carries-step, carries-after, new-carries, carries-started}
+use Rattle.meter.proofs.CallsByStream.{stepFor, startFor, accountFor, replyFor}
+use Rattle.meter.proofs.Carries.{CarriesPart, Carries, carries-fit, receiverThen, carries-step, carries-after, new-carries, carries-started}
 
 -- ---- one call
 
@@ -58,7 +64,6 @@ module _ (account : Account) (m : Meter) (g : Carries account m) where
       }
   step-agrees s a = rw (carries-fit account m g) (carries-step account m g s a)
 
-  -- an arrival
   arrival-reply : (o : Option Side) (n : ℕ) (a : Arrival)
       → said (stepFor o m (a .number) (a .time) .outcome) ≡ replyFor o account (arrives n a)
   unfolding replyIn
@@ -71,7 +76,6 @@ module _ (account : Account) (m : Meter) (g : Carries account m) where
   arrival-carries (some s) n a =
       subst (λ (x : MeterStepAnswer). Carries (accountFor (some s) account (arrives n a)) (x .state)) (sym (step-agrees s a)) (carries-after account m g s a)
 
-  -- a start
   start-on : (s : Side) (k : ℕ) → startFor (some s) m k
       ≡ cond (outside 1 sentMost k) (notStarted sentOutside m) (record { refusal = 0; state = withStream s (streamIn (madeFor k)) m })
   unfolding startOn freshOf
@@ -106,13 +110,12 @@ module _ (account : Account) (m : Meter) (g : Carries account m) where
       go true e = subst (λ (acc : Account). Carries acc m) (sym (same-part s account)) g
       go false e = let w = between 1 sentMost k e in carries-started account m g s k (w .0) (w .1)
 
-  -- any call
-  call-reply : (c : Call) → replyOf m c ≡ replyFor (sideOf (numberOf c)) account c
+  call-reply : (c : Call) → replyOf m c ≡ replyFor (sideOf (streamNumberOf c)) account c
   unfolding meterStep meterStart
   call-reply (arrives n a) = arrival-reply (sideOf n) n a
   call-reply (starts n k) = start-reply (sideOf n) n k
 
-  call-carries : (c : Call) → Carries (accountFor (sideOf (numberOf c)) account c) (metAfter m c)
+  call-carries : (c : Call) → Carries (accountFor (sideOf (streamNumberOf c)) account c) (metAfter m c)
   unfolding meterStep meterStart
   call-carries (arrives n a) = arrival-carries (sideOf n) n a
   call-carries (starts n k) = start-carries (sideOf n) n k
@@ -126,10 +129,10 @@ calls-carry = snoc-ind (λ (calls : List Call). Carries (meterAccountOf calls) (
   where
     more : (calls : List Call) (c : Call) → Carries (meterAccountOf calls) (meterAfter calls) → Carries (meterAccountOf (calls ++ (c ∷ []))) (meterAfter (calls ++ (c ∷ [])))
     more calls c g =
-        let a : meterAccountOf (calls ++ (c ∷ [])) ≡ accountFor (sideOf (numberOf c)) (meterAccountOf calls) c = fold-more _ _ calls c in
+        let a : meterAccountOf (calls ++ (c ∷ [])) ≡ accountFor (sideOf (streamNumberOf c)) (meterAccountOf calls) c = fold-more _ _ calls c in
         let b : meterAfter (calls ++ (c ∷ [])) ≡ metAfter (meterAfter calls) c = fold-more _ _ calls c in
         subst (λ (acc : Account). Carries acc (meterAfter (calls ++ (c ∷ [])))) (sym a)
-        (subst (Carries (accountFor (sideOf (numberOf c)) (meterAccountOf calls) c)) (sym b) (call-carries (meterAccountOf calls) (meterAfter calls) g c))
+        (subst (Carries (accountFor (sideOf (streamNumberOf c)) (meterAccountOf calls) c)) (sym b) (call-carries (meterAccountOf calls) (meterAfter calls) g c))
 
 -- each call is replied to as the account says
 pub reply-agrees : (earlier : List Call) (c : Call) → meterReply earlier c ≡ accountReply earlier c
@@ -157,11 +160,11 @@ noted-agrees earlier n a s e =
     rw e (ap (λ (x : MeterStepAnswer). x .outcome .noted) (step-agrees (meterAccountOf earlier) (meterAfter earlier) (calls-carry earlier) s a))
 
 -- what a stream holds after the calls
-kept : (s : Side) (calls : List Call) → Agrees s calls
+stream-agrees : (s : Side) (calls : List Call) → Agrees s calls
 unfolding counts stateWith
-kept s calls =
+stream-agrees s calls =
     let h : Part = meterAccountOf calls s in
-    let g : Carried h (receiverOf s (meterAfter calls)) = calls-carry calls .streams s in
+    let g : CarriesPart h (receiverOf s (meterAfter calls)) = calls-carry calls .streams s in
     let arrived-eq : streamNumbers s calls .arrived ≡ arrived (answersIn (h .accepted)) = ap (λ (r : Receiver). r .stream .arrived) (g .state) ∙ sym (arrived-in (h .accepted)) in
     let duplicates-eq : streamNumbers s calls .duplicates ≡ count isDuplicate (answersIn (h .accepted)) = ap (λ (r : Receiver). r .stream .duplicates) (g .state) in
     let inorder-eq : streamNumbers s calls .inorder ≡ count isInOrderAnswer (answersIn (h .accepted)) = ap (λ (r : Receiver). r .stream .inorder) (g .state) in
@@ -192,7 +195,6 @@ kept s calls =
         go true q = let k : 16 ≤ w = l (ltb-true _ _ q) in omega arith
         go false q = let k : d ≤ 0 = ltb-false _ _ q in omega arith
 
--- demand 3
 pub demand3 : (calls : List Call) → MeterDemand3 calls
 unfolding accountReply
 demand3 calls =
@@ -200,11 +202,11 @@ demand3 calls =
       replies = each-same meterReply accountReply reply-agrees calls;
       fit =
           count-each (λ (r : Reply). eqb (refusalSaid r) stateUnfit) meterReply
-          (λ earlier c. rw reply-agrees (never-unfit (meterAccountOf earlier) (sideOf (numberOf c)) c)) calls;
+          (λ earlier c. rw reply-agrees (never-unfit (meterAccountOf earlier) (sideOf (streamNumberOf c)) c)) calls;
       reordered = λ earlier n a later split s e z d q.
-          let g : Carried (meterAccountOf earlier s) (receiverOf s (meterAfter earlier)) = calls-carry earlier .streams s in
+          let g : CarriesPart (meterAccountOf earlier s) (receiverOf s (meterAfter earlier)) = calls-carry earlier .streams s in
           subst (Answered (meterAccountOf earlier s .window) (meterAccountOf earlier s .accepted) a d) (sym (noted-agrees earlier n a s e))
           (late-answered (meterAccountOf earlier s .sent) (meterAccountOf earlier s .accepted) (g .dropped) (meterAccountOf earlier s .window) (g .split) a z d q);
-      streams = λ s. kept s calls;
+      streams = λ s. stream-agrees s calls;
       places = calls-carry calls .places;
     }

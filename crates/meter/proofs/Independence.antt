@@ -1,5 +1,10 @@
--- Independence of the streams: a stream's account hangs on its own calls and on how many places are free at each of them, and its flags
--- on its own calls alone, both by induction over the calls. Assumes nothing.
+-- Independence of the streams, by induction over the calls. Without the neighbour: the K and the accepted arrivals of a stream's part do
+-- not depend on the free places (`same-after`), so they are those of its own calls alone (`same-alone`); a flag leaves out extent and late
+-- time, and so does not depend on the window (`flag-window`); hence the flags and the counts are those of its own calls too. Through the
+-- free places: they count at a jump only (`free-counts`), so the part is a fold over the stream's own calls with the free places at each
+-- of its jumps (`part-trace`), and so are the replies (`replies-trace`): where two lists of calls have the same trace, the replies are the
+-- same. Here s is the stream, c the next call, h and g are parts, f and e numbers of free places, ws and vs windows, and t is the outcome
+-- of a test or an element of a trace. Assumes nothing.
 use Prim.Native.Nat.{ℕ}
 use mathlib.Core.Path.{_≡_, refl, sym, ap, ap₂, _∙_}
 use mathlib.Core.Bool.{Bool, true, false, cond}
@@ -28,16 +33,16 @@ use Rattle.receiver.specs.Account.{accountRefusal, accountWith, answerIn, answe
 use Rattle.receiver.proofs.State.{stateWith}
 use Rattle.receiver.proofs.Agrees.{jump-cases}
 use Rattle.meter.specs.Streams.{Side, one, two, sideOf, receiverOf}
-use Rattle.meter.specs.Account.{Call, arrives, starts, numberOf, Reply, said, Part, freshPart, keptWith, partAfter, replyIn, Account, freeIn, accountAfter, meterAccountOf, accountReply}
+use Rattle.meter.specs.Account.{Call, arrives, starts, streamNumberOf, Reply, said, Part, freshPart, keptWith, partAfter, replyIn, Account, freeIn, accountAfter, meterAccountOf, accountReply}
 use Rattle.meter.specs.Demand3.{meterAfter, meterReply, streamNumbers}
 use Rattle.meter.specs.Independence.{isSide, ofOwn, ownCalls, ownReplies, Flag, flag, flagOf, Alone, freeAt, trace, Independence}
-use Rattle.meter.proofs.Sides.{accountFor, replyFor}
-use Rattle.meter.proofs.Carries.{heldIn}
+use Rattle.meter.proofs.CallsByStream.{accountFor, replyFor}
+use Rattle.meter.proofs.Carries.{heldBy}
 use Rattle.meter.proofs.Demand3.{calls-carry, reply-agrees}
 
 -- whether a call is on a stream
 abbrev isOn : Side → Call → Bool
-isOn s c = isSide s (sideOf (numberOf c))
+isOn s c = isSide s (sideOf (streamNumberOf c))
 
 -- what is said of own calls, under one call more
 own-more {ℓ} : {B : Type ℓ} (s : Side) (f : List Call → Call → B) (calls : List Call) (c : Call)
@@ -51,7 +56,7 @@ own-more s f calls c =
 part-more : (s : Side) (calls : List Call) (c : Call)
     → meterAccountOf (calls ++ (c ∷ [])) s ≡ cond (isOn s c) (partAfter (freeIn (meterAccountOf calls)) (meterAccountOf calls s) c) (meterAccountOf calls s)
 unfolding meterAccountOf accountAfter
-part-more s calls c = ap (λ (account : Account). account s) (fold-more _ _ calls c) ∙ go s (sideOf (numberOf c))
+part-more s calls c = ap (λ (account : Account). account s) (fold-more _ _ calls c) ∙ go s (sideOf (streamNumberOf c))
   where
     go : (s : Side) (o : Option Side) → accountFor o (meterAccountOf calls) c s ≡ cond (isSide s o) (partAfter (freeIn (meterAccountOf calls)) (meterAccountOf calls s) c) (meterAccountOf calls s)
     go one none = refl
@@ -64,7 +69,7 @@ part-more s calls c = ap (λ (account : Account). account s) (fold-more _ _ call
 -- what is said to a call on a stream
 reply-own : (s : Side) (calls : List Call) (c : Call) → isOn s c ≡ true → meterReply calls c ≡ replyIn (meterAccountOf calls s) c
 unfolding accountReply
-reply-own s calls c e = reply-agrees calls c ∙ go s (sideOf (numberOf c)) e
+reply-own s calls c e = reply-agrees calls c ∙ go s (sideOf (streamNumberOf c)) e
   where
     go : (s : Side) (o : Option Side) → isSide s o ≡ true → replyFor o (meterAccountOf calls) c ≡ replyIn (meterAccountOf calls s) c
     go s none e = absurd (let z : _≡_ {A = ℕ} 0 1 = cc in omega arith)
@@ -76,17 +81,17 @@ reply-own s calls c e = reply-agrees calls c ∙ go s (sideOf (numberOf c)) e
 -- ---- without the neighbour
 
 -- parts of the same K and arrivals
-record Same (h g : Part) : Type 0 where
+record SameArrivals (h g : Part) : Type 0 where
   sent : h .sent ≡ g .sent
   accepted : h .accepted ≡ g .accepted
 
-same-after : (f e : ℕ) (h g : Part) (c : Call) → Same h g → Same (partAfter f h c) (partAfter e g c)
+same-after : (f e : ℕ) (h g : Part) (c : Call) → SameArrivals h g → SameArrivals (partAfter f h c) (partAfter e g c)
 unfolding partAfter
 same-after f e h g (arrives n a) q =
     record { sent = q .sent; accepted = ap₂ (λ (k : ℕ) (l : List Arrival). accountWith k l a) (q .sent) (q .accepted) }
 same-after f e h g (starts n k) q = go (outside 1 sentMost k)
   where
-    go : (t : Bool) → Same (cond t h (freshPart k)) (cond t g (freshPart k))
+    go : (t : Bool) → SameArrivals (cond t h (freshPart k)) (cond t g (freshPart k))
     go true = q
     go false = record { sent = refl; accepted = refl }
 
@@ -113,7 +118,7 @@ flag-window ws vs k account a = go (eqb (accountRefusal k account a) 0)
     go true = form (answerIn account a)
     go false = refl
 
-flag-same : (h g : Part) (c : Call) → Same h g → flagOf (replyIn h c) ≡ flagOf (replyIn g c)
+flag-same : (h g : Part) (c : Call) → SameArrivals h g → flagOf (replyIn h c) ≡ flagOf (replyIn g c)
 unfolding replyIn
 flag-same h g (arrives n a) q =
     flag-window (h .window) (g .window) (h .sent) (h .accepted) a
@@ -121,16 +126,16 @@ flag-same h g (arrives n a) q =
 flag-same h g (starts n k) q = refl
 
 -- the account of a stream is that of its own calls
-same-alone : (s : Side) (calls : List Call) → Same (meterAccountOf calls s) (meterAccountOf (ownCalls s calls) s)
+same-alone : (s : Side) (calls : List Call) → SameArrivals (meterAccountOf calls s) (meterAccountOf (ownCalls s calls) s)
 unfolding ofOwn each eachAfter flatten
-same-alone s = snoc-ind (λ (calls : List Call). Same (meterAccountOf calls s) (meterAccountOf (ownCalls s calls) s)) more (record { sent = refl; accepted = refl })
+same-alone s = snoc-ind (λ (calls : List Call). SameArrivals (meterAccountOf calls s) (meterAccountOf (ownCalls s calls) s)) more (record { sent = refl; accepted = refl })
   where
-    more : (calls : List Call) (c : Call) → Same (meterAccountOf calls s) (meterAccountOf (ownCalls s calls) s)
-        → Same (meterAccountOf (calls ++ (c ∷ [])) s) (meterAccountOf (ownCalls s (calls ++ (c ∷ []))) s)
+    more : (calls : List Call) (c : Call) → SameArrivals (meterAccountOf calls s) (meterAccountOf (ownCalls s calls) s)
+        → SameArrivals (meterAccountOf (calls ++ (c ∷ [])) s) (meterAccountOf (ownCalls s (calls ++ (c ∷ []))) s)
     more calls c q = rw (part-more s calls c, own-more s (λ (earlier : List Call) (c : Call). c) calls c) (go (isOn s c) refl)
       where
         go : (t : Bool) → isOn s c ≡ t
-            → Same (cond t (partAfter (freeIn (meterAccountOf calls)) (meterAccountOf calls s) c) (meterAccountOf calls s)) (meterAccountOf (ownCalls s calls ++ cond t (c ∷ []) []) s)
+            → SameArrivals (cond t (partAfter (freeIn (meterAccountOf calls)) (meterAccountOf calls s) c) (meterAccountOf calls s)) (meterAccountOf (ownCalls s calls ++ cond t (c ∷ []) []) s)
         go true e = rw (part-more s (ownCalls s calls) c, e) (same-after _ _ _ _ c q)
         go false e = rw append-nil q
 
@@ -163,7 +168,7 @@ known-alone f of e s calls = known calls ∙ ap of (same-alone s calls .accepted
     known : (l : List Call) → f (streamNumbers s l) ≡ of (meterAccountOf l s .accepted)
     known l =
         ap (λ (r : Receiver). f (r .stream)) (calls-carry l .streams s .state)
-        ∙ e (meterAccountOf l s .sent) (meterAccountOf l s .accepted) (heldIn (receiverOf s (meterAfter l)))
+        ∙ e (meterAccountOf l s .sent) (meterAccountOf l s .accepted) (heldBy (receiverOf s (meterAfter l)))
 
 alone : (s : Side) (calls : List Call) → Alone s calls
 unfolding stateWith
@@ -235,7 +240,6 @@ replies-trace s = snoc-ind (λ (calls : List Call). ownReplies s calls ≡ repli
             ∙ sym (each-more (λ (earlier : List (Call × List ℕ)) (t : Call × List ℕ). replyIn (foldl partFrom (freshPart 1) earlier) (t .0)) (trace s calls) (c, freeAt (meterAccountOf calls s) (freeIn (meterAccountOf calls)) c))
         go false e = rw (append-nil, append-nil) q
 
--- independence
 pub independence : Independence
 independence =
     record {

@@ -1,4 +1,9 @@
--- The jumps that a stream keeps under a new one: by the rule for the shared places. Assumes nothing.
+-- The jumps that a stream keeps under a new one, by the rule for the shared places. If the new jump takes a place, the stream keeps fewer
+-- than 48 and a place is free, so both limits still hold (`takes`). If not, the stream keeps 16 or more, 48 or all that its neighbour
+-- leaves (`takes-none`): there is an oldest jump to drop, and as many are kept as before. So a stream that has dropped a jump keeps 16 or
+-- more. In both cases the places hold the kept ones by the laws of HeldJumps (`kept-one`); an arrival is one new jump or none
+-- (`kept-arrival`). Here ds and ws are the jumps dropped and kept, j is what is held of them, and with a prime they are those after;
+-- beside is how many the neighbour keeps, p the new jump, and t says whether it takes a place. Assumes nothing.
 use Prim.Native.Nat.{ℕ, suc, _+_, _-_, _≤_, _<_}
 use mathlib.Core.Path.{_≡_, refl, sym, ap, _∙_}
 use mathlib.Core.Bool.{Bool, true, false, cond, _&&_}
@@ -9,7 +14,7 @@ use lib.ListN.{length, drop, length-append}
 use borrow.Author.Tests.{ltb-true, ltb-false}
 use Rattle.rfc4737.specs.declared.Arrival.{Arrival}
 use Rattle.rfc4737.specs.Order.{FirstArrival}
-use Rattle.receiver.specs.Limits.{window}
+use Rattle.receiver.specs.Limits.{windowPlaces}
 use Rattle.receiver.specs.Kept.{placeAt, Held, withJump}
 use Rattle.receiver.specs.Account.{jumpIn}
 use Rattle.receiver.proofs.Agrees.{jump-cases}
@@ -24,19 +29,19 @@ and-false true b e h = e
 and-false false b e h = let z : _≡_ {A = ℕ} 0 1 = cc in absurd (omega arith)
 
 -- what holds where a jump takes a place
-pub takes : (own beside : ℕ) → takesPlace own (freeBeside own beside) ≡ true → (own < mostKept) × (own + beside < window)
+pub takes : (own beside : ℕ) → takesPlace own (freeBeside own beside) ≡ true → (own < mostKept) × (own + beside < windowPlaces)
 takes own beside e =
     let a = and-true _ _ e in
     let l : own < mostKept = ltb-true _ _ (a .0) in
-    let m : 0 < window - (own + beside) = ltb-true _ _ (a .1) in
+    let m : 0 < windowPlaces - (own + beside) = ltb-true _ _ (a .1) in
     (l, omega arith)
 
 -- and where it takes none, beside a neighbour that keeps at most 48
-pub takes-none : (own beside : ℕ) → beside ≤ mostKept → takesPlace own (freeBeside own beside) ≡ false → 16 ≤ own
+takes-none : (own beside : ℕ) → beside ≤ mostKept → takesPlace own (freeBeside own beside) ≡ false → 16 ≤ own
 takes-none own beside h e = go (ltb own mostKept) refl
   where
     go : (t : Bool) → ltb own mostKept ≡ t → 16 ≤ own
-    go true q = let m : window - (own + beside) ≤ 0 = ltb-false _ _ (and-false _ _ e q) in omega arith
+    go true q = let m : windowPlaces - (own + beside) ≤ 0 = ltb-false _ _ (and-false _ _ e q) in omega arith
     go false q = let m : mostKept ≤ own = ltb-false _ _ q in omega arith
 
 -- what is kept of some jumps after new ones: those dropped and those kept are all of them, the places hold them, and no place
@@ -46,9 +51,9 @@ pub record KeptOf (ds ws : List FirstArrival) (j : Held) (beside : ℕ) (new : L
   pub parts : dropped ++ ws′ ≡ (ds ++ ws) ++ new
   pub holds : Holds dropped ws′ j′
   pub most : length ws′ ≤ mostKept
-  pub together : length ws′ + beside ≤ window
+  pub together : length ws′ + beside ≤ windowPlaces
   pub least : 1 ≤ length dropped → 16 ≤ length ws′
-  pub some : 1 ≤ length ((ds ++ ws) ++ new) → 1 ≤ length ws′
+  pub not-empty : 1 ≤ length ((ds ++ ws) ++ new) → 1 ≤ length ws′
   pub frame : (k : ℕ) → length ws′ ≤ k → placeAt (j′ .places) k ≡ placeAt (j .places) k
 
 -- as the rule for the shared places keeps them
@@ -61,10 +66,9 @@ module _ (ds ws : List FirstArrival) (j : Held) (beside : ℕ)
     (h : Holds ds ws j)
     (most : length ws ≤ mostKept)
     (low : beside ≤ mostKept)
-    (together : length ws + beside ≤ window)
+    (together : length ws + beside ≤ windowPlaces)
     (least : 1 ≤ length ds → 16 ≤ length ws)
-    (some : 1 ≤ length (ds ++ ws) → 1 ≤ length ws) where
-  -- of none
+    (not-empty : 1 ≤ length (ds ++ ws) → 1 ≤ length ws) where
   kept-none : KeptOf ds ws j beside [] ws j
   kept-none =
       record {
@@ -74,11 +78,10 @@ module _ (ds ws : List FirstArrival) (j : Held) (beside : ℕ)
         most = most;
         together = together;
         least = least;
-        some = rw append-nil some;
+        not-empty = rw append-nil not-empty;
         frame = λ k l. refl;
       }
 
-  -- of one
   kept-one : (p : FirstArrival) (t : Bool) → takesPlace (length ws) (freeBeside (length ws) beside) ≡ t
       → KeptOf ds ws j beside (p ∷ []) (cond t ws (drop 1 ws) ++ (p ∷ [])) (withJump t j p)
   unfolding withJump
@@ -87,7 +90,7 @@ module _ (ds ws : List FirstArrival) (j : Held) (beside : ℕ)
       let l : length (ws ++ (p ∷ [])) ≡ length ws + 1 = length-append ws (p ∷ []) in
       let c : j .kept ≡ length ws = holds-count ds ws j h in
       let a : length ws < mostKept = q .0 in
-      let b : length ws + beside < window = q .1 in
+      let b : length ws + beside < windowPlaces = q .1 in
       record {
         dropped = ds;
         parts = sym (append-assoc ds ws (p ∷ []));
@@ -95,7 +98,7 @@ module _ (ds ws : List FirstArrival) (j : Held) (beside : ℕ)
         most = omega arith;
         together = omega arith;
         least = λ n. let m : 16 ≤ length ws = least n in omega arith;
-        some = λ n. omega arith;
+        not-empty = λ n. omega arith;
         frame = λ k n. jump-frame true j p (h .long) (λ z. absurd (let y : _≡_ {A = ℕ} 0 1 = cc in omega arith)) k (omega arith);
       }
   kept-one p false e = go ws refl
@@ -121,7 +124,7 @@ module _ (ds ws : List FirstArrival) (j : Held) (beside : ℕ)
             most = omega arith;
             together = omega arith;
             least = λ m. omega arith;
-            some = λ m. omega arith;
+            not-empty = λ m. omega arith;
             frame = λ i m. jump-frame false j p (h .long) (λ _. (omega arith, omega arith)) i (omega arith);
           }
 

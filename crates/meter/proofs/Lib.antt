@@ -1,6 +1,6 @@
 -- Laws behind the meter's step, demand 3 and independence. Assumes nothing.
-pub mod Sides
-pub mod Facing
+pub mod CallsByStream
+pub mod PlacesFacing
 pub mod KeptJumps
 pub mod Reversed
 pub mod Carries

@@ -1,4 +1,11 @@
--- The rule of a meter case by case, as the code meets it, and what a fit meter and a refused call say. Assumes nothing.
+-- The rule of a meter case by case, as the code meets it: where the tests before are known, the definition computes to the case. Each
+-- stream of a fit meter keeps at most 48 jumps, so beside its neighbour it can keep 16 or more, and a new jump takes a place exactly while
+-- it keeps fewer than it can (`room-beside`); so the receiver's step that keeps at most so many is the step on the stream (`step-kept`). A
+-- refused call leaves an equal meter (`step-refused`, `start-refused`): either the meter itself is handed back, or a receiver that the
+-- refused step left equal is put back where it was.
+-- Here m is the meter, n the number of a stream, s the stream, o the stream if there is one, k is K, r a receiver or what `fresh` gave, x
+-- the step's answer, own and beside are the jumps that a stream and its neighbour keep, and t and u are outcomes of tests.
+-- Assumes nothing.
 use Prim.Native.Nat.{ℕ, zero, suc, _+_, _-_, _≤_, _<_, min, max}
 use mathlib.Core.Path.{_≡_, refl, sym, ap, _∙_}
 use mathlib.Core.Bool.{Bool, true, false, cond, _&&_, true≢false}
@@ -12,7 +19,7 @@ use Rattle.receiver.specs.declared.Places.{Places}
 use Rattle.receiver.specs.declared.Receiver.{Receiver}
 use Rattle.receiver.specs.declared.StepAnswer.{StepAnswer}
 use Rattle.receiver.specs.declared.FreshAnswer.{FreshAnswer}
-use Rattle.receiver.specs.Limits.{window}
+use Rattle.receiver.specs.Limits.{windowPlaces}
 use Rattle.receiver.specs.Fit.{every}
 use Rattle.receiver.specs.Step.{freshOf, stepWith, stepWithin}
 use Rattle.receiver.proofs.Fits.{and-true, every-true}
@@ -22,8 +29,8 @@ use Rattle.meter.specs.declared.MeterStepAnswer.{MeterStepAnswer}
 use Rattle.meter.specs.declared.MeterStartAnswer.{MeterStartAnswer}
 use Rattle.meter.specs.Streams.{Side, one, two, sideOf, other, shared, mostKept, freeBeside, takesPlace, facing, receiverOf, streamIn, withStream, withReceiver, keptIn, free}
 use Rattle.meter.specs.Step.{fitOnMeter, meterFit, notStepped, stepOn, meterStep, notStarted, startOn, meterStart}
-use Rattle.meter.proofs.Sides.{stepFor, startFor}
-use Rattle.meter.proofs.Facing.{put-back}
+use Rattle.meter.proofs.CallsByStream.{stepFor, startFor}
+use Rattle.meter.proofs.PlacesFacing.{put-back}
 use Rattle.meter.proofs.KeptJumps.{takes}
 
 -- ---- the stream of a number
@@ -99,19 +106,19 @@ fit-known q r t u e f g = sym (ap fitOnMeter e) ∙ sym f ∙ g
 
 -- a new jump takes a place while the stream keeps fewer than it can beside its neighbour
 room-beside : (own beside : ℕ) → beside ≤ mostKept
-    → ltb own (max 1 (min (min mostKept (shared - beside)) window)) ≡ takesPlace own (freeBeside own beside)
+    → ltb own (max 1 (min (min mostKept (shared - beside)) windowPlaces)) ≡ takesPlace own (freeBeside own beside)
 room-beside own beside h = go (takesPlace own (freeBeside own beside)) refl
   where
-    go : (t : Bool) → takesPlace own (freeBeside own beside) ≡ t → ltb own (max 1 (min (min mostKept (shared - beside)) window)) ≡ t
+    go : (t : Bool) → takesPlace own (freeBeside own beside) ≡ t → ltb own (max 1 (min (min mostKept (shared - beside)) windowPlaces)) ≡ t
     go true e =
         let a = takes own beside e in
         let l : own < mostKept = a .0 in
-        let k : own + beside < window = a .1 in
-        let m : own < max 1 (min (min mostKept (shared - beside)) window) = omega arith in
+        let k : own + beside < windowPlaces = a .1 in
+        let m : own < max 1 (min (min mostKept (shared - beside)) windowPlaces) = omega arith in
         lt-ltb _ _ m
     go false e =
         let l : min mostKept (shared - beside) ≤ own = least (ltb own mostKept) refl e in
-        let m : max 1 (min (min mostKept (shared - beside)) window) ≤ own = omega arith in
+        let m : max 1 (min (min mostKept (shared - beside)) windowPlaces) ≤ own = omega arith in
         le-ltb _ _ m
       where
         least : (t : Bool) → ltb own mostKept ≡ t → t && ltb 0 (freeBeside own beside) ≡ false → min mostKept (shared - beside) ≤ own
@@ -134,7 +141,7 @@ pub step-kept : (s : Side) (m : Meter) (number time most : ℕ) (r : Receiver) (
     → _≡_ {A = MeterStepAnswer} (record { outcome = x .outcome; state = withReceiver s (x .state) m }) (stepOn s m number time)
 unfolding stepOn
 step-kept s m number time most r x fit e is known =
-    let room : ltb (keptIn s m) (max 1 (min (min mostKept (shared - keptIn (other s) m)) window)) ≡ takesPlace (keptIn s m) (free m) =
+    let room : ltb (keptIn s m) (max 1 (min (min mostKept (shared - keptIn (other s) m)) windowPlaces)) ≡ takesPlace (keptIn s m) (free m) =
     room-beside (keptIn s m) (keptIn (other s) m) (meter-few m fit (other s)) ∙ ap (takesPlace (keptIn s m)) (free-beside s m) in
     let done : x ≡ stepWith (takesPlace (keptIn s m) (free m)) (receiverOf s m) number time =
     known

@@ -20,9 +20,9 @@ pub data Call : Type 0 where
   starts : ℕ → ℕ → Call
 
 -- the stream number of a call
-abbrev pub numberOf : Call → ℕ
-numberOf (arrives n a) = n
-numberOf (starts n k) = n
+abbrev pub streamNumberOf : Call → ℕ
+streamNumberOf (arrives n a) = n
+streamNumberOf (starts n k) = n
 
 -- the reply to a call: what is said of an arrival, or the refusal of a start
 pub data Reply : Type 0 where
@@ -85,7 +85,7 @@ withPart two h account two = h
 -- the account after a call
 unfoldable pub accountAfter : Account → Call → Account
 accountAfter account c =
-    onStream (sideOf (numberOf c)) account
+    onStream (sideOf (streamNumberOf c)) account
     (λ (s : Side). withPart s (partAfter (freeIn account) (account s) c) account)
 
 -- the account of the calls: at first both streams are fresh for K = 1
@@ -94,4 +94,4 @@ meterAccountOf calls = foldl accountAfter (λ s. freshPart 1) calls
 
 -- the account's reply to a call, after the calls before it
 unfoldable pub accountReply : List Call → Call → Reply
-accountReply earlier c = onStream (sideOf (numberOf c)) (noReply c) (λ (s : Side). replyIn (meterAccountOf earlier s) c)
+accountReply earlier c = onStream (sideOf (streamNumberOf c)) (noReply c) (λ (s : Side). replyIn (meterAccountOf earlier s) c)

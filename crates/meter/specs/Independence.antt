@@ -10,7 +10,7 @@ use Rattle.receiver.specs.declared.ReceiverAnswer.{ReceiverAnswer}
 use Rattle.receiver.specs.declared.ReceiverAnswer.the-variants.{Duplicate, InOrder, Exact, Beyond}
 use Rattle.receiver.specs.Account.{jumpIn}
 use Rattle.meter.specs.Streams.{Side, one, two, sideOf}
-use Rattle.meter.specs.Account.{Call, arrives, starts, numberOf, Reply, said, started, Part, freeIn, meterAccountOf}
+use Rattle.meter.specs.Account.{Call, arrives, starts, streamNumberOf, Reply, said, started, Part, freeIn, meterAccountOf}
 use Rattle.meter.specs.Demand3.{meterReply, streamNumbers, jumpsOf}
 
 -- whether a stream is the one of a call, if that is on one
@@ -24,7 +24,7 @@ isSide two (some two) = true
 -- of each call on a stream what f says, after the calls before it
 unfoldable pub ofOwn {ℓ} : {B : Type ℓ} → Side → (List Call → Call → B) → List Call → List B
 ofOwn s f calls =
-    flatten (each (λ (earlier : List Call) (c : Call). cond (isSide s (sideOf (numberOf c))) (f earlier c ∷ []) []) calls)
+    flatten (each (λ (earlier : List Call) (c : Call). cond (isSide s (sideOf (streamNumberOf c))) (f earlier c ∷ []) []) calls)
 
 -- the calls on a stream, without its neighbour's
 abbrev pub ownCalls : Side → List Call → List Call

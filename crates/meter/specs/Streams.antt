@@ -6,7 +6,7 @@ use mathlib.Core.Option.{Option, none, some}
 use lib.Dec.{eqb, ltb}
 use Rattle.receiver.specs.declared.Places.{Places}
 use Rattle.receiver.specs.declared.Receiver.{Receiver}
-use Rattle.receiver.specs.Limits.{window}
+use Rattle.receiver.specs.Limits.{windowPlaces}
 use Rattle.meter.specs.declared.StreamState.{StreamState}
 use Rattle.meter.specs.declared.Meter.{Meter}
 
@@ -33,7 +33,7 @@ other two = one
 
 -- how many places the streams share: those of one receiver
 abbrev pub shared : ℕ
-shared = window
+shared = windowPlaces
 
 -- how many jumps a stream keeps at most
 abbrev pub mostKept : ℕ

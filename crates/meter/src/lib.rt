@@ -68,8 +68,8 @@ impl Meter {
         let r = fresh.state;
         let places = r.places;
         Meter {
-            first: state_of(r),
-            second: state_of(r),
+            first: stream_in(r),
+            second: stream_in(r),
             places,
         }
     }
@@ -102,12 +102,12 @@ impl Meter {
         if stream == 1 {
             return MeterStartAnswer {
                 refusal: 0,
-                state: with_first(self, state_of(r)),
+                state: with_first(self, stream_in(r)),
             };
         }
         MeterStartAnswer {
             refusal: 0,
-            state: with_second(self, state_of(r)),
+            state: with_second(self, stream_in(r)),
         }
     }
 
@@ -143,7 +143,7 @@ fn not_stepped(refusal: u32, m: Meter) -> MeterStepAnswer
 }
 
 // What a receiver has beside its places.
-fn state_of(r: Receiver) -> StreamState
+fn stream_in(r: Receiver) -> StreamState
     ensures { λ t. ⌜ t ≡ streamIn r ⌝ }
 {
     let stream = r.stream;
@@ -181,7 +181,7 @@ fn with_second(mut m: Meter, t: StreamState) -> Meter
 }
 
 // Whether a stream, seen as a receiver, is fit.
-fn stream_fit(r: Receiver) -> bool
+fn fit_on_meter(r: Receiver) -> bool
     ensures { λ t. ⌜ t ≡ fitOnMeter r ⌝ }
 {
     if Meter::MOST_KEPT < r.stream.kept {
@@ -197,10 +197,10 @@ fn is_fit(m: Meter) -> bool
     let first = m.first;
     let second = m.second;
     let places = m.places;
-    if !stream_fit(receiver_of(first, places)) {
+    if !fit_on_meter(receiver_of(first, places)) {
         return false;
     }
-    if !stream_fit(receiver_of(second, turned(places))) {
+    if !fit_on_meter(receiver_of(second, turned(places))) {
         return false;
     }
     first.stream.kept + second.stream.kept <= Meter::PLACES
@@ -232,7 +232,7 @@ fn step_first(m: Meter, number: u32, time: u64) -> MeterStepAnswer
     MeterStepAnswer {
         outcome,
         state: Meter {
-            first: state_of(r),
+            first: stream_in(r),
             second,
             places,
         },
@@ -254,7 +254,7 @@ fn step_second(m: Meter, number: u32, time: u64) -> MeterStepAnswer
         outcome,
         state: Meter {
             first,
-            second: state_of(r),
+            second: stream_in(r),
             places: turned(r.places),
         },
     }

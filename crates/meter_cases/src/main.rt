@@ -12,10 +12,9 @@
 mod run;
 mod say;
 
-use cases::lists::first_8;
 use cases::text::count;
+use cases::text::input;
 use cases::text::part;
-use libc::STDIN_FILENO;
 use meter::Meter;
 use run::run;
 
@@ -23,17 +22,12 @@ use run::run;
 const MOST: usize = 4096;
 
 // Does what all lines say.
-fn run_all(text: &[u8]) {
+fn main() {
+    let mut room = [0u8; MOST];
+    let text = input(&mut room);
     let mut m = Meter::new();
     for i in 0..count(text, b'\n') {
         let next = run(m, part(text, b'\n', i));
         m = next;
     }
-}
-
-// Runs all cases.
-fn main() {
-    let mut text = [0u8; MOST];
-    let n = io::read_full(STDIN_FILENO, &mut text);
-    run_all(first_8(&text, n));
 }

@@ -1,7 +1,16 @@
--- The answer for a record, by the class that the tables give it. Assumes nothing.
+-- The answer for record i + 1, by the class that the tables give it (`told`). A packet with a record has arrived, so that it is a duplicate; one
+-- without has not: from NextExp on it is in order, and below it is reordered, has a discontinuity, and `skipped` has its position. By the same tests
+-- one that is reordered by the tables has not arrived (`new-told`), and one that has not and is below NextExp is reordered by them (`late-told`).
+-- Then the figures of a record whose answer is a reordered packet's: no other packet has such an answer, and its extent gives the position of
+-- its discontinuity (`late-classed`), which is one of the positions (`late-place`). The table of numbers has the packet there, and the table of
+-- records that packet's record, at which that first arrival stands (`first-stands`), so that the time there is the discontinuity's (`late-time`).
+-- With it, the byte offset and the largest n the answer is whole (`late-answer`); over those before the discontinuity the offset is 0 (`late-alone`).
+-- Here d is the decoded file, y its layout, f that the tables are those of the i records before, n the arrival's number, k its class, at the position
+-- of its discontinuity, count the first arrivals, and p a place among them. Assumes nothing.
 use mathlib.Core.Path.{_≡_, refl, sym, ap, _∙_}
-use mathlib.Core.Bool.{Bool, true, false, cond}
+use mathlib.Core.Bool.{Bool, true, false, cond, true≢false}
 use mathlib.Core.List.{List}
+use mathlib.Core.Option.{some}
 use Prim.Native.Nat.{ℕ, _+_, _-_, _≤_, _<_}
 use native.Mathlib.Omega.{arith}
 use lib.Dec.{eqb, leb}
@@ -11,32 +20,54 @@ use borrow.Author.Tests.{eq-eqb, eqb-true, eqb-false, leb-true, leb-false, lt-le
 use Rattle.rfc4737.specs.declared.Arrival.{Arrival}
 use Rattle.rfc4737.specs.declared.Answer.{Answer}
 use Rattle.rfc4737.specs.declared.LateTime.{LateTime}
+use Rattle.rfc4737.specs.declared.ReorderedFigures.{ReorderedFigures}
 use Rattle.rfc4737.specs.Times.{elapsed}
 use Rattle.rfc4737.specs.Arrivals.{has, firsts, firstRecord}
-use Rattle.rfc4737.specs.Order.{isInOrder, jumpSize, nextExp}
-use Rattle.rfc4737.specs.Extent.{extentFrom, lateFrom, byteOffset, largestN}
+use Rattle.rfc4737.specs.Order.{FirstArrival, isInOrder, jumpSize, nextExp}
+use Rattle.rfc4737.specs.Extent.{discontinuity, extentFrom, lateFrom, byteOffset, largestN}
+use Rattle.rfc4737.specs.Runs.{isReordered}
 use Rattle.rfc4737.specs.Answer.{inOrderAnswer, reorderedAnswer}
 use Rattle.rfc4737.proofs.Arrivals.{has-firsts, length-firsts}
 use Rattle.rfc4737.proofs.Folds.{answer-duplicate, answer-first, first-in-order, first-reordered}
 use Rattle.rfc4737.proofs.Jumps.{reordered-discontinuity}
-use Rattle.rfc4737.specs.Judge.{sentMost, arrivalsMost}
+use Rattle.rfc4737.specs.Judge.{sentMost}
 use Rattle.sample.specs.declared.Layout.{Layout}
 use Rattle.sample.specs.Decode.{Decoded}
 use Rattle.metrics.specs.Sample.{sizeOf, sampleArrivals}
 use Rattle.sample.specs.Places.{noArrival}
 use Rattle.metrics.specs.Private.Sample.{arrivalAt, before, answerAt, FileLayout, HasRecord}
-use Rattle.metrics.specs.Private.Tables.{NumberTable, Packets, RecordTable, EngineTables, LateRecord, placeOf, classOf, classBy, ClassAnswer, lateOnly, NewIfLate}
-use Rattle.metrics.specs.Private.Steps.{placeIn, placeBy}
-use Rattle.metrics.specs.declared.look.Class.{Class}
+use Rattle.metrics.specs.Private.Tables.{NumberTable, Packets, RecordTable, EngineTables, classBy, answerBy, ClassOf, IfLate}
+use Rattle.metrics.specs.declared.classes.Class.{Class}
 use Rattle.metrics.specs.declared.tables.State.{State}
-use Rattle.metrics.proofs.Follow.{before-count, before-length, arrived-recorded, new-recorded}
+use Rattle.metrics.proofs.TablesFollow.{before-count, before-length, arrived-recorded, new-recorded}
 use Rattle.metrics.proofs.Records.{record-none, record-some, has-at, first-at}
-use Rattle.metrics.proofs.Reordered.{Found, found}
+use Rattle.metrics.proofs.Reordered.{found}
+
+-- the figures of a reordered packet that its class does not tell
+abbrev untold : (ℕ → ℕ) → List Arrival → Arrival → ReorderedFigures
+untold size fs a =
+    record {
+      position = 0;
+      extent = 0;
+      late = lateFrom (a .time) (discontinuity fs (a .number));
+      offset = byteOffset size fs (a .number);
+      largest = largestN fs (a .number);
+    }
+
+-- with these its answer is that of the class
+untold-answer : (size : ℕ → ℕ) (fs : List Arrival) (a : Arrival) (count at : ℕ) (p : FirstArrival) → count ≡ length fs → at ≡ p .position
+    → discontinuity fs (a .number) ≡ some p → reorderedAnswer size fs a (discontinuity fs (a .number)) ≡ answerBy count (Class.Reordered at) (untold size fs a)
+unfolding reorderedAnswer extentFrom
+untold-answer size fs a count at p c e q = rw (c, e, q)
 
 module _ (d : Decoded) (i : ℕ) (numbers records skipped : List ℕ) (state : State)
-    (f : EngineTables (before d i) numbers records skipped state) (n : ℕ) (is : n ≡ arrivalAt d i .number) (low : 1 ≤ n) (high : n ≤ arrivalsMost) where
+    (f : EngineTables (before d i) numbers records skipped state) (n : ℕ) (is : n ≡ arrivalAt d i .number) (low : 1 ≤ n) (high : n ≤ sentMost) where
+  -- what no class tells of it, if it is reordered
+  abbrev figures : ReorderedFigures
+  figures = untold (sizeOf d) (firsts (before d i)) (arrivalAt d i)
+
   -- a packet with a record is a duplicate
-  told-duplicate : (getD records n 0 ≡ 0 → ⊥) → ClassAnswer d i (state .count) (Class.Duplicate (getD records n 0))
+  told-duplicate : (getD records n 0 ≡ 0 → ⊥) → answerAt d i ≡ answerBy (state .count) (Class.Duplicate (getD records n 0)) figures
   told-duplicate e =
       let arrived : has (arrivalAt d i .number) (before d i) ≡ true = rw is at (arrived-recorded (before d i) numbers records skipped state f n low high e) in
       answer-duplicate (sizeOf d) (before d i) (arrivalAt d i) arrived
@@ -47,7 +78,7 @@ module _ (d : Decoded) (i : ℕ) (numbers records skipped : List ℕ) (state : S
   new e = rw is at (new-recorded (before d i) numbers records skipped state f n low high e)
 
   -- from NextExp on it is in order
-  told-in-order : getD records n 0 ≡ 0 → state .next ≤ n → ClassAnswer d i (state .count) (Class.InOrder (n - state .next))
+  told-in-order : getD records n 0 ≡ 0 → state .next ≤ n → answerAt d i ≡ answerBy (state .count) (Class.InOrder (n - state .next)) figures
   unfolding inOrderAnswer jumpSize
   told-in-order e ahead =
       answer-first (sizeOf d) (before d i) (arrivalAt d i) (new e)
@@ -55,77 +86,98 @@ module _ (d : Decoded) (i : ℕ) (numbers records skipped : List ℕ) (state : S
       ∙ rw (f .numbered .all, f .next, is)
 
   -- below NextExp it is reordered, and the table has its discontinuity
-  told-reordered : getD records n 0 ≡ 0 → n < state .next → ClassAnswer d i (state .count) (Class.Reordered (getD skipped n 0))
+  told-reordered : getD records n 0 ≡ 0 → n < state .next → answerAt d i ≡ answerBy (state .count) (Class.Reordered (getD skipped n 0)) figures
   unfolding isInOrder
   told-reordered e late =
       let s = arrivalAt d i .number in
       let behind : s < nextExp (firsts (before d i)) = omega (arith, is, f .next) in
       let k = reordered-discontinuity s (rw is at low) (firsts (before d i)) (has-firsts s (before d i) ∙ new e) (lt-leb _ _ behind) in
-      record {
-        place = k .at;
-        position = sym (ap (λ (m : ℕ). getD skipped m 0) is ∙ f .skips s (rw is at low) behind (new e) ∙ ap placeOf (k .is));
-        is = k .is;
-        answer =
-            answer-first (sizeOf d) (before d i) (arrivalAt d i) (new e)
-            ∙ first-reordered (sizeOf d) (firsts (before d i)) (arrivalAt d i) behind
-            ∙ ap (reorderedAnswer (sizeOf d) (firsts (before d i)) (arrivalAt d i)) (k .is);
-      }
+      answer-first (sizeOf d) (before d i) (arrivalAt d i) (new e)
+      ∙ first-reordered (sizeOf d) (firsts (before d i)) (arrivalAt d i) behind
+      ∙ untold-answer (sizeOf d) (firsts (before d i)) (arrivalAt d i) _ _ (k .at) (f .numbered .all)
+      (ap (λ (m : ℕ). getD skipped m 0) is ∙ f .skips s (rw is at low) behind (new e) (k .at) (k .is)) (k .is)
 
-  -- the class that the tables give tells the answer
-  pub tells : ClassAnswer d i (state .count) (classBy records skipped (state .next) n)
+  -- the class that the tables give is the answer's
+  tells : answerAt d i ≡ answerBy (state .count) (classBy records skipped (state .next) n) figures
   unfolding classBy
   tells = go (eqb (getD records n 0) 0) refl (leb (state .next) n) refl
     where
       go : (t : Bool) → eqb (getD records n 0) 0 ≡ t → (u : Bool) → leb (state .next) n ≡ u
-          → ClassAnswer d i (state .count)
-          (cond t (cond u (Class.InOrder (n - state .next)) (Class.Reordered (getD skipped n 0))) (Class.Duplicate (getD records n 0)))
+          → answerAt d i ≡ answerBy (state .count)
+          (cond t (cond u (Class.InOrder (n - state .next)) (Class.Reordered (getD skipped n 0))) (Class.Duplicate (getD records n 0))) figures
       go false e u q = told-duplicate (eqb-false _ _ e)
       go true e true q = told-in-order (eqb-true _ _ e) (leb-true _ _ q)
       go true e false q = told-reordered (eqb-true _ _ e) (leb-false _ _ q)
 
-  -- a class that the tables give tells the answer
-  pub told : (k : Class) → k ≡ classBy records skipped (state .next) n → ClassAnswer d i (state .count) k
-  told k e = rw e tells
+  -- so is any class that is this one
+  pub told : (k : Class) → k ≡ classBy records skipped (state .next) n → ClassOf (state .count) k (answerAt d i)
+  told k e = record { figures = figures; is = rw e tells }
 
   -- and a packet that is reordered by it has not arrived
-  pub new-told : (k : Class) → k ≡ classBy records skipped (state .next) n → NewIfLate n (firsts (before d i)) k
+  pub new-told : (k : Class) → k ≡ classBy records skipped (state .next) n → IfLate (λ (at : ℕ). has n (firsts (before d i)) ≡ false) k
   unfolding classBy
   new-told k q = rw q (go (eqb (getD records n 0) 0) refl (leb (state .next) n))
     where
       go : (t : Bool) → eqb (getD records n 0) 0 ≡ t → (u : Bool)
-          → NewIfLate n (firsts (before d i)) (cond t (cond u (Class.InOrder (n - state .next)) (Class.Reordered (getD skipped n 0))) (Class.Duplicate (getD records n 0)))
+          → IfLate (λ (at : ℕ). has n (firsts (before d i)) ≡ false) (cond t (cond u (Class.InOrder (n - state .next)) (Class.Reordered (getD skipped n 0))) (Class.Duplicate (getD records n 0)))
       go false e u = tt
       go true e true = tt
       go true e false = has-firsts n (before d i) ∙ new-recorded (before d i) numbers records skipped state f n low high (eqb-true _ _ e)
 
   -- a packet that has not arrived and is below NextExp is reordered by it
-  pub late-told : (k : Class) → k ≡ classBy records skipped (state .next) n → (m largest : ℕ) → largest ≡ lateOnly m k
-      → has n (before d i) ≡ false → n < nextExp (firsts (before d i)) → largest ≡ m
+  pub late-told : {P : Type 0} (k : Class) → k ≡ classBy records skipped (state .next) n → IfLate (λ (at : ℕ). P) k
+      → has n (before d i) ≡ false → n < nextExp (firsts (before d i)) → P
   unfolding classBy
-  late-told k q m largest e new behind =
-      e ∙ ap (lateOnly m) q
-      ∙ simp (eq-eqb (getD records n 0) 0 (f .recorded .at n low high ∙ record-none n (before d i) new), lt-leb (state .next) n (omega (arith, f .next)))
+  late-told k q holds new behind =
+      let late : k ≡ Class.Reordered (getD skipped n 0) =
+      q ∙ simp (eq-eqb (getD records n 0) 0 (f .recorded .at n low high ∙ record-none n (before d i) new), lt-leb (state .next) n (omega (arith, f .next))) in
+      rw late at holds
 
--- where the discontinuity of a reordered record stands
-pub late-found : (d : Decoded) (i at : ℕ) (h : LateRecord d i at) → Found (sizeOf d) (firsts (before d i)) (arrivalAt d i .number) (h .place)
-late-found d i at h = found (sizeOf d) (arrivalAt d i .number) (firsts (before d i)) (h .place) (h .is)
+-- of two facts about a reordered packet a third
+pub late-both : {P Q R : ℕ → Type 0} (k : Class) → ((at : ℕ) → P at → Q at → R at) → IfLate P k → IfLate Q k → IfLate R k
+late-both (Class.Duplicate first) f p q = tt
+late-both (Class.InOrder jump) f p q = tt
+late-both (Class.Reordered at) f p q = f at p q
 
--- a class that tells the answer is the answer's
-pub class-told : (d : Decoded) (i count : ℕ) (k : Class) → ClassAnswer d i count k → k ≡ classOf (answerAt d i)
-unfolding reorderedAnswer extentFrom
-class-told d i count (Class.Duplicate first) h = rw h
-class-told d i count (Class.InOrder jump) h = rw h
-class-told d i count (Class.Reordered at) h =
-    let f = late-found d i at h in
-    let e : length (firsts (before d i)) + 1 - (length (firsts (before d i)) + 1 - h .place .position) ≡ at = omega (arith, h .position, f .low, f .high) in
-    rw (h .answer, e)
+-- record i + 1 is reordered, with its discontinuity at a position
+record LateRecord (d : Decoded) (i at : ℕ) : Type 0 where
+  place : FirstArrival
+  position : place .position ≡ at
+  is : discontinuity (firsts (before d i)) (arrivalAt d i .number) ≡ some place
+  answer : answerAt d i ≡ reorderedAnswer (sizeOf d) (firsts (before d i)) (arrivalAt d i) (some place)
 
--- the position that a class gives which tells the answer is the answer's
-pub place-told : (d : Decoded) (i count : ℕ) (k : Class) → ClassAnswer d i count k → count ≡ length (firsts (before d i)) → placeBy count k ≡ placeIn (answerAt d i)
-unfolding placeBy reorderedAnswer
-place-told d i count (Class.Duplicate first) h c = rw h
-place-told d i count (Class.InOrder jump) h c = rw h
-place-told d i count (Class.Reordered at) h c = rw (h .answer, c)
+-- where its discontinuity stands
+late-found : (d : Decoded) (i at : ℕ) (h : LateRecord d i at)
+    → (1 ≤ at) × (at ≤ length (firsts (before d i))) × (getD (firsts (before d i)) (at - 1) noArrival .time ≡ h .place .time)
+    × (byteOffset (sizeOf d) (take (at - 1) (firsts (before d i))) (arrivalAt d i .number) ≡ 0)
+late-found d i at h =
+    let f = found (sizeOf d) (arrivalAt d i .number) (firsts (before d i)) (h .place) (h .is) in
+    rw (sym (h .position)) (f .low, f .high, f .time, f .alone)
+
+-- the figures of a reordered packet's answer
+same-figures : {f g : ReorderedFigures} → Answer.Reordered f ≡ Answer.Reordered g → f ≡ g
+same-figures e = cc
+
+-- a record whose answer is that of a reordered packet is such
+late-classed : (d : Decoded) (y : Layout) (i : ℕ) → HasRecord d y i → (count at : ℕ) → count ≡ length (firsts (before d i))
+    → ClassOf count (Class.Reordered at) (answerAt d i) → LateRecord d i at
+unfolding isInOrder inOrderAnswer reorderedAnswer extentFrom
+late-classed d y i h count at all c = go (has (arrivalAt d i .number) (before d i)) refl (leb (nextExp (firsts (before d i))) (arrivalAt d i .number)) refl
+  where
+    go : (t : Bool) → has (arrivalAt d i .number) (before d i) ≡ t → (u : Bool) → leb (nextExp (firsts (before d i))) (arrivalAt d i .number) ≡ u → LateRecord d i at
+    go true e u q = absurd (true≢false (ap isReordered (sym (c .is) ∙ answer-duplicate (sizeOf d) (before d i) (arrivalAt d i) e)))
+    go false e true q =
+        absurd (true≢false (ap isReordered (sym (c .is) ∙ answer-first (sizeOf d) (before d i) (arrivalAt d i) e
+        ∙ first-in-order (sizeOf d) (firsts (before d i)) (arrivalAt d i) (leb-true _ _ q))))
+    go false e false q =
+        let k = reordered-discontinuity (arrivalAt d i .number) (h .file .numbers i (h .inside) .0) (firsts (before d i)) (has-firsts (arrivalAt d i .number) (before d i) ∙ e) q in
+        let f = found (sizeOf d) (arrivalAt d i .number) (firsts (before d i)) (k .at) (k .is) in
+        let answer : answerAt d i ≡ reorderedAnswer (sizeOf d) (firsts (before d i)) (arrivalAt d i) (some (k .at)) =
+        answer-first (sizeOf d) (before d i) (arrivalAt d i) e
+        ∙ first-reordered (sizeOf d) (firsts (before d i)) (arrivalAt d i) (leb-false _ _ q)
+        ∙ ap (reorderedAnswer (sizeOf d) (firsts (before d i)) (arrivalAt d i)) (k .is) in
+        let extent = ap (λ (f : ReorderedFigures). f .extent) (same-figures (sym answer ∙ c .is)) in
+        record { place = k .at; position = omega (arith, extent, all, f .low, f .high); is = k .is; answer = answer }
 
 -- a first arrival among the first i arrivals stands at one of their records
 module _ (d : Decoded) (y : Layout) (i : ℕ) (h : FileLayout d y) (most : i ≤ y .arrivals) (p : ℕ) (inside : p < length (firsts (before d i))) where
@@ -162,8 +214,12 @@ packets d y i h numbers count n most = (
   },
 )
 
-module _ (d : Decoded) (y : Layout) (i at count : ℕ) (h : HasRecord d y i) (late : LateRecord d i at) (numbers records : List ℕ)
+module _ (d : Decoded) (y : Layout) (i at count : ℕ) (h : HasRecord d y i) (class : ClassOf count (Class.Reordered at) (answerAt d i)) (numbers records : List ℕ)
     (nums : NumberTable (firsts (before d i)) numbers count) (recs : RecordTable (before d i) records) where
+  -- record i + 1 is reordered
+  late : LateRecord d i at
+  late = late-classed d y i h count at (nums .all) class
+
   -- record i + 1 is one of the records
   most : i ≤ y .arrivals
   most = omega (arith, h .inside)
@@ -172,7 +228,7 @@ module _ (d : Decoded) (y : Layout) (i at count : ℕ) (h : HasRecord d y i) (la
   pub late-place : (1 ≤ at) × (at ≤ count) × (count ≤ i)
   late-place =
       let f = late-found d i at late in
-      omega (arith, late .position, f .low, f .high, nums .all, length-firsts (before d i), before-length d y i h)
+      omega (arith, f .0, f .1, nums .all, length-firsts (before d i), before-length d y i h)
 
   -- its place in the list of first arrivals
   inside : at - 1 < length (firsts (before d i))
@@ -191,11 +247,11 @@ module _ (d : Decoded) (y : Layout) (i at count : ℕ) (h : HasRecord d y i) (la
   late-record = omega (arith, same-packet, first-record d y i (h .file) most (at - 1) inside)
 
   -- which has the discontinuity's time
-  pub late-time : arrivalAt d (getD records (getD numbers (at - 1) 0) 0 - 1) .time ≡ late .place .time
+  late-time : arrivalAt d (getD records (getD numbers (at - 1) 0) 0 - 1) .time ≡ late .place .time
   late-time =
       ap (λ (r : ℕ). arrivalAt d (r - 1) .time) same-packet
       ∙ ap (λ (a : Arrival). a .time) (first-stands d y i (h .file) most (at - 1) inside)
-      ∙ rw (sym (late .position)) (late-found d i at late .time)
+      ∙ late-found d i at late .2
 
   -- the answer, from its parts
   pub late-answer : (past own offset largest : ℕ) (elapse : LateTime)
@@ -206,6 +262,6 @@ module _ (d : Decoded) (y : Layout) (i at count : ℕ) (h : HasRecord d y i) (la
   late-answer past own offset largest elapse p o e f g =
       sym (late .answer ∙ rw (late .position, ← nums .all, ← f, ← g, ← late-time, ← p, ← o, ← e))
 
-  -- none before it has a greater number
+  -- over those before it the byte offset is 0, as none of them has a greater number
   pub late-alone : byteOffset (sizeOf d) (take (at - 1) (firsts (before d i))) (arrivalAt d i .number) ≡ 0
-  late-alone = rw (sym (late .position)) (late-found d i at late .alone)
+  late-alone = late-found d i at late .3

@@ -1,4 +1,9 @@
--- How many octets two texts have in common, octet by octet and line by line, and when they are the same. Assumes nothing.
+-- How many octets two texts have in common. Octet by octet: where i octets agree, the number is i and what is left of both has in common;
+-- an equal octet moves i on (`common-step`), and where octets differ or a text ends it is i. Two texts are the same if what they have in
+-- common is all of both (`same-common`, by induction over both). A line, and what stands after it: if less than the line agrees the rest is
+-- not looked at (`common-part`), and if all of it does the rest is compared with the rest of the text (`common-after`), both by induction
+-- over the line. Last, a line put at the start of a buffer is what is read there (`line-read`). Here e is the text that must be given, t the
+-- other. Assumes nothing.
 use Prim.Native.Nat.{ℕ, suc, _+_, _-_, _≤_, _<_}
 use mathlib.Core.Path.{_≡_, refl}
 use mathlib.Core.Bool.{Bool, true, false, cond, _&&_}
@@ -21,7 +26,7 @@ common-nil [] = refl
 common-nil (x ∷ e) = refl
 
 module _ (e t : List ℕ) (i : ℕ) where
-  -- one more
+  -- one octet more that agrees
   pub common-step : i < length e → i < length t → getD e i 0 ≡ getD t i 0
       → i + common (drop i e) (drop i t) ≡ i + 1 + common (drop (i + 1) e) (drop (i + 1) t)
   unfolding common
@@ -57,13 +62,13 @@ common-le (x ∷ e) (y ∷ t) = go (common-le e t) (eqb x y)
 
 -- ---- the same text
 
--- one octet more on both sides
-eqb-more : (a b : ℕ) → eqb (a + 1) (suc b) ≡ eqb a b
-eqb-more a b = go (eqb a b) refl
+-- two numbers are equal if two others are, and only then
+pub eqb-same : (a b c d : ℕ) → (a ≡ b → c ≡ d) → (c ≡ d → a ≡ b) → eqb c d ≡ eqb a b
+eqb-same a b c d f g = go (eqb a b) refl
   where
-    go : (t : Bool) → eqb a b ≡ t → eqb (a + 1) (suc b) ≡ t
-    go true q = let e : a ≡ b = eqb-true a b q in eq-eqb (a + 1) (suc b) (omega arith)
-    go false q = let e : a ≡ b → ⊥ = eqb-false a b q in ne-eqb (a + 1) (suc b) (λ r. e (omega arith))
+    go : (t : Bool) → eqb a b ≡ t → eqb c d ≡ t
+    go true q = eq-eqb c d (f (eqb-true a b q))
+    go false q = ne-eqb c d (λ r. eqb-false a b q (g r))
 
 -- two texts are the same if what they have in common is all of both
 pub same-common : (e t : List ℕ) → sameText e t ≡ (eqb (common e t) (length e) && eqb (common e t) (length t))
@@ -73,9 +78,12 @@ same-common [] (y ∷ t) = rw (ne-eqb 0 (suc (length t)) (λ q. omega arith))
 same-common (x ∷ e) [] = rw (ne-eqb 0 (suc (length e)) (λ q. omega arith))
 same-common (x ∷ e) (y ∷ t) = go (eqb x y) (same-common e t)
   where
+    more : (n : ℕ) → eqb (common e t + 1) (suc n) ≡ eqb (common e t) n
+    more n = eqb-same (common e t) n (common e t + 1) (suc n) (λ q. omega arith) (λ q. omega arith)
+
     go : (b : Bool) → sameText e t ≡ (eqb (common e t) (length e) && eqb (common e t) (length t))
         → (b && sameText e t) ≡ (eqb (cond b (common e t + 1) 0) (suc (length e)) && eqb (cond b (common e t + 1) 0) (suc (length t)))
-    go true h = rw (eqb-more (common e t) (length e), eqb-more (common e t) (length t)) h
+    go true h = rw (more (length e), more (length t)) h
     go false h = rw (ne-eqb 0 (suc (length e)) (λ q. omega arith))
 
 -- ---- a line, and what stands after it

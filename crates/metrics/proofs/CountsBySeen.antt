@@ -1,4 +1,9 @@
--- The counts need no more of the arrivals than which packets have arrived, and NextExp. Assumes nothing.
+-- The counts need no more of the arrivals than which packets have arrived, and NextExp. A packet that has arrived is below NextExp (`has-below`,
+-- by induction over the first arrivals), so that NextExp goes by every arrival alike (`next-arrival`); and a packet has arrived if it had, or if
+-- it is the one marked (`seen-more`). By these an arrival's kind is that of its answer. Counts go by the kind alone, so that an answer of this kind
+-- with any figures counts as the record's own (`kind-told`), and counts that take a step by the class are right with the kind (`counts-seen`).
+-- Here l are the arrivals or the answers so far, a the next one, fs first arrivals, s the number of any packet, n that of record i + 1, f that the
+-- table has the packets before it, and g any figures. Assumes nothing.
 use mathlib.Core.Path.{_≡_, refl, sym, ap, _∙_}
 use mathlib.Core.Bool.{Bool, true, false, cond, _||_, or-true, or-false, true≢false}
 use mathlib.Core.List.{List, [], _∷_, _++_}
@@ -11,34 +16,36 @@ use borrow.Author.Tests.{eqb-true, eqb-false, lt-leb}
 use Rattle.rfc4737.specs.declared.Arrival.{Arrival}
 use Rattle.rfc4737.specs.declared.Answer.{Answer}
 use Rattle.rfc4737.specs.declared.Counts.{Counts}
+use Rattle.rfc4737.specs.declared.LateTime.{LateTime}
+use Rattle.rfc4737.specs.declared.ReorderedFigures.{ReorderedFigures}
 use Rattle.rfc4737.specs.Arrivals.{has, firsts, firstRecord}
 use Rattle.rfc4737.specs.Order.{nextExp, nextAfter, isInOrder}
 use Rattle.rfc4737.specs.Extent.{discontinuity}
 use Rattle.rfc4737.specs.Answer.{inOrderAnswer, reorderedAnswer, firstAnswer, answerTo}
-use Rattle.rfc4737.specs.Runs.{counts}
+use Rattle.rfc4737.specs.Runs.{runsAfter, counts}
 use Rattle.rfc4737.proofs.Lists.{snoc-ind}
 use Rattle.rfc4737.proofs.Arrivals.{has-more, firsts-more, with-duplicate, with-first}
 use Rattle.rfc4737.proofs.Folds.{next-more}
 use Rattle.rfc4737.proofs.Jumps.{nextAfter-above}
-use Rattle.rfc4737.specs.Judge.{sentMost, arrivalsMost}
+use Rattle.rfc4737.specs.Judge.{sentMost}
 use Rattle.sample.specs.declared.Layout.{Layout}
 use Rattle.sample.specs.Decode.{Decoded}
 use Rattle.metrics.specs.Sample.{sizeOf}
 use Rattle.metrics.specs.Private.Sample.{arrivalAt, before, answerAt, answersTo, HasRecord, numberPlaces}
-use Rattle.metrics.specs.Private.Tables.{classOf}
-use Rattle.metrics.specs.Private.Steps.{countsBy, kindBy}
-use Rattle.metrics.specs.declared.look.Class.{Class}
-use Rattle.metrics.proofs.Follow.{before-more}
+use Rattle.metrics.specs.Private.Tables.{answerBy, ClassOf}
+use Rattle.metrics.specs.Private.Steps.{kindBy}
+use Rattle.metrics.specs.declared.classes.Class.{Class}
+use Rattle.metrics.proofs.TablesFollow.{before-more}
 use Rattle.metrics.proofs.OneArrivalMore.{answers-next, counts-more}
 
 -- after some arrivals a table has for each packet whether it has arrived, and NextExp is known
-pub record Seen (earlier : List Arrival) (seen : List Bool) (next : ℕ) : Type 0 where
+pub record SeenPackets (earlier : List Arrival) (seen : List Bool) (next : ℕ) : Type 0 where
   pub places : length seen ≡ numberPlaces
   pub at : (s : ℕ) → s ≤ sentMost → getD seen s false ≡ has s earlier
   pub expected : next ≡ nextExp (firsts earlier)
 
 -- before any arrival
-pub seen-start : (d : Decoded) → Seen (before d 0) (replicate numberPlaces false) 1
+pub seen-start : (d : Decoded) → SeenPackets (before d 0) (replicate numberPlaces false) 1
 unfolding has firsts nextExp
 seen-start d =
     record { places = length-replicate numberPlaces false; at = λ s h. getD-replicate numberPlaces s false false (omega arith); expected = refl }
@@ -81,8 +88,8 @@ marked-one seen n s room = go (eqb n s) refl
     go false e = getD-set-other seen n s true false (λ q. eqb-false n s e (sym q)) ∙ sym (or-false (getD seen s false))
 
 -- the table under one arrival more
-seen-more : (l : List Arrival) (a : Arrival) (seen : List Bool) (next : ℕ) → a .number ≤ sentMost → Seen l seen next
-    → Seen (l ++ (a ∷ [])) (set seen (a .number) true) (nextAfter next (a .number))
+seen-more : (l : List Arrival) (a : Arrival) (seen : List Bool) (next : ℕ) → a .number ≤ sentMost → SeenPackets l seen next
+    → SeenPackets (l ++ (a ∷ [])) (set seen (a .number) true) (nextAfter next (a .number))
 seen-more l a seen next high f =
     record {
       places = length-set seen (a .number) true ∙ f .places;
@@ -90,26 +97,29 @@ seen-more l a seen next high f =
       expected = rw (f .expected) (sym (next-arrival l a));
     }
 
-module _ (d : Decoded) (y : Layout) (i : ℕ) (h : HasRecord d y i) (seen : List Bool) (next : ℕ) (f : Seen (before d i) seen next)
-    (n : ℕ) (is : n ≡ arrivalAt d i .number) (high : n ≤ arrivalsMost) where
+module _ (d : Decoded) (y : Layout) (i : ℕ) (there : HasRecord d y i) (seen : List Bool) (next : ℕ) (f : SeenPackets (before d i) seen next)
+    (n : ℕ) (is : n ≡ arrivalAt d i .number) (high : n ≤ sentMost) where
   -- the table under record i + 1
-  pub seen-next : Seen (before d (i + 1)) (set seen n true) (nextAfter next n)
-  seen-next = rw (before-more d y i h, is) (seen-more (before d i) (arrivalAt d i) seen next (rw is at high) f)
+  pub seen-next : SeenPackets (before d (i + 1)) (set seen n true) (nextAfter next n)
+  seen-next = rw (before-more d y i there, is) (seen-more (before d i) (arrivalAt d i) seen next (rw is at high) f)
 
-  -- the class by the table counts as the answer's
-  kind-told : (c : Counts) → countsBy c (classOf (answerAt d i)) ≡ countsBy c (kindBy seen next n)
-  unfolding answerTo firstAnswer inOrderAnswer reorderedAnswer isInOrder kindBy countsBy
-  kind-told c = rw (f .at n high, f .expected, is) (go (has (arrivalAt d i .number) (before d i)) (leb (nextExp (firsts (before d i))) (arrivalAt d i .number)))
+  -- the class by the table counts as the answer
+  kind-told : (l : List Answer) (g : ReorderedFigures) → counts (l ++ (answerBy 0 (kindBy seen next n) g ∷ [])) ≡ counts (l ++ (answerAt d i ∷ []))
+  unfolding answerTo firstAnswer inOrderAnswer reorderedAnswer isInOrder kindBy runsAfter
+  kind-told l g = rw (f .at n high, f .expected, is) (go (has (arrivalAt d i .number) (before d i)) (leb (nextExp (firsts (before d i))) (arrivalAt d i .number)))
     where
       go : (t u : Bool)
-          → countsBy c (classOf (cond t (Answer.Duplicate (record { first = firstRecord (arrivalAt d i .number) (before d i) }))
+          → counts (l ++ (answerBy 0 (cond t (Class.Duplicate 0) (cond u (Class.InOrder 0) (Class.Reordered 0))) g ∷ []))
+          ≡ counts (l ++ (cond t (Answer.Duplicate (record { first = firstRecord (arrivalAt d i .number) (before d i) }))
           (cond u (inOrderAnswer (firsts (before d i)) (arrivalAt d i))
-          (reorderedAnswer (sizeOf d) (firsts (before d i)) (arrivalAt d i) (discontinuity (firsts (before d i)) (arrivalAt d i .number))))))
-          ≡ countsBy c (cond t (Class.Duplicate 0) (cond u (Class.InOrder 0) (Class.Reordered 0)))
-      go true u = refl
-      go false true = refl
-      go false false = refl
+          (reorderedAnswer (sizeOf d) (firsts (before d i)) (arrivalAt d i) (discontinuity (firsts (before d i)) (arrivalAt d i .number)))) ∷ []))
+      go true u = counts-more l _ ∙ sym (counts-more l _)
+      go false true = counts-more l _ ∙ sym (counts-more l _)
+      go false false = counts-more l _ ∙ sym (counts-more l _)
 
   -- the counts under record i + 1
-  pub counts-seen : counts (answersTo d (i + 1)) ≡ countsBy (counts (answersTo d i)) (kindBy seen next n)
-  counts-seen = ap counts (answers-next d y i h) ∙ counts-more (answersTo d i) (answerAt d i) ∙ kind-told (counts (answersTo d i))
+  pub counts-seen : {k : Class} {r : Counts} → k ≡ kindBy seen next n → ((m : ℕ) (a : Answer) → ClassOf m k a → r ≡ counts (answersTo d i ++ (a ∷ [])))
+      → r ≡ counts (answersTo d (i + 1))
+  counts-seen e h =
+      let g : ReorderedFigures = record { position = 0; extent = 0; late = LateTime.After 0; offset = 0; largest = 0 } in
+      h 0 _ (record { figures = g; is = rw e }) ∙ kind-told (answersTo d i) g ∙ sym (ap counts (answers-next d y i there))

@@ -1,4 +1,10 @@
--- The figures of a sample have no more digits than a listing has room for. Assumes nothing.
+-- The figures of a sample have no more digits than a listing has room for. Of an answer (`answers-within`): positions, extents, largest n
+-- and records are at most 4,096, as there are no more arrivals, and a jump is at most the packet's number; a byte offset is at most 65,535
+-- for each first arrival, since a size has two octets; a late time after the discontinuity is at most the arrival's own time, which has
+-- eight octets, and one before it at most 1,000, since an accepted file has no time over 1,000 below an earlier one. Of counts
+-- (`counts-within`): each is at most the number of answers, and the squares of runs are together at most the square of 4,096.
+-- Here earlier are the arrivals before a, t is an arrival's time, fs are first arrivals, s is a packet's number, file the octets, w the
+-- sample that they decode to, y its layout and i the records before. Assumes nothing.
 use mathlib.Core.Path.{_≡_, refl}
 use mathlib.Core.Bool.{Bool, true, false, cond}
 use mathlib.Core.List.{List}
@@ -26,12 +32,12 @@ use Rattle.rfc4737.specs.Judge.{sentMost, arrivalsMost}
 use Rattle.listing.specs.Private.DigitBounds.{TimeWithin, AnswerWithin, CountsWithin}
 use Rattle.sample.specs.Decode.{Decoded, refused, accepted, decode}
 use Rattle.sample.specs.declared.Layout.{Layout}
-use Rattle.sample.proofs.Accepted.{size-fits, time-fits, times-back}
+use Rattle.sample.proofs.Accepted.{size-fits, time-fits, times-within}
 use Rattle.metrics.specs.Sample.{sizeOf, sampleArrivals}
 use Rattle.sample.specs.Places.{noArrival}
 use Rattle.metrics.specs.Private.Sample.{arrivalAt, before, answerAt, HasRecord}
 use Rattle.metrics.proofs.Records.{record-some}
-use Rattle.metrics.proofs.Follow.{inside-laid, before-length}
+use Rattle.metrics.proofs.TablesFollow.{inside-laid, before-length}
 
 -- the extent is at most the position
 extent-le : (i : ℕ) (d : Option FirstArrival) → extentFrom i d ≤ i
@@ -102,7 +108,7 @@ back-most file y o i h =
   where
     go : (d : Decoded) → decode file ≡ d → (j : ℕ) → j ≤ i → i < length (sampleArrivals d) → arrivalAt d j .time ≤ arrivalAt d i .time + backMost
     go (refused r) e j p q = omega arith
-    go (accepted w) e j p q = times-back file w e o noArrival j i p q
+    go (accepted w) e j p q = times-within file w e o noArrival j i p q
 
 -- the answer for any record of a file of octets
 pub answers-within : (file : List ℕ) (y : Layout) (i : ℕ) → Octets file → HasRecord (decode file) y i → AnswerWithin (answerAt (decode file) i)
@@ -123,4 +129,4 @@ counts-within l h =
     let c = closed-reordered l in
     let e = current-le l in
     let s = squares-le arrivalsMost l (omega arith) in
-    record { arrived = omega arith; reordered = omega arith; duplicates = omega arith; closed = omega arith; squares = omega arith; current = omega arith }
+    record { arrived = omega arith; reordered = omega arith; duplicates = omega arith; inorder = omega arith; closed = omega arith; squares = omega arith; current = omega arith }

@@ -1,4 +1,12 @@
--- The gap of a position from a table of discoverers, looked through downward. Assumes nothing.
+-- The gap of a position from a table of discoverers, looked through downward. First the last discontinuity up to a position in the table,
+-- `lastTo`, one position at a time. The definition of a gap looks for p among all discontinuities in order. Those above p change nothing
+-- (`gap-above`), and those below are passed over, the last of them being the neighbour (`gap-below`); so the gap goes by whether p is a
+-- discontinuity and which is the last before it (`gap-here`). A position is marked in the table exactly if it is a discontinuity
+-- (`marked-some`), and the last marked one is `lastTo` (`last-known`, by induction over the positions); so the gap is that after `lastTo`,
+-- where p is marked (`gap-marked`). Hence the three answers: none where p is not marked (`gap-other`), none where nothing is marked before
+-- it (`gap-first`), and else by the two entries, of which the smaller is the earlier discoverer (`gap-near`).
+-- Here l are the answers, found the table, m that it has their discoverers, p the position, q one before it, b the neighbour, and xs, ys
+-- discontinuities in order after the one called before. Assumes nothing.
 use mathlib.Core.Path.{_≡_, refl, sym, ap, _∙_}
 use mathlib.Core.Bool.{Bool, true, false, cond, not}
 use mathlib.Core.List.{List, [], _∷_, _++_}
@@ -13,8 +21,9 @@ use Rattle.rfc4737.specs.declared.Gap.{Gap}
 use Rattle.rfc4737.specs.Runs.{arrived}
 use Rattle.rfc4737.specs.Gaps.{discoverer, isSome, discontinuitiesTo, discontinuities, earlier, gapAfter, gapAmong, gapOf}
 use Rattle.rfc4737.proofs.Lists.{All, all-append, all-weaken}
-use Rattle.rfc4737.specs.Judge.{sentMost, arrivalsMost}
-use Rattle.metrics.specs.Private.Steps.{orZero, DiscoverersAt, lastTo, gapFrom, gapBy}
+use Rattle.rfc4737.specs.Judge.{sentMost}
+use Rattle.metrics.specs.Private.Steps.{DiscoverersAt, lastTo, known}
+use Rattle.metrics.proofs.OneArrivalMore.{known-some}
 
 -- ---- the last discontinuity of a table up to a position
 
@@ -48,31 +57,21 @@ module _ (found : List ℕ) where
       go true e h = rw (last-suc q true e) (omega arith)
       go false e h = rw (last-suc q false e) (omega arith)
 
-  -- it is marked
-  last-marked : (q b : ℕ) → lastTo found q ≡ suc b → getD found (suc b) 0 ≡ 0 → ⊥
-  last-marked zero b e z = omega (arith, e, last-none 0 (omega arith))
-  last-marked (suc q) b e z = go (eqb (getD found (suc q) 0) 0) refl (last-marked q b)
+  -- it is marked, if there is one
+  last-marked : (q : ℕ) → (lastTo found q ≡ 0 → ⊥) → getD found (lastTo found q) 0 ≡ 0 → ⊥
+  last-marked zero h z = h (last-none 0 (omega arith))
+  last-marked (suc q) h z = go (eqb (getD found (suc q) 0) 0) refl (last-marked q)
     where
-      go : (t : Bool) → eqb (getD found (suc q) 0) 0 ≡ t → (lastTo found q ≡ suc b → getD found (suc b) 0 ≡ 0 → ⊥) → ⊥
-      go true h k = k (sym (last-suc q true h) ∙ e) z
-      go false h k = eqb-false (getD found (suc q) 0) 0 h (ap (λ (x : ℕ). getD found x 0) (sym (last-suc q false h) ∙ e) ∙ z)
-
-  -- the gap after the last discontinuity before a position
-  pub gap-after : (p b : ℕ) (t : Bool) → (getD found p 0 ≡ 0 → ⊥) → b ≡ lastTo found (p - 1) → (b ≡ 0 → ⊥)
-      → ltb (getD found b 0) (getD found p 0) ≡ t → cond t (Gap.Positions (p - b)) Gap.None ≡ gapBy found p
-  unfolding gapBy
-  gap-after p b t h e s k = rw (ne-eqb (getD found p 0) 0 h, ← e) (go b s k)
-    where
-      go : (b : ℕ) → (b ≡ 0 → ⊥) → ltb (getD found b 0) (getD found p 0) ≡ t → cond t (Gap.Positions (p - b)) Gap.None ≡ gapFrom found p b
-      go zero s k = absurd (s refl)
-      go (suc b) s k = rw k
+      go : (t : Bool) → eqb (getD found (suc q) 0) 0 ≡ t → ((lastTo found q ≡ 0 → ⊥) → getD found (lastTo found q) 0 ≡ 0 → ⊥) → ⊥
+      go true e k = k (λ w. h (last-suc q true e ∙ w)) (rw (last-suc q true e) at z)
+      go false e k = eqb-false (getD found (suc q) 0) 0 e (rw (last-suc q false e) at z)
 
 -- of two discoverers, 0 for none, the first is earlier if it is less
-earlier-known : (d e : Option ℕ) → (orZero d ≡ 0 → ⊥) → earlier d e ≡ ltb (orZero d) (orZero e)
+earlier-known : (d e : ℕ) → (d ≡ 0 → ⊥) → earlier (known d) (known e) ≡ ltb d e
 unfolding earlier
-earlier-known none e h = absurd (h refl)
-earlier-known (some d) none h = sym (le-ltb d 0 (omega arith))
-earlier-known (some d) (some e) h = refl
+earlier-known zero e h = absurd (h refl)
+earlier-known (suc d) zero h = sym (le-ltb (suc d) 0 (omega arith))
+earlier-known (suc d) (suc e) h = refl
 
 -- ---- gaps among positions in order
 
@@ -160,17 +159,11 @@ module _ (l : List Answer) where
   module _ (found : List ℕ) (m : DiscoverersAt l found) where
     -- a discontinuity is marked
     marked-some : (p : ℕ) → 1 ≤ p → p ≤ sentMost → isSome (discoverer p l) ≡ not (eqb (getD found p 0) 0)
-    marked-some p low high = go (discoverer p l) refl
+    marked-some p low high = rw (← m .at p low high) (go (getD found p 0))
       where
-        go : (o : Option ℕ) → discoverer p l ≡ o → isSome (discoverer p l) ≡ not (eqb (getD found p 0) 0)
-        go none e = rw (e, eq-eqb (getD found p 0) 0 (m .at p low high ∙ ap orZero e))
-        go (some q) e =
-            rw (e, ne-eqb (getD found p 0) 0 (λ z. omega (arith, z, m .at p low high ∙ ap orZero e, m .positive p q e)))
-
-    -- 0 stands for no position
-    abbrev known : ℕ → Option ℕ
-    known zero = none
-    known (suc q) = some (suc q)
+        go : (x : ℕ) → isSome (known x) ≡ not (eqb x 0)
+        go zero = refl
+        go (suc x) = rw (ne-eqb (suc x) 0 (λ z. omega (arith, z)))
 
     -- the last discontinuity up to a position is that of the table
     last-known : (q : ℕ) → q ≤ sentMost → lastOf none (discontinuitiesTo q l) ≡ known (lastTo found q)
@@ -189,32 +182,32 @@ module _ (l : List Answer) where
     earlier-marked : (q p : ℕ) → 1 ≤ q → q ≤ sentMost → 1 ≤ p → p ≤ sentMost → (getD found q 0 ≡ 0 → ⊥)
         → earlier (discoverer q l) (discoverer p l) ≡ ltb (getD found q 0) (getD found p 0)
     earlier-marked q p low high low' high' h =
-        rw (m .at q low high, m .at p low' high') (earlier-known (discoverer q l) (discoverer p l) (λ z. h (m .at q low high ∙ z)))
+        rw (← m .at q low high, ← m .at p low' high') (earlier-known (getD found q 0) (getD found p 0) h)
 
-    -- and the gap after the last discontinuity is that of the table
-    gap-known : (p n q : ℕ) → 1 ≤ p → p ≤ sentMost → n ≤ arrivalsMost → lastTo found n ≡ q → gapAfter l (known q) p ≡ gapFrom found p q
-    unfolding gapAfter
-    gap-known p n zero low few h e = refl
-    gap-known p n (suc q) low few h e =
-        rw (earlier-marked (suc q) p (omega arith) (omega (arith, e, h, last-le found n)) low few (last-marked found n q e))
-
-    -- the gap of a position from 1 on
-    gap-suc : (q : ℕ) → suc q ≤ arrived l → suc q ≤ sentMost → gapOf l (some (suc q)) ≡ gapBy found (suc q)
-    unfolding gapOf discontinuities gapBy
-    gap-suc q inside few =
-        gap-upto (suc q) (arrived l) inside
-        ∙ gap-here q
-        ∙ rw (marked-some (suc q) (omega arith) few, last-known q (omega arith), gap-known (suc q) q (lastTo found q) (omega arith) few (omega arith) refl, back)
-        (go (eqb (getD found (suc q) 0) 0))
-      where
-        back : suc q - 1 ≡ q
-        back = omega arith
-
-        go : (z : Bool) → cond (not z) (gapFrom found (suc q) (lastTo found q)) Gap.None ≡ cond z Gap.None (gapFrom found (suc q) (lastTo found q))
-        go true = refl
-        go false = refl
-
-    -- the gap of a position is that of the table
-    pub gap-marked : (p : ℕ) → 1 ≤ p → p ≤ arrived l → p ≤ sentMost → gapOf l (some p) ≡ gapBy found p
+    -- the gap of a position: none where the table has no discoverer, else after the last discontinuity of the table before it
+    gap-marked : (p : ℕ) → 1 ≤ p → p ≤ arrived l → p ≤ sentMost
+        → gapOf l (some p) ≡ cond (not (eqb (getD found p 0) 0)) (gapAfter l (known (lastTo found (p - 1))) p) Gap.None
+    unfolding gapOf discontinuities
     gap-marked zero low inside few = absurd (omega arith)
-    gap-marked (suc q) low inside few = gap-suc q inside few
+    gap-marked (suc q) low inside few =
+        let back : suc q - 1 ≡ q = omega arith in
+        gap-upto (suc q) (arrived l) inside ∙ gap-here q ∙ rw (marked-some (suc q) (omega arith) few, last-known q (omega arith), back)
+
+    module _ (p : ℕ) (low : 1 ≤ p) (few : p ≤ sentMost) (inside : p ≤ arrived l) where
+      -- there is none at a position that is no discontinuity
+      pub gap-other : getD found p 0 ≡ 0 → Gap.None ≡ gapOf l (some p)
+      gap-other e = sym (gap-marked p low inside few ∙ rw (eq-eqb (getD found p 0) 0 e))
+
+      module _ (h : getD found p 0 ≡ 0 → ⊥) (b : ℕ) (e : b ≡ lastTo found (p - 1)) where
+        -- nor at the first one
+        pub gap-first : b ≡ 0 → Gap.None ≡ gapOf l (some p)
+        unfolding gapAfter
+        gap-first z = sym (gap-marked p low inside few ∙ rw (ne-eqb (getD found p 0) 0 h, ← e, z))
+
+        -- any other has one if the one before it was discovered earlier
+        pub gap-near : (t : Bool) → (b ≡ 0 → ⊥) → ltb (getD found b 0) (getD found p 0) ≡ t → cond t (Gap.Positions (p - b)) Gap.None ≡ gapOf l (some p)
+        unfolding gapAfter
+        gap-near t s k =
+            let marked : getD found b 0 ≡ 0 → ⊥ = rw e (last-marked found (p - 1) (λ z. s (e ∙ z))) in
+            let earlier-here = earlier-marked b p (omega (arith, s)) (omega (arith, e, few, last-le found (p - 1))) low few marked in
+            sym (gap-marked p low inside few ∙ rw (ne-eqb (getD found p 0) 0 h, ← e, known-some b s, earlier-here, k))

@@ -1,4 +1,8 @@
--- What is found in a file at the places that its layout gives, accepted or not. Assumes nothing.
+-- What is found in a file at the places that its layout gives is what it decodes to. The layout that the check answers is such a one, with
+-- K and A in their limits and numbers from 1 to K (`laid`). Each law goes by what the file decodes to: of an accepted one sample's laws
+-- about its octets say it, and a refused one has a layout of no packets and no arrivals, so that nothing is asked for.
+-- Here d is what the file decodes to, y the layout, h that it is the file's, i the place of a record from 0, a what is read there, and s a
+-- packet's number. Assumes nothing.
 use mathlib.Core.Path.{_≡_, refl, sym, ap, _∙_}
 use mathlib.Core.List.{List}
 use Prim.Native.Nat.{ℕ, _+_, _*_, _-_, _≤_, _<_}
@@ -48,22 +52,23 @@ module _ (file : List ℕ) where
         (q, omega (arith, m, n), omega (arith, m, n, h .sentFew))
 
     -- its octets are there
-    pub arrival-inside : (i : ℕ) → i < y .arrivals → arrivalsAt y + 12 * i + 12 ≤ length file
-    arrival-inside i g = go (decode file) refl
+    pub arrival-inside : (i : ℕ) {from : ℕ} → i < y .arrivals → from ≡ arrivalsAt y → from + 12 * i + 12 ≤ length file
+    arrival-inside i g p = rw p (go (decode file) refl)
       where
         go : (d : Decoded) → decode file ≡ d → arrivalsAt y + 12 * i + 12 ≤ length file
         go (refused r) e = absurd (omega (arith, ap (λ (y : Layout). y .arrivals) (h .laid ∙ ap layoutOf e)))
         go (accepted s) e = octets-inside file s e y (h .laid) i g
 
     -- what is read of its twelve octets
-    pub arrival-read : (i : ℕ) {a : Arrival} → i < y .arrivals → a ≡ arrivalIn (taken (arrivalsAt y + 12 * i) 12 file)
+    pub arrival-read : (i : ℕ) {from : ℕ} {a : Arrival} → i < y .arrivals → from ≡ arrivalsAt y → a ≡ arrivalIn (taken (from + 12 * i) 12 file)
         → (a ≡ arrivalAt (decode file) i) × (1 ≤ a .number) × (a .number ≤ sentMost)
     unfolding arrivalFound
-    arrival-read i g e =
+    arrival-read i {from} {a} g p e =
         let start : ℕ = arrivalsAt y + 12 * i in
         let w : start + 12 - start ≡ 12 = omega arith in
-        let f : arrivalFound file y i ≡ arrivalIn (part start 12 file) = rw (le-ltb (length file) (start + 12) (arrival-inside i g)) in
-        arrival-known i g (e ∙ ap (λ (n : ℕ). arrivalIn (part start n file)) w ∙ sym f)
+        let f : arrivalFound file y i ≡ arrivalIn (part start 12 file) = rw (le-ltb (length file) (start + 12) (arrival-inside i g refl)) in
+        let t : a ≡ arrivalIn (taken start 12 file) = rw p at e in
+        arrival-known i g (t ∙ ap (λ (n : ℕ). arrivalIn (part start n file)) w ∙ sym f)
 
     -- the payload size of packet s
     pub size-stands : (s : ℕ) → 1 ≤ s → s ≤ y .sent → sizeFound file y (s - 1) ≡ sizeOf (decode file) s

@@ -1,7 +1,7 @@
 -- Laws of the engine. Assumes nothing.
 pub mod FoundInFile
 pub mod Records
-pub mod Follow
+pub mod TablesFollow
 pub mod Reordered
 pub mod AnswersByClass
 pub mod OneArrivalMore
@@ -16,6 +16,6 @@ pub mod RecordsAsked
 pub mod DigitBounds
 pub mod Listed
 pub mod Common
-mod Left
+mod Agreed
 mod Passing
 pub mod Moved

@@ -1,6 +1,9 @@
--- Links: at the packet of each first arrival stands what with `more` is 1 and its own largest n, so that as many first arrivals
--- directly before it have greater numbers: `more` is 1 in the engine's table, which has the largest n itself, and 0 in that of the
--- shares. Assumes nothing.
+-- Links: at the packet of each first arrival stands what with `more` is 1 and its own largest n: `more` is 1 in the engine's table, which has the
+-- largest n itself, and 0 in that of the shares. The first arrivals that a largest n counts have greater numbers (`largest-over`, by induction
+-- over the first arrivals). So where a first arrival's number is above s, those are too that its link passes over (`above-link`). Under one first
+-- arrival more the others' links stay, since its packet is another, and its own is put at its packet (`linked-set`). From NextExp on the largest
+-- n is 0 (`largest-next`), and 0 stands there already; so where `more` is 1 nothing is put for a packet in order (`linked-in-order`).
+-- Here fs are the first arrivals, a the next one, s a packet's number, p a place among them, n the number there and k its link. Assumes nothing.
 use mathlib.Core.Path.{_≡_, refl, sym, ap, _∙_}
 use mathlib.Core.Bool.{Bool, true, false, cond, true≢false}
 use mathlib.Core.List.{List, [], _∷_, _++_}
@@ -14,7 +17,7 @@ use Rattle.rfc4737.specs.declared.Arrival.{Arrival}
 use Rattle.rfc4737.specs.Arrivals.{has, firsts}
 use Rattle.rfc4737.specs.Order.{nextAfter, nextExp}
 use Rattle.rfc4737.specs.Extent.{largestN}
-use Rattle.rfc4737.proofs.Lists.{snoc-ind}
+use Rattle.rfc4737.proofs.Lists.{snoc-ind, zeros}
 use Rattle.rfc4737.proofs.Folds.{next-more, largest-more, largest-le}
 use Rattle.rfc4737.proofs.Jumps.{nextAfter-above}
 use Rattle.rfc4737.specs.Judge.{sentMost}
@@ -24,7 +27,6 @@ use Rattle.metrics.specs.Private.Sample.{before, numberPlaces}
 use Rattle.metrics.specs.Private.Tables.{Filled, NumberTable, Above, Links, LinkTable}
 use Rattle.metrics.proofs.Records.{has-at}
 use Rattle.metrics.proofs.Reordered.{above-back, above-join}
-use Rattle.metrics.proofs.OneArrivalMore.{zeros}
 use Rattle.metrics.proofs.CountsBySeen.{has-below}
 
 -- ---- what a link passes over

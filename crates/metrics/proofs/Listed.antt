@@ -1,135 +1,98 @@
--- The listing of a checked file: how long it is, and how it is written, line by line. Assumes nothing.
-use mathlib.Core.Path.{_≡_, refl, sym, ap, ap₂, _∙_}
-use mathlib.Core.List.{List, [], _++_}
+-- The listing of a checked file. `linesTo` is it up to record i: the first line alone before any record (`lines-start`); under one record more, since
+-- the arrivals and the answers are those before and one after them, it goes on by that record's line (`lines-next`); up to the last record, with the
+-- last line, it is whole (`lines-end`). So up to any record it is the start of the whole (`lines-rest`, by induction over the n records that follow).
+-- How long it is: the figures have few digits, so that it has at most 24 octets for the first line and 61 for each record (`lines-within`, by
+-- induction over the records), which with the last line is at most `listingOctets` (`sample-within`).
+-- Here d is the decoded file, y its layout, laid that it is the file's, i the records before, c the counts and o that the file is of octets.
+-- Assumes nothing.
+use mathlib.Core.Path.{_≡_, refl, sym, ap, _∙_}
+use mathlib.Core.List.{List, _++_, append-nil, append-assoc}
 use Prim.Native.Nat.{ℕ, zero, suc, _+_, _*_, _≤_}
 use native.Mathlib.Omega.{arith}
 use lib.ListN.{length, length-append}
 use lib.Seq.{take-all}
 use Rattle.octets.specs.Below.{Octets}
-use Rattle.octets.specs.Memory.{over, put}
-use Rattle.octets.proofs.Memory.{over-drop, put-over, put-length}
-use Rattle.rfc4737.specs.declared.Arrival.{Arrival}
-use Rattle.rfc4737.specs.declared.Answer.{Answer}
 use Rattle.rfc4737.specs.declared.Counts.{Counts}
 use Rattle.rfc4737.specs.Runs.{counts}
-use Rattle.listing.specs.Lines.{headerLine, recordLine, endLine, listingOf}
-use Rattle.listing.specs.Private.Listed.{listingUpTo, Listed}
+use Rattle.listing.specs.Lines.{headerLine, recordLine, recordLinesFrom, recordLines, endLine, listingOf}
+use Rattle.listing.specs.Private.DigitBounds.{CountsWithin}
 use Rattle.listing.specs.Room.{listingOctets}
 use Rattle.listing.proofs.Lengths.{header-octets, record-octets, end-octets}
-use Rattle.listing.proofs.Listed.{up-to-none, up-to-more, up-to-end, listed-start, listed-next, listed-end}
+use Rattle.listing.proofs.Records.{lines-more}
 use Rattle.rfc4737.proofs.Folds.{length-answers}
-use Rattle.rfc4737.specs.Judge.{arrivalsMost}
 use Rattle.sample.specs.Decode.{Decoded, decode, sampleOf}
 use Rattle.sample.specs.declared.Layout.{Layout}
 use Rattle.metrics.specs.Sample.{sampleArrivals, answersOf, sizeOf}
-use Rattle.metrics.specs.Private.Passed.{ListedAt}
 use Rattle.metrics.specs.Private.Sample.{arrivalAt, before, answerAt, answersTo, FileLayout, HasRecord}
+use Rattle.metrics.specs.Private.Taken.{linesTo}
 use Rattle.metrics.specs.Report.{sampleText}
-use Rattle.metrics.proofs.Follow.{arrivals-laid, before-more, before-length}
-use Rattle.metrics.proofs.OneArrivalMore.{answers-start, answers-next, answers-end, answers-length}
+use Rattle.metrics.proofs.TablesFollow.{arrivals-laid, before-more, before-length}
+use Rattle.metrics.proofs.OneArrivalMore.{answers-next, answers-end, answers-length}
 use Rattle.metrics.proofs.DigitBounds.{answers-within, counts-within}
 
--- ---- how long it is
+-- before any record there is the first line
+pub lines-start : (d : Decoded) (y : Layout) → linesTo d y 0 ≡ headerLine (y .sent) (y .arrivals)
+unfolding recordLines recordLinesFrom
+lines-start d y = append-nil (headerLine (y .sent) (y .arrivals))
 
--- the listing up to record i
-abbrev linesTo : Decoded → Layout → ℕ → List ℕ
-linesTo d y i = listingUpTo (y .sent) (y .arrivals) (before d i) (answersTo d i)
+-- under one record more there is that record's line
+pub lines-next : (d : Decoded) (y : Layout) (i : ℕ) → HasRecord d y i
+    → linesTo d y (i + 1) ≡ linesTo d y i ++ recordLine (i + 1) (arrivalAt d i .number) (answerAt d i)
+lines-next d y i h =
+    let b = before-length d y i h in
+    let more = rw b at (lines-more (before d i) (answersTo d i) (arrivalAt d i) (answerAt d i) (answers-length d y i h ∙ sym b)) in
+    rw (answers-next d y i h, before-more d y i h, more) (sym (append-assoc (headerLine (y .sent) (y .arrivals)) (recordLines (before d i) (answersTo d i)) _))
+
+-- the listing goes on after record i
+pub record Rest (d : Decoded) (y : Layout) (i : ℕ) : Type 0 where
+  pub rest : List ℕ
+  pub is : sampleText d ≡ linesTo d y i ++ rest
 
 module _ (d : Decoded) (y : Layout) (laid : FileLayout d y) where
   -- up to the last record, with the last line, it is whole
-  lines-end : linesTo d y (y .arrivals) ++ endLine (counts (answersOf d)) ≡ sampleText d
+  pub lines-end : linesTo d y (y .arrivals) ++ endLine (counts (answersOf d)) ≡ sampleText d
+  unfolding listingOf
   lines-end =
       let many = arrivals-laid d y laid in
       let l : before d (y .arrivals) ≡ sampleArrivals d = take-all (y .arrivals) (sampleArrivals d) (omega (arith, many)) in
       let m : answersTo d (y .arrivals) ≡ answersOf d = answers-end d y (y .arrivals) laid (omega arith) in
       let k : y .sent ≡ length (sampleOf d .sizes) = ap (λ (y : Layout). y .sent) (laid .laid) in
-      rw (m, l, many, k) (up-to-end (length (sampleOf d .sizes)) (sampleArrivals d) (answersOf d) (counts (answersOf d)))
+      rw (m, l, many, k) (append-assoc (headerLine (length (sampleOf d .sizes)) (length (sampleArrivals d))) (recordLines (sampleArrivals d) (answersOf d)) _)
+
+  -- up to any record it is a part of the whole
+  pub lines-rest : (n i : ℕ) → n + i ≡ y .arrivals → Rest d y i
+  lines-rest zero i e =
+      let last : y .arrivals ≡ i = omega arith in
+      record { rest = endLine (counts (answersOf d)); is = sym lines-end ∙ ap (λ (n : ℕ). linesTo d y n ++ endLine (counts (answersOf d))) last }
+  lines-rest (suc n) i e =
+      let r = lines-rest n (i + 1) (omega arith) in
+      record {
+        rest = recordLine (i + 1) (arrivalAt d i .number) (answerAt d i) ++ r .rest;
+        is = r .is ∙ rw (lines-next d y i (record { file = laid; inside = omega arith })) (append-assoc (linesTo d y i) _ (r .rest));
+      }
+
+-- the counts have few digits
+pub end-within : (d : Decoded) (y : Layout) → FileLayout d y → {c : Counts} → c ≡ counts (answersOf d) → CountsWithin c
+end-within d y h e = rw e (counts-within (answersOf d) (omega (arith, h .few, arrivals-laid d y h, length-answers (sizeOf d) (sampleArrivals d))))
 
 module _ (file : List ℕ) (y : Layout) (laid : FileLayout (decode file) y) (o : Octets file) where
   -- up to record i it has at most 24 octets for the first line and 61 for each record
   pub lines-within : (i : ℕ) → i ≤ y .arrivals → length (linesTo (decode file) y i) ≤ 24 + 61 * i
   lines-within zero h =
-      rw (answers-start (decode file), up-to-none (y .sent) (y .arrivals))
+      rw (lines-start (decode file) y)
       (omega (arith, header-octets (y .sent) (y .arrivals) (omega (arith, laid .sentFew)) (omega (arith, laid .few))))
   lines-within (suc i) h =
       let d = decode file in
       let r : HasRecord d y i = record { file = laid; inside = omega arith } in
-      let b = before-length d y i r in
-      let paired : length (answersTo d i) ≡ length (before d i) = answers-length d y i r ∙ sym b in
-      let more = rw b at (up-to-more (y .sent) (y .arrivals) (before d i) (answersTo d i) (arrivalAt d i) (answerAt d i) paired) in
       let line = record-octets (i + 1) (arrivalAt d i .number) (answerAt d i) (omega (arith, laid .few)) (omega (arith, laid .numbers i (r .inside), laid .sentFew)) (answers-within file y i o r) in
       let rest = lines-within i (omega arith) in
       let e : suc i ≡ i + 1 = omega arith in
-      rw (e, answers-next d y i r, before-more d y i r, more, length-append (linesTo d y i) _) (omega arith)
+      rw (e, lines-next d y i r, length-append (linesTo d y i) _) (omega arith)
 
   -- any listing has room in so many octets
   pub sample-within : length (sampleText (decode file)) ≤ listingOctets
   sample-within =
       let d = decode file in
-      let few : length (answersOf d) ≤ arrivalsMost = omega (arith, laid .few, arrivals-laid d y laid, length-answers (sizeOf d) (sampleArrivals d)) in
-      let end = end-octets (counts (answersOf d)) (counts-within (answersOf d) few) in
+      let end = end-octets (counts (answersOf d)) (end-within d y laid refl) in
       let lines = lines-within (y .arrivals) (omega arith) in
       rw (← lines-end d y laid, length-append (linesTo d y (y .arrivals)) _) (omega (arith, laid .few))
-
--- ---- how it is written: `old` is memory before it, `start` that with the first line
-
--- what was written is written over by more
-over-again : (xs ys old : List ℕ) → length xs ≤ length ys → over ys (over xs old) ≡ over ys old
-over-again xs ys old h = ap (λ (l : List ℕ). ys ++ l) (over-drop xs old (length ys) h)
-
--- the first line is a part of the listing
-header-le : (k : ℕ) (l : List Arrival) (m : List Answer) (c : Counts) → length (headerLine k (length l)) ≤ length (listingOf k l m c)
-unfolding listingOf
-header-le k l m c = simp length-append (omega arith)
-
--- after the line of record i + 1
-pub listing-next : (d : Decoded) (y : Layout) (start : List ℕ) {i at n number : ℕ} {answer : Answer} {out newer : List ℕ} → HasRecord d y i
-    → ListedAt d y i at start out → number ≡ arrivalAt d i .number → answer ≡ answerAt d i → n ≡ length (recordLine (i + 1) number answer)
-    → newer ≡ put at (recordLine (i + 1) number answer) out → ListedAt d y (i + 1) (at + n) start newer
-listing-next d y start {i} h s en ea e w =
-    rw (answers-next d y i h, before-more d y i h)
-    (listed-next (y .sent) (y .arrivals) start i (arrivalAt d i) (answerAt d i) (before-length d y i h) s (rw (en, ea) at e) (rw (en, ea) at w))
-
-module _ (d : Decoded) (y : Layout) (laid : FileLayout d y) (old : List ℕ) {start : List ℕ}
-    (first : start ≡ put 0 (headerLine (y .sent) (y .arrivals)) old) where
-  -- the first line
-  abbrev header : List ℕ
-  header = headerLine (y .sent) (y .arrivals)
-
-  -- memory with the first line, if it fits
-  header-over : length header ≤ length old → start ≡ over header old
-  header-over h = first ∙ put-over 0 [] header old refl (omega arith)
-
-  -- memory is as long with it
-  start-length : length start ≡ length old
-  start-length = ap length first ∙ put-length 0 header old
-
-  -- after the first line
-  pub listing-start : {n : ℕ} → n ≡ length header → ListedAt d y 0 n start start
-  listing-start e =
-      rw (answers-start d)
-      (listed-start (y .sent) (y .arrivals) e
-      (λ h.
-      let f = header-over (omega (arith, start-length)) in
-      f ∙ sym (over-again header header old (omega arith)) ∙ ap (over header) (sym f)))
-
-  -- after the last line
-  pub listing-end : {at n : ℕ} {c : Counts} {out newer : List ℕ} → ListedAt d y (y .arrivals) at start out
-      → c ≡ counts (answersOf d) → n ≡ length (endLine c) → newer ≡ put at (endLine c) out
-      → (at + n ≡ length (sampleText d)) × (at + n ≤ length old → newer ≡ over (sampleText d) old)
-  listing-end {at} {n} {c} {out} {newer} s cs e w =
-      let many = arrivals-laid d y laid in
-      let l : before d (y .arrivals) ≡ sampleArrivals d = take-all (y .arrivals) (sampleArrivals d) (omega (arith, many)) in
-      let m : answersTo d (y .arrivals) ≡ answersOf d = answers-end d y (y .arrivals) laid (omega arith) in
-      let all : Listed (y .sent) (length (sampleArrivals d)) (sampleArrivals d) (answersOf d) at start out = rw (m, l, many) at s in
-      let k : y .sent ≡ length (sampleOf d .sizes) = ap (λ (y : Layout). y .sent) (laid .laid) in
-      let text : listingOf (y .sent) (sampleArrivals d) (answersOf d) c ≡ sampleText d = ap₂ (λ (k : ℕ) (c : Counts). listingOf k (sampleArrivals d) (answersOf d) c) k cs in
-      let r = listed-end (y .sent) start c all e w in
-      let head : length header ≤ length (sampleText d) =
-      rw (← text, many) (header-le (y .sent) (sampleArrivals d) (answersOf d) c) in
-      let long : at + n ≡ length (sampleText d) = r .0 ∙ ap length text in (
-        long,
-        λ fits.
-            r .1 (omega (arith, start-length)) ∙ ap (λ (t : List ℕ). over t start) text ∙ ap (over (sampleText d)) (header-over (omega arith))
-            ∙ over-again header (sampleText d) old head,
-      )

@@ -1,4 +1,9 @@
--- What noting a record leaves of the tables and of the links, by what the packet is. Assumes nothing.
+-- What noting record i + 1 leaves of the tables and of the links, by what the packet is. The table of records tells whether it has arrived;
+-- then the laws of `TablesFollow` and of `Links` are put together. A copy leaves both (`noted-copy`). A reordered packet leaves its largest n as
+-- a link where its discontinuity stood (`noted-reordered`). One in order fills the places of the packets that it skips, and has the link 0,
+-- which stands there (`noted-in-order`). Last, the same of a record of a file.
+-- Here l are arrivals, a the next one, m that there are i of them, is that a has this number, f that the tables follow l, lar that
+-- `largest` is its largest n, and k that the links are those of l. A prime marks what is after it. Assumes nothing.
 use mathlib.Core.Path.{_≡_, sym, ap, _∙_}
 use mathlib.Core.Bool.{true, false}
 use mathlib.Core.List.{List}
@@ -9,14 +14,14 @@ use Rattle.rfc4737.specs.declared.Arrival.{Arrival}
 use Rattle.rfc4737.specs.Arrivals.{has, firsts}
 use Rattle.rfc4737.specs.Order.{nextExp}
 use Rattle.rfc4737.specs.Extent.{largestN}
-use Rattle.rfc4737.proofs.Arrivals.{has-firsts, firsts-more, with-duplicate, length-firsts}
+use Rattle.rfc4737.proofs.Arrivals.{has-firsts, firsts-duplicate, firsts-first, length-firsts}
 use Rattle.rfc4737.specs.Judge.{sentMost, arrivalsMost}
 use Rattle.sample.specs.declared.Layout.{Layout}
 use Rattle.sample.specs.Decode.{Decoded}
 use Rattle.metrics.specs.Private.Sample.{arrivalAt, before, HasRecord}
 use Rattle.metrics.specs.Private.Tables.{Filled, EngineTables, LinkTable, NextRecord, NotedRecord}
 use Rattle.metrics.specs.declared.tables.State.{State}
-use Rattle.metrics.proofs.Follow.{kept-copy, one-more, kept-reordered, kept-in-order, arrived-recorded, new-recorded, before-more, before-length}
+use Rattle.metrics.proofs.TablesFollow.{kept-copy, kept-reordered, kept-in-order, arrived-recorded, new-recorded, before-more, before-length}
 use Rattle.metrics.proofs.Links.{linked-set, linked-in-order}
 
 -- where a record can be noted there are fewer first arrivals than places
@@ -29,7 +34,7 @@ module _ (i largest : ℕ) (numbers records skipped : List ℕ) (state : State) 
   noted-copy number low high e =
       record {
         follows = λ l a m is f. kept-copy l a numbers records skipped state f (arrived l a is f);
-        linked = λ l a m is f lar k. rw (firsts-more l a ∙ with-duplicate (firsts l) a (has-firsts (a .number) l ∙ arrived l a is f)) k;
+        linked = λ l a m is f lar k. rw (firsts-duplicate l a (arrived l a is f)) k;
       }
     where
       arrived : (l : List Arrival) (a : Arrival) → a .number ≡ number → EngineTables l numbers records skipped state → has (a .number) l ≡ true
@@ -52,7 +57,7 @@ module _ (i largest : ℕ) (numbers records skipped : List ℕ) (state : State) 
           linked = λ l a m is f lar k.
               let own : largest ≡ largestN (firsts l) (a .number) =
               lar (ap (λ (s : ℕ). has s l) (sym is) ∙ new l a is f) (omega arith) ∙ ap (largestN (firsts l)) (sym is) in
-              rw (one-more l a numbers records skipped state f (new l a is f) (omega arith) (omega arith) (omega arith), ← is)
+              rw (firsts-first l a (new l a is f), ← is)
               (linked-set 1 (firsts l) a (has-firsts (a .number) l ∙ new l a is f) skipped k largest (omega (arith, f .places)) (omega (arith, own)));
         }
 
@@ -66,7 +71,7 @@ module _ (i largest : ℕ) (numbers records skipped : List ℕ) (state : State) 
               rw (← m, ← is)
               (kept-in-order l a numbers records skipped state f (new l a is f) (omega arith) (omega arith) (omega arith) (omega arith) skipped′ (rw (← is) at filled));
           linked = λ l a m is f lar k.
-              rw (one-more l a numbers records skipped state f (new l a is f) (omega arith) (omega arith) (omega arith))
+              rw (firsts-first l a (new l a is f))
               (linked-in-order (firsts l) a (has-firsts (a .number) l ∙ new l a is f) skipped skipped′ k _ (omega (arith, f .next)) (rw (← is, f .next) at filled));
         }
 

@@ -1,4 +1,9 @@
--- The tree of sums over pairs of packets: what it holds of some first arrivals, and the byte offset that it gives. Assumes nothing.
+-- The tree of sums over pairs of packets: packets 2k - 1 and 2k stand at number k, so that above k stand the packets above 2k (`pair-above`).
+-- One first arrival more is its size added at its pair (`size-tree-more`). Once all stand in the tree, the sum up to s / 2 and the byte offset
+-- of 2 (s / 2) are the total (`total-sum`). That number is s or the one before it, and where packet s has not arrived both have the same byte
+-- offset (`offset-before`, by induction over the first arrivals); so the total without the sum is the byte offset of s (`offset-summed`).
+-- Here fs are the first arrivals, p how many of them stand in the tree, t their number and total, size gives the payload size of a packet,
+-- and s is the packet asked for. Assumes nothing.
 use mathlib.Core.Path.{_≡_, refl, sym, ap, _∙_}
 use mathlib.Core.Bool.{Bool, true, false, cond}
 use mathlib.Core.List.{List, [], _∷_, _++_}
@@ -58,9 +63,9 @@ module _ (size : ℕ → ℕ) (s : ℕ) (low : 1 ≤ s) where
       go false e = ap (byteOffset size fs) (omega (arith, eqb-false (s % 2) 0 e)) ∙ offset-before fs new
 
 -- a tree of no first arrivals
-pub totalled-none : (size : ℕ → ℕ) (fs : List Arrival) → SizeTree size fs (replicate 2049 0) (record { filled = 0; total = 0 })
+pub size-tree-none : (size : ℕ → ℕ) (fs : List Arrival) → SizeTree size fs (replicate 2049 0) (record { filled = 0; total = 0 })
 unfolding byteOffset
-totalled-none size fs =
+size-tree-none size fs =
     record { places = refl; some = omega arith; summed = summed-none _ 2049 (λ i. refl); whole = refl }
 
 module _ (size : ℕ → ℕ) (small : (s : ℕ) → size s ≤ 65535) (fs : List Arrival) (few : length fs ≤ sentMost) (tree : List ℕ) where
@@ -73,10 +78,10 @@ module _ (size : ℕ → ℕ) (small : (s : ℕ) → size s ≤ 65535) (fs : Lis
   total-small t k = omega (arith, k .whole, sizes-few (t .filled) 0 (k .some))
 
   -- a tree of one first arrival more
-  pub totalled-more : (p number value total : ℕ) (tree′ : List ℕ) → p < length fs → number ≡ getD fs p noArrival .number → 1 ≤ number → value ≡ size number
+  pub size-tree-more : (p number value total : ℕ) (tree′ : List ℕ) → p < length fs → number ≡ getD fs p noArrival .number → 1 ≤ number → value ≡ size number
       → SizeTree size fs tree (record { filled = p; total = total }) → Added ((number + 1) / 2) value tree tree′
       → SizeTree size fs tree′ (record { filled = p + 1; total = total + value })
-  totalled-more p number value total tree′ inside is low own t added =
+  size-tree-more p number value total tree′ inside is low own t added =
       record {
         places = added .places ∙ t .places;
         some = omega arith;

@@ -1,32 +1,37 @@
--- A pass over a sample, line by line: a line that is taken, one record more, and how the pass ends. Listing, each line is written after the one
--- before it; comparing, the whole is what agrees so far and what is left. Assumes nothing.
-use Prim.Native.Nat.{ℕ, _+_, _^_, _≤_, _<_}
+-- A pass over a sample, line by line. A line is put after those before it or, comparing, at the start of memory and held against the text from its
+-- place on; `Taken` says what either leaves (`line-taken`). Lines that are taken whole, and a line after them, are lines taken (`taken-more`): what
+-- is written is spliced in behind, and what agrees goes by `agreed-more`. A line that is written is always whole, so only comparing can end the
+-- pass; then what follows is not looked at, and the whole listing is known to differ there (`taken-stop`). So after a record's line the pass goes on
+-- (`passed-next`) or ends (`passed-stop`), and after the last all are behind (`passed-all`). The lines of records are taken in memory that has the
+-- first line; the listing is no shorter than that line and stands over it too, so it stands over memory as it was (`taken-over`): where the first
+-- line differs (`first-differs`), where a record's does (`record-differs`), and after the last line (`last-taken`). How far lines are taken is less
+-- than 2^64, as it lies in the text or is their length (`taken-fits`).
+-- Here d is the decoded file, y its layout, i the records behind, at the place after them, p how far a line is taken, old memory before the first
+-- line, start after it, new before the line at hand and newer after it, s that the lines before are taken and t that this one is. Assumes nothing.
+use Prim.Native.Nat.{ℕ, _+_, _-_, _^_, _≤_, _<_}
 use mathlib.Core.Path.{_≡_, refl, sym, ap, _∙_}
 use mathlib.Core.Bool.{Bool, true, false, cond, true≢false}
-use mathlib.Core.List.{List}
+use mathlib.Core.List.{List, _++_}
 use native.Mathlib.Omega.{arith}
-use lib.ListN.{length}
-use Rattle.octets.specs.Below.{Octets}
-use Rattle.octets.specs.Memory.{put}
-use Rattle.octets.proofs.Memory.{put-length}
+use lib.ListN.{length, take, drop, length-append}
+use Rattle.octets.specs.Memory.{put, splice}
+use Rattle.octets.proofs.Memory.{put-length, put-room, splice-drop, splice-next}
 use Rattle.rfc4737.specs.declared.Answer.{Answer}
 use Rattle.rfc4737.specs.declared.Counts.{Counts}
 use Rattle.rfc4737.specs.Runs.{counts}
 use Rattle.listing.specs.Lines.{headerLine, recordLine, endLine}
 use Rattle.sample.specs.declared.Layout.{Layout}
-use Rattle.sample.specs.Decode.{Decoded, decode}
+use Rattle.sample.specs.Decode.{Decoded}
 use Rattle.metrics.specs.Report.{sampleText}
 use Rattle.metrics.specs.Sample.{answersOf}
-use Rattle.metrics.specs.Private.Compared.{Agreed}
-use Rattle.metrics.specs.Private.Passed.{ListedAt, PassedTo, PassEnded, TextTaken}
 use Rattle.metrics.specs.Private.Sample.{arrivalAt, answerAt, answersTo, FileLayout, HasRecord}
-use Rattle.metrics.specs.Private.Taken.{LineRoom, LineHeld, LineTaken}
+use Rattle.metrics.specs.Private.Taken.{Agreed, LineRoom, Taken, linesTo, PassedTo, PassEnded}
 use Rattle.metrics.specs.declared.parts.Part.{Part}
 use Rattle.metrics.specs.declared.pass.PassResult.{PassResult}
 use Rattle.metrics.proofs.OneArrivalMore.{answers-end}
 use Rattle.metrics.proofs.Common.{common-le, line-read}
-use Rattle.metrics.proofs.Listed.{lines-within, sample-within, listing-start, listing-next, listing-end}
-use Rattle.metrics.proofs.Left.{part-most, header-left, header-stop, record-left, record-stop, end-left}
+use Rattle.metrics.proofs.Listed.{lines-start, lines-next, lines-end, Rest, lines-rest}
+use Rattle.metrics.proofs.Agreed.{agreed-more, agreed-stop}
 
 -- ---- a line
 
@@ -40,67 +45,104 @@ module _ (comparing : Bool) (line text : List ℕ) (at : ℕ) {old new : List �
   pub line-ready : comparing ≡ true → (n ≤ length new) × (at ≤ length text)
   line-ready t = (omega (arith, line-kept, ready .room t), ready .inside t)
 
-  -- then it is taken
-  pub line-taken : {r : Part} → LineHeld comparing new text at n r → LineTaken comparing line text at old new r
+  -- held against it, or only written, it is taken
+  pub line-taken : {r : Part} → (comparing ≡ false → r ≡ record { octets = n; whole = true }) × (comparing ≡ true → Agreed (take n new) (drop at text) r)
+      → Taken comparing line text at old new r
   line-taken h =
       record {
-        listed = λ f. (h .listed f ∙ rw e, rw (p ∙ ap (λ (b : Bool). cond b 0 at) f) at q);
-        compared =
-            λ t.
+        listed = λ f.
+            let there : new ≡ put at line old = rw (p ∙ ap (λ (b : Bool). cond b 0 at) f) at q in
+            (h .0 f ∙ rw e, λ room. there ∙ put-room at line old room);
+        compared = λ t.
             let start : new ≡ put 0 line old = rw (p ∙ ap (λ (b : Bool). cond b 0 at) t) at q in
-            rw (line-read line old new n e (omega (arith, ready .room t)) start) at (h .compared t);
+            rw (line-read line old new n e (omega (arith, ready .room t)) start) at (h .1 t);
         places = line-kept;
       }
 
--- the start is the start, comparing or not
+-- the place of the first line is the start, comparing or not
 pub same-start : (comparing : Bool) → _≡_ {A = ℕ} 0 (cond comparing 0 0)
 same-start true = refl
 same-start false = refl
+
+-- ---- lines, and more
+
+-- lines at the start, over those that were there and are no more
+splice-again : (xs ys old : List ℕ) → length xs ≤ length ys → splice 0 ys (splice 0 xs old) ≡ splice 0 ys old
+splice-again xs ys old h = ap (λ (l : List ℕ). ys ++ l) (splice-drop 0 xs old (0 + length ys) (omega arith) (omega arith))
+
+module _ {comparing : Bool} {text : List ℕ} where
+  -- so many octets of lines are at most those of a text that they are compared with
+  pub taken-inside : {lines old new : List ℕ} {r : Part} → Taken comparing lines text 0 old new r → comparing ≡ true → r .octets ≤ length text
+  taken-inside {lines} t e = omega (arith, t .compared e .octets, common-le lines text)
+
+  -- they are few
+  pub taken-fits : {lines old new : List ℕ} {r : Part} → length text < 2 ^ 64 → length lines < 2 ^ 64 → Taken comparing lines text 0 old new r → r .octets < 2 ^ 64
+  taken-fits {lines} {old} {new} {r} short few t = go comparing refl
+    where
+      go : (b : Bool) → comparing ≡ b → r .octets < 2 ^ 64
+      go true e = omega (arith, short, taken-inside t e)
+      go false e = omega (arith, few, ap (λ (q : Part). q .octets) (t .listed e .0))
+
+  -- a line more, after lines that are taken whole
+  taken-more : {lines line old new newer : List ℕ} {at : ℕ} {p : Part} → Taken comparing lines text 0 old new (record { octets = at; whole = true })
+      → Taken comparing line text at new newer p → Taken comparing (lines ++ line) text 0 old newer (record { octets = at + p .octets; whole = p .whole })
+  taken-more {lines} {line} {old} {new} {newer} {at} {p} s t =
+      record {
+        listed = λ e.
+            let n : at ≡ length lines = ap (λ (q : Part). q .octets) (s .listed e .0) in
+            let long : length (lines ++ line) ≡ at + length line = rw n (length-append lines line) in (
+              rw (t .listed e .0, long),
+              λ room.
+                  t .listed e .1 (omega (arith, room, long, s .places))
+                  ∙ ap (splice at line) (s .listed e .1 (omega (arith, room, long, n)))
+                  ∙ splice-next 0 at lines line old (omega (arith, n)) (omega arith),
+            );
+        compared = λ e. agreed-more lines line text at p (s .compared e) (t .compared e);
+        places = t .places ∙ s .places;
+      }
+
+  -- what stands after lines of which one differs
+  taken-stop : {lines old new : List ℕ} {p : Part} (rest : List ℕ) → Taken comparing lines text 0 old new p → p .whole ≡ false
+      → Taken comparing (lines ++ rest) text 0 old new p
+  taken-stop {lines} {old} {new} {p} rest t w =
+      record {
+        listed = λ e. absurd (true≢false (sym (ap (λ (q : Part). q .whole) (t .listed e .0)) ∙ w));
+        compared = λ e. agreed-stop lines rest text p (t .compared e) w;
+        places = t .places;
+      }
+
+  -- lines over the first of them, which was taken before
+  taken-over : {first lines old start new : List ℕ} {p r : Part} → length first ≤ length lines → Taken comparing first text 0 old start p
+      → Taken comparing lines text 0 start new r → Taken comparing lines text 0 old new r
+  taken-over {first} {lines} {old} h s t =
+      record {
+        listed = λ e. (
+          t .listed e .0,
+          λ room. t .listed e .1 (omega (arith, room, s .places)) ∙ ap (splice 0 lines) (s .listed e .1 (omega (arith, room))) ∙ splice-again first lines old h,
+        );
+        compared = t .compared;
+        places = t .places ∙ s .places;
+      }
 
 -- ---- a record's line
 
 module _ (d : Decoded) (y : Layout) (text : List ℕ) (comparing : Bool) {i at number : ℕ} {answer : Answer} {old new newer : List ℕ} {p : Part}
     (h : HasRecord d y i) (s : PassedTo d y text comparing i at old new) (is : number ≡ arrivalAt d i .number) (says : answer ≡ answerAt d i)
-    (t : LineTaken comparing (recordLine (i + 1) number answer) text at new newer p) where
-  -- the listing, after the line of record i + 1
-  line-listed : comparing ≡ false → ListedAt d y (i + 1) (at + p .octets) old newer
-  line-listed e = listing-next d y old h (s .listed e) is says (ap (λ (q : Part). q .octets) (t .listed e .0)) (t .listed e .1)
+    (t : Taken comparing (recordLine (i + 1) number answer) text at new newer p) where
+  -- the listing up to record i + 1
+  pub line-more : Taken comparing (linesTo d y (i + 1)) text 0 old newer (record { octets = at + p .octets; whole = p .whole })
+  line-more = rw (lines-next d y i h, ← is, ← says) (taken-more s t)
 
   -- after a line that is written or agrees
   pub passed-next : p .whole ≡ true → PassedTo d y text comparing (i + 1) (at + p .octets) old newer
-  passed-next w =
-      record {
-        listed = line-listed;
-        compared = λ e. record-left d y (h .file) text p i at (s .compared e) (h .inside) number answer is says (t .compared e) w;
-        places = t .places ∙ s .places;
-      }
+  passed-next w = rw w at line-more
 
-  -- only a line that is compared differs
-  line-differs : p .whole ≡ false → (comparing ≡ true) × Agreed (sampleText d) text (record { octets = at + p .octets; whole = p .whole })
-  line-differs w = go comparing refl
-    where
-      go : (b : Bool) → comparing ≡ b → (comparing ≡ true) × Agreed (sampleText d) text (record { octets = at + p .octets; whole = p .whole })
-      go true e = (e, record-stop d y (h .file) text p i at (s .compared e) (h .inside) number answer is says (t .compared e) w)
-      go false e = absurd (true≢false (sym (ap (λ (q : Part). q .whole) (t .listed e .0)) ∙ w))
-
-  -- at such a line the pass ends
+  -- at one that differs the pass ends
   pub passed-stop : (c : Counts) → p .whole ≡ false
       → PassEnded d y text comparing old newer (record { part = record { octets = at + p .octets; whole = p .whole }; counts = c })
-  passed-stop c w = record { all = λ v. absurd (true≢false (sym v ∙ w)); differs = λ v. line-differs w; places = t .places ∙ s .places }
-
--- the place after a line: in a text it is one of the text's, and a listing is short
-pub place-fits : (file : List ℕ) → Octets file → (y : Layout) (text : List ℕ) → length text < 2 ^ 64 → (comparing : Bool)
-    → {i at number : ℕ} {answer : Answer} {old new newer : List ℕ} {p : Part}
-    → HasRecord (decode file) y i → PassedTo (decode file) y text comparing i at old new
-    → number ≡ arrivalAt (decode file) i .number → answer ≡ answerAt (decode file) i
-    → LineTaken comparing (recordLine (i + 1) number answer) text at new newer p → at + p .octets < 2 ^ 64
-place-fits file o y text short comparing {i} {at} {number} {answer} {old} {new} {newer} {p} h s is says t = go comparing refl
-  where
-    go : (b : Bool) → comparing ≡ b → at + p .octets < 2 ^ 64
-    go true e = omega (arith, short, part-most (recordLine (i + 1) number answer) text at p (s .compared e .most) (t .compared e))
-    go false e =
-        let inside : i + 1 ≤ y .arrivals = omega (arith, h .inside) in
-        omega (arith, h .file .few, line-listed (decode file) y text comparing h s is says t e .place, lines-within file y (h .file) o (i + 1) inside)
+  passed-stop c w =
+      let r = lines-rest d y (h .file) (y .arrivals - (i + 1)) (i + 1) (omega (arith, h .inside)) in
+      record { all = λ v. absurd (true≢false (sym v ∙ w)); differs = λ v. rw (r .is) (taken-stop (r .rest) line-more w) }
 
 -- after the last record
 pub passed-all : (d : Decoded) (y : Layout) (text : List ℕ) (comparing : Bool) {i at : ℕ} {old new : List ℕ} {c : Counts} → FileLayout d y
@@ -108,62 +150,53 @@ pub passed-all : (d : Decoded) (y : Layout) (text : List ℕ) (comparing : Bool)
     → PassEnded d y text comparing old new (record { part = record { octets = at; whole = true }; counts = c })
 passed-all d y text comparing {i} h most all s e =
     let last : i ≡ y .arrivals = omega arith in
-    record {
-      all = λ v. (rw last at s, e ∙ ap counts (answers-end d y i h all));
-      differs = λ v. absurd (true≢false v);
-      places = s .places;
-    }
+    record { all = λ v. (rw last at s, e ∙ ap counts (answers-end d y i h all)); differs = λ v. absurd (true≢false v) }
 
 -- ---- the first line and the last
 
 module _ (d : Decoded) (y : Layout) (laid : FileLayout d y) (text : List ℕ) (comparing : Bool) {old start : List ℕ} {p : Part}
-    (t : LineTaken comparing (headerLine (y .sent) (y .arrivals)) text 0 old start p) where
-  -- after the first line
-  pub first-taken : p .whole ≡ true → PassedTo d y text comparing 0 (p .octets) start start
-  first-taken w =
+    (t : Taken comparing (headerLine (y .sent) (y .arrivals)) text 0 old start p) where
+  -- the first line
+  abbrev header : List ℕ
+  header = headerLine (y .sent) (y .arrivals)
+
+  -- the listing after it
+  rest : Rest d y 0
+  rest = lines-rest d y laid (y .arrivals) 0 (omega arith)
+
+  -- which it is a part of
+  header-le : length header ≤ length (sampleText d)
+  header-le = rw (rest .is, length-append (linesTo d y 0) (rest .rest), lines-start d y) (omega arith)
+
+  -- it stands in memory that has it
+  first-again : Taken comparing header text 0 start start p
+  first-again =
       record {
-        listed = λ e. listing-start d y laid old (t .listed e .1) (ap (λ (q : Part). q .octets) (t .listed e .0));
-        compared = λ e. header-left d y laid text p (t .compared e) w;
+        listed = λ e. (
+          t .listed e .0,
+          λ room.
+              let there = t .listed e .1 (omega (arith, room, t .places)) in
+              there ∙ sym (splice-again header header old (omega arith)) ∙ ap (splice 0 header) (sym there),
+        );
+        compared = t .compared;
         places = refl;
       }
 
+  -- after the first line
+  pub first-taken : p .whole ≡ true → PassedTo d y text comparing 0 (p .octets) start start
+  first-taken w = rw (lines-start d y, ← w) first-again
+
   -- where it differs
-  pub first-differs : p .whole ≡ false → TextTaken comparing (sampleText d) text old start p
-  first-differs w =
-      record {
-        listed = λ e. absurd (true≢false (sym (ap (λ (q : Part). q .whole) (t .listed e .0)) ∙ w));
-        compared = λ e. header-stop d y laid text p (t .compared e) w;
-        places = t .places;
-      }
+  pub first-differs : p .whole ≡ false → Taken comparing (sampleText d) text 0 old start p
+  first-differs w = rw (rest .is, lines-start d y) (taken-stop (rest .rest) t w)
 
   -- where a record's line differs
   pub record-differs : {new : List ℕ} (r : PassResult) → PassEnded d y text comparing start new r → r .part .whole ≡ false
-      → TextTaken comparing (sampleText d) text old new (r .part)
-  record-differs r s w =
-      record {
-        listed = λ e. absurd (true≢false (sym (s .differs w .0) ∙ e));
-        compared = λ e. s .differs w .1;
-        places = s .places ∙ t .places;
-      }
+      → Taken comparing (sampleText d) text 0 old new (r .part)
+  record-differs r s w = taken-over header-le t (s .differs w)
 
   -- after the last line
   pub last-taken : {at : ℕ} {new newer : List ℕ} {c : Counts} {q : Part} → PassedTo d y text comparing (y .arrivals) at start new
-      → c ≡ counts (answersOf d) → LineTaken comparing (endLine c) text at new newer q
-      → TextTaken comparing (sampleText d) text old newer (record { octets = at + q .octets; whole = q .whole })
-  last-taken {at} {new} {newer} {c} {q} s ec u =
-      record {
-        listed =
-            λ e.
-            listing-end d y laid old (t .listed e .1) (s .listed e) ec (ap (λ (v : Part). v .octets) (u .listed e .0)) (u .listed e .1);
-        compared = λ e. end-left d y laid text q at (s .compared e) c ec (u .compared e);
-        places = u .places ∙ s .places ∙ t .places;
-      }
-
--- the place after the last line
-pub last-fits : (file : List ℕ) → Octets file → (y : Layout) → FileLayout (decode file) y → (text : List ℕ) → length text < 2 ^ 64 → (comparing : Bool)
-    → {old new : List ℕ} (r : Part) → TextTaken comparing (sampleText (decode file)) text old new r → r .octets < 2 ^ 64
-last-fits file o y laid text short comparing r t = go comparing refl
-  where
-    go : (b : Bool) → comparing ≡ b → r .octets < 2 ^ 64
-    go true e = omega (arith, short, t .compared e .octets, common-le (sampleText (decode file)) text)
-    go false e = omega (arith, t .listed e .0, sample-within file y laid o)
+      → c ≡ counts (answersOf d) → Taken comparing (endLine c) text at new newer q
+      → Taken comparing (sampleText d) text 0 old newer (record { octets = at + q .octets; whole = q .whole })
+  last-taken s ec u = taken-over header-le t (rw (← lines-end d y laid, ← ec) (taken-more s u))

@@ -1,9 +1,15 @@
--- What is asked for, by a record or by n: a call is refused with the file's own refusal or where the number lies outside its range, and
--- then finds nothing; else the answer and the gap at record i + 1 are those of the arrivals before it. Assumes nothing.
+-- What the calls answer that ask for a record or for n. A call is refused with the file's own refusal, or where the number asked for lies
+-- outside its range. Then it finds nothing: a refused file has no arrivals, an accepted one no such record, and a degree outside its range
+-- is taken over no answers. Else `each` has at place i what f gives of element i and the i before it (`each-after-at`, by induction over
+-- the list), so that `answerAt` stands at the record asked for (`answer-known`), and the gap of that answer's position (`gap-known`). Of a
+-- position that is found, 0 for none: at 0 there is no gap (`gap-copy`); else it is at most L, since more arrivals have no fewer first
+-- arrivals (`firsts-grow`, `position-le`), and the gap is that of this position (`gap-placed`).
+-- Here d is the decoded file, y its layout, i the place of a record from 0 and asked its number from 1, n that of a degree, r the refusal
+-- found, e that it is the one due, z that it is 0, l a list of what stands at records, and p a position. Assumes nothing.
 use mathlib.Core.Path.{_≡_, refl, sym, ap, ap₂, _∙_}
 use mathlib.Core.Bool.{Bool, true, false, cond}
 use mathlib.Core.List.{List, [], _∷_, _++_, append-nil, append-assoc}
-use mathlib.Core.Option.{none, some}
+use mathlib.Core.Option.{some, Option·some-ne-none}
 use Prim.Native.Nat.{ℕ, zero, suc, _+_, _-_, _≤_, _<_}
 use native.Mathlib.Omega.{arith}
 use lib.Dec.{leb}
@@ -21,7 +27,7 @@ use Rattle.rfc4737.specs.Runs.{arrived}
 use Rattle.rfc4737.specs.Gaps.{positionOf, gapOf, gaps}
 use Rattle.rfc4737.specs.Ratios.{nReordered}
 use Rattle.rfc4737.proofs.Due.{first-none, first-one, case-none, between, not-outside}
-use Rattle.rfc4737.proofs.Arrivals.{has-firsts, firsts-more, with-duplicate, with-first, length-firsts}
+use Rattle.rfc4737.proofs.Arrivals.{firsts-more, with-duplicate, with-first, firsts-first, length-firsts}
 use Rattle.rfc4737.proofs.Folds.{answer-duplicate, answer-first, arrived-answers, length-answers}
 use Rattle.rfc4737.specs.Judge.{sentMost}
 use Rattle.sample.specs.declared.Layout.{Layout}
@@ -30,12 +36,12 @@ use Rattle.metrics.specs.Sample.{sizeOf, sampleArrivals, answersOf}
 use Rattle.sample.specs.Places.{noArrival}
 use Rattle.metrics.specs.Private.Sample.{arrivalAt, before, answerAt, FileLayout, HasRecord}
 use Rattle.metrics.specs.Figures.{atRecord, askedRefusal, recordRefusal, degreeAnswers, recordAnswer, recordGap, degreeCounts, degreeMost}
-use Rattle.metrics.specs.Private.Steps.{placeIn, DiscoverersAt, gapBy}
+use Rattle.metrics.specs.Private.Steps.{known}
 use Rattle.metrics.specs.declared.RecordAnswer.{RecordAnswer}
 use Rattle.metrics.specs.declared.RecordGap.{RecordGap}
 use Rattle.metrics.specs.declared.DegreeCounts.{DegreeCounts}
-use Rattle.metrics.proofs.Follow.{arrivals-laid, before-more}
-use Rattle.metrics.proofs.Discovered.{gap-marked}
+use Rattle.metrics.proofs.TablesFollow.{arrivals-laid, before-more}
+use Rattle.metrics.proofs.OneArrivalMore.{known-some}
 
 -- ---- refusals
 
@@ -53,7 +59,7 @@ asked-outside (refused r) asked h low high = omega arith
 asked-outside (accepted s) asked h low high = h (rw (not-outside 1 (length (sampleArrivals (accepted s))) asked low high))
 
 -- where a degree is refused there are no answers
-pub degree-refused : (d : Decoded) (n : ℕ) → (askedRefusal d 1 degreeMost n ≡ 0 → ⊥) → degreeAnswers d n ≡ []
+degree-refused : (d : Decoded) (n : ℕ) → (askedRefusal d 1 degreeMost n ≡ 0 → ⊥) → degreeAnswers d n ≡ []
 unfolding answers each eachAfter
 degree-refused (refused r) n h = go (outside 1 degreeMost n)
   where
@@ -67,7 +73,7 @@ degree-refused (accepted s) n h = go (outside 1 degreeMost n) refl
     go false e = absurd (h (rw e))
 
 -- where it is not, all
-pub degree-accepted : (d : Decoded) (n : ℕ) → askedRefusal d 1 degreeMost n ≡ 0 → degreeAnswers d n ≡ answersOf d
+degree-accepted : (d : Decoded) (n : ℕ) → askedRefusal d 1 degreeMost n ≡ 0 → degreeAnswers d n ≡ answersOf d
 degree-accepted d n e = rw (asked-inside d 1 degreeMost n e)
 
 -- ---- what stands at a record
@@ -104,7 +110,7 @@ answer-at d other i h = each-after-at (answerTo (sizeOf d)) noArrival other [] (
 
 module _ (d : Decoded) (asked : ℕ) where
   -- a refused call has no answer and no gap
-  pub answer-refused : (other : Answer) → (recordRefusal d asked ≡ 0 → ⊥) → atRecord other (answersOf d) asked ≡ other
+  answer-refused : (other : Answer) → (recordRefusal d asked ≡ 0 → ⊥) → atRecord other (answersOf d) asked ≡ other
   answer-refused other h =
       at-outside other (answersOf d) asked (λ low high. asked-outside d asked h low (omega (arith, length-answers (sizeOf d) (sampleArrivals d))))
 
@@ -114,7 +120,7 @@ module _ (d : Decoded) (asked : ℕ) where
   gaps-length = length-map (answersOf d) _ ∙ length-answers (sizeOf d) (sampleArrivals d)
 
   -- and no gap
-  pub gap-refused : (recordRefusal d asked ≡ 0 → ⊥) → atRecord Gap.None (gaps (answersOf d)) asked ≡ Gap.None
+  gap-refused : (recordRefusal d asked ≡ 0 → ⊥) → atRecord Gap.None (gaps (answersOf d)) asked ≡ Gap.None
   gap-refused h = at-outside Gap.None (gaps (answersOf d)) asked (λ low high. asked-outside d asked h low (omega (arith, gaps-length)))
 
   module _ (e : recordRefusal d asked ≡ 0) where
@@ -137,19 +143,12 @@ module _ (d : Decoded) (asked : ℕ) where
 
 -- ---- the position of an answer
 
--- a position that is not 0 is the answer's
-pub position-some : (a : Answer) → 1 ≤ placeIn a → positionOf a ≡ some (placeIn a)
-unfolding positionOf
-position-some (Answer.Duplicate f) h = absurd (omega arith)
-position-some (Answer.InOrder f) h = refl
-position-some (Answer.Reordered f) h = refl
-
 -- the position of a first arrival
-first-place : (size : ℕ → ℕ) (fs : List Arrival) (a : Arrival) → placeIn (firstAnswer size fs a) ≡ length fs + 1
-unfolding firstAnswer inOrderAnswer reorderedAnswer
+first-place : (size : ℕ → ℕ) (fs : List Arrival) (a : Arrival) → positionOf (firstAnswer size fs a) ≡ some (length fs + 1)
+unfolding firstAnswer inOrderAnswer reorderedAnswer positionOf
 first-place size fs a = go (isInOrder fs (a .number))
   where
-    go : (t : Bool) → placeIn (cond t (inOrderAnswer fs a) (reorderedAnswer size fs a (discontinuity fs (a .number)))) ≡ length fs + 1
+    go : (t : Bool) → positionOf (cond t (inOrderAnswer fs a) (reorderedAnswer size fs a (discontinuity fs (a .number)))) ≡ some (length fs + 1)
     go true = refl
     go false = refl
 
@@ -168,39 +167,28 @@ firsts-grow l (a ∷ m) = let k = rw append-assoc at (firsts-grow (l ++ (a ∷ [
 
 module _ (d : Decoded) (y : Layout) (i : ℕ) (h : HasRecord d y i) where
   -- the position of record i + 1, if it is a first arrival
-  new-place : has (arrivalAt d i .number) (before d i) ≡ false → placeIn (answerAt d i) ≡ length (firsts (before d i)) + 1
+  new-place : has (arrivalAt d i .number) (before d i) ≡ false → positionOf (answerAt d i) ≡ some (length (firsts (before d i)) + 1)
   new-place e = rw (answer-first (sizeOf d) (before d i) (arrivalAt d i) e) (first-place (sizeOf d) (firsts (before d i)) (arrivalAt d i))
 
-  -- and none if it is a copy
-  copy-answer : has (arrivalAt d i .number) (before d i) ≡ true → (placeIn (answerAt d i) ≡ 0) × (positionOf (answerAt d i) ≡ none)
-  unfolding positionOf
-  copy-answer e = rw (answer-duplicate (sizeOf d) (before d i) (arrivalAt d i) e) (refl, refl)
-
-  -- position 0 is no position
-  pub position-none : placeIn (answerAt d i) ≡ 0 → positionOf (answerAt d i) ≡ none
-  position-none z = go (has (arrivalAt d i .number) (before d i)) refl
-    where
-      go : (t : Bool) → has (arrivalAt d i .number) (before d i) ≡ t → positionOf (answerAt d i) ≡ none
-      go true e = copy-answer e .1
-      go false e = absurd (omega (arith, z, new-place e))
-
   -- every position is at most L
-  pub position-le : placeIn (answerAt d i) ≤ arrived (answersOf d)
-  position-le = rw (arrived-answers (sizeOf d) (sampleArrivals d)) (go (has (arrivalAt d i .number) (before d i)) refl)
+  position-le : (p : ℕ) → positionOf (answerAt d i) ≡ some p → p ≤ arrived (answersOf d)
+  unfolding positionOf
+  position-le p is = rw (arrived-answers (sizeOf d) (sampleArrivals d)) (go (has (arrivalAt d i .number) (before d i)) refl)
     where
       grown : length (firsts (before d (i + 1))) ≤ length (firsts (sampleArrivals d))
       grown = rw (take-append-drop (i + 1) (sampleArrivals d)) at (firsts-grow (before d (i + 1)) (drop (i + 1) (sampleArrivals d)))
 
-      go : (t : Bool) → has (arrivalAt d i .number) (before d i) ≡ t → placeIn (answerAt d i) ≤ length (firsts (sampleArrivals d))
-      go true e = omega (arith, copy-answer e .0)
+      go : (t : Bool) → has (arrivalAt d i .number) (before d i) ≡ t → p ≤ length (firsts (sampleArrivals d))
+      go true e = absurd (Option·some-ne-none p (sym is ∙ ap positionOf (answer-duplicate (sizeOf d) (before d i) (arrivalAt d i) e)))
       go false e =
           let more : firsts (before d (i + 1)) ≡ firsts (before d i) ++ (arrivalAt d i ∷ []) =
-          ap firsts (before-more d y i h) ∙ firsts-more (before d i) (arrivalAt d i)
-          ∙ with-first (firsts (before d i)) (arrivalAt d i) (has-firsts (arrivalAt d i .number) (before d i) ∙ e) in
-          omega (arith, grown, ap length more, length-append (firsts (before d i)) (arrivalAt d i ∷ []), new-place e)
+          ap firsts (before-more d y i h) ∙ firsts-first (before d i) (arrivalAt d i) e in
+          let both : some p ≡ some (length (firsts (before d i)) + 1) = sym is ∙ new-place e in
+          let here : p ≡ length (firsts (before d i)) + 1 = cc in
+          omega (arith, grown, ap length more, length-append (firsts (before d i)) (arrivalAt d i ∷ []), here)
 
   -- and L at most 4,096
-  pub arrived-le : arrived (answersOf d) ≤ sentMost
+  arrived-le : arrived (answersOf d) ≤ sentMost
   arrived-le =
       omega (arith, arrived-answers (sizeOf d) (sampleArrivals d), length-firsts (sampleArrivals d), arrivals-laid d y (h .file), h .file .few)
 
@@ -247,7 +235,7 @@ module _ (d : Decoded) (asked r : ℕ) (e : r ≡ recordRefusal d asked) where
   gap-answered-refused h = ap₂ gap-with e (sym (gap-refused d asked (λ z. h (e ∙ z))))
 
   -- without one
-  pub gap-answered : r ≡ 0 → (g : Gap) → g ≡ gapOf (answersOf d) (positionOf (answerAt d (asked - 1))) → gap-with r g ≡ recordGap d asked
+  gap-answered : r ≡ 0 → (g : Gap) → g ≡ gapOf (answersOf d) (positionOf (answerAt d (asked - 1))) → gap-with r g ≡ recordGap d asked
   unfolding recordGap
   gap-answered z g k = ap₂ gap-with e (k ∙ sym (gap-known d asked (sym e ∙ z)))
 
@@ -274,22 +262,21 @@ module _ (d : Decoded) (y : Layout) (h : FileLayout d y) (asked r : ℕ) (e : r 
   inside : HasRecord d y (asked - 1)
   inside = record { file = h; inside = omega (arith, record-laid) }
 
-  module _ (p : ℕ) (is : p ≡ placeIn (answerAt d (asked - 1))) where
+  module _ (p : ℕ) (is : known p ≡ positionOf (answerAt d (asked - 1))) where
     -- a copy has none
     pub gap-copy : p ≡ 0 → gap-with r Gap.None ≡ recordGap d asked
     unfolding gapOf
-    gap-copy s = gap-answered d asked r e z Gap.None (sym (ap (gapOf (answersOf d)) (position-none d y (asked - 1) inside (sym is ∙ s))))
+    gap-copy s = gap-answered d asked r e z Gap.None (ap (gapOf (answersOf d)) (sym (ap known s) ∙ is))
 
-    -- a position is at most 4,096
-    pub place-few : p ≤ sentMost
-    place-few = omega (arith, is, position-le d y (asked - 1) inside, arrived-le d y (asked - 1) inside)
+    module _ (s : p ≡ 0 → ⊥) where
+      -- any other arrival has a position
+      at : positionOf (answerAt d (asked - 1)) ≡ some p
+      at = sym is ∙ known-some p s
 
-    -- any other that of its position
-    pub gap-placed : (p ≡ 0 → ⊥) → (found : List ℕ) → DiscoverersAt (answersOf d) found → (g : Gap) → g ≡ gapBy found p → gap-with r g ≡ recordGap d asked
-    gap-placed s found m g k =
-        let low : 1 ≤ p = omega (arith, s) in
-        let at : positionOf (answerAt d (asked - 1)) ≡ some p = rw (sym is) at (position-some (answerAt d (asked - 1)) (rw is at low)) in
-        gap-answered d asked r e z g
-        (k
-        ∙ sym (gap-marked (answersOf d) found m p low (omega (arith, is, position-le d y (asked - 1) inside)) place-few)
-        ∙ ap (gapOf (answersOf d)) (sym at))
+      -- which is at most 4,096
+      pub place-few : p ≤ sentMost
+      place-few = omega (arith, position-le d y (asked - 1) inside p at, arrived-le d y (asked - 1) inside)
+
+      -- and the gap of that position
+      pub gap-placed : (g : Gap) → (p ≤ arrived (answersOf d) → g ≡ gapOf (answersOf d) (some p)) → gap-with r g ≡ recordGap d asked
+      gap-placed g k = gap-answered d asked r e z g (k (position-le d y (asked - 1) inside p at) ∙ ap (gapOf (answersOf d)) (sym at))

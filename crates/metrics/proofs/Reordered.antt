@@ -1,5 +1,11 @@
--- Figures of a reordered packet over the numbers of the first arrivals before it, and where its discontinuity stands.
--- Assumes nothing.
+-- Figures of a reordered packet over the numbers of the first arrivals before it. Places whose numbers are above s, from one to another, are
+-- joined, and grow back by one (`above-join`, `above-back`). The byte offset is a sum over the positions: one more adds its size if its
+-- number is greater (`offset-greater`), else nothing (`offset-same`). The largest n grows by 1 at a greater number and is 0 after any
+-- other, so it counts the positions behind the last that is not greater (`largest-back`, by induction over these positions). Last, where a
+-- discontinuity stands (`found`), by induction over the first arrivals: a discontinuity stays; where there is none yet the byte offset is
+-- 0, and an arrival of a greater number is the discontinuity.
+-- Here numbers is the table of the numbers of the first arrivals fs, count their number, s the packet's, p the positions passed, n the
+-- number at the next one, and from a place up to which the byte offset is 0. Assumes nothing.
 use mathlib.Core.Path.{_≡_, refl, sym, ap, ap₂, _∙_}
 use mathlib.Core.Bool.{Bool, true, false, cond}
 use mathlib.Core.List.{List, [], _∷_, _++_}
@@ -30,7 +36,7 @@ module _ (numbers : List ℕ) (s : ℕ) where
   above-none e = record { order = omega arith; at = λ p a b. absurd (omega arith) }
 
   -- at one place
-  pub above-one : (p : ℕ) → s < getD numbers p 0 → Above numbers s p (p + 1)
+  above-one : (p : ℕ) → s < getD numbers p 0 → Above numbers s p (p + 1)
   above-one p g = record { order = omega arith; at = λ q a b. let e : p ≡ q = omega arith in rw e at g }
 
   -- to a place, and from there on
@@ -50,7 +56,7 @@ module _ (numbers : List ℕ) (s : ℕ) where
 -- ---- over the numbers of a table
 
 module _ (numbers : List ℕ) (count s : ℕ) where
-  -- a sum is the byte offset over the first p positions, where none of the first `from` has a greater number
+  -- a sum is the byte offset over the first p positions, given that it is 0 over the first `from`
   abbrev pub OffsetTo : (ℕ → ℕ) → ℕ → ℕ → ℕ → Type 0
   OffsetTo size from p sum =
       (fs : List Arrival) → NumberTable fs numbers count → byteOffset size (take from fs) s ≡ 0 → sum ≡ byteOffset size (take p fs) s
@@ -78,7 +84,7 @@ module _ (numbers : List ℕ) (count s : ℕ) where
         o fs h none-before
         ∙ sym (fold-take _ 0 noArrival fs p (omega (arith, h .all)) ∙ rw (at fs h, le-ltb s n g) (omega arith))
 
-    -- the same, where the number at position p + 1 is greater
+    -- where the number at position p + 1 is greater it is counted too
     largest-one-greater : s < n → LargestFrom (p + 1) → LargestFrom p
     unfolding largestN
     largest-one-greater g o fs h =
@@ -86,7 +92,7 @@ module _ (numbers : List ℕ) (count s : ℕ) where
         fold-take _ 0 noArrival fs p (omega (arith, h .all)) ∙ rw (at fs h, lt-ltb s n g) in
         omega (arith, o fs h)
 
-    -- and where it is not
+    -- and where it is not the count ends there
     largest-one-none : n ≤ s → LargestFrom (p + 1) → (fs : List Arrival) → NumberTable fs numbers count → count - (p + 1) ≡ largestN fs s
     unfolding largestN
     largest-one-none g o fs h =
@@ -119,8 +125,8 @@ module _ (numbers : List ℕ) (count s : ℕ) where
 
 -- ---- where a discontinuity stands
 
--- the discontinuity p of a packet s among first arrivals: it is one of them, and none before it has a greater number
-pub record Found (size : ℕ → ℕ) (fs : List Arrival) (s : ℕ) (p : FirstArrival) : Type 0 where
+-- the discontinuity p of a packet s among first arrivals: it is one of them, and over those before it the byte offset is 0
+pub record FoundDiscontinuity (size : ℕ → ℕ) (fs : List Arrival) (s : ℕ) (p : FirstArrival) : Type 0 where
   pub low : 1 ≤ p .position
   pub high : p .position ≤ length fs
   pub time : getD fs (p .position - 1) noArrival .time ≡ p .time
@@ -129,7 +135,7 @@ pub record Found (size : ℕ → ℕ) (fs : List Arrival) (s : ℕ) (p : FirstAr
 -- nothing is above s where no discontinuity is found, and what is found is such
 record Searched (size : ℕ → ℕ) (fs : List Arrival) (s : ℕ) : Type 0 where
   none-above : discontinuity fs s ≡ none → byteOffset size fs s ≡ 0
-  some-found : (p : FirstArrival) → discontinuity fs s ≡ some p → Found size fs s p
+  some-found : (p : FirstArrival) → discontinuity fs s ≡ some p → FoundDiscontinuity size fs s p
 
 -- the same under one first arrival more
 searched-more : (size : ℕ → ℕ) (s : ℕ) (fs : List Arrival) (a : Arrival) → Searched size fs s → Searched size (fs ++ (a ∷ [])) s
@@ -139,7 +145,7 @@ searched-more size s fs a h = go (discontinuity fs s) refl (ltb s (a .number)) r
     both : discontinuity (fs ++ (a ∷ [])) s ≡ orElse (discontinuity fs s) (cond (ltb s (a .number)) (some (placeAfter fs a)) none)
     both = rw (placed-more, firstAbove-append)
 
-    earlier : (p : FirstArrival) → Found size fs s p → Found size (fs ++ (a ∷ [])) s p
+    earlier : (p : FirstArrival) → FoundDiscontinuity size fs s p → FoundDiscontinuity size (fs ++ (a ∷ [])) s p
     earlier p k =
         record {
           low = k .low;
@@ -151,7 +157,7 @@ searched-more size s fs a h = go (discontinuity fs s) refl (ltb s (a .number)) r
     last : length fs + 1 - 1 ≡ length fs
     last = omega arith
 
-    own : byteOffset size fs s ≡ 0 → Found size (fs ++ (a ∷ [])) s (placeAfter fs a)
+    own : byteOffset size fs s ≡ 0 → FoundDiscontinuity size (fs ++ (a ∷ [])) s (placeAfter fs a)
     own e =
         record {
           low = omega arith;
@@ -160,7 +166,7 @@ searched-more size s fs a h = go (discontinuity fs s) refl (ltb s (a .number)) r
           alone = rw (last, take-append-seam fs (a ∷ [])) e;
         }
 
-    only : (p : FirstArrival) → discontinuity (fs ++ (a ∷ [])) s ≡ some p → Found size (fs ++ (a ∷ [])) s p → Searched size (fs ++ (a ∷ [])) s
+    only : (p : FirstArrival) → discontinuity (fs ++ (a ∷ [])) s ≡ some p → FoundDiscontinuity size (fs ++ (a ∷ [])) s p → Searched size (fs ++ (a ∷ [])) s
     only p e k =
         record {
           none-above = λ n. absurd (Option·some-ne-none p (sym e ∙ n));
@@ -178,7 +184,7 @@ searched-more size s fs a h = go (discontinuity fs s) refl (ltb s (a .number)) r
         }
 
 -- every discontinuity is such
-pub found : (size : ℕ → ℕ) (s : ℕ) (fs : List Arrival) (p : FirstArrival) → discontinuity fs s ≡ some p → Found size fs s p
+pub found : (size : ℕ → ℕ) (s : ℕ) (fs : List Arrival) (p : FirstArrival) → discontinuity fs s ≡ some p → FoundDiscontinuity size fs s p
 unfolding discontinuity placed firstAbove byteOffset each eachAfter
 found size s fs =
     snoc-ind (λ (fs : List Arrival). Searched size fs s) (searched-more size s)

@@ -1,5 +1,10 @@
--- The shares of some arrivals, with their two tables: at the start, and under one arrival more, by what it is. Every new packet, in
--- order or not, is linked by its largest n. Assumes nothing.
+-- The shares of some arrivals, with their two tables. Before any arrival all is 0, but NextExp 1. Each share is a count over the answers,
+-- and takes one step by the answer of one arrival more (`shares-more`). The link of a packet is 0 exactly if it has not arrived, so the
+-- link tells a copy, which changes nothing (`shared-copy`). A new packet adds its number, and 1 and its largest n as its link: the largest
+-- n is 0 where it is in order (`shared-in-order`), and what was found along the links where it is reordered (`shared-late`). A share is no
+-- greater than the number of arrivals (`shares-few`).
+-- Here low and high are the two n that are counted for, l the arrivals, a the next one, t the shares, n its largest n, and a prime marks
+-- what is after it. Assumes nothing.
 use mathlib.Core.Path.{_≡_, refl, sym, ap, _∙_}
 use mathlib.Core.Bool.{Bool, true, false, cond, not, _||_, or-true, or-false}
 use mathlib.Core.List.{List, [], _∷_, _++_}
@@ -17,8 +22,8 @@ use Rattle.rfc4737.specs.Extent.{largestN}
 use Rattle.rfc4737.specs.Answer.{inOrderAnswer, reorderedAnswer, answerTo, answers}
 use Rattle.rfc4737.specs.Runs.{isDuplicate, isReordered, arrived}
 use Rattle.rfc4737.specs.Ratios.{isNReordered, nReordered}
-use Rattle.rfc4737.proofs.Lists.{snoc-ind}
-use Rattle.rfc4737.proofs.Arrivals.{has-firsts, has-more, firsts-more, with-duplicate, with-first, count-more}
+use Rattle.rfc4737.proofs.Lists.{snoc-ind, zeros}
+use Rattle.rfc4737.proofs.Arrivals.{has-firsts, has-more, count-more, firsts-duplicate, firsts-first}
 use Rattle.rfc4737.proofs.Folds.{answers-more, length-answers, arrived-more, answer-duplicate, answer-first, first-in-order, first-reordered}
 use Rattle.rfc4737.specs.Judge.{sentMost, arrivalsMost}
 use Rattle.sample.specs.Decode.{Decoded}
@@ -27,8 +32,7 @@ use Rattle.metrics.specs.Private.Sample.{before, numberPlaces}
 use Rattle.metrics.specs.Private.Tables.{NumberTable}
 use Rattle.metrics.specs.Private.Steps.{reachedBy, sharesOf, ShareTables}
 use Rattle.metrics.specs.declared.figures.Shares.{Shares}
-use Rattle.metrics.proofs.Follow.{numbered-more}
-use Rattle.metrics.proofs.OneArrivalMore.{zeros}
+use Rattle.metrics.proofs.TablesFollow.{numbered-more}
 use Rattle.metrics.proofs.CountsBySeen.{has-below, next-arrival}
 use Rattle.metrics.proofs.Links.{largest-next, linked-start, linked-set}
 
@@ -120,14 +124,11 @@ module _ (low high : ℕ) (size : ℕ → ℕ) (l : List Arrival) (a : Arrival) 
       record {
         shares = h .shares ∙ sym (shares-copy low high size l a (old e));
         places = h .places;
-        numbered = rw same (h .numbered);
-        linked = rw same (h .linked);
+        numbered = rw (firsts-duplicate l a (old e)) (h .numbered);
+        linked = rw (firsts-duplicate l a (old e)) (h .linked);
         arrived = λ s g. h .arrived s g ∙ ap not (sym (has-more s l a ∙ kept s (eqb (a .number) s) refl));
       }
     where
-      same : firsts (l ++ (a ∷ [])) ≡ firsts l
-      same = firsts-more l a ∙ with-duplicate (firsts l) a (has-firsts (a .number) l ∙ old e)
-
       kept : (s : ℕ) (u : Bool) → eqb (a .number) s ≡ u → (has s l || u) ≡ has s l
       kept s true q = or-true (has s l) ∙ sym (rw (eqb-true (a .number) s q) at (old e))
       kept s false q = or-false (has s l)
@@ -139,14 +140,11 @@ module _ (low high : ℕ) (size : ℕ → ℕ) (l : List Arrival) (a : Arrival) 
       record {
         shares = shares;
         places = (length-set numbers (t .whole) (a .number) ∙ h .places .0, length-set links (a .number) (n + 1) ∙ h .places .1);
-        numbered = rw (more, one) (numbered-more (firsts l) a numbers (t .whole) (omega (arith, h .places, h .numbered .all)) (h .numbered));
-        linked = rw more (linked-set 0 (firsts l) a (has-firsts (a .number) l ∙ new e) links (h .linked) (n + 1) (omega (arith, h .places)) (omega arith));
+        numbered = rw (firsts-first l a (new e), one) (numbered-more (firsts l) a numbers (t .whole) (omega (arith, h .places, h .numbered .all)) (h .numbered));
+        linked = rw (firsts-first l a (new e)) (linked-set 0 (firsts l) a (has-firsts (a .number) l ∙ new e) links (h .linked) (n + 1) (omega (arith, h .places)) (omega arith));
         arrived = λ s g. marked s g (eqb (a .number) s) refl ∙ ap not (sym (has-more s l a));
       }
     where
-      more : firsts (l ++ (a ∷ [])) ≡ firsts l ++ (a ∷ [])
-      more = firsts-more l a ∙ with-first (firsts l) a (has-firsts (a .number) l ∙ new e)
-
       marked : (s : ℕ) → s ≤ sentMost → (u : Bool) → eqb (a .number) s ≡ u → eqb (getD (set links (a .number) (n + 1)) s 0) 0 ≡ not (has s l || eqb (a .number) s)
       marked s g true q =
           rw (q, or-true (has s l), ← eqb-true (a .number) s q, getD-set-same links (a .number) (n + 1) 0 (omega (arith, h .places)))

@@ -3,6 +3,4 @@ pub mod Sample
 pub mod Tables
 pub mod Steps
 pub mod Engine
-pub mod Compared
 pub mod Taken
-pub mod Passed

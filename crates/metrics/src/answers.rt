@@ -8,17 +8,17 @@ ghost use Rattle.metrics.specs.Private.Sample.{FileLayout, HasRecord, be
 ghost use Rattle.metrics.specs.Private.Tables.{EngineTables};
 ghost use Rattle.metrics.specs.Figures.{recordAnswer};
 use crate::RecordAnswer;
+use crate::classes::Class;
+use crate::classes::answer_by;
+use crate::classes::class_of;
 use crate::input;
-use crate::look::Class;
-use crate::look::answer_by;
-use crate::look::class_of;
 use crate::scan::largest;
 use crate::scan::offset;
 use crate::tables::FIRSTS;
 use crate::tables::PLACES;
 use crate::tables::State;
 use crate::tables::note;
-use crate::tables::start;
+use crate::tables::start_state;
 use rfc4737::Answer;
 use rfc4737::InOrderFigures;
 use rfc4737::judge::outside;
@@ -27,7 +27,7 @@ use rfc4737::refusal::NONE;
 use sample::Layout;
 
 // The refusal of a call that asks for a number from low to high: the file's own, then 9.
-pub(crate) fn refusal_of(own: u32, low: u32, high: u32, asked: u32) -> u32
+pub(crate) fn asked_refusal(own: u32, low: u32, high: u32, asked: u32) -> u32
     ensures { λ r. ⌜ r ≡ firstOf (own ∷ inCase (outside low high asked) askedOutside ∷ []) ⌝ }
 {
     if own != NONE {
@@ -40,7 +40,7 @@ pub(crate) fn refusal_of(own: u32, low: u32, high: u32, asked: u32) -> u32
 }
 
 // Notes the first n records.
-fn follow(
+fn note_records(
     file: &[u8],
     y: Layout,
     n: u32,
@@ -52,10 +52,10 @@ fn follow(
         × EngineTables (before (decode (now file)) 0) (now numbers) (now records) (now skipped) (record { count = 0; next = 1 }) ⌝ }
     ensures { λ r. ⌜ EngineTables (before (decode (now (file .entry))) n) (now (numbers .exit)) (now (records .exit)) (now (skipped .exit)) r ⌝ }
 {
-    let mut state = start();
+    let mut state = start_state();
     let mut i: u32 = 0;
     while i < n {
-        let number = input::number(file, y, i);
+        let number = input::number_of(file, y, i);
         state = note(numbers, records, skipped, i, number, 0, state);
         i += 1;
     }
@@ -64,7 +64,7 @@ fn follow(
 
 // The answer for record i + 1 from the tables of the records before it. A reordered packet costs as many steps as its
 // extent, any other one step.
-fn look(
+fn answer_at(
     file: &[u8],
     y: Layout,
     i: u32,
@@ -76,7 +76,7 @@ fn look(
     requires { ⌜ HasRecord (decode (now file)) y i × EngineTables (before (decode (now file)) i) (now numbers) (now records) (now skipped) state ⌝ }
     ensures { λ r. ⌜ r ≡ answerAt (decode (now (file .entry))) i ⌝ }
 {
-    let arrival = input::arrival(file, y, i);
+    let arrival = input::arrival_at(file, y, i);
     let number = arrival.number;
     let count = state.count;
     let class = class_of(records, skipped, state.next, number);
@@ -107,7 +107,7 @@ pub(crate) fn answer_of(file: &[u8], y: Layout, asked: u32) -> RecordAnswer
     requires { ⌜ FileLayout (decode (now file)) y ⌝ }
     ensures { λ r. ⌜ r ≡ recordAnswer (decode (now (file .entry))) asked ⌝ }
 {
-    let refusal = refusal_of(y.refusal, 1, y.arrivals, asked);
+    let refusal = asked_refusal(y.refusal, 1, y.arrivals, asked);
     if refusal != NONE {
         return RecordAnswer {
             refusal,
@@ -121,9 +121,9 @@ pub(crate) fn answer_of(file: &[u8], y: Layout, asked: u32) -> RecordAnswer
     let mut numbers = [0u16; FIRSTS];
     let mut records = [0u16; PLACES];
     let mut skipped = [0u16; PLACES];
-    let state = follow(file, y, i, &mut numbers, &mut records, &mut skipped);
+    let state = note_records(file, y, i, &mut numbers, &mut records, &mut skipped);
     RecordAnswer {
         refusal,
-        answer: look(file, y, i, &numbers, &records, &skipped, state),
+        answer: answer_at(file, y, i, &numbers, &records, &skipped, state),
     }
 }

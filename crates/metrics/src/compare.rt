@@ -3,25 +3,25 @@ ghost use mathlib.Core.Path.{_≡_};
 ghost use mathlib.Core.Bool.{_&&_};
 ghost use lib.Dec.{eqb};
 ghost use Rattle.sample.specs.Decode.{decode};
-ghost use Rattle.metrics.specs.Private.Compared.{Agreed};
+ghost use Rattle.metrics.specs.Private.Taken.{Agreed};
 ghost use Rattle.metrics.specs.Private.Sample.{FileLayout};
 ghost use Rattle.metrics.specs.Report.{sampleText};
 use crate::parts::Part;
-use crate::pass::pass;
+use crate::pass::take_all;
 use listing::LINE;
 use sample::Layout;
 
 // The listing of a sample against a text: each line is made in a buffer of one line, and compared there.
-pub(crate) fn compare(file: &[u8], y: Layout, text: &[u8]) -> Part
+pub(crate) fn compare_listing(file: &[u8], y: Layout, text: &[u8]) -> Part
     requires { ⌜ FileLayout (decode (now file)) y ⌝ }
     ensures { λ r. ⌜ Agreed (sampleText (decode (now (file .entry)))) (now (text .entry)) r ⌝ }
 {
     let mut line = [0u8; LINE];
-    pass(file, y, &mut line, text, true)
+    take_all(file, y, &mut line, text, true)
 }
 
 // Whether what is compared is the same text: all of the listing agrees, and these octets are all of the text.
-pub(crate) fn same(part: Part, octets: usize) -> bool
+pub(crate) fn same_text(part: Part, octets: usize) -> bool
     ensures { λ r. ⌜ r ≡ part .whole && eqb (part .octets) octets ⌝ }
 {
     if !part.whole {

@@ -5,11 +5,11 @@ ghost use mathlib.Core.Path.{_≡_};
 ghost use Prim.Native.Nat.{_+_};
 ghost use Rattle.sample.specs.Decode.{decode};
 ghost use Rattle.metrics.specs.Private.Sample.{HasRecord, arrivalAt, answerAt};
-ghost use Rattle.metrics.specs.Private.Tables.{classOf};
+ghost use Rattle.metrics.specs.Private.Tables.{ClassOf};
 ghost use Rattle.metrics.specs.Private.Engine.{EngineState};
-use crate::look::Class;
-use crate::look::answer_by;
-use crate::look::class_of;
+use crate::classes::Class;
+use crate::classes::answer_by;
+use crate::classes::class_of;
 use crate::tables::FIRSTS;
 use crate::tables::PLACES;
 use crate::tables::State;
@@ -60,7 +60,7 @@ pub(crate) fn advance(
 ) -> EngineAnswer
     requires { ⌜ HasRecord (decode (now file)) y i × (arrival ≡ arrivalAt (decode (now file)) i)
         × EngineState (decode (now file)) i (now numbers) (now records) (now skipped) (now tree) engine ⌝ }
-    ensures { λ r. ⌜ (r .answer ≡ answerAt (decode (now (file .entry))) i) × (r .class ≡ classOf (answerAt (decode (now (file .entry))) i))
+    ensures { λ r. ⌜ (r .answer ≡ answerAt (decode (now (file .entry))) i) × ClassOf (engine .noted .count) (r .class) (answerAt (decode (now (file .entry))) i)
         × EngineState (decode (now (file .entry))) (i + 1) (now (numbers .exit)) (now (records .exit)) (now (skipped .exit)) (now (tree .exit)) (r .engine) ⌝ }
 {
     let noted = engine.noted;

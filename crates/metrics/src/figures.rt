@@ -4,25 +4,27 @@ ghost use mathlib.Core.List.{List, [], _∷_, _++_};
 ghost use Prim.Native.Nat.{ℕ, _+_, _≤_, _<_};
 ghost use lib.ListN.{length, getD};
 ghost use Rattle.rfc4737.specs.declared.Arrival.{Arrival};
+ghost use Rattle.rfc4737.specs.declared.Answer.{Answer};
 ghost use Rattle.rfc4737.specs.Order.{nextAfter};
 ghost use Rattle.rfc4737.specs.Runs.{counts};
-ghost use Rattle.rfc4737.specs.Tally.{tallyPlace, tally, tallyPlaces};
+ghost use Rattle.rfc4737.specs.Tally.{tallyPlace, tallyAfter, tally, tallyPlaces};
 ghost use Rattle.rfc4737.specs.Judge.{sentMost, arrivalsMost};
+ghost use Rattle.listing.specs.Private.DigitBounds.{CountsWithin};
 ghost use Rattle.sample.specs.Decode.{decode};
 ghost use Rattle.metrics.specs.Sample.{sizeOf, sampleArrivals, answersOf};
 ghost use Rattle.metrics.specs.Private.Sample.{FileLayout, numberPlaces};
-ghost use Rattle.metrics.specs.Private.Tables.{Links};
-ghost use Rattle.metrics.specs.Private.Steps.{Inside, FewCounted, countsBy, kindBy, tallyBy, reachedBy, sharesOf, ShareTables};
+ghost use Rattle.metrics.specs.Private.Tables.{Links, ClassOf, IfLate};
+ghost use Rattle.metrics.specs.Private.Steps.{kindBy, reachedBy, sharesOf, ShareTables};
 use crate::TALLY_MOST;
 use crate::TALLY_PLACES;
+use crate::classes::Class;
+use crate::classes::class_of;
 use crate::input;
-use crate::look::Class;
-use crate::look::class_of;
 use crate::scan::largest_by_links;
 use crate::tables::FIRSTS;
 use crate::tables::PLACES;
 use crate::tables::note;
-use crate::tables::start;
+use crate::tables::start_state;
 use rfc4737::Counts;
 use rfc4737::Runs;
 use sample::Layout;
@@ -45,9 +47,9 @@ pub(crate) fn no_counts() -> Counts
 }
 
 // The counts under one arrival more: an in-order packet lengthens the open run, and a reordered one closes it.
-pub(crate) fn counted(c: Counts, class: Class) -> Counts
-    requires { ⌜ FewCounted c ⌝ }
-    ensures { λ r. ⌜ r ≡ countsBy c class ⌝ }
+pub(crate) fn counts_after(c: Counts, class: Class) -> Counts
+    requires { ⌜ CountsWithin c ⌝ }
+    ensures { λ r. ⌜ ((l : List Answer) (n : ℕ) (a : Answer) → c ≡ counts l → ClassOf n class a → r ≡ counts (l ++ (a ∷ []))) ⌝ }
 {
     let runs = c.runs;
     match class {
@@ -119,9 +121,9 @@ pub(crate) fn counts_of(file: &[u8], y: Layout) -> Counts
     let mut c = no_counts();
     let mut i: u32 = 0;
     while i < y.arrivals {
-        let number = input::number(file, y, i);
+        let number = input::number_of(file, y, i);
         let class = kind_of(&seen, next, number);
-        c = counted(c, class);
+        c = counts_after(c, class);
         let at = number as usize;
         seen[at] = true;
         next = next_after(next, number);
@@ -131,7 +133,7 @@ pub(crate) fn counts_of(file: &[u8], y: Layout) -> Counts
 }
 
 // The place of an extent in the tally.
-fn place_of(extent: u32) -> usize
+fn tally_place(extent: u32) -> usize
     ensures { λ r. ⌜ r ≡ tallyPlace extent ⌝ }
 {
     if extent <= TALLY_MOST {
@@ -141,15 +143,15 @@ fn place_of(extent: u32) -> usize
 }
 
 // Tallies one arrival more, after so many first arrivals.
-fn tallied(t: &mut [u32; TALLY_PLACES], count: u32, class: Class)
-    requires { ⌜ (length (now t) ≡ tallyPlaces) × ((k : ℕ) → getD (now t) k 0 ≤ arrivalsMost) × (count ≤ sentMost) × Inside count class ⌝ }
-    ensures { λ _. ⌜ now (t .exit) ≡ tallyBy (now (t .entry)) count class ⌝ }
+fn tally_after(t: &mut [u32; TALLY_PLACES], count: u32, class: Class)
+    requires { ⌜ (length (now t) ≡ tallyPlaces) × ((k : ℕ) → getD (now t) k 0 ≤ arrivalsMost) × (count ≤ sentMost) × IfLate (λ (at : ℕ). (1 ≤ at) × (at ≤ count)) class ⌝ }
+    ensures { λ _. ⌜ ((a : Answer) → ClassOf count class a → now (t .exit) ≡ tallyAfter (now (t .entry)) a) ⌝ }
 {
     match class {
         Class::Duplicate(_) => return,
         Class::InOrder(_) => return,
         Class::Reordered(at) => {
-            let place = place_of(count + 1 - at);
+            let place = tally_place(count + 1 - at);
             t[place] = t[place] + 1;
         }
     }
@@ -164,12 +166,12 @@ pub(crate) fn tally_of(file: &[u8], y: Layout) -> [u32; TALLY_PLACES]
     let mut records = [0u16; PLACES];
     let mut skipped = [0u16; PLACES];
     let mut t = [0u32; TALLY_PLACES];
-    let mut state = start();
+    let mut state = start_state();
     let mut i: u32 = 0;
     while i < y.arrivals {
-        let number = input::number(file, y, i);
+        let number = input::number_of(file, y, i);
         let class = class_of(&records, &skipped, state.next, number);
-        tallied(&mut t, state.count, class);
+        tally_after(&mut t, state.count, class);
         state = note(
             &mut numbers,
             &mut records,
@@ -195,7 +197,7 @@ pub(crate) struct Shares {
 }
 
 // The n-reordered packets under a reordered one more, of this largest n.
-fn reached(n: u32, most: u32, part: u32) -> u32
+fn n_reordered_after(n: u32, most: u32, part: u32) -> u32
     requires { ⌜ part < arrivalsMost ⌝ }
     ensures { λ r. ⌜ r ≡ reachedBy n most part ⌝ }
 {
@@ -207,7 +209,7 @@ fn reached(n: u32, most: u32, part: u32) -> u32
 
 // The shares under one arrival more, of this number. A copy leaves them and the tables; any other packet is linked by its
 // largest n, which is 0 where it is in order.
-fn share(
+fn shares_after(
     numbers: &mut [u16; FIRSTS],
     links: &mut [u16; PLACES],
     low: u32,
@@ -244,8 +246,8 @@ fn share(
     Shares {
         whole: count + 1,
         reordered: t.reordered + 1,
-        low: reached(low, largest, t.low),
-        high: reached(high, largest, t.high),
+        low: n_reordered_after(low, largest, t.low),
+        high: n_reordered_after(high, largest, t.high),
         next: t.next,
     }
 }
@@ -267,8 +269,8 @@ pub(crate) fn shares_of(file: &[u8], y: Layout, low: u32, high: u32) -> Shares
     };
     let mut i: u32 = 0;
     while i < y.arrivals {
-        let number = input::number(file, y, i);
-        shares = share(&mut numbers, &mut links, low, high, number, shares);
+        let number = input::number_of(file, y, i);
+        shares = shares_after(&mut numbers, &mut links, low, high, number, shares);
         i += 1;
     }
     shares

@@ -1,31 +1,37 @@
 // The gap of a discontinuity: a table of the discoverers by the discontinuity's position, looked through downward.
 ghost use mathlib.Core.Path.{_≡_};
-ghost use Prim.Native.Nat.{_-_, _≤_};
+ghost use mathlib.Core.List.{List, [], _∷_, _++_};
+ghost use mathlib.Core.Option.{some};
+ghost use Prim.Native.Nat.{ℕ, _-_, _≤_};
 ghost use lib.ListN.{length, replicate};
+ghost use Rattle.rfc4737.specs.declared.Answer.{Answer};
+ghost use Rattle.rfc4737.specs.Gaps.{positionOf, gapOf};
+ghost use Rattle.rfc4737.specs.Runs.{arrived};
 ghost use Rattle.rfc4737.specs.Judge.{sentMost};
 ghost use Rattle.sample.specs.Decode.{decode};
 ghost use Rattle.metrics.specs.Sample.{answersOf};
 ghost use Rattle.metrics.specs.Private.Sample.{FileLayout, answerAt, numberPlaces};
 ghost use Rattle.metrics.specs.Figures.{recordGap};
-ghost use Rattle.metrics.specs.Private.Steps.{Inside, placeIn, placeBy, DiscoverersAt, markBy, lastTo, gapBy};
+ghost use Rattle.metrics.specs.Private.Tables.{ClassOf, IfLate};
+ghost use Rattle.metrics.specs.Private.Steps.{known, DiscoverersAt, lastTo};
 use crate::RecordGap;
-use crate::answers::refusal_of;
+use crate::answers::asked_refusal;
+use crate::classes::Class;
+use crate::classes::class_of;
 use crate::input;
-use crate::look::Class;
-use crate::look::class_of;
 use crate::tables::FIRSTS;
 use crate::tables::PLACES;
 use crate::tables::note;
-use crate::tables::start;
+use crate::tables::start_state;
 use rfc4737::Gap;
 use rfc4737::refusal::NONE;
 use sample::Layout;
 
 // Notes at the discontinuity of one arrival more, after so many first arrivals, the position of the arrival, if
 // it is the first that has it as its own.
-fn mark(found: &mut [u16; PLACES], count: u32, class: Class)
-    requires { ⌜ (length (now found) ≡ numberPlaces) × (count ≤ sentMost) × Inside count class ⌝ }
-    ensures { λ _. ⌜ now (found .exit) ≡ markBy (now (found .entry)) count class ⌝ }
+fn note_discoverer(found: &mut [u16; PLACES], count: u32, class: Class)
+    requires { ⌜ (length (now found) ≡ numberPlaces) × (count ≤ sentMost) × IfLate (λ (at : ℕ). (1 ≤ at) × (at ≤ count)) class ⌝ }
+    ensures { λ _. ⌜ ((l : List Answer) (a : Answer) → ClassOf count class a → DiscoverersAt l (now (found .entry)) → DiscoverersAt (l ++ (a ∷ [])) (now (found .exit))) ⌝ }
 {
     match class {
         Class::Duplicate(_) => return,
@@ -42,7 +48,7 @@ fn mark(found: &mut [u16; PLACES], count: u32, class: Class)
 // The position of an arrival, after so many first arrivals; 0 for a duplicate.
 fn position_of(count: u32, class: Class) -> u32
     requires { ⌜ count ≤ sentMost ⌝ }
-    ensures { λ r. ⌜ r ≡ placeBy count class ⌝ }
+    ensures { λ r. ⌜ ((a : Answer) → ClassOf count class a → known r ≡ positionOf a) ⌝ }
 {
     match class {
         Class::Duplicate(_) => 0,
@@ -53,24 +59,24 @@ fn position_of(count: u32, class: Class) -> u32
 
 // Notes at every discontinuity of a sample the position of its discoverer, and answers the position of the record
 // asked for, 0 for a duplicate.
-fn mark_all(file: &[u8], y: Layout, asked: u32, found: &mut [u16; PLACES]) -> u32
+fn note_discoverers(file: &[u8], y: Layout, asked: u32, found: &mut [u16; PLACES]) -> u32
     requires { ⌜ FileLayout (decode (now file)) y × (1 ≤ asked) × (asked ≤ y .arrivals) × (now found ≡ replicate numberPlaces 0) ⌝ }
-    ensures { λ r. ⌜ (r ≡ placeIn (answerAt (decode (now (file .entry))) (asked - 1)))
+    ensures { λ r. ⌜ (known r ≡ positionOf (answerAt (decode (now (file .entry))) (asked - 1)))
         × DiscoverersAt (answersOf (decode (now (file .entry)))) (now (found .exit)) ⌝ }
 {
     let mut numbers = [0u16; FIRSTS];
     let mut records = [0u16; PLACES];
     let mut skipped = [0u16; PLACES];
-    let mut state = start();
+    let mut state = start_state();
     let mut position: u32 = 0;
     let mut i: u32 = 0;
     while i < y.arrivals {
-        let number = input::number(file, y, i);
+        let number = input::number_of(file, y, i);
         let class = class_of(&records, &skipped, state.next, number);
         if i + 1 == asked {
             position = position_of(state.count, class);
         }
-        mark(found, state.count, class);
+        note_discoverer(found, state.count, class);
         state = note(
             &mut numbers,
             &mut records,
@@ -104,7 +110,7 @@ fn last_to(found: &[u16; PLACES], p: u32) -> u32
 // The gap of position p: there is one if the discontinuity before it was discovered earlier.
 fn gap_at(found: &[u16; PLACES], p: u32) -> Gap
     requires { ⌜ (1 ≤ p) × (p ≤ sentMost) ⌝ }
-    ensures { λ r. ⌜ r ≡ gapBy (now (found .entry)) p ⌝ }
+    ensures { λ r. ⌜ ((l : List Answer) → DiscoverersAt l (now (found .entry)) → p ≤ arrived l → r ≡ gapOf l (some p)) ⌝ }
 {
     let place = p as usize;
     if found[place] == 0 {
@@ -126,7 +132,7 @@ pub(crate) fn gap_of(file: &[u8], y: Layout, asked: u32) -> RecordGap
     requires { ⌜ FileLayout (decode (now file)) y ⌝ }
     ensures { λ r. ⌜ r ≡ recordGap (decode (now (file .entry))) asked ⌝ }
 {
-    let refusal = refusal_of(y.refusal, 1, y.arrivals, asked);
+    let refusal = asked_refusal(y.refusal, 1, y.arrivals, asked);
     if refusal != NONE {
         return RecordGap {
             refusal,
@@ -134,7 +140,7 @@ pub(crate) fn gap_of(file: &[u8], y: Layout, asked: u32) -> RecordGap
         };
     }
     let mut found = [0u16; PLACES];
-    let position = mark_all(file, y, asked, &mut found);
+    let position = note_discoverers(file, y, asked, &mut found);
     if position == 0 {
         return RecordGap {
             refusal,

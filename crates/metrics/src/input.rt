@@ -16,7 +16,7 @@ pub(crate) fn layout(file: &[u8]) -> Layout
 }
 
 // The arrival of record i + 1, read where it stands: no test of the file's length is in the callers' loops.
-pub(crate) fn arrival(file: &[u8], y: Layout, i: u32) -> Arrival
+pub(crate) fn arrival_at(file: &[u8], y: Layout, i: u32) -> Arrival
     requires { ⌜ HasRecord (decode (now file)) y i ⌝ }
     ensures { λ r. ⌜ (r ≡ arrivalAt (decode (now (file .entry))) i) × (1 ≤ r .number) × (r .number ≤ sentMost) ⌝ }
 {
@@ -27,23 +27,23 @@ pub(crate) fn arrival(file: &[u8], y: Layout, i: u32) -> Arrival
 }
 
 // Its sequence number.
-pub(crate) fn number(file: &[u8], y: Layout, i: u32) -> u32
+pub(crate) fn number_of(file: &[u8], y: Layout, i: u32) -> u32
     requires { ⌜ HasRecord (decode (now file)) y i ⌝ }
     ensures { λ r. ⌜ (r ≡ arrivalAt (decode (now (file .entry))) i .number) × (1 ≤ r) × (r ≤ sentMost) ⌝ }
 {
-    arrival(file, y, i).number
+    arrival_at(file, y, i).number
 }
 
 // Its arrival time.
-pub(crate) fn time(file: &[u8], y: Layout, i: u32) -> u64
+pub(crate) fn time_of(file: &[u8], y: Layout, i: u32) -> u64
     requires { ⌜ HasRecord (decode (now file)) y i ⌝ }
     ensures { λ r. ⌜ r ≡ arrivalAt (decode (now (file .entry))) i .time ⌝ }
 {
-    arrival(file, y, i).time
+    arrival_at(file, y, i).time
 }
 
 // The payload size of a packet.
-pub(crate) fn size(file: &[u8], y: Layout, s: u32) -> u32
+pub(crate) fn size_of(file: &[u8], y: Layout, s: u32) -> u32
     requires { ⌜ FileLayout (decode (now file)) y × (1 ≤ s) × (s ≤ y .sent) ⌝ }
     ensures { λ r. ⌜ (r ≡ sizeOf (decode (now (file .entry))) s) × (r ≤ 65535) ⌝ }
 {

@@ -16,13 +16,13 @@ ghost use Rattle.metrics.specs.Moved.{ClockMoved};
 ghost use Rattle.metrics.specs.Agreement.{sampleAgreement};
 
 mod answers;
+mod classes;
 mod compare;
 mod engine;
 mod figures;
 mod gaps;
 mod input;
 mod lines;
-mod look;
 mod parts;
 mod pass;
 mod quotients;
@@ -32,9 +32,9 @@ mod tables;
 mod totals;
 
 use answers::answer_of;
-use answers::refusal_of;
-use compare::compare;
-use compare::same;
+use answers::asked_refusal;
+use compare::compare_listing;
+use compare::same_text;
 use figures::counts_of;
 use figures::shares_of;
 use figures::tally_of;
@@ -42,8 +42,8 @@ use gaps::gap_of;
 use input::layout;
 use quotients::ratio_of;
 use quotients::ratios_of;
-use report::list;
-use report::refusal_into;
+use report::listing_refusal;
+use report::write_listing;
 use rfc4737::refusal::NONE;
 use sample::WriteAnswer;
 
@@ -156,7 +156,7 @@ pub fn n_reordered(file: &[u8], n: u32) -> DegreeCounts
     ensures { λ r. ⌜ r ≡ degreeCounts (decode (now (file .entry))) n ⌝ }
 {
     let y = layout(file);
-    let refusal = refusal_of(y.refusal, 1, DEGREE_MOST, n);
+    let refusal = asked_refusal(y.refusal, 1, DEGREE_MOST, n);
     if refusal != NONE {
         return DegreeCounts {
             refusal,
@@ -205,13 +205,13 @@ pub fn listing(file: &[u8], out: &mut [u8]) -> WriteAnswer
     ensures moved { λ _. ⌜ ClockMoved (now (file .entry)) ⌝ }
 {
     let y = layout(file);
-    let refusal = refusal_into(file, y, out.len());
+    let refusal = listing_refusal(file, y, out.len());
     if refusal != NONE {
         return WriteAnswer { refusal, length: 0 };
     }
     WriteAnswer {
         refusal,
-        length: list(file, y, out),
+        length: write_listing(file, y, out),
     }
 }
 
@@ -229,10 +229,10 @@ pub fn agreement(file: &[u8], text: &[u8]) -> SampleAgreement
             same: false,
         };
     }
-    let part = compare(file, y, text);
+    let part = compare_listing(file, y, text);
     SampleAgreement {
         refusal: NONE,
         octets: part.octets,
-        same: same(part, text.len()),
+        same: same_text(part, text.len()),
     }
 }

@@ -1,14 +1,14 @@
 // The lines of a sample's listing, one by one. Each is put into lent memory, at a place after the line before it; or it is
 // compared with a text from such a place on, and then it is put at the start of memory, where the next one is put too.
 ghost use mathlib.Core.Path.{_≡_};
-ghost use mathlib.Core.Bool.{true, cond};
+ghost use mathlib.Core.Bool.{true, false, cond};
 ghost use Prim.Native.Nat.{_≤_};
-ghost use lib.ListN.{length};
+ghost use lib.ListN.{length, take, drop};
 ghost use Rattle.listing.specs.Lines.{headerLine, recordLine, endLine};
 ghost use Rattle.listing.specs.Private.DigitBounds.{AnswerWithin, CountsWithin, FourDigits};
-ghost use Rattle.metrics.specs.Private.Taken.{LineRoom, LineHeld, LineTaken};
+ghost use Rattle.metrics.specs.Private.Taken.{Agreed, LineRoom, Taken};
 use crate::parts::Part;
-use crate::parts::part_of;
+use crate::parts::compare_line;
 use rfc4737::Answer;
 use rfc4737::Counts;
 
@@ -23,12 +23,13 @@ fn put_place(comparing: bool, at: usize) -> usize
 }
 
 // A line of n octets that is put, as a part: comparing, against the text.
-fn held(out: &[u8], text: &[u8], comparing: bool, at: usize, n: usize) -> Part
+fn line_part(out: &[u8], text: &[u8], comparing: bool, at: usize, n: usize) -> Part
     requires { ⌜ (comparing ≡ true → (n ≤ length (now out)) × (at ≤ length (now text))) ⌝ }
-    ensures { λ r. ⌜ LineHeld comparing (now (out .entry)) (now (text .entry)) at n r ⌝ }
+    ensures { λ r. ⌜ (comparing ≡ false → r ≡ record { octets = n; whole = true })
+        × (comparing ≡ true → Agreed (take n (now (out .entry))) (drop at (now (text .entry))) r) ⌝ }
 {
     if comparing {
-        return part_of(&out[..n], text, at);
+        return compare_line(&out[..n], text, at);
     }
     Part {
         octets: n,
@@ -39,10 +40,10 @@ fn held(out: &[u8], text: &[u8], comparing: bool, at: usize, n: usize) -> Part
 // Takes the first line.
 pub(crate) fn take_header(out: &mut [u8], text: &[u8], comparing: bool, k: u32, a: u32) -> Part
     requires { ⌜ LineRoom comparing (now text) 0 (now out) × FourDigits k × FourDigits a ⌝ }
-    ensures { λ r. ⌜ LineTaken comparing (headerLine k a) (now (text .entry)) 0 (now (out .entry)) (now (out .exit)) r ⌝ }
+    ensures { λ r. ⌜ Taken comparing (headerLine k a) (now (text .entry)) 0 (now (out .entry)) (now (out .exit)) r ⌝ }
 {
     let n = listing::put_header(out, 0, k, a);
-    held(out, text, comparing, 0, n)
+    line_part(out, text, comparing, 0, n)
 }
 
 // Takes a record's line.
@@ -56,17 +57,17 @@ pub(crate) fn take_record(
     answer: Answer,
 ) -> Part
     requires { ⌜ LineRoom comparing (now text) at (now out) × FourDigits «record» × FourDigits number × AnswerWithin answer ⌝ }
-    ensures { λ r. ⌜ LineTaken comparing (recordLine «record» number answer) (now (text .entry)) at (now (out .entry)) (now (out .exit)) r ⌝ }
+    ensures { λ r. ⌜ Taken comparing (recordLine «record» number answer) (now (text .entry)) at (now (out .entry)) (now (out .exit)) r ⌝ }
 {
     let n = listing::put_record(out, put_place(comparing, at), record, number, answer);
-    held(out, text, comparing, at, n)
+    line_part(out, text, comparing, at, n)
 }
 
 // Takes the last line.
 pub(crate) fn take_end(out: &mut [u8], text: &[u8], comparing: bool, at: usize, c: Counts) -> Part
     requires { ⌜ LineRoom comparing (now text) at (now out) × CountsWithin c ⌝ }
-    ensures { λ r. ⌜ LineTaken comparing (endLine c) (now (text .entry)) at (now (out .entry)) (now (out .exit)) r ⌝ }
+    ensures { λ r. ⌜ Taken comparing (endLine c) (now (text .entry)) at (now (out .entry)) (now (out .exit)) r ⌝ }
 {
     let n = listing::put_end(out, put_place(comparing, at), c);
-    held(out, text, comparing, at, n)
+    line_part(out, text, comparing, at, n)
 }

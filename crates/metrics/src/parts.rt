@@ -3,7 +3,7 @@ ghost use mathlib.Core.Path.{_≡_};
 ghost use Prim.Native.Nat.{_+_, _^_, _≤_, _<_};
 ghost use lib.ListN.{length, drop};
 ghost use Rattle.metrics.specs.Agreement.{common};
-ghost use Rattle.metrics.specs.Private.Compared.{Agreed};
+ghost use Rattle.metrics.specs.Private.Taken.{Agreed};
 
 // How many octets of a line stand at a text's start, and whether all of them do.
 pub(crate) struct Part {
@@ -29,7 +29,7 @@ fn common(one: &[u8], other: &[u8]) -> usize
 }
 
 // A line against a text from a place on.
-pub(crate) fn part_of(line: &[u8], text: &[u8], at: usize) -> Part
+pub(crate) fn compare_line(line: &[u8], text: &[u8], at: usize) -> Part
     requires { ⌜ at ≤ length (now text) ⌝ }
     ensures { λ r. ⌜ Agreed (now (line .entry)) (drop at (now (text .entry))) r ⌝ }
 {
@@ -41,7 +41,7 @@ pub(crate) fn part_of(line: &[u8], text: &[u8], at: usize) -> Part
 }
 
 // A part at a place, with what stands before it.
-pub(crate) fn after(at: usize, part: Part) -> Part
+pub(crate) fn part_after(at: usize, part: Part) -> Part
     requires { ⌜ at + part .octets < 2 ^ 64 ⌝ }
     ensures { λ r. ⌜ r ≡ record { octets = at + part .octets; whole = part .whole } ⌝ }
 {

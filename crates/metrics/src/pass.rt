@@ -1,21 +1,19 @@
 // One pass over a sample, in which each line of its listing is taken: put into lent memory, or compared with a text. The
 // first line that differs ends the pass.
-ghost use mathlib.Core.Path.{_≡_};
 ghost use Rattle.sample.specs.Decode.{decode};
-ghost use Rattle.metrics.specs.Private.Passed.{PassedTo, PassEnded, TextTaken};
 ghost use Rattle.metrics.specs.Private.Sample.{FileLayout};
-ghost use Rattle.metrics.specs.Private.Taken.{LineRoom};
+ghost use Rattle.metrics.specs.Private.Taken.{LineRoom, Taken, PassedTo, PassEnded};
 ghost use Rattle.metrics.specs.Report.{sampleText};
 use crate::engine::advance;
 use crate::engine::fresh_engine;
-use crate::figures::counted;
+use crate::figures::counts_after;
 use crate::figures::no_counts;
 use crate::input;
 use crate::lines::take_end;
 use crate::lines::take_header;
 use crate::lines::take_record;
 use crate::parts::Part;
-use crate::parts::after;
+use crate::parts::part_after;
 use crate::tables::FIRSTS;
 use crate::tables::PLACES;
 use crate::totals::PAIRS;
@@ -51,7 +49,7 @@ fn take_records(
     let mut at = start;
     let mut i: u32 = 0;
     while i < y.arrivals {
-        let arrival = input::arrival(file, y, i);
+        let arrival = input::arrival_at(file, y, i);
         let step = advance(
             file,
             y,
@@ -67,13 +65,13 @@ fn take_records(
         let part = take_record(out, text, comparing, at, i + 1, arrival.number, answer);
         if !part.whole {
             return PassResult {
-                part: after(at, part),
+                part: part_after(at, part),
                 counts,
             };
         }
         at += part.octets;
         let class = step.class;
-        counts = counted(counts, class);
+        counts = counts_after(counts, class);
         engine = step.engine;
         i += 1;
     }
@@ -85,9 +83,9 @@ fn take_records(
 }
 
 // Takes all lines.
-pub(crate) fn pass(file: &[u8], y: Layout, out: &mut [u8], text: &[u8], comparing: bool) -> Part
+pub(crate) fn take_all(file: &[u8], y: Layout, out: &mut [u8], text: &[u8], comparing: bool) -> Part
     requires { ⌜ FileLayout (decode (now file)) y × LineRoom comparing (now text) 0 (now out) ⌝ }
-    ensures { λ r. ⌜ TextTaken comparing (sampleText (decode (now (file .entry)))) (now (text .entry)) (now (out .entry)) (now (out .exit)) r ⌝ }
+    ensures { λ r. ⌜ Taken comparing (sampleText (decode (now (file .entry)))) (now (text .entry)) 0 (now (out .entry)) (now (out .exit)) r ⌝ }
 {
     let first = take_header(out, text, comparing, y.sent, y.arrivals);
     if !first.whole {
@@ -99,5 +97,5 @@ pub(crate) fn pass(file: &[u8], y: Layout, out: &mut [u8], text: &[u8], comparin
         return lines;
     }
     let last = take_end(out, text, comparing, lines.octets, passed.counts);
-    after(lines.octets, last)
+    part_after(lines.octets, last)
 }

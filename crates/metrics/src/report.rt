@@ -7,25 +7,25 @@ ghost use Rattle.sample.specs.Decode.{decode, decodedRefusal};
 ghost use Rattle.sample.specs.Output.{outputRefusal};
 ghost use Rattle.metrics.specs.Private.Sample.{FileLayout};
 ghost use Rattle.metrics.specs.Report.{sampleText};
-use crate::pass::pass;
+use crate::pass::take_all;
 use rfc4737::refusal::NONE;
 use rfc4737::refusal::OUTPUT_SHORT;
 use sample::Layout;
 
 // Writes the lines of a sample at the start of lent memory if it has room for all of them, and answers how many
 // octets they have. Where it has no room, some of them may stand in it.
-pub(crate) fn list(file: &[u8], y: Layout, out: &mut [u8]) -> u32
+pub(crate) fn write_listing(file: &[u8], y: Layout, out: &mut [u8]) -> u32
     requires { ⌜ FileLayout (decode (now file)) y ⌝ }
     ensures { λ r. ⌜ (r ≡ length (sampleText (decode (now (file .entry)))))
         × (r ≤ length (now (out .entry)) → now (out .exit) ≡ over (sampleText (decode (now (file .entry)))) (now (out .entry))) ⌝ }
 {
-    let part = pass(file, y, out, b"", false);
+    let part = take_all(file, y, out, b"", false);
     part.octets as u32
 }
 
 // The refusal of a listing into so many octets: the file's own, then 8. Where any listing has room no line is made;
 // else all are, with no memory to stand in.
-pub(crate) fn refusal_into(file: &[u8], y: Layout, room: usize) -> u32
+pub(crate) fn listing_refusal(file: &[u8], y: Layout, room: usize) -> u32
     requires { ⌜ FileLayout (decode (now file)) y ⌝ }
     ensures { λ r. ⌜ r ≡ outputRefusal (decodedRefusal (decode (now (file .entry)))) (sampleText (decode (now (file .entry)))) room ⌝ }
 {
@@ -36,7 +36,7 @@ pub(crate) fn refusal_into(file: &[u8], y: Layout, room: usize) -> u32
         return NONE;
     }
     let mut none = [0u8; 1];
-    if room < list(file, y, &mut none) as usize {
+    if room < write_listing(file, y, &mut none) as usize {
         return OUTPUT_SHORT;
     }
     NONE

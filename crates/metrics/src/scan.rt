@@ -37,7 +37,7 @@ pub(crate) fn offset(
         let place = p as usize;
         let number = wide(numbers[place]);
         if s < number {
-            sum += input::size(file, y, number);
+            sum += input::size_of(file, y, number);
         }
         p += 1;
     }

@@ -22,7 +22,7 @@ pub(crate) struct State {
 }
 
 // Before any arrival.
-pub(crate) fn start() -> State
+pub(crate) fn start_state() -> State
     ensures { λ r. ⌜ r ≡ record { count = 0; next = 1 } ⌝ }
 {
     State { count: 0, next: 1 }
@@ -36,7 +36,7 @@ pub(crate) fn wide(x: u16) -> u32
 }
 
 // Notes that the jump at a position skipped the packets from `from` to before `to`.
-fn skip(skipped: &mut [u16; PLACES], from: u32, to: u32, position: u16)
+fn note_skipped(skipped: &mut [u16; PLACES], from: u32, to: u32, position: u16)
     requires { ⌜ (to ≤ numberPlaces) × (length (now skipped) ≡ numberPlaces) ⌝ }
     ensures { λ _. ⌜ Filled from to position (now (skipped .entry)) (now (skipped .exit)) ⌝ }
 {
@@ -79,7 +79,7 @@ pub(crate) fn note(
             next,
         };
     }
-    skip(skipped, next, number, (count + 1) as u16);
+    note_skipped(skipped, next, number, (count + 1) as u16);
     State {
         count: count + 1,
         next: number + 1,

@@ -2,17 +2,19 @@
 // enough, since a packet is asked for before it arrives: those that have arrived with smaller numbers are in the pairs
 // up to number s / 2, and no other is in these.
 ghost use mathlib.Core.Path.{_≡_};
+ghost use mathlib.Core.Bool.{false};
 ghost use mathlib.Core.List.{List};
-ghost use Prim.Native.Nat.{_≤_};
+ghost use Prim.Native.Nat.{ℕ, _≤_};
 ghost use Rattle.rfc4737.specs.declared.Arrival.{Arrival};
+ghost use Rattle.rfc4737.specs.Arrivals.{has};
 ghost use Rattle.rfc4737.specs.Extent.{byteOffset, largestN};
 ghost use Rattle.rfc4737.specs.Judge.{sentMost};
 ghost use Rattle.sample.specs.Decode.{decode};
 ghost use Rattle.metrics.specs.Sample.{sizeOf};
-ghost use Rattle.metrics.specs.Private.Tables.{NumberTable, Links, lateOnly, NewIfLate};
+ghost use Rattle.metrics.specs.Private.Tables.{NumberTable, Links, IfLate};
 ghost use Rattle.metrics.specs.Private.Engine.{SizeTree, FillInput};
+use crate::classes::Class;
 use crate::input;
-use crate::look::Class;
 use crate::scan::largest_by_links;
 use crate::tables::FIRSTS;
 use crate::tables::PLACES;
@@ -29,7 +31,7 @@ pub(crate) struct Totals {
 }
 
 // Puts those of the first `count` first arrivals into the tree that do not stand there yet.
-fn fill(
+fn fill_tree(
     file: &[u8],
     y: Layout,
     numbers: &[u16; FIRSTS],
@@ -46,7 +48,7 @@ fn fill(
     while p < count {
         let place = p as usize;
         let number = wide(numbers[place]);
-        let size = input::size(file, y, number);
+        let size = input::size_of(file, y, number);
         sums::add(tree, (number + 1) / 2, size);
         total += size;
         p += 1;
@@ -78,8 +80,8 @@ pub(crate) fn late_figures(
     requires { ⌜ FillInput (decode (now file)) y (now numbers) (now tree) count t × (1 ≤ s) × (s ≤ sentMost) × Links 1 (now numbers) (now skipped) count ⌝ }
     ensures { λ r. ⌜ (r .largest ≤ sentMost) × ((fs : List Arrival) → NumberTable fs (now (numbers .entry)) count
         → SizeTree (sizeOf (decode (now (file .entry)))) fs (now (tree .entry)) t
-        → SizeTree (sizeOf (decode (now (file .entry)))) fs (now (tree .exit)) (r .totals) × (r .largest ≡ lateOnly (largestN fs s) class)
-        × (NewIfLate s fs class → r .offset ≡ lateOnly (byteOffset (sizeOf (decode (now (file .entry)))) fs s) class)) ⌝ }
+        → SizeTree (sizeOf (decode (now (file .entry)))) fs (now (tree .exit)) (r .totals)
+        × IfLate (λ (at : ℕ). (r .largest ≡ largestN fs s) × (has s fs ≡ false → r .offset ≡ byteOffset (sizeOf (decode (now (file .entry)))) fs s)) class) ⌝ }
 {
     match class {
         Class::Duplicate(_) => LateFigures {
@@ -94,7 +96,7 @@ pub(crate) fn late_figures(
         },
         Class::Reordered(_) => {
             let largest = largest_by_links(numbers, skipped, 1, count, s);
-            let totals = fill(file, y, numbers, tree, count, t);
+            let totals = fill_tree(file, y, numbers, tree, count, t);
             LateFigures {
                 offset: totals.total - sums::sum_to(tree, s / 2),
                 largest,

@@ -4,6 +4,7 @@ use cases::print::write_either;
 use cases::print::write_number;
 use cases::print::write_word;
 use listing::LISTING_OCTETS;
+use metrics::TALLY_PLACES;
 use rfc4737::Answer;
 use rfc4737::Gap;
 use rfc4737::LateTime;
@@ -76,7 +77,7 @@ fn write_counts(file: &[u8]) {
 }
 
 // 1 where a count is not 0, else 0.
-fn held(count: u32) -> u64 {
+fn one_if_any(count: u32) -> u64 {
     if count == 0 {
         return 0;
     }
@@ -84,10 +85,10 @@ fn held(count: u32) -> u64 {
 }
 
 // How many places of a tally are not 0.
-fn filled(tally: &[u32; 101]) -> u64 {
+fn filled_places(tally: &[u32; TALLY_PLACES]) -> u64 {
     let mut n: u64 = 0;
-    for i in 0..101 {
-        n = wrapping_add_u64(n, held(tally[i]));
+    for i in 0..TALLY_PLACES {
+        n = wrapping_add_u64(n, one_if_any(tally[i]));
     }
     n
 }
@@ -98,7 +99,7 @@ fn write_tally(file: &[u8]) {
     let tally = t.tally;
     write_number(b"; tally ", t.refusal as u64);
     write_number(b" of extent 2 ", tally[2] as u64);
-    write_number(b" places not 0 ", filled(&tally));
+    write_number(b" places not 0 ", filled_places(&tally));
 }
 
 // Writes the degree of n-reordering: the refusals of the two calls, the counts, and whether the degree is their

@@ -1,4 +1,9 @@
--- Big-endian numbers: octets one after the other, the width, the bound, and that reading and writing undo each other. Assumes nothing.
+-- Big-endian numbers. The value is a left fold, so one octet more at the end is a step of it (`value-snoc`), and what a fold starts from is
+-- multiplied by 256 for each octet after it (`value-append`); from this the bound, by induction from the front. The octets are made from the last,
+-- by induction on the width. Reading undoes writing, by induction on the width: the last octet is v % 256, and those before it read as v / 256 cut
+-- to one octet less, which is v cut to the width (`value-octets-mod`), so v itself if it fits (`value-octets`). Writing undoes reading, by
+-- induction on the width too: of the value the last octet is the remainder, and the value of those before it the quotient (`octets-value`).
+-- Here os are octets and o is one, v a number, w a width; at is a place, n a count of octets, l and old memory. Assumes nothing.
 use Prim.Native.Nat.{ℕ, zero, suc, _+_, _*_, _/_, _%_, _^_, _≤_, _<_}
 use native.Mathlib.Nat.{le-trans, lt-of-lt-of-le, mod-one, mod-eq-of-lt, div-div-eq-div-mul, div-one, pow-zero, pow-suc, pow-succ', pow-le-pow-right, one-le-pow, mul-one, add-mul, mul-assoc, add-assoc, add-zero, zero-mul, zero-add, add-suc}
 use native.Mathlib.Numerals.{add-one}
@@ -16,18 +21,16 @@ use Rattle.octets.proofs.Memory.{part-most, part-snoc, put-part}
 
 -- ---- the value
 
--- of no octet
 pub value-nil : beValue [] ≡ 0
 unfolding beValue
 value-nil = refl
 
--- of one
-pub value-one : (o : ℕ) → beValue (o ∷ []) ≡ o
+value-one : (o : ℕ) → beValue (o ∷ []) ≡ o
 unfolding beValue
 value-one o = simp (zero-mul, zero-add)
 
 -- under one octet more
-pub value-snoc : (os : List ℕ) (o : ℕ) → beValue (os ++ (o ∷ [])) ≡ beValue os * 256 + o
+value-snoc : (os : List ℕ) (o : ℕ) → beValue (os ++ (o ∷ [])) ≡ beValue os * 256 + o
 unfolding beValue
 value-snoc os o = foldl-append (λ (v o : ℕ). v * 256 + o) 0 os (o ∷ [])
 
@@ -38,17 +41,16 @@ value-from v (o ∷ os) =
     rw (value-from (v * 256 + o) os, value-from (0 + o) os)
     (simp (pow-succ', add-mul, mul-assoc, zero-add, add-assoc))
 
--- of octets after octets
 pub value-append : (a b : List ℕ) → beValue (a ++ b) ≡ beValue a * 256 ^ length b + beValue b
 unfolding beValue
 value-append a b = foldl-append (λ (v o : ℕ). v * 256 + o) 0 a b ∙ value-from (beValue a) b
 
 -- under one octet more in front
-pub value-cons : (o : ℕ) (os : List ℕ) → beValue (o ∷ os) ≡ o * 256 ^ length os + beValue os
+value-cons : (o : ℕ) (os : List ℕ) → beValue (o ∷ os) ≡ o * 256 ^ length os + beValue os
 value-cons o os = value-append (o ∷ []) os ∙ ap (λ (n : ℕ). n * 256 ^ length os + beValue os) (value-one o)
 
 -- below 256 to the number of octets
-pub value-below : (os : List ℕ) → Octets os → beValue os < 256 ^ length os
+value-below : (os : List ℕ) → Octets os → beValue os < 256 ^ length os
 unfolding beValue
 value-below [] h = omega arith
 value-below (o ∷ os) h = rw (value-cons, pow-succ') (digits-lt (h 0) (value-below os (below-tail 256 o os h)))
@@ -67,14 +69,12 @@ value-part-snoc at n l h = ap beValue (part-snoc at n l 0 h) ∙ value-snoc (par
 
 -- ---- the octets
 
--- as many as the width
 pub octets-length : (w v : ℕ) → length (beOctets w v) ≡ w
 unfolding beOctets
 octets-length zero v = refl
 octets-length (suc w) v = length-append (beOctets w (v / 256)) (v % 256 ∷ []) ∙ ap (λ (k : ℕ). k + 1) (octets-length w (v / 256)) ∙ add-one w
 
--- each below 256
-pub octets-below : (w v : ℕ) → Octets (beOctets w v)
+octets-below : (w v : ℕ) → Octets (beOctets w v)
 unfolding beOctets
 octets-below zero v = below-nil 256 (omega arith)
 octets-below (suc w) v =
@@ -96,7 +96,7 @@ octets-append a (suc b) v =
 -- ---- reading undoes writing, and writing reading
 
 -- what was written reads back as what the width holds of it
-pub value-octets-mod : (w v : ℕ) → beValue (beOctets w v) ≡ v % 256 ^ w
+value-octets-mod : (w v : ℕ) → beValue (beOctets w v) ≡ v % 256 ^ w
 unfolding beOctets
 value-octets-mod zero v = value-nil ∙ sym (mod-one v)
 value-octets-mod (suc w) v =
@@ -116,7 +116,7 @@ octets-value-snoc w os o h e =
     rw (value-snoc, digits-div (beValue os) h, digits-mod (beValue os) h) (ap (λ (l : List ℕ). l ++ (o ∷ [])) e)
 
 -- octets written back as their value, at a width that is their number, are themselves
-pub octets-value-at : (w : ℕ) (os : List ℕ) → length os ≡ w → Octets os → beOctets w (beValue os) ≡ os
+octets-value-at : (w : ℕ) (os : List ℕ) → length os ≡ w → Octets os → beOctets w (beValue os) ≡ os
 unfolding beOctets
 octets-value-at zero [] e h = refl
 octets-value-at zero (o ∷ os) e h = absurd (omega arith)

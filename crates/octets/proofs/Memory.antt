@@ -1,4 +1,10 @@
--- Lent memory: what a part reads, what `over`, `splice` and `put` leave, and the loops that fill memory element by element. Assumes nothing.
+-- Lent memory. A part is `take` after `drop`, and its laws follow from theirs. `splice` is three pieces one after the other: what stood before
+-- the place, what is written, what stood after; each law of it takes them apart by their lengths, and two writes side by side are one
+-- (`splice-next`, `splice-prior`). `over` is `splice` at place 0. `put` is `splice` where there is room, and else changes nothing. Last come
+-- two loops that store xs element by element: after i turns memory holds the first i of xs from a place on (`copy-next`), or at the start
+-- (`fill-next`), and the store of a turn makes them i + 1.
+-- Here l is any list, old memory before a write, xs and ys what is written, at and next the places, n, m and k counts, z what is read past an
+-- end; in the loops d is memory at the head and x the element stored. Assumes nothing.
 use Prim.Native.Nat.{ℕ, zero, suc, _+_, _-_, _≤_, _<_, zero-le}
 use native.Mathlib.Nat.{zero-add, add-zero, add-assoc, zero-sub, sub-zero, suc-sub-suc}
 use native.Mathlib.Numerals.{add-one}
@@ -50,7 +56,6 @@ module _ {ℓ} {A : Type ℓ} where
   pub part-none : (at n : ℕ) (l : List A) → length l ≤ at → part at n l ≡ []
   part-none at n l h = rw (drop-of-length-le l h) (take-nil n)
 
-  -- one after the other
   pub part-append : (at n m : ℕ) (l : List A) → part at (n + m) l ≡ part at n l ++ part (at + n) m l
   part-append at n m l = rw (take-add n m (drop at l), drop-drop n at l)
 
@@ -60,7 +65,6 @@ module _ {ℓ} {A : Type ℓ} where
       let p : n < length (drop at l) = simp length-drop (omega arith) in
       rw (add-one, take-suc (drop at l) n z p, getD-drop)
 
-  -- a part of a part
   pub part-part : (at n from m : ℕ) (l : List A) → from + m ≤ n → part from m (part at n l) ≡ part (at + from) m l
   part-part at n from m l h =
       let p : m ≤ n - from = omega arith in
@@ -76,11 +80,9 @@ module _ {ℓ} {A : Type ℓ} where
 
   -- ---- splice
 
-  -- nothing written
   pub splice-nil : (at : ℕ) (old : List A) → splice at [] old ≡ old
   splice-nil at old = rw add-zero (take-append-drop at old)
 
-  -- the length stays
   pub splice-length : (at : ℕ) (xs old : List A) → at + length xs ≤ length old → length (splice at xs old) ≡ length old
   splice-length at xs old h = simp (length-append, length-take, length-drop) (omega arith)
 
@@ -89,7 +91,7 @@ module _ {ℓ} {A : Type ℓ} where
   head-length at xs old h = simp (length-append, length-take) (omega arith)
 
   -- up to the end of what was written
-  pub splice-head : (at : ℕ) (xs old : List A) → at ≤ length old → take (at + length xs) (splice at xs old) ≡ take at old ++ xs
+  splice-head : (at : ℕ) (xs old : List A) → at ≤ length old → take (at + length xs) (splice at xs old) ≡ take at old ++ xs
   splice-head at xs old h =
       rw (← append-assoc) (take-at (take at old ++ xs) (drop (at + length xs) old) (at + length xs) (head-length at xs old h))
 
@@ -145,11 +147,9 @@ module _ {ℓ} {A : Type ℓ} where
 
   -- ---- over
 
-  -- over is splice at the start
   pub over-splice : (xs old : List A) → over xs old ≡ splice 0 xs old
   over-splice xs old = rw zero-add
 
-  -- the length stays
   pub over-length : (xs old : List A) → length xs ≤ length old → length (over xs old) ≡ length old
   over-length xs old h = simp (length-append, length-drop) (omega arith)
 
@@ -189,7 +189,6 @@ module _ {ℓ} {A : Type ℓ} where
   unfolding put
   put-none at xs old h = rw lt-leb
 
-  -- the length stays
   pub put-length : (at : ℕ) (xs old : List A) → length (put at xs old) ≡ length old
   put-length at xs old = go (leb (at + length xs) (length old)) refl where
     go : (t : Bool) → leb (at + length xs) (length old) ≡ t → length (put at xs old) ≡ length old
@@ -216,7 +215,7 @@ module _ {ℓ} {A : Type ℓ} where
       rw (put-room at xs old p, put-room next ys (splice at xs old) q, put-room at (xs ++ ys) old r) (splice-next at next xs ys old e s)
 
   -- put over all there is
-  pub put-all : (xs old : List A) → length xs ≡ length old → put 0 xs old ≡ xs
+  put-all : (xs old : List A) → length xs ≡ length old → put 0 xs old ≡ xs
   put-all xs old e =
       let p : 0 + length xs ≤ length old = omega arith in
       let q : length old ≤ 0 + length xs = omega arith in
@@ -243,7 +242,6 @@ module _ {ℓ} {A : Type ℓ} where
   pub copy-start : (at : ℕ) (xs old : List A) → old ≡ splice at (take 0 xs) old
   copy-start at xs old = sym (splice-nil at old)
 
-  -- the length stays
   pub copy-length : (at : ℕ) (xs old : List A) (i : ℕ) → i ≤ length xs → at + i ≤ length old → length (splice at (take i xs) old) ≡ length old
   copy-length at xs old i h k =
       let p : at + length (take i xs) ≤ length old = simp length-take (omega arith) in
@@ -268,7 +266,6 @@ module _ {ℓ} {A : Type ℓ} where
 
   -- ---- a loop that fills memory with xs from its start, one element a turn: after i turns it is `take i xs ++ drop i old`
 
-  -- the length stays
   pub fill-length : (xs old : List A) (i : ℕ) → i ≤ length xs → i ≤ length old → length (take i xs ++ drop i old) ≡ length old
   fill-length xs old i h k = simp (length-append, length-take, length-drop) (omega arith)
 

@@ -1,6 +1,7 @@
--- Imported arrivals are accepted as those of a sample: what holds of every arrival holds of every one in order, so the numbers stay in
--- 1 to K; whole microseconds do not go back where receive times do not, so no time is refused. l are arrivals, b what is taken off
--- their times. Assumes nothing.
+-- Imported arrivals are accepted as those of a sample. What holds of every arrival holds of every one in order, by induction over the insertions
+-- (`order-all`), so the numbers stay in 1 to K; whole microseconds do not go back where receive times do not (`since-rising`), so each time is at
+-- or after the reference and none is refused (`judge-none`, by induction with the reference at the time before). Of a label with these lists only
+-- the label is refused (`label-alone`). l are arrivals and a is one, os the records, k is K, b what is taken off their times. Assumes nothing.
 use Prim.Native.Nat.{ℕ, zero, suc, _-_, _≤_, zero-le}
 use native.Mathlib.Omega.{arith}
 use mathlib.Core.Bool.{Bool, true, false, cond}
@@ -11,10 +12,10 @@ use lib.ListN.{length, length-map}
 use borrow.Author.Tests.{le-ltb, ltb-false}
 use Rattle.rfc4737.specs.declared.Arrival.{Arrival}
 use Rattle.rfc4737.specs.Judge.{numbersOf, timesOf, judgeOne, judge, refusalOfLists}
-use Rattle.rfc4737.specs.Refusals.{outside, firstOf, numberOutside}
+use Rattle.rfc4737.specs.Refusals.{firstOf}
 use Rattle.rfc4737.specs.Times.{backMost, tooEarly, nextReference}
 use Rattle.rfc4737.proofs.Lists.{snoc-ind, All, all-left, all-right}
-use Rattle.rfc4737.proofs.Due.{first-none, case-none, between, not-outside}
+use Rattle.rfc4737.proofs.Due.{not-outside}
 use Rattle.rfc4737.proofs.Pairs.{arrivals-back}
 use Rattle.rfc4737.proofs.Judged.{fit-lists}
 use Rattle.sample.specs.Judge.{judgeLabel, judgeOctets}
@@ -22,18 +23,15 @@ use Rattle.sample.specs.Calls.{sampleRefusal}
 use Rattle.owamp.specs.Record.{recordsArrivals}
 use Rattle.owamp.specs.Order.{NotBefore, NotBack, insert, inTimeOrder}
 use Rattle.owamp.specs.Clock.{microseconds, smallest, since, fromSmallest}
-use Rattle.owamp.specs.Judge.{judgeNumber, judgeNumbers, recordsRefusal}
-use Rattle.owamp.specs.Calls.{imported}
+use Rattle.owamp.specs.Judge.{recordsRefusal}
+use Rattle.owamp.specs.Calls.{importedArrivals}
 use Rattle.owamp.specs.RoundTrip.{AcceptedLists}
 use Rattle.owamp.proofs.Sorted.{in-order, order-more}
+use Rattle.owamp.proofs.Reading.{Within}
 use Rattle.owamp.proofs.Clocks.{micro-rising}
 use Rattle.owamp.proofs.Inserted.{order-length}
 use Rattle.owamp.proofs.Converted.{smallest-length}
 use Rattle.owamp.proofs.Answers.{none-refused}
-
--- a packet number that lies in 1 to K
-abbrev Within : ℕ → Arrival → Type 0
-Within k a = (1 ≤ a .number) × (a .number ≤ k)
 
 -- ---- what holds of every arrival holds of every one in order
 
@@ -54,15 +52,6 @@ module _ (P : Arrival → Type 0) where
       more : (l : List Arrival) (a : Arrival) → (All P l → All P (inTimeOrder l)) → All P (l ++ (a ∷ [])) → All P (inTimeOrder (l ++ (a ∷ [])))
       more l a f h = rw (order-more l a) (insert-all a (inTimeOrder l) (all-right P l (a ∷ []) h .0) (f (all-left P l (a ∷ []) h)))
 
--- ---- the numbers
-
-numbers-all : (k : ℕ) (l : List Arrival) → judgeNumbers k l ≡ 0 → All (Within k) l
-unfolding judgeNumbers judgeNumber
-numbers-all k [] e = tt
-numbers-all k (a ∷ l) e =
-    let p = first-none (judgeNumber k a) (map (judgeNumber k) l) e in
-    (between 1 k (a .number) (case-none (outside 1 k (a .number)) numberOutside (omega arith) (p .0)), numbers-all k l (p .1))
-
 -- ---- in microseconds
 
 module _ (b : ℕ) where
@@ -78,9 +67,8 @@ module _ (b : ℕ) where
   since-rising [] r = tt
   since-rising (a ∷ l) r = (since-before (a .time) l (r .0), since-rising l (r .1))
 
--- no imported time goes back
-pub imported-rising : (os : List ℕ) → NotBack (imported os)
-unfolding imported fromSmallest
+imported-rising : (os : List ℕ) → NotBack (importedArrivals os)
+unfolding importedArrivals fromSmallest
 imported-rising os =
     let l : List Arrival = inTimeOrder (recordsArrivals os) in
     since-rising (smallest (map microseconds (timesOf l))) l (in-order (recordsArrivals os) .rising)
@@ -96,6 +84,7 @@ reference-on reference time h = go (ltb reference time) refl
     go true e = refl
     go false e = omega (arith, ltb-false)
 
+-- numbers in 1 to K and times that do not go back, from the reference on: none is refused
 judge-none : (k reference : ℕ) (l : List Arrival) → All (Within k) l → NotBefore reference l → NotBack l → judge k reference l ≡ 0
 unfolding judge judgeOne tooEarly
 judge-none k reference [] h n r = refl
@@ -108,20 +97,20 @@ before-zero : (l : List Arrival) → NotBefore 0 l
 before-zero [] = tt
 before-zero (a ∷ l) = (zero-le, before-zero l)
 
-imported-within : (k : ℕ) (os : List ℕ) → judgeNumbers k (recordsArrivals os) ≡ 0 → All (Within k) (imported os)
-unfolding imported fromSmallest
-imported-within k os e =
+imported-within : (k : ℕ) (os : List ℕ) → All (Within k) (recordsArrivals os) → All (Within k) (importedArrivals os)
+unfolding importedArrivals fromSmallest
+imported-within k os w =
     let l : List Arrival = inTimeOrder (recordsArrivals os) in
-    since-within (smallest (map microseconds (timesOf l))) k l (order-all (Within k) (recordsArrivals os) (numbers-all k (recordsArrivals os) e))
+    since-within (smallest (map microseconds (timesOf l))) k l (order-all (Within k) (recordsArrivals os) w)
 
-imported-length : (os : List ℕ) → length (imported os) ≡ length (recordsArrivals os)
-unfolding imported
+imported-length : (os : List ℕ) → length (importedArrivals os) ≡ length (recordsArrivals os)
+unfolding importedArrivals
 imported-length os = smallest-length (inTimeOrder (recordsArrivals os)) ∙ order-length (recordsArrivals os)
 
-accepted : (k : ℕ) (os : List ℕ) → recordsRefusal k os ≡ 0 → refusalOfLists k (numbersOf (imported os)) (timesOf (imported os)) ≡ 0
+accepted : (k : ℕ) (os : List ℕ) → recordsRefusal k os ≡ 0 → refusalOfLists k (numbersOf (importedArrivals os)) (timesOf (importedArrivals os)) ≡ 0
 accepted k os e =
     let n = none-refused k os e in
-    let l : List Arrival = imported os in
+    let l : List Arrival = importedArrivals os in
     let a : length (numbersOf l) ≡ length l = length-map l (λ (x : Arrival). x .number) in
     let b : length (timesOf l) ≡ length l = length-map l (λ (x : Arrival). x .time) in
     let c = imported-length os in
@@ -148,6 +137,6 @@ accepted-lists k os e = record {
   rising = imported-rising os;
   lists = accepted k os e;
   written = λ label sizes f.
-      label-alone label sizes (numbersOf (imported os)) (timesOf (imported os))
-      (ap (λ (n : ℕ). refusalOfLists n (numbersOf (imported os)) (timesOf (imported os))) f ∙ accepted k os e);
+      label-alone label sizes (numbersOf (importedArrivals os)) (timesOf (importedArrivals os))
+      (ap (λ (n : ℕ). refusalOfLists n (numbersOf (importedArrivals os)) (timesOf (importedArrivals os))) f ∙ accepted k os e);
 }

@@ -1,4 +1,9 @@
--- The importer's answers: refused, a list too short, or filled. Assumes nothing.
+-- The importer's answers: K or the records are refused, a list is too short (8), or both lists are filled. Each case settles the first refusal,
+-- and with it what is answered and left in the lists (`answered`). Nothing refused means that K, the number of arrivals and their numbers are
+-- within their limits (`none-refused`), so 4,096 places are always enough (`import-room`). As the times filled in rise, none is before the
+-- first (`filled-first`), which the conversion needs.
+-- Here k is K, os the records, r a refusal, n how many arrivals, l the arrivals in order; numbers′ and times′ are the lists after the call, d
+-- the list of times as filled. Assumes nothing.
 use Prim.Native.Nat.{ℕ, zero, suc, _≤_, _<_}
 use native.Mathlib.Omega.{arith}
 use mathlib.Core.Bool.{_||_, or-true}
@@ -9,16 +14,18 @@ use lib.ListN.{length, getD, List·getD-append, length-map, drop}
 use borrow.Author.Tests.{lt-ltb, le-ltb}
 use Rattle.octets.specs.Memory.{over}
 use Rattle.rfc4737.specs.declared.Arrival.{Arrival}
-use Rattle.rfc4737.specs.Refusals.{outside, inCase, firstOf, sentOutside, manyArrivals, outputShort}
+use Rattle.rfc4737.specs.Refusals.{inCase, firstOf, sentOutside, manyArrivals, outputShort}
 use Rattle.rfc4737.specs.Judge.{numbersOf, timesOf, judgeSent, judgeArrivals, sentMost, arrivalsMost}
 use Rattle.sample.specs.Output.{unlessRefused}
 use Rattle.owamp.specs.Record.{recordsArrivals}
 use Rattle.owamp.specs.Order.{inTimeOrder}
 use Rattle.owamp.specs.Clock.{fromSmallest}
 use Rattle.owamp.specs.Judge.{judgeLength, judgeNumbers, recordsRefusal}
-use Rattle.owamp.specs.Calls.{importRefusal, imported, RecordsImportedFrom}
-use Rattle.rfc4737.proofs.Due.{first-none, first-one, case-none, between}
+use Rattle.owamp.specs.Calls.{importRefusal, importedArrivals, RecordsImportedFrom}
+use Rattle.rfc4737.proofs.Due.{each-none, limit-none}
+use Rattle.rfc4737.proofs.Lists.{All}
 use Rattle.owamp.proofs.Sorted.{in-order}
+use Rattle.owamp.proofs.Reading.{Within, numbers-all}
 use Rattle.owamp.proofs.Inserted.{order-length, rising-first}
 use Rattle.owamp.proofs.Converted.{smallest-numbers, smallest-length}
 
@@ -27,35 +34,33 @@ pub record NoneRefused (k : ℕ) (os : List ℕ) : Type 0 where
   pub least : 1 ≤ k
   pub most : k ≤ sentMost
   pub few : length (recordsArrivals os) ≤ arrivalsMost
-  pub numbers : judgeNumbers k (recordsArrivals os) ≡ 0
+  pub numbers : All (Within k) (recordsArrivals os)
 
 pub none-refused : (k : ℕ) (os : List ℕ) → recordsRefusal k os ≡ 0 → NoneRefused k os
 unfolding recordsRefusal
 none-refused k os e =
     let n = length (recordsArrivals os) in
-    let p = first-none (judgeLength (length os)) (judgeSent k ∷ judgeArrivals n ∷ judgeNumbers k (recordsArrivals os) ∷ []) e in
-    let q = first-none (judgeSent k) (judgeArrivals n ∷ judgeNumbers k (recordsArrivals os) ∷ []) (p .1) in
-    let r = first-none (judgeArrivals n) (judgeNumbers k (recordsArrivals os) ∷ []) (q .1) in
-    let s = between 1 sentMost k (case-none (outside 1 sentMost k) sentOutside (omega arith) (q .0)) in
+    let r = each-none (judgeLength (length os) ∷ judgeSent k ∷ judgeArrivals n ∷ judgeNumbers k (recordsArrivals os) ∷ []) e in
+    let s = limit-none 1 sentMost k sentOutside (omega arith) (r 1) in
     record {
       least = s .0;
       most = s .1;
-      few = between 0 arrivalsMost n (case-none (outside 0 arrivalsMost n) manyArrivals (omega arith) (r .0)) .1;
-      numbers = sym (first-one (judgeNumbers k (recordsArrivals os))) ∙ r .1;
+      few = limit-none 0 arrivalsMost n manyArrivals (omega arith) (r 2) .1;
+      numbers = numbers-all k (recordsArrivals os) (r 3);
     }
 
 module _ (k : ℕ) (os numbers times : List ℕ) where
-  -- what is left after a refusal, and after none
-  left : {r : ℕ} (n : ℕ) {numbers′ times′ : List ℕ} → importRefusal k (length numbers) (length times) os ≡ r
-      → n ≡ length (unlessRefused r (numbersOf (imported os)))
-      → numbers′ ≡ over (unlessRefused r (numbersOf (imported os))) numbers
-      → times′ ≡ over (unlessRefused r (timesOf (imported os))) times
+  -- what is answered and left in the lists, by the refusal
+  answered : {r : ℕ} (n : ℕ) {numbers′ times′ : List ℕ} → importRefusal k (length numbers) (length times) os ≡ r
+      → n ≡ length (unlessRefused r (numbersOf (importedArrivals os)))
+      → numbers′ ≡ over (unlessRefused r (numbersOf (importedArrivals os))) numbers
+      → times′ ≡ over (unlessRefused r (timesOf (importedArrivals os))) times
       → RecordsImportedFrom k os numbers times (record { refusal = r; arrivals = n }) numbers′ times′
-  left n e f g h = record {
+  answered n e f g h = record {
     refusal = sym e;
-    arrivals = f ∙ ap (λ (x : ℕ). length (unlessRefused x (numbersOf (imported os)))) (sym e);
-    filledNumbers = g ∙ ap (λ (x : ℕ). over (unlessRefused x (numbersOf (imported os))) numbers) (sym e);
-    filledTimes = h ∙ ap (λ (x : ℕ). over (unlessRefused x (timesOf (imported os))) times) (sym e);
+    arrivals = f ∙ ap (λ (x : ℕ). length (unlessRefused x (numbersOf (importedArrivals os)))) (sym e);
+    filledNumbers = g ∙ ap (λ (x : ℕ). over (unlessRefused x (numbersOf (importedArrivals os))) numbers) (sym e);
+    filledTimes = h ∙ ap (λ (x : ℕ). over (unlessRefused x (timesOf (importedArrivals os))) times) (sym e);
   }
 
   -- the records or K are refused
@@ -63,33 +68,33 @@ module _ (k : ℕ) (os numbers times : List ℕ) where
   unfolding importRefusal
   import-refused zero e n = absurd (n refl)
   import-refused (suc r) e n =
-      left 0 (ap (λ (x : ℕ). firstOf (x ∷ inCase (ltb (length numbers) (length (recordsArrivals os)) || ltb (length times) (length (recordsArrivals os))) outputShort ∷ [])) (sym e)) refl refl refl
+      answered 0 (ap (λ (x : ℕ). firstOf (x ∷ inCase (ltb (length numbers) (length (recordsArrivals os)) || ltb (length times) (length (recordsArrivals os))) outputShort ∷ [])) (sym e)) refl refl refl
 
   -- a list is too short
   module _ {n : ℕ} (e : recordsRefusal k os ≡ 0) (c : n ≡ length (recordsArrivals os)) where
-    pub import-short-numbers : length numbers < n → RecordsImportedFrom k os numbers times (record { refusal = 8; arrivals = 0 }) numbers times
+    pub import-short-numbers : length numbers < n → RecordsImportedFrom k os numbers times (record { refusal = outputShort; arrivals = 0 }) numbers times
     unfolding importRefusal
     import-short-numbers h =
         let g : length numbers < length (recordsArrivals os) = omega arith in
-        left 0 (simp (e, lt-ltb _ _ g)) refl refl refl
+        answered 0 (simp (e, lt-ltb _ _ g)) refl refl refl
 
-    pub import-short-times : length times < n → RecordsImportedFrom k os numbers times (record { refusal = 8; arrivals = 0 }) numbers times
+    pub import-short-times : length times < n → RecordsImportedFrom k os numbers times (record { refusal = outputShort; arrivals = 0 }) numbers times
     unfolding importRefusal
     import-short-times h =
         let g : length times < length (recordsArrivals os) = omega arith in
-        left 0 (simp (e, lt-ltb _ _ g, or-true)) refl refl refl
+        answered 0 (simp (e, lt-ltb _ _ g, or-true)) refl refl refl
 
   -- the lists are filled
   pub import-filled : (n : ℕ) {numbers′ times′ : List ℕ} → recordsRefusal k os ≡ 0 → n ≡ length (recordsArrivals os) → n ≤ length numbers → n ≤ length times
       → numbers′ ≡ over (numbersOf (inTimeOrder (recordsArrivals os))) numbers → times′ ≡ over (timesOf (fromSmallest (inTimeOrder (recordsArrivals os)))) times
       → RecordsImportedFrom k os numbers times (record { refusal = 0; arrivals = n }) numbers′ times′
-  unfolding importRefusal imported
+  unfolding importRefusal importedArrivals
   import-filled n e c h g f t =
       let l : List Arrival = inTimeOrder (recordsArrivals os) in
       let a : length (recordsArrivals os) ≤ length numbers = omega arith in
       let b : length (recordsArrivals os) ≤ length times = omega arith in
       let m : length (numbersOf (fromSmallest l)) ≡ length (recordsArrivals os) = length-map (fromSmallest l) (λ (x : Arrival). x .number) ∙ smallest-length l ∙ order-length (recordsArrivals os) in
-      left n (simp (e, le-ltb _ _ a, le-ltb _ _ b)) (c ∙ sym m) (f ∙ ap (λ (x : List ℕ). over x numbers) (smallest-numbers l)) t
+      answered n (simp (e, le-ltb _ _ a, le-ltb _ _ b)) (c ∙ sym m) (f ∙ ap (λ (x : List ℕ). over x numbers) (smallest-numbers l)) t
 
 -- where there are places for 4,096 arrivals, the refusal is that of K and the records
 pub import-room : (k numbers times : ℕ) (os : List ℕ) → arrivalsMost ≤ numbers → arrivalsMost ≤ times → importRefusal k numbers times os ≡ recordsRefusal k os

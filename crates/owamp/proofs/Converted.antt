@@ -1,9 +1,14 @@
--- Recorded times turned into whole microseconds from the smallest on. Assumes nothing.
-use Prim.Native.Nat.{ℕ, zero, suc, _+_, _-_, _≤_, _<_}
+-- Recorded times turned into whole microseconds from the smallest on. `after` are the first n times in microseconds, the base taken off. A turn
+-- of the loop reads at i what stood there at first (`after-read`), so it stores the element of `after` (`after-at`), and nothing falls below 0,
+-- since microseconds keep the order and no time is before the first (`after-least`). Where the times rise the smallest is the first, so what
+-- the loop leaves are the times of `fromSmallest` (`times-converted`).
+-- Here old are the times before, d at the loop's head, base and b what is taken off, t a time in microseconds, s a recorded one; l are arrivals
+-- and a is one. Assumes nothing.
+use Prim.Native.Nat.{ℕ, _+_, _-_, _≤_, _<_}
 use native.Mathlib.Omega.{arith}
 use mathlib.Core.List.{List, [], _∷_, _++_, map}
 use mathlib.Core.Path.{_≡_, refl, sym, ap, _∙_}
-use lib.ListN.{length, getD, take, drop, length-map}
+use lib.ListN.{length, getD, take, drop, length-map, List·getD-map}
 use lib.Seq.{getD-take, getD-drop, getD-append-add, length-take-le}
 use Rattle.octets.specs.Memory.{over}
 use Rattle.octets.proofs.Memory.{over-read, over-drop}
@@ -12,12 +17,6 @@ use Rattle.rfc4737.specs.Judge.{numbersOf, timesOf}
 use Rattle.owamp.specs.Order.{NotBack}
 use Rattle.owamp.specs.Clock.{microseconds, smallest, since, fromSmallest}
 use Rattle.owamp.proofs.Clocks.{micro-rising, rising-smallest}
-
--- a function of the element at a place
-pub map-at {ℓ κ} : {A : Type ℓ} {B : Type κ} (f : A → B) (l : List A) (i : ℕ) (z : A) (y : B) → i < length l → getD (map f l) i y ≡ f (getD l i z)
-map-at f [] i z y h = absurd (omega arith)
-map-at f (a ∷ l) zero z y h = refl
-map-at f (a ∷ l) (suc i) z y h = map-at f l i z y (omega arith)
 
 -- the first n of some times in microseconds after a base
 abbrev pub after : ℕ → ℕ → List ℕ → List ℕ
@@ -42,10 +41,11 @@ module _ (n base : ℕ) (old : List ℕ) (room : n ≤ length old) where
 
     -- what is written
     pub after-at : {t : ℕ} → t ≡ microseconds (getD d i 0) → t - base ≡ getD (after n base old) i 0
+    unfolding microseconds
     after-at e =
-        let k : i < length (take n old) = omega (arith, length-take-le n old room) in
+        let past : 0 ≡ microseconds 0 - base = omega arith in
         ap (λ (s : ℕ). s - base) (e ∙ ap microseconds (after-read ∙ sym (getD-take n old i 0 h)))
-        ∙ sym (map-at (λ (s : ℕ). microseconds s - base) (take n old) i 0 0 k)
+        ∙ sym (ap (getD (after n base old) i) past ∙ List·getD-map (λ (s : ℕ). microseconds s - base) (take n old) i 0)
 
     -- nothing below 0
     pub after-least : {t : ℕ} → base ≡ microseconds (getD old 0 0) → getD old 0 0 ≤ getD old i 0 → t ≡ microseconds (getD d i 0) → base ≤ t
@@ -64,12 +64,10 @@ since-numbers : (b : ℕ) (l : List Arrival) → numbersOf l ≡ numbersOf (map 
 since-numbers b [] = refl
 since-numbers b (a ∷ l) = ap (λ (m : List ℕ). a .number ∷ m) (since-numbers b l)
 
--- the numbers stay
 pub smallest-numbers : (l : List Arrival) → numbersOf l ≡ numbersOf (fromSmallest l)
 unfolding fromSmallest
 smallest-numbers l = since-numbers (smallest (map microseconds (timesOf l))) l
 
--- as many
 pub smallest-length : (l : List Arrival) → length (fromSmallest l) ≡ length l
 unfolding fromSmallest
 smallest-length l = length-map l (since (smallest (map microseconds (timesOf l))))

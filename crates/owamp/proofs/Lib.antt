@@ -1,6 +1,5 @@
 -- Laws of the definitions of specs/.
 pub mod Sorted
-pub mod Turn
 pub mod Clocks
 pub mod Shifted
 pub mod Reading

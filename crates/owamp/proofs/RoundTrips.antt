@@ -1,5 +1,8 @@
--- Records written and read again: the record in place i of those written is that of arrival i, its number is the arrival's and its
--- receive time does not go back where the sample's does not; so in order the arrivals stand as they stood. Assumes nothing.
+-- Arrivals written as records and read again. From a record's octets, cut into what stands before the receive time, the receive time and the
+-- last octet, its number and its stamp are read as they were written (`record-read`); so records one after the other read as the arrivals with
+-- stamps (`items-read`, by induction), none of them lost, since a stamp has at least a second (`arrivals-read`). Stamps rise with times
+-- (`stamp-rising`): where no time goes back the arrivals are in order as they stand, and have their numbers in their order (`records-again`).
+-- Here k is K, l are arrivals and a is one, s and t times. Assumes nothing.
 use Prim.Native.Nat.{ℕ, _+_, _-_, _*_, _%_, _^_, _≤_, _<_}
 use native.Mathlib.Omega.{arith}
 use mathlib.Core.Bool.{false}
@@ -13,25 +16,27 @@ use Rattle.octets.specs.BigEndian.{beValue, beOctets}
 use Rattle.octets.specs.Memory.{part}
 use Rattle.octets.proofs.BigEndian.{octets-length, value-octets, value-append}
 use Rattle.rfc4737.specs.declared.Arrival.{Arrival}
-use Rattle.rfc4737.specs.Refusals.{outside, firstOf, numberOutside, secondsOver}
+use Rattle.rfc4737.specs.Refusals.{outside, firstOf, secondsOver}
 use Rattle.rfc4737.specs.Judge.{sentMost, arrivalsMost, numbersOf}
 use Rattle.sample.specs.Format.{itemsIn, itemOctets}
-use Rattle.owamp.specs.Record.{recordIn, recordCount, passing, isArrival, recordsArrivals}
+use Rattle.owamp.specs.Record.{recordWidth, recordIn, recordCount, passing, isArrival, recordsArrivals}
 use Rattle.owamp.specs.Order.{NotBefore, NotBack, inTimeOrder}
 use Rattle.owamp.specs.Clock.{fractions, fromSmallest, writtenSeconds, writtenFraction}
 use Rattle.owamp.specs.Judge.{judgeNumber, judgeNumbers, recordsRefusal, secondsMost, judgeTime, judgeSeconds}
-use Rattle.owamp.specs.Calls.{imported, recordOctets, recordsOf}
-use Rattle.rfc4737.proofs.Due.{first-none, case-none, between, not-outside}
+use Rattle.owamp.specs.Calls.{importedArrivals, recordOctets, recordsOf}
+use Rattle.rfc4737.proofs.Due.{first-none, case-none, not-outside}
+use Rattle.rfc4737.proofs.Lists.{All}
 use Rattle.sample.proofs.Items.{octets-many}
 use Rattle.owamp.proofs.Sorted.{order-rising}
+use Rattle.owamp.proofs.Reading.{Within, numbers-all}
 use Rattle.owamp.proofs.Converted.{smallest-numbers}
 
 -- a written receive time as the number of 64 bits that it is
-abbrev pub stampOf : ℕ → ℕ
+abbrev stampOf : ℕ → ℕ
 stampOf t = writtenSeconds t * fractions + writtenFraction t
 
 -- it keeps the order
-pub stamp-rising : (s t : ℕ) → s ≤ t → stampOf s ≤ stampOf t
+stamp-rising : (s t : ℕ) → s ≤ t → stampOf s ≤ stampOf t
 stamp-rising s t h = omega arith
 
 -- an arrival with it
@@ -44,23 +49,21 @@ stamped a = record { number = a .number; time = stampOf (a .time) }
 abbrev before : Arrival → List ℕ
 before a = beOctets 4 (a .number - 1) ++ (beOctets 2 1 ++ (beOctets 2 1 ++ beOctets 8 0))
 
+-- the receive timestamp
 abbrev received : Arrival → List ℕ
 received a = beOctets 4 (writtenSeconds (a .time)) ++ beOctets 4 (writtenFraction (a .time))
 
-regroup : (a b c d e f g : List ℕ) → a ++ (b ++ (c ++ (d ++ (e ++ (f ++ g))))) ≡ (a ++ (b ++ (c ++ d))) ++ ((e ++ f) ++ g)
-regroup a b c d e f g = simp append-assoc
-
+-- a record in three parts
 parts : (a : Arrival) → recordOctets a ≡ before a ++ (received a ++ beOctets 1 255)
 unfolding recordOctets
-parts a = regroup (beOctets 4 (a .number - 1)) (beOctets 2 1) (beOctets 2 1) (beOctets 8 0) (beOctets 4 (writtenSeconds (a .time))) (beOctets 4 (writtenFraction (a .time))) (beOctets 1 255)
+parts a = simp append-assoc
 
--- 25 octets
-pub record-long : (a : Arrival) → length (recordOctets a) ≡ 25
+pub record-long : (a : Arrival) → length (recordOctets a) ≡ recordWidth
 unfolding recordOctets
 record-long a = simp (length-append, octets-length)
 
 -- what is read from it
-pub record-read : (a : Arrival) → 1 ≤ a .number → a .number ≤ sentMost → writtenSeconds (a .time) < 256 ^ 4 → recordIn (recordOctets a) ≡ stamped a
+record-read : (a : Arrival) → 1 ≤ a .number → a .number ≤ sentMost → writtenSeconds (a .time) < 256 ^ 4 → recordIn (recordOctets a) ≡ stamped a
 unfolding recordIn recordOctets
 record-read a h k s =
     let u : length (before a) ≡ 16 = simp (length-append, octets-length) in
@@ -78,13 +81,7 @@ record-read a h k s =
 
 -- ---- all of them
 
--- what is known of arrivals that are not refused
-judged : (k : ℕ) (a : Arrival) (l : List Arrival) → judgeNumbers k (a ∷ l) ≡ 0 → ((1 ≤ a .number) × (a .number ≤ k)) × (judgeNumbers k l ≡ 0)
-unfolding judgeNumbers judgeNumber
-judged k a l e =
-    let p = first-none (judgeNumber k a) (map (judgeNumber k) l) e in
-    (between 1 k (a .number) (case-none (outside 1 k (a .number)) numberOutside (omega arith) (p .0)), p .1)
-
+-- what is known of arrivals whose times can be written
 timed : (a : Arrival) (l : List Arrival) → judgeSeconds (a ∷ l) ≡ 0 → (writtenSeconds (a .time) < 256 ^ 4) × (judgeSeconds l ≡ 0)
 unfolding judgeSeconds judgeTime
 timed a l e =
@@ -92,19 +89,20 @@ timed a l e =
     let q = ltb-false secondsMost (writtenSeconds (a .time)) (case-none (ltb secondsMost (writtenSeconds (a .time))) secondsOver (omega arith) (p .0)) in
     (omega arith, p .1)
 
-items-read : (k : ℕ) (l : List Arrival) → k ≤ sentMost → judgeNumbers k l ≡ 0 → judgeSeconds l ≡ 0 → itemsIn 25 recordIn (length l) (itemOctets recordOctets l) ≡ map stamped l
+-- the records of arrivals are read as the arrivals with stamps
+items-read : (k : ℕ) (l : List Arrival) → k ≤ sentMost → All (Within k) l → judgeSeconds l ≡ 0 → itemsIn recordWidth recordIn (length l) (itemOctets recordOctets l) ≡ map stamped l
 unfolding itemsIn itemOctets
-items-read k [] h e s = refl
-items-read k (a ∷ l) h e s =
-    let p = judged k a l e in
+items-read k [] h w s = refl
+items-read k (a ∷ l) h w s =
     let q = timed a l s in
-    let r : recordIn (recordOctets a) ≡ stamped a = record-read a (p .0 .0) (omega (arith, p .0 .1)) (q .0) in
-    rw (take-at (recordOctets a) (itemOctets recordOctets l) 25 (record-long a), drop-at (recordOctets a) (itemOctets recordOctets l) 25 (record-long a), r, items-read k l h (p .1) (q .1))
+    let r : recordIn (recordOctets a) ≡ stamped a = record-read a (w .0 .0) (omega (arith, w .0 .1)) (q .0) in
+    rw (take-at (recordOctets a) (itemOctets recordOctets l) recordWidth (record-long a), drop-at (recordOctets a) (itemOctets recordOctets l) recordWidth (record-long a), r, items-read k l h (w .1) (q .1))
 
-pub records-many : (l : List Arrival) → length (recordsOf l) ≡ 25 * length l
+pub records-many : (l : List Arrival) → length (recordsOf l) ≡ recordWidth * length l
 unfolding recordsOf
-records-many l = octets-many recordOctets 25 record-long l
+records-many l = octets-many recordOctets recordWidth record-long l
 
+-- none of them is lost: a stamp is not 0
 all-arrived : (l : List Arrival) → passing isArrival (map stamped l) ≡ map stamped l
 unfolding passing
 all-arrived [] = refl
@@ -115,8 +113,8 @@ all-arrived (a ∷ l) =
 pub arrivals-read : (k : ℕ) (l : List Arrival) → k ≤ sentMost → judgeNumbers k l ≡ 0 → judgeSeconds l ≡ 0 → recordsArrivals (recordsOf l) ≡ map stamped l
 unfolding recordsArrivals recordsOf
 arrivals-read k l h e s =
-    let n : recordCount (itemOctets recordOctets l) ≡ length l = omega (arith, octets-many recordOctets 25 record-long l) in
-    ap (λ (c : ℕ). passing isArrival (itemsIn 25 recordIn c (itemOctets recordOctets l))) n ∙ ap (passing isArrival) (items-read k l h e s) ∙ all-arrived l
+    let n : recordCount (itemOctets recordOctets l) ≡ length l = omega (arith, octets-many recordOctets recordWidth record-long l) in
+    ap (λ (c : ℕ). passing isArrival (itemsIn recordWidth recordIn c (itemOctets recordOctets l))) n ∙ ap (passing isArrival) (items-read k l h (numbers-all k l e) s) ∙ all-arrived l
 
 stamped-before : (t : ℕ) (l : List Arrival) → NotBefore t l → NotBefore (stampOf t) (map stamped l)
 stamped-before t [] n = tt
@@ -142,11 +140,11 @@ stamped-judged k l = ap firstOf (stamped-each k l)
 -- arrivals of packets 1 to K whose times can be written and do not go back, written as records and read again: none is refused, and they
 -- have the same numbers in the same order
 pub records-again : (k : ℕ) (l : List Arrival) → 1 ≤ k → k ≤ sentMost → length l ≤ arrivalsMost → judgeNumbers k l ≡ 0 → judgeSeconds l ≡ 0 → NotBack l
-    → (recordsRefusal k (recordsOf l) ≡ 0) × (numbersOf (imported (recordsOf l)) ≡ numbersOf l)
-unfolding recordsRefusal imported
+    → (recordsRefusal k (recordsOf l) ≡ 0) × (numbersOf (importedArrivals (recordsOf l)) ≡ numbersOf l)
+unfolding recordsRefusal importedArrivals
 records-again k l h₁ h₂ m e s r =
     let q : recordsArrivals (recordsOf l) ≡ map stamped l = arrivals-read k l h₂ e s in
-    let n : length (recordsOf l) % 25 ≡ 0 = omega (arith, records-many l) in
+    let n : length (recordsOf l) % recordWidth ≡ 0 = omega (arith, records-many l) in
     let c : length (recordsArrivals (recordsOf l)) ≡ length l = ap length q ∙ length-map l stamped in
     let j : judgeNumbers k (recordsArrivals (recordsOf l)) ≡ 0 = ap (judgeNumbers k) q ∙ stamped-judged k l ∙ e in
     let o : outside 0 arrivalsMost (length (recordsArrivals (recordsOf l))) ≡ false = not-outside 0 arrivalsMost _ (omega arith) (omega arith) in (

@@ -1,4 +1,9 @@
--- The writer: its judge, one record into lent octets, and its answers. Assumes nothing.
+-- The writer. A record is seven numbers put one behind the other into 25 lent octets, which is one put of them all (`record-put`, by `chain`
+-- for each after the first). The first refusal of a file is its own, or that of its times (`own-refusal`, `times-refusal`). Written and read
+-- again (`read-again`): without a refusal the records stand at the start and the file is accepted, so its numbers lie in 1 to K, and
+-- `records-again` gives what is read.
+-- Here a to g are octets and d₁ to d₇ the lent octets after each put, s and f the seconds and the fraction of time t; y is a file's layout, r a
+-- refusal, l are arrivals, k is K. Assumes nothing.
 use Prim.Native.Nat.{ℕ, zero, suc, _+_, _-_, _≤_, _<_}
 use native.Mathlib.Omega.{arith}
 use mathlib.Core.List.{List, [], _∷_, _++_, append-assoc}
@@ -15,13 +20,12 @@ use Rattle.rfc4737.specs.Refusals.{firstOf}
 use Rattle.rfc4737.specs.Judge.{numbersOf}
 use Rattle.sample.specs.Decode.{decode, sampleOf, decodedRefusal, layoutOf, accepted}
 use Rattle.sample.specs.Output.{unlessRefused}
-use Rattle.owamp.specs.Record.{recordsArrivals}
+use Rattle.owamp.specs.Record.{recordWidth, recordsArrivals}
 use Rattle.owamp.specs.Clock.{writtenSeconds, writtenFraction}
 use Rattle.owamp.specs.Judge.{judgeNumber, judgeNumbers, judgeSeconds}
-use Rattle.owamp.specs.Calls.{importRefusal, imported, RecordsImportedFrom, recordOctets, recordsOf, arrivalsOfFile, exportRefusal}
+use Rattle.owamp.specs.Calls.{importRefusal, importedArrivals, RecordsImportedFrom, recordOctets, recordsOf, arrivalsOfFile, exportRefusal}
 use Rattle.owamp.specs.RoundTrip.{RecordsReadAgain}
 use Rattle.sample.specs.Places.{noArrival}
-use Rattle.owamp.specs.Private.Reading.{AcceptedLayout}
 use Rattle.sample.specs.declared.Layout.{Layout}
 use Rattle.rfc4737.proofs.Due.{first-none, first-next, first-one, not-outside}
 use Rattle.sample.proofs.Output.{own-none, output-read}
@@ -30,9 +34,6 @@ use Rattle.owamp.proofs.RoundTrips.{records-again, arrivals-read, stamp
 
 -- ---- one record into 25 octets
 
-regroup : (a b c d e f g : List ℕ) → (((((a ++ b) ++ c) ++ d) ++ e) ++ f) ++ g ≡ a ++ (b ++ (c ++ (d ++ (e ++ (f ++ g)))))
-regroup a b c d e f g = simp append-assoc
-
 -- so many octets more
 chain : (at w : ℕ) (xs : List ℕ) (v : ℕ) (old : List ℕ) {d d′ : List ℕ} → length xs ≡ at → at + w ≤ length old → d ≡ put 0 xs old → d′ ≡ put at (beOctets w v) d
     → d′ ≡ put 0 (xs ++ beOctets w v) old
@@ -40,10 +41,12 @@ chain at w xs v old e h p q =
     let l : length (beOctets w v) ≡ w = octets-length w v in
     q ∙ ap (put at (beOctets w v)) p ∙ put-next 0 at xs (beOctets w v) old (omega arith) (omega arith)
 
+-- their number
 longer : (at w : ℕ) (xs : List ℕ) (v : ℕ) → length xs ≡ at → length (xs ++ beOctets w v) ≡ at + w
 longer at w xs v e = length-append xs (beOctets w v) ∙ (let l = octets-length w v in let q : length xs + length (beOctets w v) ≡ at + w = omega arith in q)
 
-pub record-put : (n t : ℕ) (old : List ℕ) {d₁ d₂ d₃ d₄ d₅ d₆ d₇ : List ℕ} {s f : ℕ} → length old ≡ 25
+-- the seven numbers of a record
+pub record-put : (n t : ℕ) (old : List ℕ) {d₁ d₂ d₃ d₄ d₅ d₆ d₇ : List ℕ} {s f : ℕ} → length old ≡ recordWidth
     → d₁ ≡ put 0 (beOctets 4 (n - 1)) old → d₂ ≡ put 4 (beOctets 2 1) d₁ → d₃ ≡ put 6 (beOctets 2 1) d₂ → d₄ ≡ put 8 (beOctets 8 0) d₃
     → s ≡ writtenSeconds t → d₅ ≡ put 16 (beOctets 4 s) d₄ → f ≡ writtenFraction t → d₆ ≡ put 20 (beOctets 4 f) d₅ → d₇ ≡ put 24 (beOctets 1 255) d₆
     → d₇ ≡ put 0 (recordOctets (record { number = n; time = t })) old
@@ -67,13 +70,13 @@ record-put n t old {s = s} {f = f} l p₁ p₂ p₃ p₄ es p₅ ef p₆ p₇ =
     (chain 8 8 c 0 old lc (omega arith)
     (chain 6 2 b 1 old lb (omega arith)
     (chain 4 2 a 1 old la (omega arith) p₁ p₂) p₃) p₄) p₅) p₆) p₇
-    ∙ ap (λ (x : List ℕ). put 0 x old) (regroup a (beOctets 2 1) (beOctets 2 1) (beOctets 8 0) (beOctets 4 s) (beOctets 4 f) (beOctets 1 255) ∙ rw (es, ef))
+    ∙ ap (λ (x : List ℕ). put 0 x old) (let r : g ++ beOctets 1 255 ≡ recordOctets (record { number = n; time = t }) = simp (append-assoc, es, ef) in r)
 
 -- ---- the file
 
 -- the layout of an accepted file has the number of its arrivals
-pub found-many : (file : List ℕ) (y : Layout) → AcceptedLayout file y → y .arrivals ≡ length (arrivalsOfFile file)
-found-many file y f = ap (λ (x : Layout). x .arrivals) (f .layout)
+pub found-many : (file : List ℕ) (y : Layout) → y ≡ layoutOf (decode file) → y .arrivals ≡ length (arrivalsOfFile file)
+found-many file y e = ap (λ (x : Layout). x .arrivals) e
 
 -- the refusal of the layout is the file's
 pub found-refusal : (file : List ℕ) (y : Layout) → y ≡ layoutOf (decode file) → y .refusal ≡ decodedRefusal (decode file)
@@ -104,7 +107,7 @@ numbers-within k (a ∷ l) h =
     rw (not-outside 1 k (a .number) (p .0) (p .1)) (numbers-within k l (λ i q. h (suc i) (omega arith)))
 
 pub read-again : (file : List ℕ) → Octets file → RecordsReadAgain file
-unfolding exportRefusal importRefusal imported
+unfolding exportRefusal importRefusal importedArrivals
 read-again file o out out′ numbers times numbers′ times′ written read w z r hn ht i =
     let l : List Arrival = arrivalsOfFile file in
     let k : ℕ = length (sampleOf (decode file) .sizes) in
@@ -120,7 +123,7 @@ read-again file o out out′ numbers times numbers′ times′ written read w z 
     let c : length (recordsArrivals rs) ≡ length l = ap length (arrivals-read k l (m .sentFits) j (p₂ .0)) ∙ length-map l stamped in
     let b : importRefusal k (length numbers) (length times) rs ≡ 0 = simp (a .0, c, le-ltb _ _ hn, le-ltb _ _ ht) in
     let x : read .refusal ≡ 0 = g .refusal ∙ b in
-    let f′ : unlessRefused (importRefusal k (length numbers) (length times) rs) (numbersOf (imported rs)) ≡ numbersOf l = ap (λ (x : ℕ). unlessRefused x (numbersOf (imported rs))) b ∙ a .1 in
+    let f′ : unlessRefused (importRefusal k (length numbers) (length times) rs) (numbersOf (importedArrivals rs)) ≡ numbersOf l = ap (λ (x : ℕ). unlessRefused x (numbersOf (importedArrivals rs))) b ∙ a .1 in
     let y : read .arrivals ≡ length l = g .arrivals ∙ ap length f′ ∙ length-map l (λ (x : Arrival). x .number) in (
       (λ v. record { refusal = x v; arrivals = y v }),
       g .filledNumbers ∙ ap (λ (x : List ℕ). over x numbers) f′,

@@ -22,8 +22,8 @@ use Rattle.owamp.specs.declared.RecordsImport.{RecordsImport}
 -- ---- the importer
 
 -- the arrivals of records: in order, in whole microseconds from the smallest
-unfoldable pub imported : List ℕ → List Arrival
-imported os = fromSmallest (inTimeOrder (recordsArrivals os))
+unfoldable pub importedArrivals : List ℕ → List Arrival
+importedArrivals os = fromSmallest (inTimeOrder (recordsArrivals os))
 
 -- the first refusal that is due where lists of so many places are filled: 8 comes last
 unfoldable pub importRefusal : (k numbers times : ℕ) (os : List ℕ) → ℕ
@@ -35,11 +35,11 @@ importRefusal k numbers times os =
 
 -- the numbers that are filled in where lists have so many places, or none with a refusal
 abbrev pub numbersInto : (k numbers times : ℕ) (os : List ℕ) → List ℕ
-numbersInto k numbers times os = unlessRefused (importRefusal k numbers times os) (numbersOf (imported os))
+numbersInto k numbers times os = unlessRefused (importRefusal k numbers times os) (numbersOf (importedArrivals os))
 
 -- the times
 abbrev pub timesInto : (k numbers times : ℕ) (os : List ℕ) → List ℕ
-timesInto k numbers times os = unlessRefused (importRefusal k numbers times os) (timesOf (imported os))
+timesInto k numbers times os = unlessRefused (importRefusal k numbers times os) (timesOf (importedArrivals os))
 
 -- the importer's answer, and the two lists after it: the arrivals' values from their start, all else as it was
 pub record RecordsImportedFrom (k : ℕ) (os numbers times : List ℕ) (answer : RecordsImport) (numbers′ times′ : List ℕ) : Type 0 where

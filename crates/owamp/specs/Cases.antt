@@ -7,7 +7,7 @@ use Rattle.octets.specs.BigEndian.{beOctets}
 use Rattle.rfc4737.specs.declared.Arrival.{Arrival}
 use Rattle.owamp.specs.Clock.{microseconds, takenOff}
 use Rattle.owamp.specs.Judge.{recordsRefusal}
-use Rattle.owamp.specs.Calls.{imported, recordOctets}
+use Rattle.owamp.specs.Calls.{importedArrivals, recordOctets}
 
 -- ---- what is read
 
@@ -23,33 +23,33 @@ timeTable =
     ∷ []
 
 -- the octets of a record by its sequence number and its receive time; the other fields hold octets of 9
-abbrev pub received : (sequence time : ℕ) → List ℕ
-received sequence time = beOctets 4 sequence ++ (replicate 12 9 ++ (beOctets 8 time ++ (9 ∷ [])))
+abbrev pub receivedRecord : (sequence time : ℕ) → List ℕ
+receivedRecord sequence time = beOctets 4 sequence ++ (replicate 12 9 ++ (beOctets 8 time ++ (9 ∷ [])))
 
 -- K and octets, each with the first refusal that is due
 abbrev pub refusalTable : List ((ℕ × List ℕ) × ℕ)
 refusalTable =
     -- no record; one record, and an octet less and more
-    ((1, []), 0) ∷ ((1, received 0 1), 0) ∷ ((1, replicate 24 9), 15) ∷ ((1, replicate 26 9), 15)
+    ((1, []), 0) ∷ ((1, receivedRecord 0 1), 0) ∷ ((1, replicate 24 9), 15) ∷ ((1, replicate 26 9), 15)
     -- 15 before 4, and 4 before 6
-    ∷ ((0, 9 ∷ []), 15) ∷ ((0, received 0 1), 4) ∷ ((4097, received 9 1), 4)
+    ∷ ((0, 9 ∷ []), 15) ∷ ((0, receivedRecord 0 1), 4) ∷ ((4097, receivedRecord 9 1), 4)
     -- a lost record is not judged; one of seconds 0 and a fraction is no lost one
-    ∷ ((1, received 9 0), 0) ∷ ((1, received 9 1), 6) ∷ ((1, received 4294967295 0), 0)
+    ∷ ((1, receivedRecord 9 0), 0) ∷ ((1, receivedRecord 9 1), 6) ∷ ((1, receivedRecord 4294967295 0), 0)
     -- sequence number 1 is packet 2, and the greatest is packet 2 to the 32
-    ∷ ((1, received 1 1), 6) ∷ ((2, received 1 1), 0) ∷ ((4096, received 4294967295 1), 6)
+    ∷ ((1, receivedRecord 1 1), 6) ∷ ((2, receivedRecord 1 1), 0) ∷ ((4096, receivedRecord 4294967295 1), 6)
     ∷ []
 
 -- octets, each with the arrivals that are imported
 abbrev pub importTable : List (List ℕ × List Arrival)
 importTable =
     -- none arrived
-    (received 0 0 ++ received 1 0, [])
+    (receivedRecord 0 0 ++ receivedRecord 1 0, [])
     -- in order of the receive time, a lost one between; one and a half seconds, and a quarter
-    ∷ (received 1 6442450944 ++ (received 7 0 ++ received 0 1073741824), record { number = 1; time = 0 } ∷ record { number = 2; time = 1250000 } ∷ [])
+    ∷ (receivedRecord 1 6442450944 ++ (receivedRecord 7 0 ++ receivedRecord 0 1073741824), record { number = 1; time = 0 } ∷ record { number = 2; time = 1250000 } ∷ [])
     -- equal times in file order; times that differ by less than a microsecond in their own
-    ∷ (received 2 5 ++ (received 1 5 ++ received 0 4), record { number = 1; time = 0 } ∷ record { number = 3; time = 0 } ∷ record { number = 2; time = 0 } ∷ [])
+    ∷ (receivedRecord 2 5 ++ (receivedRecord 1 5 ++ receivedRecord 0 4), record { number = 1; time = 0 } ∷ record { number = 3; time = 0 } ∷ record { number = 2; time = 0 } ∷ [])
     -- the smallest is taken off after rounding: 4,294 and 4,295 fractions are 0 and 1 microseconds
-    ∷ (received 0 4294 ++ received 1 4295, record { number = 1; time = 0 } ∷ record { number = 2; time = 1 } ∷ [])
+    ∷ (receivedRecord 0 4294 ++ receivedRecord 1 4295, record { number = 1; time = 0 } ∷ record { number = 2; time = 1 } ∷ [])
     ∷ []
 
 -- what is read of the cases is what they give: the microseconds of each receive time and what rounding takes off
@@ -58,7 +58,7 @@ pub record RecordsReadAsGiven : Type 0 where
   -- the refusal of each K and records
   pub refusals : map (λ (c : (ℕ × List ℕ) × ℕ). recordsRefusal (c .0 .0) (c .0 .1)) refusalTable ≡ map (λ (c : (ℕ × List ℕ) × ℕ). c .1) refusalTable
   -- the arrivals imported from each records
-  pub arrivals : map (λ (c : List ℕ × List Arrival). imported (c .0)) importTable ≡ map (λ (c : List ℕ × List Arrival). c .1) importTable
+  pub arrivals : map (λ (c : List ℕ × List Arrival). importedArrivals (c .0)) importTable ≡ map (λ (c : List ℕ × List Arrival). c .1) importTable
 
 -- ---- what is written
 

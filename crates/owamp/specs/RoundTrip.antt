@@ -13,16 +13,16 @@ use Rattle.sample.specs.Calls.{sampleRefusal}
 use Rattle.sample.specs.declared.WriteAnswer.{WriteAnswer}
 use Rattle.owamp.specs.Order.{NotBack}
 use Rattle.owamp.specs.Judge.{recordsRefusal}
-use Rattle.owamp.specs.Calls.{imported, RecordsImportedFrom, arrivalsOfFile, RecordsWrittenTo}
+use Rattle.owamp.specs.Calls.{importedArrivals, RecordsImportedFrom, arrivalsOfFile, RecordsWrittenTo}
 use Rattle.owamp.specs.declared.RecordsImport.{RecordsImport}
 
 -- imported arrivals that a sample may have: no time goes back, and with K nothing of them is refused; so of a label, K payload sizes and
 -- these arrivals the sample's writer refuses, before 8, the label alone, by 3 or 13
 pub record AcceptedRecords (k : ℕ) (os : List ℕ) : Type 0 where
-  pub rising : NotBack (imported os)
-  pub lists : refusalOfLists k (numbersOf (imported os)) (timesOf (imported os)) ≡ 0
+  pub rising : NotBack (importedArrivals os)
+  pub lists : refusalOfLists k (numbersOf (importedArrivals os)) (timesOf (importedArrivals os)) ≡ 0
   pub written : (label sizes : List ℕ) → length sizes ≡ k
-      → sampleRefusal label sizes (numbersOf (imported os)) (timesOf (imported os)) ≡ firstOf (judgeLabel (length label) ∷ judgeOctets label ∷ [])
+      → sampleRefusal label sizes (numbersOf (importedArrivals os)) (timesOf (importedArrivals os)) ≡ firstOf (judgeLabel (length label) ∷ judgeOctets label ∷ [])
 
 -- the arrivals of records that are not refused are such
 abbrev pub AcceptedLists : ℕ → List ℕ → Type 0

@@ -1,10 +1,13 @@
 // What is refused of records and K, and of times that are written.
 ghost use mathlib.Core.Path.{_≡_};
+ghost use mathlib.Core.Bool.{cond};
+ghost use lib.Dec.{eqb};
 ghost use lib.ListN.{length};
+ghost use Rattle.sample.specs.Decode.{decode, layoutOf};
 ghost use Rattle.owamp.specs.Record.{recordsArrivals};
 ghost use Rattle.owamp.specs.Judge.{judgeNumbers, recordsRefusal, judgeTime, judgeSeconds};
 ghost use Rattle.owamp.specs.Calls.{arrivalsOfFile};
-ghost use Rattle.owamp.specs.Private.Reading.{oneIfArrived, judgeRecord, AcceptedLayout};
+ghost use Rattle.owamp.specs.Private.{judgeRecord};
 use crate::clock::seconds_of;
 use crate::records::WIDTH;
 use crate::records::number_of;
@@ -24,7 +27,7 @@ const SECONDS_MOST: u64 = 4_294_967_295;
 
 // 1 for an arrival, 0 for a lost packet, by the receive time.
 fn one_if_arrived(time: u64) -> usize
-    ensures { λ r. ⌜ r ≡ oneIfArrived time ⌝ }
+    ensures { λ r. ⌜ r ≡ cond (eqb time 0) 0 1 ⌝ }
 {
     if time != 0 {
         return 1;
@@ -76,7 +79,7 @@ fn judge_numbers(records: &[u8], k: u64) -> u32
 }
 
 // The first refusal that is due of K and records, so many of them arrivals: 15, 4, 5, 6; 0 if none is.
-pub(crate) fn refusal_in(records: &[u8], k: u32, count: usize) -> u32
+pub(crate) fn records_refusal(records: &[u8], k: u32, count: usize) -> u32
     requires { ⌜ count ≡ length (recordsArrivals (now records)) ⌝ }
     ensures { λ r. ⌜ r ≡ recordsRefusal k (now (records .entry)) ⌝ }
 {
@@ -104,7 +107,7 @@ fn judge_time(time: u64) -> u32
 
 // The arrivals of an accepted file in turn, each by 18.
 pub(crate) fn judge_seconds(file: &[u8], found: Layout) -> u32
-    requires { ⌜ AcceptedLayout (now file) found ⌝ }
+    requires { ⌜ (found ≡ layoutOf (decode (now file))) × (found .refusal ≡ 0) ⌝ }
     ensures { λ r. ⌜ r ≡ judgeSeconds (arrivalsOfFile (now (file .entry))) ⌝ }
 {
     let count = found.arrivals;

@@ -10,20 +10,20 @@ ghost use Rattle.owamp.specs.Clock.{RoundedDown};
 ghost use Rattle.owamp.specs.Calls.{RecordsImportedFrom, recordsOf, arrivalsOfFile, RecordsWrittenTo};
 ghost use Rattle.owamp.specs.RoundTrip.{AcceptedLists, RecordsReadAgain};
 ghost use Rattle.owamp.specs.Cases.{RecordsReadAsGiven, RecordsWrittenAsGiven};
-ghost use Rattle.owamp.specs.Private.Reading.{AcceptedLayout};
+ghost use Rattle.sample.specs.Decode.{decode, layoutOf};
 
 mod clock;
 mod fill;
 mod judge;
 mod records;
 
-use fill::convert;
-use fill::fill;
+use fill::fill_arrivals;
+use fill::to_microseconds;
 use judge::arrivals_among;
 use judge::judge_seconds;
-use judge::refusal_in;
+use judge::records_refusal;
 use records::WIDTH;
-use records::put_record;
+use records::put_packet_record;
 use rfc4737::refusal::OUTPUT_SHORT;
 use sample::Layout;
 use sample::WriteAnswer;
@@ -45,7 +45,7 @@ pub fn import(records: &[u8], k: u32, numbers: &mut [u32], times: &mut [u64]) ->
     ensures cases { λ _. ⌜ RecordsReadAsGiven ⌝ }
 {
     let count = arrivals_among(records);
-    let refusal = refusal_in(records, k, count);
+    let refusal = records_refusal(records, k, count);
     if refusal != 0 {
         return RecordsImport {
             refusal,
@@ -64,8 +64,8 @@ pub fn import(records: &[u8], k: u32, numbers: &mut [u32], times: &mut [u64]) ->
             arrivals: 0,
         };
     }
-    fill(records, numbers, times);
-    convert(times, count);
+    fill_arrivals(records, numbers, times);
+    to_microseconds(times, count);
     RecordsImport {
         refusal: 0,
         arrivals: count as u32,
@@ -74,7 +74,7 @@ pub fn import(records: &[u8], k: u32, numbers: &mut [u32], times: &mut [u64]) ->
 
 // Writes the records of an accepted file's arrivals from the start of `out`.
 fn write_records(file: &[u8], found: Layout, out: &mut [u8])
-    requires { ⌜ AcceptedLayout (now file) found × (recordWidth * (found .arrivals) ≤ length (now out)) ⌝ }
+    requires { ⌜ ((found ≡ layoutOf (decode (now file))) × (found .refusal ≡ 0)) × (recordWidth * (found .arrivals) ≤ length (now out)) ⌝ }
     ensures { λ _. ⌜ now (out .exit) ≡ splice 0 (recordsOf (arrivalsOfFile (now (file .entry)))) (now (out .entry)) ⌝ }
 {
     let count = found.arrivals;
@@ -84,7 +84,7 @@ fn write_records(file: &[u8], found: Layout, out: &mut [u8])
         let start = WIDTH * (i as usize);
         let end = start + WIDTH;
         let lent = &mut out[start..end];
-        put_record(lent, arrival.number, arrival.time);
+        put_packet_record(lent, arrival.number, arrival.time);
         i += 1;
     }
 }

@@ -44,7 +44,7 @@ pub(crate) fn time_of(records: &[u8], i: usize) -> u64
 }
 
 // Writes the record of an arrival.
-pub(crate) fn put_record(lent: &mut [u8], number: u32, time: u64)
+pub(crate) fn put_packet_record(lent: &mut [u8], number: u32, time: u64)
     requires { ⌜ (1 ≤ number) × (length (now lent) ≡ recordWidth) ⌝ }
     ensures { λ _. ⌜ now (lent .exit) ≡ put 0 (recordOctets (record { number = number; time = time })) (now (lent .entry)) ⌝ }
 {

@@ -10,7 +10,7 @@ use cases::text::number;
 use octets::put_number;
 
 // Puts record i + 1 by number i of the sequence numbers, seconds and fractions, each 0 where none is given.
-fn put_record(records: &mut [u8], line: &[u8], i: u16) {
+fn put_packet_record(records: &mut [u8], line: &[u8], i: u16) {
     let n = i as usize;
     put_number(records, 25 * n, 4, number(field(line, 4), n));
     put_number(records, 25 * n + 16, 4, number(field(line, 5), n));
@@ -20,12 +20,12 @@ fn put_record(records: &mut [u8], line: &[u8], i: u16) {
 // Runs the case of a line.
 pub(crate) fn run(line: &[u8]) {
     let mut records = [OTHER; 150];
-    put_record(&mut records, line, 0);
-    put_record(&mut records, line, 1);
-    put_record(&mut records, line, 2);
-    put_record(&mut records, line, 3);
-    put_record(&mut records, line, 4);
-    put_record(&mut records, line, 5);
+    put_packet_record(&mut records, line, 0);
+    put_packet_record(&mut records, line, 1);
+    put_packet_record(&mut records, line, 2);
+    put_packet_record(&mut records, line, 3);
+    put_packet_record(&mut records, line, 4);
+    put_packet_record(&mut records, line, 5);
     import_into(
         field(line, 1),
         number_in_32(line, 2),

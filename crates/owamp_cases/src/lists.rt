@@ -4,9 +4,9 @@ use cases::print::write_64;
 use cases::print::write_answer;
 use cases::print::write_number;
 use cases::print::write_word;
-use cases::sums::Sums;
-use cases::sums::sum_32;
-use cases::sums::sum_64;
+use cases::totals::Sums;
+use cases::totals::sum_32;
+use cases::totals::sum_64;
 
 // What numbers are filled with.
 pub(crate) const NUMBER: u32 = 77;

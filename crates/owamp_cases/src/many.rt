@@ -3,6 +3,8 @@ use crate::OTHER;
 use crate::lists::NUMBER;
 use crate::lists::TIME;
 use crate::lists::import_and_sum;
+use cases::MOST;
+use cases::OVER;
 use cases::fields::field;
 use cases::fields::number_in_32;
 use cases::lists::first_8;
@@ -10,9 +12,12 @@ use cases::lists::least;
 use cases::series::put_series;
 
 // The most arrivals, and their octets with those of the lost records.
-const ARRIVALS: u16 = 4097;
+const ARRIVALS: u16 = OVER as u16;
 
-const OCTETS: usize = 204_850;
+const OCTETS: usize = OVER * 50;
+
+// The most places of a list that the arrivals are imported into.
+const PLACES: usize = OVER + 1;
 
 // The fractions between the times of two arrivals: 5 microseconds and a part of one.
 const STEP: u64 = 25_000;
@@ -56,14 +61,14 @@ fn put_order(records: &mut [u8], order: u32) {
     }
 }
 
-// Imports records into lists of so many places: 4,098 at most.
+// Imports records into lists of so many places, PLACES at most.
 fn import_records(line: &[u8], records: &[u8]) {
-    let mut numbers = [NUMBER; 4098];
-    let mut times = [TIME; 4098];
-    let n = least(number_in_32(line, 2) as usize, 4098);
+    let mut numbers = [NUMBER; PLACES];
+    let mut times = [TIME; PLACES];
+    let n = least(number_in_32(line, 2) as usize, PLACES);
     import_and_sum(
         field(line, 1),
-        4096,
+        MOST as u32,
         records,
         &mut numbers[0..n],
         &mut times[0..n],

@@ -5,6 +5,7 @@ use crate::lists::TIME;
 use crate::lists::import_and_sum;
 use crate::lists::import_into;
 use crate::lists::write_sums;
+use cases::MOST;
 use cases::fields::field;
 use cases::fields::number_in_32;
 use cases::lists::fill_32;
@@ -18,7 +19,7 @@ use cases::print::write_answer;
 use cases::print::write_word;
 use cases::series::series_32;
 use cases::series::series_64;
-use cases::sums::sum_8;
+use cases::totals::sum_8;
 
 // What octets are filled with.
 const OCTET: u8 = 46;
@@ -85,21 +86,21 @@ fn write_and_sum(name: &[u8], file: &[u8], out: &mut [u8]) {
     write_word(b"\n");
     import_and_sum(
         b"  read again",
-        4096,
+        MOST as u32,
         first_8(out, length),
-        &mut [NUMBER; 4096],
-        &mut [TIME; 4096],
+        &mut [NUMBER; MOST],
+        &mut [TIME; MOST],
     );
 }
 
 // Runs the case of as many arrivals as a sample may have: of the numbers 4,096 to 1, at times that are 777,777 apart.
 pub(crate) fn run_all_arrivals(line: &[u8]) {
     let mut file = [0u8; sample::LONGEST];
-    let mut numbers = [0u32; 4096];
-    let mut times = [0u64; 4096];
-    series_32(&mut numbers, 4096, DOWN);
+    let mut numbers = [0u32; MOST];
+    let mut times = [0u64; MOST];
+    series_32(&mut numbers, MOST as u32, DOWN);
     series_64(&mut times, 0, 777_777);
-    let made = sample::write(b"ab", &[100u16; 4096], &numbers, &times, &mut file);
+    let made = sample::write(b"ab", &[100u16; MOST], &numbers, &times, &mut file);
     write_and_sum(
         field(line, 1),
         first_8(&file, made.length as usize),

@@ -24,7 +24,7 @@ fn write_grid(before: &[u8], place: u64, after: &[u8]) {
 }
 
 // Writes the number of a tick, after the words before its place.
-fn write_label(before: &[u8], place: u64, tick: u32) {
+fn write_tick_number(before: &[u8], place: u64, tick: u32) {
     write_word(before);
     write_length(place);
     write_word(b"'>");
@@ -34,7 +34,7 @@ fn write_label(before: &[u8], place: u64, tick: u32) {
 
 // Writes the number of a tick below a frame.
 fn write_below(place: u64, tick: u32) {
-    write_label(b"<text text-anchor='middle' y='590' x='", place, tick);
+    write_tick_number(b"<text text-anchor='middle' y='590' x='", place, tick);
 }
 
 // Writes a tick of an axis that ends with a span; there is none of an extent of 0.
@@ -48,7 +48,7 @@ fn write_tick(axis: Axis, tick: u32, span: u32) {
         Axis::Numbers => {
             let y = down(tick, span);
             write_grid(b"<path d='M80 ", y, b"H858' stroke='#ddd'/>");
-            write_label(b"<text text-anchor='end' dy='4.5' x='73' y='", y, tick);
+            write_tick_number(b"<text text-anchor='end' dy='4.5' x='73' y='", y, tick);
         }
         Axis::Extents => {
             if tick != 0 {
@@ -58,7 +58,7 @@ fn write_tick(axis: Axis, tick: u32, span: u32) {
         Axis::Packets => {
             let y = down(tick, span);
             write_grid(b"<path d='M935 ", y, b"H1180' stroke='#ddd'/>");
-            write_label(b"<text text-anchor='end' dy='4.5' x='928' y='", y, tick);
+            write_tick_number(b"<text text-anchor='end' dy='4.5' x='928' y='", y, tick);
         }
     }
 }

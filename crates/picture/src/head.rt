@@ -19,7 +19,7 @@ fn write_octet(octet: u8) {
 }
 
 // Writes the octets of a label.
-fn write_octets(label: &[u8]) {
+fn write_label(label: &[u8]) {
     for i in 0..label.len() {
         write_octet(label[i]);
     }
@@ -30,7 +30,7 @@ fn write_name(label: &[u8]) {
     if label.len() == 0 {
         write_word(b"Packet reordering");
     } else {
-        write_octets(label);
+        write_label(label);
     }
 }
 

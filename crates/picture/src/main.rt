@@ -17,7 +17,7 @@ use head::write_legend;
 use head::write_title;
 use libc::STDIN_FILENO;
 use marks::greatest;
-use marks::place_all;
+use marks::put_arrivals;
 use marks::write_layers;
 use rfc4737::judge::SENT_MOST;
 use rfc4737::refusal::NONE;
@@ -41,7 +41,7 @@ fn draw_arrivals(file: &[u8], found: Layout, flags: &[u8], positions: &mut [u32]
     let mut numbers = [0u32; PLACES];
     let mut firsts = [0u32; POSITIONS];
     let last = span_of(greatest(positions));
-    place_all(file, found, flags, positions, &mut numbers, &mut firsts);
+    put_arrivals(file, found, flags, positions, &mut numbers, &mut firsts);
     let scale = Scale {
         arrivals: found.arrivals,
         positions: last,

@@ -33,7 +33,7 @@ fn kind_at(flags: &[u8], i: usize) -> u8 {
 }
 
 // The number at a place, 0 where there is none.
-pub(crate) fn number_at(numbers: &[u32], i: usize) -> u32 {
+pub(crate) fn number_or_0(numbers: &[u32], i: usize) -> u32 {
     if i < numbers.len() { numbers[i] } else { 0 }
 }
 
@@ -71,8 +71,8 @@ fn write_mark(kind: u8, scale: Scale, halves: u32, number: u32) {
 fn write_marks(kind: u8, scale: Scale, flags: &[u8], places: &[u32], numbers: &[u32]) {
     for i in 0..scale.arrivals {
         if kind_at(flags, i as usize) == kind {
-            let halves = number_at(places, i as usize);
-            write_mark(kind, scale, halves, number_at(numbers, i as usize));
+            let halves = number_or_0(places, i as usize);
+            write_mark(kind, scale, halves, number_or_0(numbers, i as usize));
         }
     }
 }
@@ -80,7 +80,7 @@ fn write_marks(kind: u8, scale: Scale, flags: &[u8], places: &[u32], numbers: &[
 // Writes the line from a late packet to its discontinuity, of which the position is its own less its extent.
 fn write_join(scale: Scale, halves: u32, number: u32, extent: u32, firsts: &[u32]) {
     let position = wrapping_sub_u32(halves / 2, extent);
-    let other = number_at(firsts, position as usize);
+    let other = number_or_0(firsts, position as usize);
     write_shape(
         b"Ma bLc d\n",
         across(halves, scale.positions),
@@ -101,13 +101,13 @@ fn write_joins(
 ) {
     for i in 0..scale.arrivals {
         if kind_at(flags, i as usize) == LATE {
-            let halves = number_at(places, i as usize);
-            let number = number_at(numbers, i as usize);
+            let halves = number_or_0(places, i as usize);
+            let number = number_or_0(numbers, i as usize);
             write_join(
                 scale,
                 halves,
                 number,
-                number_at(extents, i as usize),
+                number_or_0(extents, i as usize),
                 firsts,
             );
         }
@@ -169,7 +169,7 @@ fn number_of(file: &[u8], found: Layout, i: u32) -> u32 {
 }
 
 // Puts for the position of record i + 1 its place, which is the answer, and its number into the list of numbers and that by position.
-fn place(
+fn put_arrival(
     file: &[u8],
     found: Layout,
     flags: &[u8],
@@ -179,7 +179,7 @@ fn place(
     i: u32,
     before: u32,
 ) -> u32 {
-    let position = number_at(positions, i as usize);
+    let position = number_or_0(positions, i as usize);
     let number = number_of(file, found, i);
     let halves = halves_of(kind_at(flags, i as usize), position, before);
     set_number(positions, i as usize, halves);
@@ -189,7 +189,7 @@ fn place(
 }
 
 // Does so for all arrivals.
-pub(crate) fn place_all(
+pub(crate) fn put_arrivals(
     file: &[u8],
     found: Layout,
     flags: &[u8],
@@ -199,7 +199,7 @@ pub(crate) fn place_all(
 ) {
     let mut halves: u32 = 0;
     for i in 0..found.arrivals {
-        halves = place(file, found, flags, positions, numbers, firsts, i, halves);
+        halves = put_arrival(file, found, flags, positions, numbers, firsts, i, halves);
     }
 }
 

@@ -8,7 +8,7 @@ use crate::frame::bar_wide;
 use crate::frame::down;
 use crate::frame::last_bar;
 use crate::marks::greatest;
-use crate::marks::number_at;
+use crate::marks::number_or_0;
 use crate::text::write_shape;
 use crate::text::write_word;
 use metrics::TALLY_PLACES;
@@ -22,7 +22,7 @@ fn write_bar(left: u64, width: u64, top: u64) {
 }
 
 // Writes the bar of an extent's count, where there is one; 0 stands for those over 100.
-fn write_count(extent: u32, places: u32, count: u32, most: u32) {
+fn write_extent_bar(extent: u32, places: u32, count: u32, most: u32) {
     if count == 0 {
         return;
     }
@@ -40,7 +40,7 @@ fn write_count(extent: u32, places: u32, count: u32, most: u32) {
 // Writes the bars of a tally.
 fn write_bars(tally: &[u32], places: u32, most: u32) {
     for i in 0..COUNTS {
-        write_count(i, places, number_at(tally, i as usize), most);
+        write_extent_bar(i, places, number_or_0(tally, i as usize), most);
     }
 }
 

@@ -1,4 +1,6 @@
--- What an account is: its arrivals are of the packets 1 to K, at most 4,096. Assumes nothing.
+-- What an account is: its arrivals are of the packets 1 to K, at most 4,096 (`account-limits`, by induction on the arrivals fed). An
+-- arrival that is added meets none of 11, 6 and 7, so there is room for it, and its number lies in 1 to K (`accepted-arrival`). k is K, a
+-- the arrival. Assumes nothing.
 use Prim.Native.Nat.{ℕ, _+_, _≤_}
 use mathlib.Core.Path.{_≡_, refl}
 use mathlib.Core.Bool.{Bool, true, false, cond}
@@ -19,12 +21,12 @@ use Rattle.rfc4737.proofs.Judged.{one-split}
 use Rattle.receiver.specs.Account.{accountRefusal, accountWith, accountOf}
 
 -- what an arrival has that is not refused
-pub record Accepted (k : ℕ) (account : List Arrival) (a : Arrival) : Type 0 where
+pub record AcceptedArrival (k : ℕ) (account : List Arrival) (a : Arrival) : Type 0 where
   pub room : length account ≡ arrivalsMost → ⊥
   pub numbered : OfPackets k a
 
 -- an arrival that is not refused has it
-pub accepted-arrival : (k : ℕ) (account : List Arrival) (a : Arrival) → accountRefusal k account a ≡ 0 → Accepted k account a
+pub accepted-arrival : (k : ℕ) (account : List Arrival) (a : Arrival) → accountRefusal k account a ≡ 0 → AcceptedArrival k account a
 unfolding accountRefusal
 accepted-arrival k account a e =
     let f = first-none (inCase (eqb (length account) arrivalsMost) stateFull) (judgeOne k (greatestTime account) a ∷ []) e in
@@ -35,13 +37,13 @@ accepted-arrival k account a e =
     }
 
 -- the account's arrivals are of the packets 1 to K, at most 4,096
-pub record Sound (k : ℕ) (account : List Arrival) : Type 0 where
+pub record AccountLimits (k : ℕ) (account : List Arrival) : Type 0 where
   pub numbered : All (OfPackets k) account
   pub short : length account ≤ arrivalsMost
 
 -- an accepted arrival keeps it so
-sound-more : (k : ℕ) (account : List Arrival) (a : Arrival) → Sound k account → Accepted k account a → Sound k (account ++ (a ∷ []))
-sound-more k account a h g =
+limits-more : (k : ℕ) (account : List Arrival) (a : Arrival) → AccountLimits k account → AcceptedArrival k account a → AccountLimits k (account ++ (a ∷ []))
+limits-more k account a h g =
     let l : length (account ++ (a ∷ [])) ≡ length account + 1 = length-append account (a ∷ []) in
     let room = g .room in
     record {
@@ -50,22 +52,22 @@ sound-more k account a h g =
     }
 
 -- the empty account is so
-pub sound-none : (k : ℕ) → Sound k []
-sound-none k = record { numbered = tt; short = omega arith }
+pub limits-none : (k : ℕ) → AccountLimits k []
+limits-none k = record { numbered = tt; short = omega arith }
 
 -- any arrival keeps it so
-pub sound-with : (k : ℕ) (account : List Arrival) (a : Arrival) → Sound k account → Sound k (accountWith k account a)
+pub limits-with : (k : ℕ) (account : List Arrival) (a : Arrival) → AccountLimits k account → AccountLimits k (accountWith k account a)
 unfolding accountWith
-sound-with k account a h = go (eqb (accountRefusal k account a) 0) refl
+limits-with k account a h = go (eqb (accountRefusal k account a) 0) refl
   where
-    go : (t : Bool) → eqb (accountRefusal k account a) 0 ≡ t → Sound k (cond t (account ++ (a ∷ [])) account)
-    go true e = sound-more k account a h (accepted-arrival k account a (eqb-true _ _ e))
+    go : (t : Bool) → eqb (accountRefusal k account a) 0 ≡ t → AccountLimits k (cond t (account ++ (a ∷ [])) account)
+    go true e = limits-more k account a h (accepted-arrival k account a (eqb-true _ _ e))
     go false e = h
 
 -- every account is so
-pub account-sound : (k : ℕ) (fed : List Arrival) → Sound k (accountOf k fed)
+pub account-limits : (k : ℕ) (fed : List Arrival) → AccountLimits k (accountOf k fed)
 unfolding accountOf
-account-sound k = snoc-ind (λ (fed : List Arrival). Sound k (accountOf k fed)) more (sound-none k)
+account-limits k = snoc-ind (λ (fed : List Arrival). AccountLimits k (accountOf k fed)) more (limits-none k)
   where
-    more : (fed : List Arrival) (a : Arrival) → Sound k (accountOf k fed) → Sound k (accountOf k (fed ++ (a ∷ [])))
-    more fed a h = rw fold-more (sound-with k (accountOf k fed) a h)
+    more : (fed : List Arrival) (a : Arrival) → AccountLimits k (accountOf k fed) → AccountLimits k (accountOf k (fed ++ (a ∷ [])))
+    more fed a h = rw fold-more (limits-with k (accountOf k fed) a h)

@@ -1,5 +1,12 @@
--- The step from the state of an account says what the account says, and leads to the state of the account after the arrival,
--- for any split of its jumps into dropped and kept ones: one equation for each case of the answer. Assumes nothing.
+-- The step from the state of an account says what the account says, and leads to the state of the account after the arrival
+-- (`step-agrees`), for any split of its jumps into dropped and kept ones. The state is fit and counts all arrivals of the account, so the
+-- refusals agree (`refusal-agrees`); the marks say which packets have arrived (`mark-agrees`). An arrival that is not refused is a
+-- duplicate, in order or reordered, by the same tests on both sides, and the number of a reordered packet is below the dropped one exactly
+-- where its discontinuity is not among the kept jumps (`late-agrees`, by `search-late`). The state after it is compared field by field
+-- (`stream-path`, `state-path`): each number is a count or fold that one arrival more carries on by its own law, and what is held goes on
+-- by the jump that the arrival is, if it is one (`held-in-order`, `no-jump`).
+-- Here k is K, a the arrival, ds and ws are the dropped and the kept jumps, h is what is held of them, room says whether there is room for
+-- one more, d is a discontinuity, and t, u and v are outcomes of tests. Assumes nothing.
 use Prim.Native.Nat.{ℕ, _+_, _-_, _≤_, _<_}
 use mathlib.Core.Path.{_≡_, refl, sym, ap, _∙_}
 use mathlib.Core.Bool.{Bool, true, false, not, cond}
@@ -19,7 +26,7 @@ use Rattle.rfc4737.specs.Answer.{inOrderAnswer, reorderedAnswer}
 use Rattle.rfc4737.specs.Runs.{isDuplicate, isInOrderAnswer, runsAfter, runs}
 use Rattle.rfc4737.specs.Judge.{sentMost}
 use Rattle.rfc4737.proofs.Lists.{all-weaken}
-use Rattle.rfc4737.proofs.Arrivals.{count-more, has-firsts, firsts-more, with-duplicate, with-first}
+use Rattle.rfc4737.proofs.Arrivals.{count-more, has-firsts, firsts-duplicate, firsts-first}
 use Rattle.rfc4737.proofs.Folds.{next-more, answers-more, runs-more, answer-duplicate, answer-first, first-in-order, first-reordered}
 use Rattle.rfc4737.proofs.Jumps.{jumps-more}
 use Rattle.rfc4737.proofs.Packets.{OfPackets, all-firsts}
@@ -29,7 +36,7 @@ use Rattle.receiver.specs.declared.Receiver.{Receiver}
 use Rattle.receiver.specs.declared.ReceiverAnswer.{ReceiverAnswer}
 use Rattle.receiver.specs.declared.ReceiverAnswer.the-variants.{Duplicate, Exact, Beyond}
 use Rattle.receiver.specs.declared.Outcome.{Outcome}
-use Rattle.receiver.specs.Limits.{window}
+use Rattle.receiver.specs.Limits.{windowPlaces}
 use Rattle.receiver.specs.Marks.{markAt, withMark}
 use Rattle.receiver.specs.Outcomes.{acceptedOutcome}
 use Rattle.receiver.specs.Kept.{Held, withJump, heldAfter}
@@ -38,7 +45,7 @@ use Rattle.receiver.specs.Account.{standsIn, accountRefusal, accountWith
 use Rattle.receiver.proofs.Window.{lastNumber}
 use Rattle.receiver.proofs.HeldJumps.{Holds}
 use Rattle.receiver.proofs.Marks.{marksOf, marks-more, marked-is-arrived}
-use Rattle.receiver.proofs.Accepted.{Accepted, accepted-arrival, Sound}
+use Rattle.receiver.proofs.Accepted.{AcceptedArrival, accepted-arrival, AccountLimits}
 use Rattle.receiver.proofs.ReorderedInWindow.{Split, WindowSearch, search-late}
 use Rattle.receiver.proofs.State.{stateWith}
 use Rattle.receiver.proofs.Fitness.{accepted-count, state-fit}
@@ -46,37 +53,26 @@ use Rattle.receiver.proofs.Fitness.{accepted-count, state-fit}
 -- ---- one arrival more, over the account
 
 module _ (account : List Arrival) (a : Arrival) where
-  -- the answers
   answersIn-more : answersIn (account ++ (a ∷ [])) ≡ answersIn account ++ (answerIn account a ∷ [])
   unfolding answersIn answerIn
   answersIn-more = answers-more (λ _. 0) account a
 
-  -- a count of answers
   countIn-more : (p : Answer → Bool)
       → count p (answersIn (account ++ (a ∷ []))) ≡ cond (p (answerIn account a)) (count p (answersIn account) + 1) (count p (answersIn account))
   countIn-more p = rw answersIn-more (count-more p (answersIn account) (answerIn account a))
 
-  -- the runs
   runsIn-more : runs (answersIn (account ++ (a ∷ []))) ≡ runsAfter (runs (answersIn account)) (answerIn account a)
   runsIn-more = rw answersIn-more (runs-more (answersIn account) (answerIn account a))
 
-  -- the first arrivals, under a duplicate
-  firsts-duplicate : has (a .number) account ≡ true → firsts (account ++ (a ∷ [])) ≡ firsts account
-  firsts-duplicate e = firsts-more account a ∙ with-duplicate (firsts account) a (has-firsts (a .number) account ∙ e)
-
-  -- and under a first arrival
-  firsts-first : has (a .number) account ≡ false → firsts (account ++ (a ∷ [])) ≡ firsts account ++ (a ∷ [])
-  firsts-first e = firsts-more account a ∙ with-first (firsts account) a (has-firsts (a .number) account ∙ e)
-
-  -- then L, NextExp and the marks
+  -- L, NextExp and the marks under a first arrival
   length-first : has (a .number) account ≡ false → length (firsts account) + 1 ≡ length (firsts (account ++ (a ∷ [])))
-  length-first e = sym (ap length (firsts-first e) ∙ length-append (firsts account) (a ∷ []))
+  length-first e = sym (ap length (firsts-first account a e) ∙ length-append (firsts account) (a ∷ []))
 
   next-first : has (a .number) account ≡ false → nextAfter (nextExp (firsts account)) (a .number) ≡ nextExp (firsts (account ++ (a ∷ [])))
-  next-first e = sym (ap nextExp (firsts-first e) ∙ next-more (firsts account) a)
+  next-first e = sym (ap nextExp (firsts-first account a e) ∙ next-more (firsts account) a)
 
   marks-first : has (a .number) account ≡ false → withMark (marksOf (firsts account)) (a .number) ≡ marksOf (firsts (account ++ (a ∷ [])))
-  marks-first e = sym (ap marksOf (firsts-first e) ∙ marks-more (firsts account) a)
+  marks-first e = sym (ap marksOf (firsts-first account a e) ∙ marks-more (firsts account) a)
 
 -- ---- the jumps under one arrival more
 
@@ -281,14 +277,13 @@ module _ (room : Bool) (h : Held) (k : ℕ) (account : List Arrival) (a : Arriva
 
 -- ---- any arrival
 
-module _ (k : ℕ) (low : 1 ≤ k) (high : k ≤ sentMost) (account : List Arrival) (a : Arrival) (sound : Sound k account)
-    (ds ws : List FirstArrival) (sp : Split account ds ws) (h : Held) (o : Holds ds ws h) (few : length ws ≤ window) (room : Bool) where
-  -- the refusals agree
+module _ (k : ℕ) (low : 1 ≤ k) (high : k ≤ sentMost) (account : List Arrival) (a : Arrival) (sound : AccountLimits k account)
+    (ds ws : List FirstArrival) (sp : Split account ds ws) (h : Held) (o : Holds ds ws h) (few : length ws ≤ windowPlaces) (room : Bool) where
   refusal-agrees : stepRefusal (stateWith k account h) (a .number) (a .time) ≡ accountRefusal k account a
   unfolding stepRefusal accountRefusal stateWith
   refusal-agrees = rw (state-fit k low high account sound ds ws sp h o few, accepted-count)
 
-  -- so do the marks and the arrivals
+  -- a packet is marked exactly if it is among the arrivals of the account
   mark-agrees : OfPackets k a → markAt (marksOf (firsts account)) (a .number) ≡ has (a .number) account
   mark-agrees n =
       marked-is-arrived (firsts account)
@@ -303,7 +298,7 @@ module _ (k : ℕ) (low : 1 ≤ k) (high : k ≤ sentMost) (account : List Arriv
   noted = inForm ws account a (answerIn account a)
 
   -- an arrival that is not refused is noted so
-  looked-agrees : Accepted k account a → lookedAt before (a .number) (a .time) ≡ acceptedOutcome noted
+  looked-agrees : AcceptedArrival k account a → lookedAt before (a .number) (a .time) ≡ acceptedOutcome noted
   unfolding lookedAt firstOutcome stateWith inForm inOrderAnswer jumpSize
   looked-agrees n = go (has (a .number) account) refl
     where
@@ -379,7 +374,6 @@ module _ (k : ℕ) (low : 1 ≤ k) (high : k ≤ sentMost) (account : List Arriv
       go true t = rw t noted-agrees
       go false t = simp t
 
-  -- the step
   pub step-agrees : stepWith room before (a .number) (a .time)
       ≡ record {
         outcome = outcomeIn ws k account a;

@@ -1,4 +1,9 @@
--- Demand 3 holds: by one induction over the list fed the state is that of the account, so that each step agrees with it.
+-- Demand 3 holds. By one induction over the list fed the state is that of the account (`state-after`): fresh it is that of the empty
+-- account, and a step goes on by `step-agrees`, the jumps being split into the last 64 and those before (`step-of`). So each arrival is
+-- answered as the account says (`outcome-after`), and the counts of the state are the account's. The account refuses by 11, 6 or 7 and
+-- never says 10 (`outcome-fit`). A reordered packet in the window has its true figures by the account's own rule; beyond it the
+-- discontinuity lies before the oldest kept jump, and so the true extent is above the figure (`late-above`).
+-- Here k is K, a the arrival, ds and ws are the dropped and the kept jumps, d are the true figures of a, and t, u and v outcomes of tests.
 -- Assumes nothing.
 use Prim.Native.Nat.{ℕ, _+_, _-_, _≤_, _<_}
 use mathlib.Core.Path.{_≡_, refl, sym, ap, subst, _∙_}
@@ -28,14 +33,14 @@ use Rattle.rfc4737.proofs.Folds.{answer-duplicate, answer-first, first-in-order
 use Rattle.receiver.specs.declared.Receiver.{Receiver}
 use Rattle.receiver.specs.declared.Outcome.{Outcome}
 use Rattle.receiver.specs.declared.StepAnswer.{StepAnswer}
-use Rattle.receiver.specs.Limits.{window}
+use Rattle.receiver.specs.Limits.{windowPlaces}
 use Rattle.receiver.specs.Outcomes.{refusedOutcome, acceptedOutcome}
 use Rattle.receiver.specs.Kept.{Held, hasRoom, withJump}
 use Rattle.receiver.specs.Step.{freshStream, madeFor, freshOf}
 use Rattle.receiver.specs.Account.{accountRefusal, accountWith, accountOf, jumpIn, answerIn, answersIn, windowIn, inWindow, beyondFigures, inForm, outcomeIn, accountOutcomes}
 use Rattle.receiver.specs.Demand3.{fedTo, stateAfter, outcomeAfter, receiverOutcomes, Answered, Demand3}
 use Rattle.receiver.proofs.Window.{lastNumber}
-use Rattle.receiver.proofs.Accepted.{Sound, accepted-arrival, account-sound}
+use Rattle.receiver.proofs.Accepted.{AccountLimits, accepted-arrival, account-limits}
 use Rattle.receiver.proofs.ReorderedInWindow.{droppedIn, Split, split-window, WindowSearch, search-late}
 use Rattle.receiver.proofs.State.{stateWith, state-fresh}
 use Rattle.receiver.proofs.Fitness.{arrived-in, accepted-count}
@@ -163,27 +168,27 @@ unfolding droppedIn windowIn
 holds-window account = held-last (jumps (firsts account))
 
 -- which has at most 64 jumps
-window-few : (account : List Arrival) → length (windowIn account) ≤ window
+window-few : (account : List Arrival) → length (windowIn account) ≤ windowPlaces
 unfolding windowIn
 window-few account = simp length-drop (omega arith)
 
 -- what is held under one arrival more
 held-with : (k : ℕ) (account : List Arrival) (a : Arrival)
-    → foldl (withJump (hasRoom window (heldIn account))) (heldIn account) (jumpIn k account a) ≡ heldIn (accountWith k account a)
+    → foldl (withJump (hasRoom windowPlaces (heldIn account))) (heldIn account) (jumpIn k account a) ≡ heldIn (accountWith k account a)
 held-with k account a =
-    jump-cases (λ (l : List FirstArrival). foldl (withJump (hasRoom window (heldIn account))) (heldIn account) l ≡ heldFrom (jumps (firsts account) ++ l))
+    jump-cases (λ (l : List FirstArrival). foldl (withJump (hasRoom windowPlaces (heldIn account))) (heldIn account) l ≡ heldFrom (jumps (firsts account) ++ l))
     (rw append-nil) (λ p. sym (held-more (jumps (firsts account)) p)) k account a
     ∙ sym (ap heldFrom (jumps-with k account a))
 
 module _ (k : ℕ) (low : 1 ≤ k) (high : k ≤ sentMost) where
   -- the step from the state of an account
-  step-of : (account : List Arrival) (a : Arrival) → Sound k account
+  step-of : (account : List Arrival) (a : Arrival) → AccountLimits k account
       → fedTo (stateOf k account) a
       ≡ record { outcome = outcomeIn (windowIn account) k account a; state = stateOf k (accountWith k account a) }
   unfolding stateOf stateWith
   step-of account a h =
       step-agrees k low high account a h (droppedIn account) (windowIn account) (split-window account)
-      (heldIn account) (holds-window account) (window-few account) (hasRoom window (heldIn account))
+      (heldIn account) (holds-window account) (window-few account) (hasRoom windowPlaces (heldIn account))
       ∙ ap (λ (h : Held). record { outcome = outcomeIn (windowIn account) k account a; state = stateWith k (accountWith k account a) h })
       (held-with k account a)
 
@@ -202,7 +207,7 @@ module _ (k : ℕ) (low : 1 ≤ k) (high : k ≤ sentMost) where
       more fed a e =
           fold-more _ _ fed a
           ∙ ap (λ (r : Receiver). fedTo r a .state) e
-          ∙ ap (λ (s : StepAnswer). s .state) (step-of (accountOf k fed) a (account-sound k fed))
+          ∙ ap (λ (s : StepAnswer). s .state) (step-of (accountOf k fed) a (account-limits k fed))
           ∙ ap (stateOf k) (sym (fold-more (accountWith k) [] fed a))
 
   -- so NextExp is the account's
@@ -215,9 +220,8 @@ module _ (k : ℕ) (low : 1 ≤ k) (high : k ≤ sentMost) where
   unfolding outcomeAfter
   outcome-after earlier a =
       ap (λ (r : Receiver). fedTo r a .outcome) (state-after earlier)
-      ∙ ap (λ (s : StepAnswer). s .outcome) (step-of (accountOf k earlier) a (account-sound k earlier))
+      ∙ ap (λ (s : StepAnswer). s .outcome) (step-of (accountOf k earlier) a (account-limits k earlier))
 
-  -- demand 3
   pub demand3 : (fed : List Arrival) → Demand3 k fed
   unfolding receiverOutcomes accountOutcomes stateOf stateWith counts
   demand3 fed =

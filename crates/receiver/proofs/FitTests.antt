@@ -1,23 +1,27 @@
--- Whether each of the first values passes a test, under one value more and against each value; and the fit test of the
--- kept places, taken apart by position, number and time. Assumes nothing.
+-- The fit test of the kept places, as the code makes it: three passes over positions, numbers and times, each over all kept values. A pass
+-- asks whether each of the first values passes a test: one value more at a time (`pass-none`, `pass-more`, `pass-done`), and exactly if
+-- each value does (`pass-at`, `pass-all`, by induction on how many). A kept jump is fit by its position, number and time, so all kept
+-- jumps are fit exactly if the three passes say so (`fit-apart`, `fit-joined`): one that fails refutes it (`positions-unfit`,
+-- `numbers-unfit`), and after two that hold the times decide (`times-decide`).
+-- Here t is a test of a value, f one of a jump, l are values, n is how many, k one of their places, and s are the stream's numbers.
+-- Assumes nothing.
 use Prim.Native.Nat.{ℕ, zero, suc, _+_, _<_, _≤_}
 use mathlib.Core.Bool.{Bool, true, false, _&&_}
 use mathlib.Core.List.{List, map}
 use mathlib.Core.Path.{_≡_, refl, sym, ap, subst, _∙_}
 use native.Mathlib.Numerals.{add-one}
 use native.Mathlib.Omega.{arith}
-use lib.Dec.{ltb}
+use lib.Dec.{leb, ltb}
 use lib.ListN.{getD}
 use borrow.Author.Tests.{le-leb, leb-true, ltb-true, ltb-false}
 use Rattle.rfc4737.specs.Order.{FirstArrival}
 use Rattle.rfc4737.specs.Refusals.{within}
 use Rattle.receiver.specs.declared.Stream.{Stream}
 use Rattle.receiver.specs.declared.Places.{Places}
-use Rattle.receiver.specs.Limits.{window}
+use Rattle.receiver.specs.Limits.{windowPlaces}
 use Rattle.receiver.specs.Fit.{every, jumpFit, placesFit}
-use Rattle.receiver.specs.Private.Facts.{JumpFit}
+use Rattle.receiver.specs.Private.{JumpFit, firstPass}
 use Rattle.receiver.specs.Kept.{placeAt, placesFrom, keptOf}
-use Rattle.receiver.specs.Private.Decision.{firstPass, notAfter}
 use Rattle.receiver.proofs.Fits.{both, and-true, within-true, jump-facts, jump-passes, places-pass, places-false}
 use Rattle.receiver.proofs.Search.{all-at}
 
@@ -40,7 +44,7 @@ module _ (t : ℕ → Bool) (l : List ℕ) where
       f ∙ ap (firstPass t l) e
 
   -- if all pass, each does
-  pub pass-at : (n k : ℕ) → firstPass t l n ≡ true → k < n → t (getD l k 0) ≡ true
+  pass-at : (n k : ℕ) → firstPass t l n ≡ true → k < n → t (getD l k 0) ≡ true
   unfolding firstPass
   pass-at zero k e h = absurd (omega arith)
   pass-at (suc n) k e h = last (ltb k n) refl (λ q. pass-at n k (and-true _ _ e .0) q)
@@ -52,7 +56,7 @@ module _ (t : ℕ → Bool) (l : List ℕ) where
           subst (λ (i : ℕ). t (getD l i 0) ≡ true) (sym same) (and-true (firstPass t l n) (t (getD l n 0)) e .1)
 
   -- if each passes, all do
-  pub pass-all : (n : ℕ) → ((k : ℕ) → k < n → t (getD l k 0) ≡ true) → firstPass t l n ≡ true
+  pass-all : (n : ℕ) → ((k : ℕ) → k < n → t (getD l k 0) ≡ true) → firstPass t l n ≡ true
   unfolding firstPass
   pass-all zero p = refl
   pass-all (suc n) p = both (pass-all n (λ k h. p k (omega arith))) (p n (omega arith))
@@ -84,9 +88,9 @@ module _ (s : Stream) (places : Places) where
       jump-facts s (placeAt places k) (rw q at (all-at places (jumpFit s) n 0 k e h))
 
   -- the positions, numbers and times of n fit places pass, each by itself
-  pub fit-apart : every (map (jumpFit s) (placesFrom places 0 n)) ≡ true
+  fit-apart : every (map (jumpFit s) (placesFrom places 0 n)) ≡ true
       → (firstPass (within 1 (s .arrived)) (places .positions) n ≡ true)
-      × ((firstPass (within 1 (s .sent)) (places .numbers) n ≡ true) × (firstPass (notAfter (s .greatest)) (places .times) n ≡ true))
+      × ((firstPass (within 1 (s .sent)) (places .numbers) n ≡ true) × (firstPass (λ (t : ℕ). leb t (s .greatest)) (places .times) n ≡ true))
   unfolding placeAt
   fit-apart e = (
     pass-all _ _ n (λ k h. both (le-leb _ _ (each-fit e k h .position-low)) (le-leb _ _ (each-fit e k h .position-high))),
@@ -97,8 +101,8 @@ module _ (s : Stream) (places : Places) where
   )
 
   -- if they do, the places are fit
-  pub fit-joined : firstPass (within 1 (s .arrived)) (places .positions) n ≡ true → firstPass (within 1 (s .sent)) (places .numbers) n ≡ true
-      → firstPass (notAfter (s .greatest)) (places .times) n ≡ true → every (map (jumpFit s) (placesFrom places 0 n)) ≡ true
+  fit-joined : firstPass (within 1 (s .arrived)) (places .positions) n ≡ true → firstPass (within 1 (s .sent)) (places .numbers) n ≡ true
+      → firstPass (λ (t : ℕ). leb t (s .greatest)) (places .times) n ≡ true → every (map (jumpFit s) (placesFrom places 0 n)) ≡ true
   unfolding placeAt
   fit-joined a b d =
       all-pass places (jumpFit s) n 0
@@ -121,8 +125,8 @@ module _ (s : Stream) (places : Places) where
   numbers-unfit e = places-false _ _ (λ h. clash (fit-apart (h .jumps-fit) .1 .0) e)
 
   -- where all else is fit, the times decide
-  pub times-decide : s .kept ≤ window → s .dropped ≤ s .sent → firstPass (within 1 (s .arrived)) (places .positions) n ≡ true
-      → firstPass (within 1 (s .sent)) (places .numbers) n ≡ true → (b : Bool) → b ≡ firstPass (notAfter (s .greatest)) (places .times) n
+  pub times-decide : s .kept ≤ windowPlaces → s .dropped ≤ s .sent → firstPass (within 1 (s .arrived)) (places .positions) n ≡ true
+      → firstPass (within 1 (s .sent)) (places .numbers) n ≡ true → (b : Bool) → b ≡ firstPass (λ (t : ℕ). leb t (s .greatest)) (places .times) n
       → b ≡ placesFit s places
   unfolding keptOf
   times-decide k d a m true e =

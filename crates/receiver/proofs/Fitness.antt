@@ -1,5 +1,7 @@
--- Every state of an account is fit: each of its numbers is a count over at most 4,096 answers, and its kept jumps are the last of the
--- account's jumps, which stand in 1 to L, have numbers of 1 to K and times up to the greatest. Assumes nothing.
+-- Every state of an account is fit (`state-fit`): each of its numbers is a count over at most 4,096 answers, and its kept jumps are the
+-- last of the account's jumps, which stand in 1 to L, have numbers of 1 to K and times up to the greatest (`jumps-fit`). The dropped
+-- number is that of one of the others, or 0 (`last-most`).
+-- Here k is K, ds and ws are the dropped and the kept jumps, and held is what is held of them. Assumes nothing.
 use Prim.Native.Nat.{ℕ, _+_, _≤_}
 use mathlib.Core.Path.{_≡_, refl}
 use mathlib.Core.Bool.{true}
@@ -18,21 +20,21 @@ use Rattle.rfc4737.proofs.Times.{until-greatest}
 use Rattle.rfc4737.proofs.Jumps.{Within, jumps-within, jumps-until}
 use Rattle.rfc4737.proofs.Packets.{all-firsts, next-high, firsts-most}
 use Rattle.rfc4737.specs.Judge.{sentMost, arrivalsMost}
-use Rattle.receiver.specs.Limits.{window}
+use Rattle.receiver.specs.Limits.{windowPlaces}
 use Rattle.receiver.specs.declared.Stream.{Stream}
 use Rattle.receiver.specs.Kept.{Held}
 use Rattle.receiver.specs.Fit.{every, jumpFit, placesFit, fit}
-use Rattle.receiver.specs.Private.Facts.{StreamFit, JumpFit}
+use Rattle.receiver.specs.Private.{StreamFit, JumpFit}
 use Rattle.receiver.specs.Account.{answersIn}
 use Rattle.receiver.proofs.Fits.{both, stream-pass, jump-passes, places-pass}
 use Rattle.receiver.proofs.Window.{lastNumber, last-more}
 use Rattle.receiver.proofs.HeldJumps.{Holds, holds-count}
-use Rattle.receiver.proofs.Accepted.{Sound}
+use Rattle.receiver.proofs.Accepted.{AccountLimits}
 use Rattle.receiver.proofs.State.{stateWith}
 use Rattle.receiver.proofs.ReorderedInWindow.{Split}
 
 -- fit kept jumps pass the test
-pub jumps-pass : (s : Stream) (l : List FirstArrival) → All (JumpFit s) l → every (map (jumpFit s) l) ≡ true
+jumps-pass : (s : Stream) (l : List FirstArrival) → All (JumpFit s) l → every (map (jumpFit s) l) ≡ true
 unfolding every
 jumps-pass s [] h = refl
 jumps-pass s (p ∷ l) h = both (jump-passes s p (h .0)) (jumps-pass s l (h .1))
@@ -60,13 +62,12 @@ accepted-count account =
     omega
     (arith, duplicate-or-first (answers (λ _. 0) account), arrived-answers (λ _. 0) account, length-answers (λ _. 0) account)
 
-module _ (k : ℕ) (low : 1 ≤ k) (high : k ≤ sentMost) (account : List Arrival) (h : Sound k account)
-    (ds ws : List FirstArrival) (sp : Split account ds ws) (held : Held) (o : Holds ds ws held) (few : length ws ≤ window) where
+module _ (k : ℕ) (low : 1 ≤ k) (high : k ≤ sentMost) (account : List Arrival) (h : AccountLimits k account)
+    (ds ws : List FirstArrival) (sp : Split account ds ws) (held : Held) (o : Holds ds ws held) (few : length ws ≤ windowPlaces) where
   -- the numbers of its stream
   abbrev stream : Stream
   stream = stateWith k account held .stream
 
-  -- they are fit
   stream-fit : StreamFit stream
   unfolding stateWith
   stream-fit =
@@ -92,7 +93,6 @@ module _ (k : ℕ) (low : 1 ≤ k) (high : k ≤ sentMost) (account : List Arriv
         next-high = next-high k (firsts account) (all-firsts _ account (h .numbered));
       }
 
-  -- every jump is fit
   jumps-fit : All (JumpFit stream) (jumps (firsts account))
   unfolding stateWith
   jumps-fit =
@@ -109,7 +109,6 @@ module _ (k : ℕ) (low : 1 ≤ k) (high : k ≤ sentMost) (account : List Arriv
       (jumps (firsts account)) (jumps-within (firsts account))
       (jumps-until (greatestTime account) (firsts account) (all-firsts _ account (until-greatest account)))
 
-  -- the places are fit
   places-fit : placesFit stream (held .places) ≡ true
   unfolding stateWith
   places-fit =
@@ -125,7 +124,6 @@ module _ (k : ℕ) (low : 1 ≤ k) (high : k ≤ sentMost) (account : List Arriv
         dropped-high = rw (o .dropped) d;
       })
 
-  -- the state is fit
   pub state-fit : fit (stateWith k account held) ≡ true
   unfolding fit stateWith
   state-fit = both (stream-pass stream stream-fit) places-fit

@@ -1,9 +1,10 @@
--- The fit test and the records of what it says are the same: a test that holds gives the record, a record the test, and where the
--- record cannot be the test is false. Assumes nothing.
+-- The fit test and the records of what it says are the same: a test that holds gives the record, as `every-true` takes off one of its
+-- conditions after the other; a record the test, as `both` puts them together; and where the record cannot be the test is false, since it
+-- would give the record (`fails`). s are the numbers of a stream, p is a kept jump. Assumes nothing.
 use Prim.Native.Nat.{ℕ, _+_, _≤_}
 use mathlib.Core.Bool.{Bool, true, false, _&&_}
 use mathlib.Core.List.{List, _∷_}
-use mathlib.Core.Path.{_≡_, refl, sym}
+use mathlib.Core.Path.{_≡_, refl}
 use lib.Dec.{leb}
 use borrow.Author.Tests.{leb-true, le-leb}
 use Rattle.rfc4737.specs.Order.{FirstArrival}
@@ -12,11 +13,16 @@ use Rattle.receiver.specs.declared.Stream.{Stream}
 use Rattle.receiver.specs.declared.Places.{Places}
 use Rattle.rfc4737.specs.Judge.{sentMost}
 use Rattle.receiver.specs.Fit.{every, streamFit, jumpFit, placesFit}
-use Rattle.receiver.specs.Private.Facts.{StreamFit, JumpFit, PlacesFit}
+use Rattle.receiver.specs.Private.{StreamFit, JumpFit, PlacesFit}
 
 -- two tests that hold
 pub both : {a b : Bool} → a ≡ true → b ≡ true → (a && b) ≡ true
 both {a} {b} e f = rw (e, f)
+
+-- a test that would give what cannot be fails
+fails : {P : Type 0} (t : Bool) → (t ≡ true → P) → (P → ⊥) → false ≡ t
+fails true f h = absurd (h (f refl))
+fails false f h = refl
 
 -- both parts of a test that holds
 pub and-true : (a b : Bool) → a && b ≡ true → (a ≡ true) × (b ≡ true)
@@ -76,11 +82,7 @@ module _ (s : Stream) where
 
   -- numbers that are not fit fail the test
   pub stream-false : (StreamFit s → ⊥) → false ≡ streamFit s
-  stream-false h = go (streamFit s) refl
-    where
-      go : (t : Bool) → streamFit s ≡ t → false ≡ streamFit s
-      go true e = absurd (h (stream-facts e))
-      go false e = sym e
+  stream-false h = fails (streamFit s) stream-facts h
 
 module _ (s : Stream) (p : FirstArrival) where
   -- what a fit jump says
@@ -107,14 +109,6 @@ module _ (s : Stream) (p : FirstArrival) where
       both (both (le-leb _ _ (f .position-low)) (le-leb _ _ (f .position-high)))
       (both (both (le-leb _ _ (f .number-low)) (le-leb _ _ (f .number-high))) (both (le-leb _ _ (f .time-high)) refl))
 
-  -- a jump that is not fit fails the test
-  pub jump-false : (JumpFit s p → ⊥) → false ≡ jumpFit s p
-  jump-false h = go (jumpFit s p) refl
-    where
-      go : (t : Bool) → jumpFit s p ≡ t → false ≡ jumpFit s p
-      go true e = absurd (h (jump-facts e))
-      go false e = sym e
-
 module _ (s : Stream) (places : Places) where
   -- what fit places say
   pub places-facts : placesFit s places ≡ true → PlacesFit s places
@@ -132,8 +126,4 @@ module _ (s : Stream) (places : Places) where
 
   -- places that are not fit fail the test
   pub places-false : (PlacesFit s places → ⊥) → false ≡ placesFit s places
-  places-false h = go (placesFit s places) refl
-    where
-      go : (t : Bool) → placesFit s places ≡ t → false ≡ placesFit s places
-      go true e = absurd (h (places-facts e))
-      go false e = sym e
+  places-false h = fails (placesFit s places) places-facts h

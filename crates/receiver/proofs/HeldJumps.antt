@@ -1,5 +1,11 @@
--- What is held of the jumps: the places hold the list of those kept, and the dropped number is that of the last of those
--- dropped; under a new jump, for which there is room or not. Assumes nothing.
+-- What is held of the jumps (`Holds`): the places hold the list of those kept, and the dropped number is that of the last of those
+-- dropped. Lists of places are compared place by place (`places-same`, `places-more`). With room a new jump is set in the place after the
+-- kept ones, and all before it stay (`kept-appended`). Without room each place takes what the next one held, and the last the new jump, so
+-- that the oldest goes (`kept-shifted`), and its number is the dropped one. So `Holds` is kept up under any new jump (`holds-appended`,
+-- `holds-shifted`), and the places after the kept ones stay as they were (`jump-frame`). By the receiver's own rule the last 64 jumps are
+-- held (`held-last`), by induction on one jump more: while fewer are kept none is dropped, and from then on each new jump drops one.
+-- Here ds and ws are the dropped and the kept jumps, js all jumps, h is what is held, p the new jump, q the oldest kept one; xs are the
+-- values of one array, of which the first n + 1 are kept, and x is the new value. Assumes nothing.
 use Prim.Native.Nat.{ℕ, zero, suc, _+_, _-_, _≤_, _<_}
 use mathlib.Core.Path.{_≡_, refl, sym, ap, ap₂, _∙_}
 use mathlib.Core.Logic.{_≢_}
@@ -16,12 +22,12 @@ use Rattle.rfc4737.specs.Order.{FirstArrival}
 use Rattle.rfc4737.proofs.Lists.{snoc-ind}
 use Rattle.rfc4737.proofs.Arrivals.{fold-more}
 use Rattle.receiver.specs.declared.Places.{Places}
-use Rattle.receiver.specs.Limits.{window}
+use Rattle.receiver.specs.Limits.{windowPlaces}
 use Rattle.receiver.specs.Kept.{placeAt, placesFrom, Held, keptOf, pushed, withJump, hasRoom}
 use Rattle.receiver.proofs.Window.{lastNumber, last-more}
 
 -- as many jumps as places
-pub length-places : (l : Places) (at n : ℕ) → length (placesFrom l at n) ≡ n
+length-places : (l : Places) (at n : ℕ) → length (placesFrom l at n) ≡ n
 unfolding placesFrom
 length-places l at zero = refl
 length-places l at (suc n) = ap suc (length-places l (suc at) n)
@@ -90,9 +96,9 @@ module _ (xs : List ℕ) (x n : ℕ) (long : n < length xs) where
   part-long = length-drop 1 (take (suc n) xs) ∙ ap (λ (m : ℕ). m - 1) (length-take-le (suc n) xs (omega arith)) ∙ omega arith
 
   -- they are as many as before
-  moved-long : length (pushed false (suc n) xs x) ≡ length xs
+  pushed-long : length (pushed false (suc n) xs x) ≡ length xs
   unfolding pushed
-  moved-long =
+  pushed-long =
       let a : length (drop (suc n) xs) ≡ length xs - suc n = length-drop (suc n) xs in
       let b : length (pushed false (suc n) xs x) ≡ length (drop 1 (take (suc n) xs)) + suc (length (drop (suc n) xs)) =
       length-append (drop 1 (take (suc n) xs)) (x ∷ drop (suc n) xs) in
@@ -100,9 +106,9 @@ module _ (xs : List ℕ) (x n : ℕ) (long : n < length xs) where
       omega arith
 
   -- each place holds what the next one held
-  moved : (k : ℕ) → k < n → getD (pushed false (suc n) xs x) (0 + k) 0 ≡ getD xs (1 + k) 0
+  pushed-before : (k : ℕ) → k < n → getD (pushed false (suc n) xs x) (0 + k) 0 ≡ getD xs (1 + k) 0
   unfolding pushed
-  moved k h =
+  pushed-before k h =
       let l : 0 + k < length (drop 1 (take (suc n) xs)) = rw part-long (omega arith) in
       let m : 1 + (0 + k) < suc n = omega arith in
       let e : 1 + (0 + k) ≡ 1 + k = omega arith in
@@ -112,14 +118,14 @@ module _ (xs : List ℕ) (x n : ℕ) (long : n < length xs) where
       ∙ ap (λ (m : ℕ). getD xs m 0) e
 
   -- the one after them the new value
-  moved-last : getD (pushed false (suc n) xs x) n 0 ≡ x
+  pushed-new : getD (pushed false (suc n) xs x) n 0 ≡ x
   unfolding pushed
-  moved-last = getD-at (drop 1 (take (suc n) xs)) x (drop (suc n) xs) 0 n part-long
+  pushed-new = getD-at (drop 1 (take (suc n) xs)) x (drop (suc n) xs) 0 n part-long
 
   -- those after it hold what they held
-  moved-after : (k : ℕ) → suc n ≤ k → getD (pushed false (suc n) xs x) k 0 ≡ getD xs k 0
+  pushed-after : (k : ℕ) → suc n ≤ k → getD (pushed false (suc n) xs x) k 0 ≡ getD xs k 0
   unfolding pushed
-  moved-after k h =
+  pushed-after k h =
       let i : ℕ = k - suc n in
       let e : k ≡ length (drop 1 (take (suc n) xs)) + suc i = rw part-long (omega arith) in
       let f : suc n + i ≡ k = omega arith in
@@ -160,29 +166,29 @@ kept-shifted h p n e a b c =
     before k g =
         rw e
         (placed-path _ _
-        (moved (h .places .positions) (p .position) n a k g)
-        (moved (h .places .numbers) (p .number) n b k g)
-        (moved (h .places .times) (p .time) n c k g))
+        (pushed-before (h .places .positions) (p .position) n a k g)
+        (pushed-before (h .places .numbers) (p .number) n b k g)
+        (pushed-before (h .places .times) (p .time) n c k g))
 
     last : placeAt (withJump false h p .places) (0 + n) ≡ p
     last =
         rw (zero-add, e)
         (placed-path _ _
-        (moved-last (h .places .positions) (p .position) n a)
-        (moved-last (h .places .numbers) (p .number) n b)
-        (moved-last (h .places .times) (p .time) n c))
+        (pushed-new (h .places .positions) (p .position) n a)
+        (pushed-new (h .places .numbers) (p .number) n b)
+        (pushed-new (h .places .times) (p .time) n c))
 
 -- ---- what is held, for any split of the jumps
 
 -- the places are as many as an array of them has
-pub record Long (l : Places) : Type 0 where
-  pub positions : length (l .positions) ≡ window
-  pub numbers : length (l .numbers) ≡ window
-  pub times : length (l .times) ≡ window
+pub record AllPlaces (l : Places) : Type 0 where
+  pub positions : length (l .positions) ≡ windowPlaces
+  pub numbers : length (l .numbers) ≡ windowPlaces
+  pub times : length (l .times) ≡ windowPlaces
 
 -- of some jumps, those dropped and then those kept, this is held
 pub record Holds (ds ws : List FirstArrival) (h : Held) : Type 0 where
-  pub long : Long (h .places)
+  pub long : AllPlaces (h .places)
   pub kept : keptOf h ≡ ws
   pub dropped : h .dropped ≡ lastNumber ds
 
@@ -192,7 +198,7 @@ unfolding keptOf
 holds-count ds ws h o = sym (length-places (h .places) 0 (h .kept)) ∙ ap length (o .kept)
 
 -- under one jump more, for which there is room
-pub holds-appended : (ds ws : List FirstArrival) (h : Held) (p : FirstArrival) → Holds ds ws h → length ws < window → Holds ds (ws ++ (p ∷ [])) (withJump true h p)
+pub holds-appended : (ds ws : List FirstArrival) (h : Held) (p : FirstArrival) → Holds ds ws h → length ws < windowPlaces → Holds ds (ws ++ (p ∷ [])) (withJump true h p)
 unfolding withJump pushed
 holds-appended ds ws h p o lt =
     let n : h .kept ≡ length ws = holds-count ds ws h o in
@@ -210,7 +216,7 @@ holds-appended ds ws h p o lt =
     }
 
 -- under one jump more, for which there is none: the oldest is dropped
-pub holds-shifted : (ds : List FirstArrival) (q : FirstArrival) (ws : List FirstArrival) (h : Held) (p : FirstArrival) → Holds ds (q ∷ ws) h → length (q ∷ ws) ≤ window
+pub holds-shifted : (ds : List FirstArrival) (q : FirstArrival) (ws : List FirstArrival) (h : Held) (p : FirstArrival) → Holds ds (q ∷ ws) h → length (q ∷ ws) ≤ windowPlaces
     → Holds (ds ++ (q ∷ [])) (ws ++ (p ∷ [])) (withJump false h p)
 unfolding withJump placeAt
 holds-shifted ds q ws h p o le =
@@ -221,16 +227,16 @@ holds-shifted ds q ws h p o le =
     let oldest : placeAt (h .places) 0 ≡ q = sym (first-place h (length ws) p n) ∙ ap (λ (l : List FirstArrival). getD l 0 p) (o .kept) in
     record {
       long = record {
-        positions = rw n (moved-long (h .places .positions) (p .position) (length ws) a ∙ o .long .positions);
-        numbers = rw n (moved-long (h .places .numbers) (p .number) (length ws) b ∙ o .long .numbers);
-        times = rw n (moved-long (h .places .times) (p .time) (length ws) c ∙ o .long .times);
+        positions = rw n (pushed-long (h .places .positions) (p .position) (length ws) a ∙ o .long .positions);
+        numbers = rw n (pushed-long (h .places .numbers) (p .number) (length ws) b ∙ o .long .numbers);
+        times = rw n (pushed-long (h .places .times) (p .time) (length ws) c ∙ o .long .times);
       };
       kept = kept-shifted h p (length ws) n a b c ∙ ap {B = List FirstArrival} (λ l. drop 1 l ++ (p ∷ [])) (o .kept);
       dropped = rw last-more (ap (λ (q : FirstArrival). q .number) oldest);
     }
 
 -- under one jump more the places after the kept ones hold what they held
-pub jump-frame : (room : Bool) (h : Held) (p : FirstArrival) → Long (h .places) → (room ≡ false → (1 ≤ h .kept) × (h .kept ≤ window))
+pub jump-frame : (room : Bool) (h : Held) (p : FirstArrival) → AllPlaces (h .places) → (room ≡ false → (1 ≤ h .kept) × (h .kept ≤ windowPlaces))
     → (k : ℕ) → withJump room h p .kept ≤ k → placeAt (withJump room h p .places) k ≡ placeAt (h .places) k
 unfolding withJump pushed placeAt
 jump-frame true h p l g k le =
@@ -246,9 +252,9 @@ jump-frame false h p l g k le =
     let m : suc n ≤ k = omega arith in
     rw e
     (placed-path _ _
-    (moved-after (h .places .positions) (p .position) n (omega (arith, l .positions)) k m)
-    (moved-after (h .places .numbers) (p .number) n (omega (arith, l .numbers)) k m)
-    (moved-after (h .places .times) (p .time) n (omega (arith, l .times)) k m))
+    (pushed-after (h .places .positions) (p .position) n (omega (arith, l .positions)) k m)
+    (pushed-after (h .places .numbers) (p .number) n (omega (arith, l .numbers)) k m)
+    (pushed-after (h .places .times) (p .time) n (omega (arith, l .times)) k m))
 
 -- ---- the receiver's own rule: the last 64
 
@@ -258,47 +264,46 @@ noneHeld =
     record {
       kept = 0;
       dropped = 0;
-      places = record { positions = replicate window 0; numbers = replicate window 0; times = replicate window 0 };
+      places = record { positions = replicate windowPlaces 0; numbers = replicate windowPlaces 0; times = replicate windowPlaces 0 };
     }
 
 -- what is held after some jumps, one after the other
 unfoldable pub heldFrom : List FirstArrival → Held
-heldFrom js = foldl (λ (h : Held) (p : FirstArrival). withJump (hasRoom window h) h p) noneHeld js
+heldFrom js = foldl (λ (h : Held) (p : FirstArrival). withJump (hasRoom windowPlaces h) h p) noneHeld js
 
--- under one jump more
-pub held-more : (js : List FirstArrival) (p : FirstArrival) → heldFrom (js ++ (p ∷ [])) ≡ withJump (hasRoom window (heldFrom js)) (heldFrom js) p
+pub held-more : (js : List FirstArrival) (p : FirstArrival) → heldFrom (js ++ (p ∷ [])) ≡ withJump (hasRoom windowPlaces (heldFrom js)) (heldFrom js) p
 unfolding heldFrom
-held-more js p = fold-more (λ (h : Held) (p : FirstArrival). withJump (hasRoom window h) h p) noneHeld js p
+held-more js p = fold-more (λ (h : Held) (p : FirstArrival). withJump (hasRoom windowPlaces h) h p) noneHeld js p
 
 -- of these the last are kept
 abbrev HoldsLast : List FirstArrival → Held → Type 0
-HoldsLast js h = Holds (take (length js - window) js) (drop (length js - window) js) h
+HoldsLast js h = Holds (take (length js - windowPlaces) js) (drop (length js - windowPlaces) js) h
 
-holds-more : (js : List FirstArrival) (h : Held) (p : FirstArrival) → HoldsLast js h → HoldsLast (js ++ (p ∷ [])) (withJump (hasRoom window h) h p)
-holds-more js h p o = go (ltb (h .kept) window) refl
+holds-more : (js : List FirstArrival) (h : Held) (p : FirstArrival) → HoldsLast js h → HoldsLast (js ++ (p ∷ [])) (withJump (hasRoom windowPlaces h) h p)
+holds-more js h p o = go (ltb (h .kept) windowPlaces) refl
   where
-    c : h .kept ≡ length js - (length js - window)
-    c = holds-count (take (length js - window) js) (drop (length js - window) js) h o ∙ length-drop (length js - window) js
+    c : h .kept ≡ length js - (length js - windowPlaces)
+    c = holds-count (take (length js - windowPlaces) js) (drop (length js - windowPlaces) js) h o ∙ length-drop (length js - windowPlaces) js
 
     l : length (js ++ (p ∷ [])) ≡ length js + 1
     l = length-append js (p ∷ [])
 
-    go : (t : Bool) → ltb (h .kept) window ≡ t → HoldsLast (js ++ (p ∷ [])) (withJump t h p)
+    go : (t : Bool) → ltb (h .kept) windowPlaces ≡ t → HoldsLast (js ++ (p ∷ [])) (withJump t h p)
     go true e =
-        let lt : h .kept < window = ltb-true _ _ e in
-        let q : h .kept ≡ length js - (length js - window) = c in
+        let lt : h .kept < windowPlaces = ltb-true _ _ e in
+        let q : h .kept ≡ length js - (length js - windowPlaces) = c in
         let m : length (js ++ (p ∷ [])) ≡ length js + 1 = l in
-        let z : length js - window ≡ 0 = omega arith in
-        let y : length (js ++ (p ∷ [])) - window ≡ 0 = omega arith in
+        let z : length js - windowPlaces ≡ 0 = omega arith in
+        let y : length (js ++ (p ∷ [])) - windowPlaces ≡ 0 = omega arith in
         let k : Holds [] js h = rw z at o in
         rw y (holds-appended [] js h p k (omega arith))
     go false e =
-        let ge : window ≤ h .kept = ltb-false _ _ e in
-        let q : h .kept ≡ length js - (length js - window) = c in
+        let ge : windowPlaces ≤ h .kept = ltb-false _ _ e in
+        let q : h .kept ≡ length js - (length js - windowPlaces) = c in
         let m : length (js ++ (p ∷ [])) ≡ length js + 1 = l in
-        let n : ℕ = length js - window in
+        let n : ℕ = length js - windowPlaces in
         let lt : n < length js = omega arith in
-        let y : length (js ++ (p ∷ [])) - window ≡ suc n = omega arith in
+        let y : length (js ++ (p ∷ [])) - windowPlaces ≡ suc n = omega arith in
         let f : drop n js ≡ getD js n p ∷ drop (suc n) js = drop-cons js n p lt in
         let k : Holds (take n js) (getD js n p ∷ drop (suc n) js) h = rw f at o in
         let s : length (drop (suc n) js) ≡ length js - suc n = length-drop (suc n) js in

@@ -19,4 +19,6 @@ pub mod WindowCases
 pub mod Moved
 pub mod FieldLent
 pub mod Returned
+pub mod PassedNumbers
+pub mod LentStruct
 pub mod Local

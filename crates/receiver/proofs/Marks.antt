@@ -1,5 +1,8 @@
--- Marks: a packet is marked exactly if it was marked before or is the one marked now; after some arrivals, exactly if it is
--- among them. Assumes nothing.
+-- Marks: a packet is marked exactly if it was marked before or is the one marked now (`mark-with`); after some arrivals, exactly if it is
+-- among them (`marked-is-arrived`, by induction on one arrival more). The bit b of a word is set by `bitOr` with 2 to the b, of which b is
+-- the only bit (`power-bit`), so just that bit is changed (`mark-bit`). If the packets p, marked now, and q have one word, they are the
+-- same exactly if they have one bit; if not, q's word stays.
+-- Here m are the words of the marks, b and c are bits of the word w, fs are the arrivals, a is the next, and s a packet. Assumes nothing.
 use Prim.Native.Nat.{ℕ, zero, suc, _+_, _-_, _*_, _/_, _%_, _^_, _≤_, _<_}
 use mathlib.Core.Path.{_≡_, refl, sym, ap, _∙_}
 use mathlib.Core.Logic.{_≢_}
@@ -19,7 +22,7 @@ use Rattle.rfc4737.proofs.Lists.{snoc-ind, All, all-left, all-right}
 use Rattle.rfc4737.proofs.Arrivals.{fold-more, has-more}
 use Rattle.rfc4737.proofs.Packets.{OfPackets}
 use Rattle.rfc4737.specs.Judge.{sentMost}
-use Rattle.receiver.specs.Marks.{wordOf, bitOf, markAt, withMark}
+use Rattle.receiver.specs.Marks.{markWords, wordOf, bitOf, markAt, withMark}
 
 -- two tests that hold together are equal
 same-test : (a b c d : ℕ) → (a ≡ b → c ≡ d) → (c ≡ d → a ≡ b) → eqb a b ≡ eqb c d
@@ -72,7 +75,7 @@ mark-bit w b c =
     ∙ ap (λ (t : Bool). eqb (w / 2 ^ c % 2) 1 || t) (power-bit b c)
 
 -- a packet is marked exactly if it was or is the one marked now
-pub mark-with : (m : List ℕ) (p q : ℕ) → 1 ≤ p → 1 ≤ q → wordOf p < length m → markAt (withMark m p) q ≡ (markAt m q || eqb p q)
+mark-with : (m : List ℕ) (p q : ℕ) → 1 ≤ p → 1 ≤ q → wordOf p < length m → markAt (withMark m p) q ≡ (markAt m q || eqb p q)
 unfolding markAt withMark
 mark-with m p q hp hq l = go (eqb (wordOf p) (wordOf q)) refl
   where
@@ -87,32 +90,31 @@ mark-with m p q hp hq l = go (eqb (wordOf p) (wordOf q)) refl
         rw (getD-set-other m (wordOf p) (wordOf q) (bitOr (getD m (wordOf p) 0) (2 ^ bitOf p)) 0 n, d, or-false)
 
 -- no packet is marked where every word is 0
-marked-none : (s : ℕ) → markAt (replicate 64 0) s ≡ false
+marked-none : (s : ℕ) → markAt (replicate markWords 0) s ≡ false
 unfolding markAt
 marked-none s = rw (zero (wordOf s), zero-div)
   where
-    zero : (i : ℕ) → _≡_ {A = ℕ} (getD (replicate 64 0) i 0) 0
-    zero i = go (ltb i 64) refl
+    zero : (i : ℕ) → _≡_ {A = ℕ} (getD (replicate markWords 0) i 0) 0
+    zero i = go (ltb i markWords) refl
       where
-        go : (t : Bool) → ltb i 64 ≡ t → _≡_ {A = ℕ} (getD (replicate 64 0) i 0) 0
-        go true e = getD-replicate 64 i 0 0 (ltb-true _ _ e)
-        go false e = List·getD-eq-default (replicate 64 0) 0 {n = i} (ltb-false _ _ e)
+        go : (t : Bool) → ltb i markWords ≡ t → _≡_ {A = ℕ} (getD (replicate markWords 0) i 0) 0
+        go true e = getD-replicate markWords i 0 0 (ltb-true _ _ e)
+        go false e = List·getD-eq-default (replicate markWords 0) 0 {n = i} (ltb-false _ _ e)
 
 -- the marks after some arrivals
 unfoldable pub marksOf : List Arrival → List ℕ
-marksOf fs = foldl (λ (m : List ℕ) (a : Arrival). withMark m (a .number)) (replicate 64 0) fs
+marksOf fs = foldl (λ (m : List ℕ) (a : Arrival). withMark m (a .number)) (replicate markWords 0) fs
 
--- under one arrival more
 pub marks-more : (fs : List Arrival) (a : Arrival) → marksOf (fs ++ (a ∷ [])) ≡ withMark (marksOf fs) (a .number)
 unfolding marksOf
 marks-more fs a = fold-more _ _ fs a
 
--- they are 64 words
-pub length-marks : (fs : List Arrival) → length (marksOf fs) ≡ 64
+-- they stay as many words
+length-marks : (fs : List Arrival) → length (marksOf fs) ≡ markWords
 unfolding marksOf withMark
-length-marks = snoc-ind (λ (fs : List Arrival). length (marksOf fs) ≡ 64) more refl
+length-marks = snoc-ind (λ (fs : List Arrival). length (marksOf fs) ≡ markWords) more refl
   where
-    more : (fs : List Arrival) (a : Arrival) → length (marksOf fs) ≡ 64 → length (marksOf (fs ++ (a ∷ []))) ≡ 64
+    more : (fs : List Arrival) (a : Arrival) → length (marksOf fs) ≡ markWords → length (marksOf (fs ++ (a ∷ []))) ≡ markWords
     more fs a e = rw marks-more (simp length-set e)
 
 -- a packet is marked exactly if it is among the arrivals

@@ -1,5 +1,9 @@
--- Moving the clock: over the account of arrivals that are moved by c everything is moved by c, so that each is answered as before.
--- Assumes nothing.
+-- Moving the clock: over the account of arrivals that are moved by c everything is moved by c, so that each is answered as before. The
+-- same arrivals are refused, since one is too early against the greatest time exactly if it was (`refusal-moved`); so the account is the
+-- moved one (`account-moved`), and the window too (`window-moved`). Positions stay, so the same discontinuities are in it
+-- (`inside-moved`), and the figures beyond it are the same (`beyond-moved`). A receiver answers so too, since by demand 3 it answers as
+-- the account, before and after (`moved-answers`).
+-- Here k is K, kept a window, a an arrival, b an answer or the outcome of a test. Assumes nothing.
 use Prim.Native.Nat.{ℕ, _+_, _-_}
 use mathlib.Core.Path.{_≡_, refl, sym, ap, _∙_}
 use mathlib.Core.Bool.{Bool, true, false, cond, _||_}
@@ -18,7 +22,7 @@ use Rattle.rfc4737.specs.Judge.{judgeOne}
 use Rattle.rfc4737.proofs.Lists.{fold-map, drop-map, each-map}
 use Rattle.rfc4737.proofs.Moved.{early-greatest, firsts-moved, movedPlace, jumps-moved, discontinuity-moved, extent-moved, late-moved, answer-moved}
 use Rattle.receiver.specs.declared.Outcome.{Outcome}
-use Rattle.receiver.specs.Limits.{window}
+use Rattle.receiver.specs.Limits.{windowPlaces}
 use Rattle.receiver.specs.Step.{freshOf}
 use Rattle.receiver.specs.Account.{accountRefusal, accountWith, accountOf, answerIn, windowIn, standsIn, isIn, inWindow, beyondFigures, inForm, outcomeIn, accountOutcomes}
 use Rattle.receiver.specs.Moved.{MovedAnswers}
@@ -61,9 +65,9 @@ module _ (c : ℕ) where
   unfolding windowIn
   window-moved account =
       let js = jumps (firsts account) in
-      ap (λ (js : List FirstArrival). drop (length js - window) js) (jumps-in account)
-      ∙ ap (λ (n : ℕ). drop (n - window) (movedPlaces js)) (length-map js (movedPlace c))
-      ∙ drop-map (movedPlace c) (length js - window) js
+      ap (λ (js : List FirstArrival). drop (length js - windowPlaces) js) (jumps-in account)
+      ∙ ap (λ (n : ℕ). drop (n - windowPlaces) (movedPlaces js)) (length-map js (movedPlace c))
+      ∙ drop-map (movedPlace c) (length js - windowPlaces) js
 
   -- whether one stands at a position
   stands-moved : (p : ℕ) (qs : List FirstArrival) → standsIn p (movedPlaces qs) ≡ standsIn p qs

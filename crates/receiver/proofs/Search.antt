@@ -1,4 +1,8 @@
--- The kept places, walked one by one: the fit test and the search. Assumes nothing.
+-- The kept places, walked one by one: those from `at` on are the one at `at` and those after it (`places-cons`). So if all pass a test,
+-- each does (`all-at`), by induction on how many; and a search that passed k places with no number above s goes on after them
+-- (`search-from`), by induction on k. Hence the place that the code found, with no greater number before it, is where the definition's
+-- search ends (`search-found`), and if it passed all places the search finds none (`search-none`). n and kept are how many places are
+-- kept. Assumes nothing.
 use Prim.Native.Nat.{ℕ, zero, suc, _+_, _-_, _<_, _≤_}
 use mathlib.Core.Bool.{Bool, true, false}
 use mathlib.Core.List.{[], _∷_, map}
@@ -15,18 +19,18 @@ use Rattle.rfc4737.specs.Extent.{firstAbove}
 use Rattle.receiver.specs.declared.Places.{Places}
 use Rattle.receiver.specs.Fit.{every}
 use Rattle.receiver.specs.Kept.{placeAt, placesFrom}
-use Rattle.receiver.specs.Private.Decision.{FirstAbove}
+use Rattle.receiver.specs.Private.{FirstAbove}
 use Rattle.receiver.proofs.Fits.{every-true}
 
 -- the places from one on, with that one first
-pub places-cons : (places : Places) (n at : ℕ) → at < n → placesFrom places at (n - at) ≡ placeAt places at ∷ placesFrom places (at + 1) (n - (at + 1))
+places-cons : (places : Places) (n at : ℕ) → at < n → placesFrom places at (n - at) ≡ placeAt places at ∷ placesFrom places (at + 1) (n - (at + 1))
 unfolding placesFrom
 places-cons places n at h =
     let e : n - at ≡ suc (n - (at + 1)) = omega arith in
     rw (e, add-one at)
 
 -- no places are left past the last
-pub places-end : (places : Places) (n at : ℕ) → n ≤ at → placesFrom places at (n - at) ≡ []
+places-end : (places : Places) (n at : ℕ) → n ≤ at → placesFrom places at (n - at) ≡ []
 unfolding placesFrom
 places-end places n at h =
     let e : n - at ≡ zero = omega arith in
@@ -46,7 +50,7 @@ module _ (places : Places) (f : FirstArrival → Bool) where
 
 module _ (places : Places) (s : ℕ) where
   -- a search that passed places with no greater number goes on after them
-  pub search-from : (n k : ℕ) → k ≤ n → ((i : ℕ) → i < k → ltb s (getD (places .numbers) i 0) ≡ false)
+  search-from : (n k : ℕ) → k ≤ n → ((i : ℕ) → i < k → ltb s (getD (places .numbers) i 0) ≡ false)
       → firstAbove s (placesFrom places 0 n) ≡ firstAbove s (placesFrom places k (n - k))
   unfolding firstAbove placeAt
   search-from n zero h p = rw sub-zero

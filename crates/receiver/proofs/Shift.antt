@@ -1,4 +1,7 @@
--- Places that move by one, from the first on: after i of them the list is `moved i`. Assumes nothing.
+-- Places that move by one, from the first on: after i of them the list is `shifted i`, of which the first i hold what stood after each, and
+-- the others what they held. A turn sets the place i to what stands at i + 1, which has not moved yet (`shifted-at`), and that is
+-- `shifted (i + 1)` (`shifted-next`). After n of them the place n is set to the new value v, and the list is pushed (`pushed-last`). l is the
+-- list before, t the list now. Assumes nothing.
 use Prim.Native.Nat.{ℕ, suc, _+_, _<_, _≤_}
 use mathlib.Core.Bool.{false}
 use mathlib.Core.List.{List, [], _∷_, _++_}
@@ -10,8 +13,8 @@ use lib.Seq.{take-nil, take-suc, drop-cons, length-take-le, set-at, getD-append-
 use Rattle.receiver.specs.Kept.{pushed}
 
 -- the first i places hold what stood after each
-abbrev pub moved : ℕ → List ℕ → List ℕ
-moved i l = take i (drop 1 l) ++ drop i l
+abbrev pub shifted : ℕ → List ℕ → List ℕ
+shifted i l = take i (drop 1 l) ++ drop i l
 
 -- taking and leaving the first out
 take-drop : (n : ℕ) (l : List ℕ) → take n (drop 1 l) ≡ drop 1 (take (suc n) l)
@@ -24,39 +27,39 @@ module _ (l : List ℕ) (n : ℕ) (size : n < length l) where
   head-length i h = length-take-le i (drop 1 l) (simp length-drop (omega arith))
 
   -- the next place to move
-  pub moved-at : (i : ℕ) → i < n → getD (moved i l) (i + 1) 0 ≡ getD (drop 1 l) i 0
-  moved-at i h =
+  shifted-at : (i : ℕ) → i < n → getD (shifted i l) (i + 1) 0 ≡ getD (drop 1 l) i 0
+  shifted-at i h =
       let e : length (take i (drop 1 l)) ≡ i = head-length i (omega arith) in
-      ap (λ (k : ℕ). getD (moved i l) (k + 1) 0) (sym e)
+      ap (λ (k : ℕ). getD (shifted i l) (k + 1) 0) (sym e)
       ∙ getD-append-add (take i (drop 1 l)) (drop i l) 1 0
       ∙ getD-drop i l 1 0
       ∙ ap (λ (k : ℕ). getD l k 0) (omega arith)
       ∙ sym (getD-drop 1 l i 0)
 
   -- one place more has moved
-  one-more : (i : ℕ) → i < n → set (moved i l) i (getD (moved i l) (i + 1) 0) ≡ moved (i + 1) l
-  one-more i h =
+  shifted-more : (i : ℕ) → i < n → set (shifted i l) i (getD (shifted i l) (i + 1) 0) ≡ shifted (i + 1) l
+  shifted-more i h =
       let long : i < length l = omega arith in
       let rest : i < length (drop 1 l) = simp length-drop (omega arith) in
-      ap (λ (t : List ℕ). set (take i (drop 1 l) ++ t) i (getD (moved i l) (i + 1) 0)) (drop-cons l i 0 long)
-      ∙ set-at (take i (drop 1 l)) (getD l i 0) (drop (suc i) l) (getD (moved i l) (i + 1) 0) i (head-length i (omega arith))
-      ∙ ap (λ (v : ℕ). take i (drop 1 l) ++ v ∷ drop (suc i) l) (moved-at i h)
+      ap (λ (t : List ℕ). set (take i (drop 1 l) ++ t) i (getD (shifted i l) (i + 1) 0)) (drop-cons l i 0 long)
+      ∙ set-at (take i (drop 1 l)) (getD l i 0) (drop (suc i) l) (getD (shifted i l) (i + 1) 0) i (head-length i (omega arith))
+      ∙ ap (λ (v : ℕ). take i (drop 1 l) ++ v ∷ drop (suc i) l) (shifted-at i h)
       ∙ sym (append-snoc (take i (drop 1 l)) (getD (drop 1 l) i 0) (drop (suc i) l))
       ∙ ap (λ (t : List ℕ). t ++ drop (suc i) l) (sym (take-suc (drop 1 l) i 0 rest))
-      ∙ ap (λ (k : ℕ). moved k l) (sym (add-one i))
+      ∙ ap (λ (k : ℕ). shifted k l) (sym (add-one i))
 
-  pub moved-next : (i : ℕ) (t : List ℕ) → i < n → t ≡ moved i l → set t i (getD t (i + 1) 0) ≡ moved (i + 1) l
-  moved-next i t h e = ap (λ (t : List ℕ). set t i (getD t (i + 1) 0)) e ∙ one-more i h
+  pub shifted-next : (i : ℕ) (t : List ℕ) → i < n → t ≡ shifted i l → set t i (getD t (i + 1) 0) ≡ shifted (i + 1) l
+  shifted-next i t h e = ap (λ (t : List ℕ). set t i (getD t (i + 1) 0)) e ∙ shifted-more i h
 
   -- all have moved, and the place after them is new
-  moved-last : (v : ℕ) → set (moved n l) n v ≡ drop 1 (take (suc n) l) ++ (v ∷ drop (suc n) l)
-  moved-last v =
+  shifted-last : (v : ℕ) → set (shifted n l) n v ≡ drop 1 (take (suc n) l) ++ (v ∷ drop (suc n) l)
+  shifted-last v =
       ap (λ (t : List ℕ). set (take n (drop 1 l) ++ t) n v) (drop-cons l n 0 size)
       ∙ set-at (take n (drop 1 l)) (getD l n 0) (drop (suc n) l) v n (head-length n (omega arith))
       ∙ ap (λ (t : List ℕ). t ++ (v ∷ drop (suc n) l)) (take-drop n l)
 
 -- of n + 1 kept places all have moved, and the last one is new
-pub pushed-last : (l : List ℕ) (n : ℕ) → n < length l → (kept : ℕ) → kept ≡ suc n → (i : ℕ) (t : List ℕ) → i ≡ n → t ≡ moved i l → (v : ℕ)
+pub pushed-last : (l : List ℕ) (n : ℕ) → n < length l → (kept : ℕ) → kept ≡ suc n → (i : ℕ) (t : List ℕ) → i ≡ n → t ≡ shifted i l → (v : ℕ)
     → set t n v ≡ pushed false kept l v
 unfolding pushed
-pushed-last l n size kept k i t a e v = rw (k, e, a) (moved-last l n size v)
+pushed-last l n size kept k i t a e v = rw (k, e, a) (shifted-last l n size v)

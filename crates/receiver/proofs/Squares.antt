@@ -4,6 +4,5 @@ use native.Mathlib.Nat.{mul-le-mul}
 use Rattle.rfc4737.specs.Judge.{sentMost}
 use Rattle.rfc4737.specs.Runs.{squaresMost}
 
--- a run of at most 4,096 has a square of at most 16,777,216
 pub square-high : (run : ℕ) → run ≤ sentMost → run * run ≤ squaresMost
 square-high run h = mul-le-mul h h

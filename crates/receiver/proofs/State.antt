@@ -1,4 +1,5 @@
--- The state of a receiver as a function of the account and of what is held of its jumps. Assumes nothing.
+-- The state of a receiver made for k packets as a function of the account and of what is held of its jumps, h. Fresh it is that of the
+-- empty account with nothing held, by computation. Assumes nothing.
 use Prim.Native.Nat.{ℕ}
 use mathlib.Core.Path.{_≡_, refl}
 use mathlib.Core.List.{List, [], flatten}

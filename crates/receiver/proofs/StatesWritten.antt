@@ -1,4 +1,8 @@
--- What is written, part by part, makes the state of the definitions. Assumes nothing.
+-- What is written, part by part, makes the state of the definitions: in each case of what is noted the definition's state has these very
+-- parts, and what the callees wrote is put for them. After an in-order arrival the jump size says whether it is a jump: if it is 0 the
+-- places stay, and if not they are pushed.
+-- Here s are the stream's numbers before and g after, with a prime the arrays after, v is what is noted, h what is held, p the new jump,
+-- room whether there is room for it. Assumes nothing.
 use Prim.Native.Nat.{ℕ, _+_}
 use mathlib.Core.Bool.{Bool, true, false, cond}
 use mathlib.Core.List.{List, [], _∷_}
@@ -18,7 +22,7 @@ use Rattle.receiver.specs.declared.ReceiverAnswer.the-variants.{Duplicat
 use Rattle.receiver.specs.Marks.{withMark}
 use Rattle.receiver.specs.Kept.{Held, heldOf, pushed, withJump, heldAfter}
 use Rattle.receiver.specs.Step.{placedAt, duplicateStream, inOrderStream, reorderedStream, inOrderState, reorderedState, notedState}
-use Rattle.receiver.specs.Private.Parts.{placesOf, whole}
+use Rattle.receiver.specs.Private.{placesOf, whole}
 use Rattle.receiver.proofs.ReceiverAnswer.{the-type}
 
 module _ (room : Bool) (h : Held) (size : ℕ) (p : FirstArrival) where

@@ -1,4 +1,8 @@
--- What is said of an arrival, case by case, and the step that it makes. Assumes nothing.
+-- What is said of an arrival, case by case, and the step that it makes: in each case the tests of the definition are known, so that it
+-- computes. Where no refusal is due, each of those in the list is not, so the state is fit and the number lies in 1 to K
+-- (`accepted-facts`); and then a kept place is one of the 64, with a position of at most the packet's (`after-place`).
+-- Here r is the state, h what it holds of the jumps, o what is said of the arrival, p the oldest kept jump of a greater number, q the
+-- oldest kept one, l the extent and late time from a jump. Assumes nothing.
 use Prim.Native.Nat.{ℕ, zero, suc, _+_, _-_, _<_, _≤_}
 use mathlib.Core.Bool.{Bool, true, false, not}
 use mathlib.Core.List.{[], _∷_, head?}
@@ -20,13 +24,13 @@ use Rattle.receiver.specs.declared.Lateness.{Lateness}
 use Rattle.receiver.specs.declared.ReceiverAnswer.the-variants.{Duplicate, InOrder, Exact, Beyond}
 use Rattle.receiver.specs.declared.Outcome.{Outcome}
 use Rattle.receiver.specs.declared.StepAnswer.{StepAnswer}
-use Rattle.receiver.specs.Limits.{window}
+use Rattle.receiver.specs.Limits.{windowPlaces}
 use Rattle.receiver.specs.Outcomes.{refusedOutcome, acceptedOutcome}
 use Rattle.receiver.specs.Marks.{markAt}
 use Rattle.receiver.specs.Kept.{placeAt, placesFrom, Held, heldOf, keptOf}
 use Rattle.receiver.specs.Fit.{fit, jumpFit}
 use Rattle.receiver.specs.Step.{stepRefusal, latenessFrom, reorderedOutcome, lateOutcome, firstOutcome, lookedAt, outcomeOf, notedState, stepWith}
-use Rattle.receiver.specs.Private.Decision.{Unrefused}
+use Rattle.receiver.specs.Private.{Unrefused}
 use Rattle.receiver.proofs.Fits.{and-true, stream-facts, places-facts, jump-facts}
 use Rattle.receiver.proofs.Search.{all-at}
 
@@ -82,7 +86,7 @@ module _ (r : Receiver) (number time : ℕ) where
 
   -- what is known of the jump in a kept place
   pub after-place : Unrefused r number → (place : ℕ) → place < r .stream .kept
-      → (place < window) × (getD (r .places .positions) place 0 ≤ r .stream .arrived + 1)
+      → (place < windowPlaces) × (getD (r .places .positions) place 0 ≤ r .stream .arrived + 1)
   unfolding keptOf placeAt
   after-place a place h =
       let e : 0 + place ≡ place = omega arith in
@@ -98,18 +102,15 @@ module _ (r : Receiver) (number time : ℕ) where
       simp (y, e)
 
   module _ (go : stepRefusal r number time ≡ 0) where
-    -- a duplicate
     pub outcome-duplicate : markAt (r .marks) number ≡ true → acceptedOutcome Duplicate ≡ outcomeOf r number time
     unfolding outcomeOf lookedAt
     outcome-duplicate m = simp (go, m)
 
-    -- in order
     pub outcome-in-order : markAt (r .marks) number ≡ false → r .stream .next ≤ number
         → acceptedOutcome (InOrder (number - r .stream .next)) ≡ outcomeOf r number time
     unfolding outcomeOf lookedAt firstOutcome
     outcome-in-order m h = simp (go, m, le-leb _ _ h)
 
-    -- reordered
     pub outcome-late : (o : Outcome) → markAt (r .marks) number ≡ false → number < r .stream .next
         → o ≡ lateOutcome (heldOf (r .stream) (r .places)) (r .stream .arrived + 1) number time → o ≡ outcomeOf r number time
     unfolding outcomeOf lookedAt firstOutcome

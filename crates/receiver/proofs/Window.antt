@@ -1,7 +1,9 @@
--- The window lemma, for any split of rising jumps into dropped and kept ones, of which there is at least one: a packet's
--- discontinuity is dropped exactly if its number is below that of the last dropped jump. Then every kept jump is above the
--- packet and lies after the discontinuity; if not, the search among the kept jumps finds the discontinuity.
--- Assumes nothing.
+-- The window lemma, for any split of rising jumps into dropped and kept ones, of which there is at least one: a packet's discontinuity is
+-- dropped exactly if its number is below that of the last dropped jump. Then every kept jump is above the packet and lies after the
+-- discontinuity; if not, the search among the kept jumps finds the discontinuity. For no dropped jump is above the last (`last-highest`),
+-- so if the packet is not below that one the search passes them all; and where it passes them all the last is not above the packet
+-- (`last-not-above`). Here s is the packet, d its discontinuity, o the oldest kept jump and later those after it, ds are some jumps, p and
+-- q jumps. Assumes nothing.
 use Prim.Native.Nat.{ℕ, _≤_, _<_}
 use mathlib.Core.Path.{_≡_, refl, sym, ap, _∙_}
 use mathlib.Core.Bool.{Bool, true, false, cond, or-true}
@@ -20,13 +22,12 @@ use Rattle.receiver.specs.Account.{standsIn}
 unfoldable pub lastNumber : List FirstArrival → ℕ
 lastNumber ds = foldl (λ (n : ℕ) (p : FirstArrival). p .number) 0 ds
 
--- under one jump more
 pub last-more : (ds : List FirstArrival) (p : FirstArrival) → lastNumber (ds ++ (p ∷ [])) ≡ p .number
 unfolding lastNumber
 last-more ds p = foldl-append _ 0 ds (p ∷ [])
 
 -- none of rising jumps has a number above the last one's
-pub last-highest : (ds : List FirstArrival) → Ordered Rises ds → All (λ (p : FirstArrival). p .number ≤ lastNumber ds) ds
+last-highest : (ds : List FirstArrival) → Ordered Rises ds → All (λ (p : FirstArrival). p .number ≤ lastNumber ds) ds
 last-highest = snoc-ind (λ (ds : List FirstArrival). Ordered Rises ds → All (λ (p : FirstArrival). p .number ≤ lastNumber ds) ds) more (λ h. tt)
   where
     more : (ds : List FirstArrival) (q : FirstArrival)
@@ -40,7 +41,7 @@ last-highest = snoc-ind (λ (ds : List FirstArrival). Ordered Rises ds → All (
         (omega arith))
 
 -- where no jump is above s, the last one is not
-pub last-not-above : (s : ℕ) (ds : List FirstArrival) → firstAbove s ds ≡ none → lastNumber ds ≤ s
+last-not-above : (s : ℕ) (ds : List FirstArrival) → firstAbove s ds ≡ none → lastNumber ds ≤ s
 unfolding lastNumber firstAbove
 last-not-above s = snoc-ind (λ (ds : List FirstArrival). firstAbove s ds ≡ none → lastNumber ds ≤ s) more (λ h. omega arith)
   where

@@ -21,7 +21,7 @@ use Rattle.receiver.specs.declared.Lateness.{Lateness}
 use Rattle.receiver.specs.declared.ReceiverAnswer.{ReceiverAnswer}
 use Rattle.receiver.specs.declared.ReceiverAnswer.the-variants.{Duplicate, InOrder, Exact, Beyond}
 use Rattle.receiver.specs.declared.Outcome.{Outcome}
-use Rattle.receiver.specs.Limits.{window}
+use Rattle.receiver.specs.Limits.{windowPlaces}
 use Rattle.receiver.specs.Outcomes.{refusedOutcome, acceptedOutcome}
 
 -- the refusal of an arrival, 0 for none: 11 if the account has 4,096; else 6 in its case; else 7 in its case, judged against
@@ -53,7 +53,7 @@ answersIn account = answers (λ _. 0) account
 
 -- the window, a term of the scope: the account's last 64 jumps, or all if fewer
 unfoldable pub windowIn : List Arrival → List FirstArrival
-windowIn account = let js = jumps (firsts account) in drop (length js - window) js
+windowIn account = let js = jumps (firsts account) in drop (length js - windowPlaces) js
 
 -- whether one of some jumps stands at a position
 unfoldable pub standsIn : ℕ → List FirstArrival → Bool

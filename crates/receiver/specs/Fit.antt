@@ -13,7 +13,7 @@ use Rattle.rfc4737.specs.Runs.{squaresMost}
 use Rattle.receiver.specs.declared.Stream.{Stream}
 use Rattle.receiver.specs.declared.Places.{Places}
 use Rattle.receiver.specs.declared.Receiver.{Receiver}
-use Rattle.receiver.specs.Limits.{window}
+use Rattle.receiver.specs.Limits.{windowPlaces}
 use Rattle.receiver.specs.Kept.{heldOf, keptOf}
 
 -- whether every one of some tests holds
@@ -44,7 +44,7 @@ jumpFit s p =
 unfoldable pub placesFit : Stream → Places → Bool
 placesFit s places =
     every
-    (leb (s .kept) window
+    (leb (s .kept) windowPlaces
     ∷ every (map (jumpFit s) (keptOf (heldOf s places)))
     ∷ leb (s .dropped) (s .sent)
     ∷ [])

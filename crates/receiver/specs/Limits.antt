@@ -1,6 +1,6 @@
 -- The receiver's limits. Assumes nothing.
 use Prim.Native.Nat.{ℕ}
 
--- the window, a term of the scope: how many jumps are kept
-abbrev pub window : ℕ
-window = 64
+-- the places of the window: how many jumps are kept at most
+abbrev pub windowPlaces : ℕ
+windowPlaces = 64

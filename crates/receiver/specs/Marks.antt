@@ -7,6 +7,10 @@ use lib.Bits.{bitOr}
 use lib.Dec.{eqb}
 use lib.ListN.{getD, set}
 
+-- the words: a bit for each of 4,096 packets
+abbrev pub markWords : ℕ
+markWords = 64
+
 -- the word of packet s
 abbrev pub wordOf : ℕ → ℕ
 wordOf s = (s - 1) / 64

@@ -1,4 +1,88 @@
--- What private functions say to each other: no public contract reaches these definitions. Assumes nothing.
-pub mod Facts
-pub mod Parts
-pub mod Decision
+-- What private functions say to each other, which no public contract reaches: a fit state as facts, a receiver in parts, and what the
+-- functions of a step know and find. Assumes nothing.
+use Prim.Native.Nat.{ℕ, zero, suc, _+_, _<_, _≤_}
+use mathlib.Core.Bool.{Bool, true, false, _&&_}
+use mathlib.Core.List.{List, map}
+use mathlib.Core.Path.{_≡_}
+use lib.Dec.{ltb}
+use lib.ListN.{length, getD}
+use Rattle.rfc4737.specs.Order.{FirstArrival}
+use Rattle.rfc4737.specs.Judge.{sentMost, arrivalsMost}
+use Rattle.rfc4737.specs.Runs.{squaresMost}
+use Rattle.receiver.specs.declared.Stream.{Stream}
+use Rattle.receiver.specs.declared.Places.{Places}
+use Rattle.receiver.specs.declared.Receiver.{Receiver}
+use Rattle.receiver.specs.declared.StepAnswer.{StepAnswer}
+use Rattle.receiver.specs.declared.advance.StreamStep.{StreamStep}
+use Rattle.receiver.specs.Limits.{windowPlaces}
+use Rattle.receiver.specs.Kept.{heldOf, keptOf}
+use Rattle.receiver.specs.Fit.{every, jumpFit}
+
+-- ---- a fit state, as facts
+
+-- what fit numbers say
+pub record StreamFit (s : Stream) : Type 0 where
+  pub sent-low : 1 ≤ s .sent
+  pub sent-high : s .sent ≤ sentMost
+  pub arrived-high : s .arrived ≤ s .sent
+  pub accepted-high : s .arrived + s .duplicates ≤ arrivalsMost
+  pub inorder-high : s .inorder ≤ s .arrived
+  pub current-high : s .runs .current ≤ s .inorder
+  pub closed-high : s .runs .closed ≤ s .arrived
+  pub squares-high : s .runs .squares ≤ squaresMost
+  pub next-low : 1 ≤ s .next
+  pub next-high : s .next ≤ s .sent + 1
+
+-- what a fit kept jump says
+pub record JumpFit (s : Stream) (p : FirstArrival) : Type 0 where
+  pub position-low : 1 ≤ p .position
+  pub position-high : p .position ≤ s .arrived
+  pub number-low : 1 ≤ p .number
+  pub number-high : p .number ≤ s .sent
+  pub time-high : p .time ≤ s .greatest
+
+-- what fit places say
+pub record PlacesFit (s : Stream) (places : Places) : Type 0 where
+  pub kept-high : s .kept ≤ windowPlaces
+  pub jumps-fit : every (map (jumpFit s) (keptOf (heldOf s places))) ≡ true
+  pub dropped-high : s .dropped ≤ s .sent
+
+-- ---- a receiver in parts
+
+-- the places of three arrays
+abbrev pub placesOf : List ℕ → List ℕ → List ℕ → Places
+placesOf positions numbers times = record { positions = positions; numbers = numbers; times = times }
+
+-- the receiver of a stream, with its marks and places
+abbrev pub whole : Stream → List ℕ → List ℕ → List ℕ → List ℕ → Receiver
+whole s marks positions numbers times =
+    record { stream = s; marks = marks; places = placesOf positions numbers times }
+
+-- the step that gives the parts: what was said, and the receiver of the stream, with the marks and places then
+abbrev pub stepAnswerOf : StreamStep → List ℕ → List ℕ → List ℕ → List ℕ → StepAnswer
+stepAnswerOf a marks positions numbers times =
+    record { outcome = a .outcome; state = whole (a .stream) marks positions numbers times }
+
+-- the places are as many as an array of them has
+abbrev pub Full : List ℕ → List ℕ → List ℕ → Type 0
+Full positions numbers times = (length positions ≡ windowPlaces) × ((length numbers ≡ windowPlaces) × (length times ≡ windowPlaces))
+
+-- ---- a step
+
+-- what holds of a state and an arrival that meets no refusal before it is looked at
+pub record Unrefused (r : Receiver) (number : ℕ) : Type 0 where
+  pub stream : StreamFit (r .stream)
+  pub places : PlacesFit (r .stream) (r .places)
+  pub number-low : 1 ≤ number
+  pub number-high : number ≤ r .stream .sent
+
+-- the place of the first of some numbers that is above s; their count if none is
+pub record FirstAbove (numbers : List ℕ) (kept s place : ℕ) : Type 0 where
+  pub place-high : place ≤ kept
+  pub before : (k : ℕ) → k < place → ltb s (getD numbers k 0) ≡ false
+  pub above : place < kept → s < getD numbers place 0
+
+-- whether each of the first n of some values passes a test
+unfoldable pub firstPass : (ℕ → Bool) → List ℕ → ℕ → Bool
+firstPass t l zero = true
+firstPass t l (suc n) = firstPass t l n && t (getD l n 0)

@@ -20,9 +20,9 @@ use Rattle.receiver.specs.declared.ReceiverAnswer.the-variants.{Duplicat
 use Rattle.receiver.specs.declared.Outcome.{Outcome}
 use Rattle.receiver.specs.declared.StepAnswer.{StepAnswer}
 use Rattle.receiver.specs.declared.FreshAnswer.{FreshAnswer}
-use Rattle.receiver.specs.Limits.{window}
+use Rattle.receiver.specs.Limits.{windowPlaces}
 use Rattle.receiver.specs.Outcomes.{refusedOutcome, acceptedOutcome}
-use Rattle.receiver.specs.Marks.{markAt, withMark}
+use Rattle.receiver.specs.Marks.{markWords, markAt, withMark}
 use Rattle.receiver.specs.Kept.{Held, heldOf, keptOf, hasRoom, heldAfter}
 use Rattle.receiver.specs.Fit.{fit}
 
@@ -46,8 +46,8 @@ unfoldable pub madeFor : ℕ → Receiver
 madeFor k =
     record {
       stream = freshStream k;
-      marks = replicate 64 0;
-      places = record { positions = replicate window 0; numbers = replicate window 0; times = replicate window 0 };
+      marks = replicate markWords 0;
+      places = record { positions = replicate windowPlaces 0; numbers = replicate windowPlaces 0; times = replicate windowPlaces 0 };
     }
 
 -- a fresh receiver for K; refused by 4 it is one made for K = 1
@@ -180,8 +180,8 @@ stepWith room r number time =
 
 -- the step of a receiver that keeps at most so many jumps: at least 1, and at most 64
 abbrev pub stepWithin : ℕ → Receiver → ℕ → ℕ → StepAnswer
-stepWithin most r number time = stepWith (hasRoom (max 1 (min most window)) (heldOf (r .stream) (r .places))) r number time
+stepWithin most r number time = stepWith (hasRoom (max 1 (min most windowPlaces)) (heldOf (r .stream) (r .places))) r number time
 
 -- the receiver's step, for every state and arrival: it keeps at most 64 jumps
 abbrev pub stepOf : Receiver → ℕ → ℕ → StepAnswer
-stepOf r number time = stepWithin window r number time
+stepOf r number time = stepWithin windowPlaces r number time

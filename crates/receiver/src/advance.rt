@@ -14,9 +14,11 @@ use crate::numbers::after_duplicate;
 use crate::numbers::after_in_order;
 use crate::numbers::after_reordered;
 ghost use mathlib.Core.Path.{_≡_};
+ghost use Prim.Native.Nat.{_≤_};
 ghost use lib.Dec.{ltb};
+ghost use Rattle.receiver.specs.Limits.{windowPlaces};
 ghost use Rattle.receiver.specs.Step.{stepWith, stepOf};
-ghost use Rattle.receiver.specs.Private.Parts.{Most, Full, whole, stepAnswerOf};
+ghost use Rattle.receiver.specs.Private.{Full, whole, stepAnswerOf};
 
 // What is said of an arrival, and the stream's numbers after it.
 pub struct StreamStep {
@@ -36,7 +38,7 @@ pub(crate) fn advance_within<'a>(
     number: u32,
     time: u64,
 ) -> StreamStep
-    requires { ⌜ Most most × Full (now positions) (now numbers) (now times) ⌝ }
+    requires { ⌜ ((1 ≤ most) × (most ≤ windowPlaces)) × Full (now positions) (now numbers) (now times) ⌝ }
     ensures { λ a. ⌜ stepAnswerOf a (now (marks .exit)) (now (positions .exit)) (now (numbers .exit)) (now (times .exit))
         ≡ stepWith (ltb (s .kept) most) (whole s (now (marks .entry)) (now (positions .entry)) (now (numbers .entry)) (now (times .entry))) number time ⌝ }
 {

@@ -20,12 +20,11 @@ ghost use Prim.Native.Nat.{ℕ, _+_, _<_, _≤_};
 ghost use lib.ListN.{getD};
 ghost use Rattle.receiver.specs.Step.{stepRefusal, latenessFrom, lateOutcome, outcomeOf};
 ghost use Rattle.receiver.specs.Kept.{heldOf};
-ghost use Rattle.receiver.specs.Limits.{window};
-ghost use Rattle.receiver.specs.Private.Parts.{placesOf, whole};
-ghost use Rattle.receiver.specs.Private.Decision.{Unrefused};
+ghost use Rattle.receiver.specs.Limits.{windowPlaces};
+ghost use Rattle.receiver.specs.Private.{placesOf, whole, Unrefused};
 
 // The refusal that an arrival meets before it is looked at, 0 for none.
-fn refusal_of<'a>(
+fn step_refusal<'a>(
     s: Stream,
     positions: &'a [u16; Receiver::WINDOW],
     numbers: &'a [u16; Receiver::WINDOW],
@@ -55,7 +54,7 @@ fn lateness_from<'a>(
     position: u32,
     time: u64,
 ) -> Lateness
-    requires { ⌜ (place < window) × (getD (now positions) place 0 ≤ position) ⌝ }
+    requires { ⌜ (place < windowPlaces) × (getD (now positions) place 0 ≤ position) ⌝ }
     ensures { λ r. ⌜ ((s : ℕ) → r ≡ latenessFrom position time (some (record { position = getD (now (positions .entry)) place 0; number = s; time = getD (now (times .entry)) place 0 }))) ⌝ }
 {
     Lateness {
@@ -65,7 +64,7 @@ fn lateness_from<'a>(
 }
 
 // What is said of a reordered packet.
-fn late<'a>(
+fn late_outcome<'a>(
     s: Stream,
     positions: &'a [u16; Receiver::WINDOW],
     numbers: &'a [u16; Receiver::WINDOW],
@@ -109,7 +108,7 @@ pub(crate) fn decide<'a>(
 ) -> Outcome
     ensures { λ r. ⌜ r ≡ outcomeOf (whole s (now (marks .entry)) (now (positions .entry)) (now (numbers .entry)) (now (times .entry))) number time ⌝ }
 {
-    let refusal = refusal_of(s, positions, numbers, times, number, time);
+    let refusal = step_refusal(s, positions, numbers, times, number, time);
     if refusal != 0 {
         return Outcome {
             refusal,
@@ -128,5 +127,5 @@ pub(crate) fn decide<'a>(
             noted: ReceiverAnswer::InOrder(number - s.next),
         };
     }
-    late(s, positions, numbers, times, number, time)
+    late_outcome(s, positions, numbers, times, number, time)
 }

@@ -4,13 +4,13 @@ use crate::Receiver;
 use crate::Stream;
 ghost use mathlib.Core.Path.{_≡_};
 ghost use mathlib.Core.Bool.{_&&_};
-ghost use Prim.Native.Nat.{_≤_};
+ghost use Prim.Native.Nat.{ℕ, _≤_};
+ghost use lib.Dec.{leb};
 ghost use Rattle.rfc4737.specs.Refusals.{within};
 ghost use Rattle.rfc4737.specs.Judge.{sentMost};
-ghost use Rattle.receiver.specs.Limits.{window};
+ghost use Rattle.receiver.specs.Limits.{windowPlaces};
 ghost use Rattle.receiver.specs.Fit.{streamFit, placesFit};
-ghost use Rattle.receiver.specs.Private.Parts.{placesOf};
-ghost use Rattle.receiver.specs.Private.Decision.{firstPass, notAfter};
+ghost use Rattle.receiver.specs.Private.{placesOf, firstPass};
 
 // The greatest sum of squares.
 const SQUARES_MOST: u32 = 16777216;
@@ -71,7 +71,7 @@ fn is_within(most: u16, value: u16) -> bool
 
 // Whether each of the first values lies from 1 to the most. All are looked at, several at a time.
 fn all_within(places: &[u16; Receiver::WINDOW], count: usize, most: u16) -> bool
-    requires { ⌜ count ≤ window ⌝ }
+    requires { ⌜ count ≤ windowPlaces ⌝ }
     ensures { λ r. ⌜ r ≡ firstPass (within 1 most) (now (places .entry)) count ⌝ }
 {
     let mut fit = true;
@@ -85,8 +85,8 @@ fn all_within(places: &[u16; Receiver::WINDOW], count: usize, most: u16) -> bool
 
 // Whether none of the first times is after the greatest. All are looked at, several at a time.
 fn none_after(times: &[u64; Receiver::WINDOW], count: usize, greatest: u64) -> bool
-    requires { ⌜ count ≤ window ⌝ }
-    ensures { λ r. ⌜ r ≡ firstPass (notAfter greatest) (now (times .entry)) count ⌝ }
+    requires { ⌜ count ≤ windowPlaces ⌝ }
+    ensures { λ r. ⌜ r ≡ firstPass (λ (t : ℕ). leb t greatest) (now (times .entry)) count ⌝ }
 {
     let mut fit = true;
     let mut i = 0;

@@ -6,10 +6,9 @@ ghost use mathlib.Core.Bool.{false, cond};
 ghost use Prim.Native.Nat.{_+_, _≤_, _<_};
 ghost use lib.Dec.{eqb, ltb};
 ghost use lib.ListN.{getD};
-ghost use Rattle.receiver.specs.Limits.{window};
+ghost use Rattle.receiver.specs.Limits.{windowPlaces};
 ghost use Rattle.receiver.specs.Kept.{pushed};
-ghost use Rattle.receiver.specs.Private.Parts.{Most, Full};
-ghost use Rattle.receiver.specs.Private.Decision.{FirstAbove};
+ghost use Rattle.receiver.specs.Private.{Full, FirstAbove};
 
 // The last place.
 const LAST: usize = Receiver::WINDOW - 1;
@@ -23,7 +22,7 @@ fn wide(x: u16) -> u32
 
 // The place of the oldest kept jump with a number above the given one; the count of kept jumps if there is none.
 pub(crate) fn place_above(numbers: &[u16; Receiver::WINDOW], kept: u32, number: u32) -> usize
-    requires { ⌜ kept ≤ window ⌝ }
+    requires { ⌜ kept ≤ windowPlaces ⌝ }
     ensures { λ r. ⌜ FirstAbove (now (numbers .entry)) kept number r ⌝ }
 {
     let count = kept as usize;
@@ -79,7 +78,7 @@ fn put_last<'a>(
     number: u16,
     time: u64,
 )
-    requires { ⌜ (last < window) × Full (now positions) (now numbers) (now times) ⌝ }
+    requires { ⌜ (last < windowPlaces) × Full (now positions) (now numbers) (now times) ⌝ }
     ensures { λ _. ⌜ (now (positions .exit) ≡ pushed false (last + 1) (now (positions .entry)) position)
         × ((now (numbers .exit) ≡ pushed false (last + 1) (now (numbers .entry)) number)
         × (now (times .exit) ≡ pushed false (last + 1) (now (times .entry)) time)) ⌝ }
@@ -108,7 +107,7 @@ pub(crate) fn push<'a>(
     number: u16,
     time: u64,
 )
-    requires { ⌜ (kept ≤ window) × (Most most × Full (now positions) (now numbers) (now times)) ⌝ }
+    requires { ⌜ (kept ≤ windowPlaces) × (((1 ≤ most) × (most ≤ windowPlaces)) × Full (now positions) (now numbers) (now times)) ⌝ }
     ensures { λ _. ⌜ (now (positions .exit) ≡ pushed (ltb kept most) kept (now (positions .entry)) position)
         × ((now (numbers .exit) ≡ pushed (ltb kept most) kept (now (numbers .entry)) number)
         × (now (times .exit) ≡ pushed (ltb kept most) kept (now (times .entry)) time)) ⌝ }

@@ -22,7 +22,7 @@ ghost use mathlib.Core.Path.{_≡_};
 ghost use mathlib.Core.List.{List};
 ghost use Prim.Native.Nat.{min, max};
 ghost use Rattle.rfc4737.specs.declared.Arrival.{Arrival};
-ghost use Rattle.receiver.specs.Limits.{window};
+ghost use Rattle.receiver.specs.Limits.{windowPlaces};
 ghost use Rattle.receiver.specs.Fit.{fit};
 ghost use Rattle.receiver.specs.Step.{madeFor, freshOf, stepWithin, stepOf};
 ghost use Rattle.receiver.specs.Lent.{AsStep};
@@ -184,7 +184,7 @@ const MOST: u32 = Receiver::WINDOW as u32;
 
 // How many jumps are kept at most, where so many are asked for.
 fn at_most(most: u32) -> u32
-    ensures { λ r. ⌜ r ≡ max 1 (min most window) ⌝ }
+    ensures { λ r. ⌜ r ≡ max 1 (min most windowPlaces) ⌝ }
 {
     if most == 0 {
         return 1;

@@ -15,8 +15,7 @@ ghost use Rattle.rfc4737.specs.Order.{nextAfter};
 ghost use Rattle.rfc4737.specs.Runs.{lengthened, ended, squaresMost};
 ghost use Rattle.receiver.specs.Kept.{heldOf, heldAfter};
 ghost use Rattle.receiver.specs.Step.{placedAt, duplicateStream, inOrderStream, reorderedStream};
-ghost use Rattle.receiver.specs.Private.Parts.{placesOf};
-ghost use Rattle.receiver.specs.Private.Decision.{NoOverflow};
+ghost use Rattle.receiver.specs.Private.{StreamFit, placesOf};
 
 // The numbers after a duplicate.
 pub(crate) fn after_duplicate(s: Stream, time: u64) -> Stream
@@ -46,7 +45,7 @@ pub(crate) fn after_in_order(
     number: u32,
     time: u64,
 ) -> Stream
-    requires { ⌜ NoOverflow s × (number ≤ sentMost) ⌝ }
+    requires { ⌜ StreamFit s × (number ≤ sentMost) ⌝ }
     ensures { λ r. ⌜ ((positions times : List ℕ) → r ≡ inOrderStream s (heldAfter (ltb (s .kept) most) (heldOf s (placesOf positions (now (numbers .entry)) times)) size (placedAt s number time)) number time) ⌝ }
 {
     let runs = lengthened(s.runs);
@@ -65,7 +64,7 @@ pub(crate) fn after_in_order(
 
 // The numbers after a reordered packet.
 pub(crate) fn after_reordered(s: Stream, number: u32, time: u64) -> Stream
-    requires { ⌜ NoOverflow s × (number ≤ sentMost) ⌝ }
+    requires { ⌜ StreamFit s × (number ≤ sentMost) ⌝ }
     ensures { λ r. ⌜ r ≡ reorderedStream s number time ⌝ }
 {
     let runs = closed(s.runs);

@@ -10,13 +10,12 @@ use cases::fields::field;
 use cases::fields::first_octet;
 use cases::fields::number_in;
 use cases::fields::number_in_32;
-use cases::lists::first_8;
 use cases::print::write_either;
 use cases::print::write_number;
 use cases::print::write_word;
 use cases::text::count;
+use cases::text::input;
 use cases::text::part;
-use libc::STDIN_FILENO;
 use receiver::Receiver;
 use receiver_text::same::same;
 use receiver_text::write_outcome;
@@ -115,17 +114,12 @@ fn run(r: Receiver, line: &[u8]) -> Receiver {
 }
 
 // Does what all lines say.
-fn run_all(text: &[u8]) {
+fn main() {
+    let mut room = [0u8; MOST];
+    let text = input(&mut room);
     let mut r = receiver_for(1);
     for i in 0..count(text, b'\n') {
         let next = run(r, part(text, b'\n', i));
         r = next;
     }
-}
-
-// Runs all cases.
-fn main() {
-    let mut text = [0u8; MOST];
-    let n = io::read_full(STDIN_FILENO, &mut text);
-    run_all(first_8(&text, n));
 }

@@ -1,4 +1,8 @@
--- The text of a refused input and of an accepted one, and what stands in lent memory with it. Assumes nothing.
+-- The text of an input, and what stands in lent memory with it. A text put at the start of memory stands there whole if it fits
+-- (`put-fitting`), else memory stays (`put-short`). A refused input has the line of its refusal as its text, an accepted one its listing.
+-- An accepted one can be refused by 8 alone, so that what `metrics::listing` leaves is its text if it fits (`listed-text`).
+-- Here d is the decoded input, old and new are memory before and after, n is the length put, and r a refusal or what the listing answered.
+-- Assumes nothing.
 use mathlib.Core.Path.{_≡_, refl, sym, ap, _∙_}
 use mathlib.Core.Bool.{Bool, true, false, cond}
 use mathlib.Core.List.{List, [], _∷_}
@@ -30,13 +34,13 @@ put-fitting text old e w h =
     let s : length text ≤ length old = omega arith in
     record { answer = simp (le-ltb _ _ s) e; memory = simp (le-ltb _ _ s) (w ∙ put-over 0 [] text old refl (omega arith)) }
 
--- the text of a refused input
+-- the text of a refused input is the line of its refusal
 pub text-refused : (d : Decoded) {r : ℕ} → r ≡ decodedRefusal d → (r ≡ 0 → ⊥) → reportText d ≡ refusedLine r
 unfolding reportText
 text-refused (refused q) own due = ap refusedLine (sym own)
 text-refused (accepted s) own due = absurd (due own)
 
--- the text of an accepted one
+-- that of an accepted one is its listing
 pub text-accepted : (d : Decoded) {s : Sample} → d ≡ accepted s → reportText d ≡ sampleText d
 unfolding reportText
 text-accepted d e = ap reportText e ∙ sym (ap sampleText e)

@@ -1,5 +1,11 @@
--- First arrivals, the record of a first copy, `each` and `count`, under one arrival more at the end, and of the first i + 1
--- arrivals of a list. Assumes nothing.
+-- A left fold, `each` and `count`, then membership, the first arrivals and the record of a first copy, under one more at the end and over
+-- the first i + 1 elements, which are the first i and the one at i (`take-more`). The first arrivals are a left fold too: a packet that is
+-- among them adds nothing (`with-duplicate`), any other is the last of them (`with-first`). Either way the packets among them stay those
+-- among the arrivals (`has-firsts`, by induction on one arrival more), since a copy of a packet that is there does not change which
+-- packets are there (`absorbed`); so both hold by whether the packet has arrived (`firsts-duplicate`, `firsts-first`). The record of a
+-- first copy is looked for from the front, so `record-append` goes by induction on the list, for any record r to count from.
+-- Here l are the arrivals, a is the next one, fs are the first arrivals, s is a packet's number, d what stands past the end of a list, t
+-- the outcome of a test. Assumes nothing.
 use mathlib.Core.Path.{_≡_, refl, sym, ap, subst, _∙_}
 use mathlib.Core.Bool.{Bool, true, false, cond, _||_, or-assoc, or-false}
 use mathlib.Core.List.{List, [], _∷_, _++_, foldl, foldl-append}
@@ -64,28 +70,20 @@ count-each {A} p f h = snoc-ind (λ (l : List A). count p (each f l) ≡ 0) more
 
 -- ---- membership
 
-pub has-append : (s : ℕ) (l m : List Arrival) → has s (l ++ m) ≡ (has s l || has s m)
+has-append : (s : ℕ) (l m : List Arrival) → has s (l ++ m) ≡ (has s l || has s m)
 unfolding has
 has-append s [] m = refl
 has-append s (a ∷ l) m = rw (has-append s l m) (sym (or-assoc (eqb (a .number) s) (has s l) (has s m)))
 
--- under one arrival more
 pub has-more : (s : ℕ) (l : List Arrival) (a : Arrival) → has s (l ++ (a ∷ [])) ≡ (has s l || eqb (a .number) s)
 unfolding has
 has-more s l a = has-append s l (a ∷ []) ∙ ap (λ (b : Bool). has s l || b) (or-false (eqb (a .number) s))
 
 -- ---- first arrivals
 
--- under one arrival more
 pub firsts-more : (l : List Arrival) (a : Arrival) → firsts (l ++ (a ∷ [])) ≡ withArrival (firsts l) a
 unfolding firsts
 firsts-more l a = fold-more withArrival [] l a
-
--- of the first i + 1 arrivals
-pub firsts-take : (d : Arrival) (l : List Arrival) (i : ℕ) → i < length l
-    → firsts (take (i + 1) l) ≡ withArrival (firsts (take i l)) (getD l i d)
-unfolding firsts
-firsts-take d l i h = fold-take withArrival [] d l i h
 
 -- a packet that is among the first arrivals adds nothing
 pub with-duplicate : (fs : List Arrival) (a : Arrival) → has (a .number) fs ≡ true → withArrival fs a ≡ fs
@@ -119,6 +117,14 @@ has-firsts s l = snoc-ind (λ (l : List Arrival). has s (firsts l) ≡ has s l) 
         ∙ has-with s (firsts l) a (has (a .number) (firsts l)) refl
         ∙ ap (λ (b : Bool). b || eqb (a .number) s) e
         ∙ sym (has-more s l a)
+
+-- so a copy of a packet that has arrived adds nothing to them
+pub firsts-duplicate : (l : List Arrival) (a : Arrival) → has (a .number) l ≡ true → firsts (l ++ (a ∷ [])) ≡ firsts l
+firsts-duplicate l a e = firsts-more l a ∙ with-duplicate (firsts l) a (has-firsts (a .number) l ∙ e)
+
+-- any other arrival is the last of them
+pub firsts-first : (l : List Arrival) (a : Arrival) → has (a .number) l ≡ false → firsts (l ++ (a ∷ [])) ≡ firsts l ++ (a ∷ [])
+firsts-first l a e = firsts-more l a ∙ with-first (firsts l) a (has-firsts (a .number) l ∙ e)
 
 -- there are at most as many first arrivals as arrivals
 pub length-firsts : (l : List Arrival) → length (firsts l) ≤ length l

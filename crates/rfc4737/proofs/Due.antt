@@ -1,11 +1,14 @@
--- The first refusal that is due: what it says that none is, and a number between two limits. Assumes nothing.
+-- The first refusal that is due, by whether the first of the list is 0: what it is, and what it says that none is; and that a number is
+-- not outside two limits exactly if it lies between them, by the outcomes t and u of both tests. r is a refusal, rs are those after it.
+-- Assumes nothing.
 use Prim.Native.Nat.{ℕ, zero, suc, _≤_, _<_}
 use native.Mathlib.Omega.{arith}
 use mathlib.Core.Bool.{Bool, true, false, not, _&&_, _||_, true≢false}
-use mathlib.Core.Path.{_≡_, refl}
+use mathlib.Core.Path.{_≡_, refl, sym}
 use mathlib.Core.List.{List, [], _∷_}
 use borrow.Author.Tests.{le-leb, leb-true}
 use lib.Dec.{leb}
+use lib.ListN.{getD}
 use Rattle.rfc4737.specs.Refusals.{outside, inCase, firstOf}
 
 -- none is due: neither the first nor one of the others
@@ -13,10 +16,21 @@ pub first-none : (r : ℕ) (rs : List ℕ) → firstOf (r ∷ rs) ≡ 0 → (r �
 first-none zero rs e = (refl, e)
 first-none (suc r) rs e = absurd (omega arith)
 
+-- none is due: each of them is 0
+pub each-none : (rs : List ℕ) → firstOf rs ≡ 0 → (i : ℕ) → getD rs i 0 ≡ 0
+each-none [] e i = refl
+each-none (r ∷ rs) e zero = first-none r rs e .0
+each-none (r ∷ rs) e (suc i) = each-none rs (first-none r rs e .1) i
+
 -- the first is due
 pub first-due : (r : ℕ) (rs : List ℕ) → 0 < r → firstOf (r ∷ rs) ≡ r
 first-due zero rs h = absurd (omega arith)
 first-due (suc r) rs h = refl
+
+-- the first that is due of all is one that was found to be due
+pub first-stop : (r : ℕ) (rs : List ℕ) {q : ℕ} → q ≡ firstOf (r ∷ rs) → (r ≡ 0 → ⊥) → r ≡ q
+first-stop zero rs e n = absurd (n refl)
+first-stop (suc r) rs e n = sym e
 
 -- the first is not due
 pub first-next : (r : ℕ) (rs : List ℕ) → r ≡ 0 → firstOf (r ∷ rs) ≡ firstOf rs
@@ -34,9 +48,9 @@ case-none true r h e = absurd (omega arith)
 case-none false r h e = refl
 
 -- two tests that are both false
-pub or-false : (a b : Bool) → (a || b) ≡ false → (a ≡ false) × (b ≡ false)
-or-false true b e = absurd (let z : _≡_ {A = ℕ} 0 1 = cc in omega arith)
-or-false false b e = (refl, e)
+pub neither : (a b : Bool) → (a || b) ≡ false → (a ≡ false) × (b ≡ false)
+neither true b e = absurd (let z : _≡_ {A = ℕ} 0 1 = cc in omega arith)
+neither false b e = (refl, e)
 
 -- not outside: between the limits
 pub between : (least most n : ℕ) → outside least most n ≡ false → (least ≤ n) × (n ≤ most)
@@ -47,6 +61,10 @@ between least most n e = go (leb least n) (leb n most) refl refl e
     go true true p q e = (leb-true _ _ p, leb-true _ _ q)
     go true false p q e = absurd (true≢false e)
     go false u p q e = absurd (true≢false e)
+
+-- a refusal for a number outside its limits is not due: it lies between them
+pub limit-none : (least most n r : ℕ) → 0 < r → inCase (outside least most n) r ≡ 0 → (least ≤ n) × (n ≤ most)
+limit-none least most n r h e = between least most n (case-none (outside least most n) r h e)
 
 -- between the limits: not outside
 pub not-outside : (least most n : ℕ) → least ≤ n → n ≤ most → outside least most n ≡ false

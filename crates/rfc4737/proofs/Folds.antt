@@ -1,14 +1,20 @@
--- NextExp, byte offset, largest n, the answers and what is said over them, under one more at the end; what the counts add up
--- to; and the bounds of the figures. The law of any fold over the first i + 1 elements is `fold-take` of Arrivals.
--- Assumes nothing.
+-- Laws of folds over first arrivals and over answers. NextExp, the byte offset, the largest n, and the counts, runs and tally of answers
+-- are left folds, and the answers are an `each`; so the law of one more at the end (`next-more`, `answers-more`, `runs-more` and so on) is
+-- `fold-more`, `count-more` or `each-more` at its step. Over the first i + 1 elements of a list it is `answers-take`, and `fold-take` of
+-- Arrivals for any fold. What the counts add up to, and the bounds of the figures, go by induction on one more at the end (`snoc-ind`):
+-- `more` rewrites by the law of one more, and `go` takes the step by its test or by the case of the answer. In `squares-le` the squares of
+-- the closed runs, with m for each packet of the open run, are at most m for each first arrival: an in-order packet adds m to both sides,
+-- and a reordered one puts the square of the open run, which is no longer than m, for m times its length.
+-- Here fs are the first arrivals, l the arrivals or the answers, a the next of them, s a packet's number, t the outcome of a test or a
+-- tally, and k a place of the tally. Assumes nothing.
 use mathlib.Core.Path.{_≡_, refl, sym, ap, _∙_}
 use mathlib.Core.Bool.{Bool, true, false, cond, not}
 use mathlib.Core.List.{List, [], _∷_, _++_}
-use Prim.Native.Nat.{ℕ, zero, suc, _+_, _*_, _≤_, _<_}
+use Prim.Native.Nat.{ℕ, _+_, _*_, _≤_, _<_}
 use native.Mathlib.Nat.{mul-add, mul-one, mul-zero, mul-le-mul-right, le-of-eq}
 use native.Mathlib.Omega.{arith}
 use lib.Dec.{leb, ltb, eqb}
-use lib.ListN.{length, take, getD, set, replicate, length-append, length-set}
+use lib.ListN.{length, take, getD, set, length-append, length-set}
 use lib.Seq.{getD-set-same, getD-set-other, set-out}
 use borrow.Author.Tests.{le-leb, lt-leb, leb-true, ltb-true, ltb-false, eqb-true, eqb-false}
 use Rattle.rfc4737.specs.declared.Arrival.{Arrival}
@@ -21,7 +27,7 @@ use Rattle.rfc4737.specs.Extent.{byteOffset, largestN, discontinuity}
 use Rattle.rfc4737.specs.Answer.{inOrderAnswer, reorderedAnswer, firstAnswer, answerTo, answers}
 use Rattle.rfc4737.specs.Runs.{isDuplicate, isInOrderAnswer, isReordered, arrived, lengthened, ended, runsAfter, runs}
 use Rattle.rfc4737.specs.Tally.{tallyPlace, oneMoreAt, tallyAfter, tally, tallyMost, tallyPlaces}
-use Rattle.rfc4737.proofs.Lists.{snoc-ind, each-more}
+use Rattle.rfc4737.proofs.Lists.{snoc-ind, each-more, zeros}
 use Rattle.rfc4737.proofs.Arrivals.{fold-more, each-take, count-more, length-each, firsts-more, has-firsts, with-duplicate, with-first}
 
 -- ---- one first arrival more
@@ -107,12 +113,10 @@ pub first-reordered : (size : ℕ → ℕ) (fs : List Arrival) (a : Arrival) →
 unfolding firstAnswer isInOrder
 first-reordered size fs a h = simp (lt-leb _ _ h)
 
--- under one arrival more
 pub answers-more : (size : ℕ → ℕ) (l : List Arrival) (a : Arrival) → answers size (l ++ (a ∷ [])) ≡ answers size l ++ (answerTo size l a ∷ [])
 unfolding answers
 answers-more size l a = each-more (answerTo size) l a
 
--- of the first i + 1 arrivals
 pub answers-take : (size : ℕ → ℕ) (d : Arrival) (l : List Arrival) (i : ℕ) → i < length l
     → answers size (take (i + 1) l) ≡ answers size (take i l) ++ (answerTo size (take i l) (getD l i d) ∷ [])
 unfolding answers
@@ -137,13 +141,17 @@ pub tally-more : (l : List Answer) (a : Answer) → tally (l ++ (a ∷ [])) ≡ 
 unfolding tally
 tally-more l a = fold-more tallyAfter _ l a
 
-abbrev oneIf : Bool → ℕ
-oneIf true = 1
-oneIf false = 0
+-- 1 for a test that is passed
+abbrev pub oneIf : Bool → ℕ
+oneIf t = cond t 1 0
 
-one-more : (n : ℕ) (t : Bool) → cond t (n + 1) n ≡ n + oneIf t
-one-more n true = refl
-one-more n false = omega arith
+-- how many pass a test, under one element more, as a sum
+pub count-plus : {A : Type 0} (p : A → Bool) (l : List A) (a : A) → count p (l ++ (a ∷ [])) ≡ count p l + oneIf (p a)
+count-plus p l a = count-more p l a ∙ go (p a)
+  where
+    go : (t : Bool) → cond t (count p l + 1) (count p l) ≡ count p l + oneIf t
+    go true = refl
+    go false = omega arith
 
 -- what passes one of two tests, and nothing passes both, is counted by the sum of their counts
 count-sum : {A : Type 0} (p q r : A → Bool) → ((a : A) → oneIf (r a) ≡ oneIf (p a) + oneIf (q a))
@@ -154,8 +162,7 @@ count-sum {A} p q r sum l = snoc-ind (λ (l : List A). count r l ≡ count p l +
     more : (l : List A) (a : A) → count r l ≡ count p l + count q l
         → count r (l ++ (a ∷ [])) ≡ count p (l ++ (a ∷ [])) + count q (l ++ (a ∷ []))
     more l a e =
-        rw (count-more r l a, count-more p l a, count-more q l a, one-more (count r l) (r a), one-more (count p l) (p a), one-more (count q l) (q a))
-        (omega (arith, e, sum a))
+        omega (arith, count-plus r l a, count-plus p l a, count-plus q l a, e, sum a)
 
 -- every first arrival is in order or reordered
 pub in-order-or-reordered : (l : List Answer) → arrived l ≡ count isInOrderAnswer l + count isReordered l
@@ -304,13 +311,8 @@ one-more-le at t k = here (eqb k at) refl
 -- no count of a tally is above the number of the answers
 pub tally-le : (l : List Answer) (k : ℕ) → getD (tally l) k 0 ≤ length l
 unfolding tally tallyAfter
-tally-le l k = snoc-ind (λ (l : List Answer). getD (tally l) k 0 ≤ length l) more (zeros tallyPlaces k) l
+tally-le l k = snoc-ind (λ (l : List Answer). getD (tally l) k 0 ≤ length l) more (le-of-eq (zeros tallyPlaces k)) l
   where
-    zeros : (n k : ℕ) → getD (replicate n 0) k 0 ≤ 0
-    zeros zero k = omega arith
-    zeros (suc n) zero = omega arith
-    zeros (suc n) (suc k) = zeros n k
-
     go : (t : List ℕ) (n : ℕ) (a : Answer) → getD t k 0 ≤ n → getD (tallyAfter t a) k 0 ≤ n + 1
     go t n (Duplicate d) h = omega arith
     go t n (InOrder d) h = omega arith

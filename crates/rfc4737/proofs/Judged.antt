@@ -1,9 +1,16 @@
--- The judge: one arrival more, and what it says of arrivals, and of K and lists, that none is refused. Assumes nothing.
+-- The judge goes from the front with the reference, and at each arrival the first refusal that is due is the arrival's own or that of
+-- those after it. So a loop keeps that the refusal of all arrivals is that of those left, from the reference: it stops with the refusal of
+-- the arrival at i (`judge-stop`), goes on where that is none (`judge-next`), and at the end none is due (`judge-done`). Where none is
+-- refused, the first arrival is not, nor one of the others (`judge-split`). So by induction on the list every number lies in 1 to k
+-- (`judged-number`), and no time is over 1,000 below an earlier one (`judged-times`), since the reference is at least every earlier time
+-- (`reference-above`). `lists-fit` takes the four refusals of K and lists apart in their order, and `fit-lists` puts them together.
+-- Here k is K, l are the arrivals, a is the one at i, z what stands past the end, and r the refusal that was returned for a.
+-- Assumes nothing.
 use Prim.Native.Nat.{ℕ, zero, suc, _+_, _-_, _≤_, _<_}
 use native.Mathlib.Numerals.{add-one}
 use native.Mathlib.Omega.{arith}
 use mathlib.Core.Bool.{false, not}
-use mathlib.Core.Path.{_≡_, refl, sym, ap, _∙_}
+use mathlib.Core.Path.{_≡_, sym, ap, _∙_}
 use mathlib.Core.List.{List, [], _∷_}
 use borrow.Author.Tests.{ltb-false, eq-eqb, eqb-true, not-false}
 use lib.Dec.{eqb}
@@ -13,14 +20,9 @@ use Rattle.rfc4737.specs.declared.Arrival.{Arrival}
 use Rattle.rfc4737.specs.Refusals.{outside, inCase, sentOutside, manyArrivals, numberOutside, timeBack, listsDiffer}
 use Rattle.rfc4737.specs.Times.{backMost, tooEarly, nextReference}
 use Rattle.rfc4737.specs.Judge.{sentMost, arrivalsMost, arrivalsFrom, judgeSent, judgeArrivals, judgeOne, judge, refusalOfLists}
-use Rattle.rfc4737.proofs.Due.{first-none, first-due, first-next, first-one, case-none, between, not-outside}
+use Rattle.rfc4737.proofs.Due.{first-none, each-none, first-stop, first-next, first-one, case-none, limit-none, not-outside}
 use Rattle.rfc4737.proofs.Times.{reference-above}
 use Rattle.rfc4737.proofs.Pairs.{arrivals-length, arrivals-getD}
-
--- a number that is not 0
-positive : (n : ℕ) → (n ≡ 0 → ⊥) → 0 < n
-positive zero h = absurd (h refl)
-positive (suc n) h = omega arith
 
 -- ---- a loop over a list l of arrivals, `a` the one at i: before it the whole is as what is left, `judge k 0 l ≡ judge k reference (drop i l)`
 
@@ -33,9 +35,7 @@ module _ (k : ℕ) (l : List Arrival) (reference i : ℕ) (z a : Arrival) (h : i
   -- it is refused
   pub judge-stop : (r : ℕ) → r ≡ judgeOne k reference a → (r ≡ 0 → ⊥) → r ≡ judge k 0 l
   unfolding judge
-  judge-stop r e n =
-      let p : 0 < judgeOne k reference a = positive (judgeOne k reference a) (λ q. n (e ∙ q)) in
-      e ∙ sym (left ∙ first-due (judgeOne k reference a) (judge k (nextReference reference (a .time)) (drop (suc i) l) ∷ []) p)
+  judge-stop r e n = e ∙ first-stop (judgeOne k reference a) (judge k (nextReference reference (a .time)) (drop (suc i) l) ∷ []) left (λ q. n (e ∙ q))
 
   -- it is not refused
   pub judge-next : (r : ℕ) → r ≡ judgeOne k reference a → r ≡ 0 → judge k 0 l ≡ judge k (nextReference reference (a .time)) (drop (i + 1) l)
@@ -67,7 +67,7 @@ unfolding judgeOne
 one-split k reference a e =
     let p = first-none (inCase (outside 1 k (a .number)) numberOutside) (inCase (tooEarly reference (a .time)) timeBack ∷ []) e in
     let q = first-none (inCase (tooEarly reference (a .time)) timeBack) [] (p .1) in
-    (between 1 k (a .number) (case-none (outside 1 k (a .number)) numberOutside (omega arith) (p .0)), case-none (tooEarly reference (a .time)) timeBack (omega arith) (q .0))
+    (limit-none 1 k (a .number) numberOutside (omega arith) (p .0), case-none (tooEarly reference (a .time)) timeBack (omega arith) (q .0))
 
 -- every number lies in 1 to k
 pub judged-number : (k reference : ℕ) (l : List Arrival) → judge k reference l ≡ 0 → (i : ℕ) (z : Arrival) → i < length l
@@ -120,16 +120,14 @@ unfolding refusalOfLists
 lists-fit k numbers times e =
     let j = judge k 0 (arrivalsFrom numbers times) in
     let d = inCase (not (eqb (length numbers) (length times))) listsDiffer in
-    let p = first-none (judgeSent k) (judgeArrivals (length numbers) ∷ d ∷ j ∷ []) e in
-    let q = first-none (judgeArrivals (length numbers)) (d ∷ j ∷ []) (p .1) in
-    let r = first-none d (j ∷ []) (q .1) in
-    let b = between 1 sentMost k (case-none (outside 1 sentMost k) sentOutside (omega arith) (p .0)) in
-    let c = between 0 arrivalsMost (length numbers) (case-none (outside 0 arrivalsMost (length numbers)) manyArrivals (omega arith) (q .0)) in
-    let s = sym (eqb-true (length numbers) (length times) (not-false _ (case-none (not (eqb (length numbers) (length times))) listsDiffer (omega arith) (r .0)))) in
-    let u = sym (first-one j) ∙ r .1 in
+    let r = each-none (judgeSent k ∷ judgeArrivals (length numbers) ∷ d ∷ j ∷ []) e in
+    let b = limit-none 1 sentMost k sentOutside (omega arith) (r 0) in
+    let c = limit-none 0 arrivalsMost (length numbers) manyArrivals (omega arith) (r 1) in
+    let s = sym (eqb-true (length numbers) (length times) (not-false _ (case-none (not (eqb (length numbers) (length times))) listsDiffer (omega arith) (r 2)))) in
+    let u = r 3 in
     let n = arrivals-length numbers times s in
     record {
-      sent = p .0;
+      sent = r 0;
       least = b .0;
       most = b .1;
       few = c .1;

@@ -1,5 +1,12 @@
--- Jumps: what one first arrival more does to the positions, to NextExp and to the jumps; that the discontinuity of a packet is
--- the first jump of a greater number, and that a reordered packet has one; that jumps rise. Assumes nothing.
+-- The jumps among first arrivals, by induction on one more of them at the end. The key is `search-agrees`: of a packet s that is not among
+-- them, the earliest first arrival of a greater number is the first jump of a greater number. Beside it is carried that NextExp is at most
+-- s while no jump is above s. So the next first arrival a, if it is above s, is above NextExp and a jump, and both searches find it; if it
+-- is below s neither does, and NextExp stays at most s; and what was found before both keep. Hence a reordered packet, which is below
+-- NextExp, has a discontinuity, and it is a jump (`reordered-discontinuity`). Every jump stands at one of the positions and is below
+-- NextExp (`jumps-within`), and the next one is above NextExp, so jumps rise (`jumps-rise`); neither jumps nor discontinuities are later
+-- than the first arrivals (`jumps-until`, `discontinuity-until`).
+-- Here fs are the first arrivals, p and q first arrivals with their positions, o what a search found, and t the outcome of a test or a
+-- time. Assumes nothing.
 use Prim.Native.Nat.{ℕ, _+_, _-_, _≤_, _<_}
 use mathlib.Core.Path.{_≡_, refl, sym, _∙_}
 use mathlib.Core.Bool.{Bool, true, false, cond, not, _&&_, _||_, true≢false}
@@ -26,12 +33,10 @@ has-more-false s l a e = go (has s l) (eqb (a .number) s) refl refl (sym (has-mo
     go false true p q e = absurd (true≢false e)
     go false false p q e = (p, eqb-false _ _ q)
 
--- positions under one first arrival more
 pub placed-more : (fs : List Arrival) (a : Arrival) → placed (fs ++ (a ∷ [])) ≡ placed fs ++ (placeAfter fs a ∷ [])
 unfolding placed
 placed-more fs a = each-more placeAfter fs a
 
--- jumps under one first arrival more
 pub jumps-more : (fs : List Arrival) (a : Arrival) → jumps (fs ++ (a ∷ [])) ≡ jumps fs ++ jumpAfter fs a
 unfolding jumps
 jumps-more fs a = rw each-more (flatten-more _ _)
@@ -76,7 +81,7 @@ firstAbove-none s [] h = refl
 firstAbove-none s (q ∷ l) h = rw (le-ltb _ _ (h .0)) (firstAbove-none s l (h .1))
 
 -- an arrival above NextExp is a jump
-pub above-jump : (fs : List Arrival) (s : ℕ) → nextExp fs < s → isJump fs s ≡ true
+above-jump : (fs : List Arrival) (s : ℕ) → nextExp fs < s → isJump fs s ≡ true
 unfolding isJump isInOrder jumpSize
 above-jump fs s h =
     let e : leb (nextExp fs) s ≡ true = le-leb (nextExp fs) s (omega arith) in
@@ -84,7 +89,7 @@ above-jump fs s h =
     simp (e, d)
 
 -- a jump is above NextExp
-pub jump-above : (fs : List Arrival) (s : ℕ) → isJump fs s ≡ true → nextExp fs < s
+jump-above : (fs : List Arrival) (s : ℕ) → isJump fs s ≡ true → nextExp fs < s
 unfolding isJump isInOrder jumpSize
 jump-above fs s h = go (leb (nextExp fs) s) (eqb (s - nextExp fs) 0) refl refl h
   where
@@ -225,7 +230,6 @@ pub record Within (fs : List Arrival) (p : FirstArrival) : Type 0 where
   pub number-low : 1 ≤ p .number
   pub number-high : p .number < nextExp fs
 
--- every jump is such
 pub jumps-within : (fs : List Arrival) → All (Within fs) (jumps fs)
 unfolding jumps each eachAfter flatten
 jumps-within = snoc-ind (λ (fs : List Arrival). All (Within fs) (jumps fs)) more tt

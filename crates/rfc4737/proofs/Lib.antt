@@ -8,6 +8,7 @@ pub mod Skipped
 pub mod Packets
 pub mod Cases
 pub mod Due
+pub mod JudgedInTurn
 pub mod Pairs
 pub mod Judged
 pub mod Moved

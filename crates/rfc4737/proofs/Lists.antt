@@ -1,9 +1,12 @@
--- Laws of lists of any elements: induction by one element more at the end, what holds of every element, what holds of every
--- element and each that follows it, the lists that `each` and `flatten` make of one element more, and lists of the values of a
--- function. Assumes nothing.
+-- Laws of lists of any elements. `snoc-ind` is induction on one element more at the end, shown for a list after any elements (`from`).
+-- `All` and `Ordered` of two lists one after the other are taken apart and put together by induction on the first list. `each` under one
+-- element more at the end is shown of `eachAfter`, for any elements before, and so are the laws of `each` over the values of a function,
+-- and of the values of a function over `each`; a left fold, `drop` and `flatten` over the values of a function go by induction on the
+-- list, and what a table of zeros has at a place by induction on both. Here P and Q say something of an element, R of two; l, m and ls
+-- are lists, a and b elements, f is the step of a fold or of `each`, and g the function that is mapped. Assumes nothing.
 use Prim.Native.Nat.{ℕ, zero, suc, _<_}
 use native.Mathlib.Omega.{arith}
-use lib.ListN.{getD, take, drop}
+use lib.ListN.{getD, take, drop, replicate}
 use mathlib.Core.Path.{_≡_, refl, ap, _∙_}
 use mathlib.Core.List.{List, [], _∷_, _++_, List·Memᴰ, append-nil, append-assoc, map, map-append, foldl, flatten}
 use Rattle.rfc4737.specs.Arrivals.{eachAfter, each}
@@ -76,11 +79,6 @@ module _ {ℓ} {A : Type ℓ} where
     pub ordered-left : (l m : List A) → Ordered R (l ++ m) → Ordered R l
     ordered-left [] m h = tt
     ordered-left (a ∷ l) m h = (all-left (R a) l m (h .0), ordered-left l m (h .1))
-
-    -- the second part of an ordered list is ordered
-    pub ordered-right : (l m : List A) → Ordered R (l ++ m) → Ordered R m
-    ordered-right [] m h = h
-    ordered-right (a ∷ l) m h = ordered-right l m (h .1)
 
     -- R holds of every element of the first part and each of the second
     pub ordered-across : (l m : List A) → Ordered R (l ++ m) → All (λ (a : A). All (R a) m) l
@@ -157,3 +155,9 @@ pub flatten-map {ℓ κ} : {A : Type ℓ} {B : Type κ} (g : A → B) (ls : List
 unfolding flatten
 flatten-map g [] = refl
 flatten-map g (l ∷ ls) = rw (flatten-map g ls, map-append g l (flatten ls))
+
+-- a table of zeros has 0 at every place, and past them
+pub zeros : (n k : ℕ) → getD {A = ℕ} (replicate n 0) k 0 ≡ 0
+zeros zero k = refl
+zeros (suc n) zero = refl
+zeros (suc n) (suc k) = zeros n k

@@ -1,5 +1,11 @@
--- Moving the clock: what is said of two times is the same where both are moved by one amount, and so are the answers of a
--- sample and what is refused of it. Assumes nothing.
+-- Moving the clock by c: the answers of a sample, and what is refused of it, stay as they are. Of two times only which is the lesser and
+-- how far apart they are is asked, and neither changes where both are moved (`less-moved`, `between-moved`). The reference for the first
+-- arrival is 0, which does not move; against it no time is too early, and the next reference is the arrival's own time (`early-first`,
+-- `reference-first`). From there on the reference moves with the times (`greatest-after`, `judge-after`), and so nothing else is refused
+-- (`judge-moved`). Numbers and positions do not change: first arrivals and jumps of moved arrivals are the moved ones (`firsts-moved`,
+-- `jumps-moved`), what is folded over numbers is the same (`numbers-moved`), and the discontinuity is the moved one, with the same extent,
+-- by positions, and the same late time, by two moved times. Together these give each answer (`first-moved`, `answer-moved`).
+-- Here l are the arrivals, fs the first arrivals, a the next arrival, d a discontinuity, and b the outcome of a test. Assumes nothing.
 use Prim.Native.Nat.{ℕ, _+_, _-_}
 use mathlib.Core.Path.{_≡_, refl, sym, ap, _∙_}
 use mathlib.Core.Bool.{Bool, true, false, cond, _||_}
@@ -34,17 +40,16 @@ between-moved : (c s t : ℕ) → s + c - (t + c) ≡ s - t
 between-moved c s t = omega arith
 
 -- the time from one arrival to another
-pub elapsed-moved : (c past own : ℕ) → elapsed (past + c) (own + c) ≡ elapsed past own
+elapsed-moved : (c past own : ℕ) → elapsed (past + c) (own + c) ≡ elapsed past own
 unfolding elapsed
 elapsed-moved c past own = rw (less-moved c own past, between-moved c past own, between-moved c own past)
 
 -- whether a time is too far below the reference
-pub early-moved : (c reference time : ℕ) → tooEarly (reference + c) (time + c) ≡ tooEarly reference time
+early-moved : (c reference time : ℕ) → tooEarly (reference + c) (time + c) ≡ tooEarly reference time
 unfolding tooEarly
 early-moved c reference time = rw (between-moved c reference time)
 
--- the next reference
-pub reference-moved : (c reference time : ℕ) → nextReference (reference + c) (time + c) ≡ nextReference reference time + c
+reference-moved : (c reference time : ℕ) → nextReference (reference + c) (time + c) ≡ nextReference reference time + c
 unfolding nextReference
 reference-moved c reference time = rw (less-moved c reference time) (go (ltb reference time))
   where
@@ -130,7 +135,6 @@ module _ (c : ℕ) where
       go true = refl
       go false = sym (map-append (movedOne c) fs (a ∷ []))
 
-  -- the first arrivals
   pub firsts-moved : (l : List Arrival) → firsts (moved c l) ≡ moved c (firsts l)
   unfolding firsts
   firsts-moved l = fold-map (movedOne c) (moved c) withArrival with-moved [] l
@@ -141,17 +145,14 @@ module _ (c : ℕ) where
   numbers-moved f =
       fold-map (movedOne c) (λ (n : ℕ). n) (λ (n : ℕ) (a : Arrival). f n (a .number)) (λ (n : ℕ) (a : Arrival). refl)
 
-  -- NextExp
   next-moved : (fs : List Arrival) → nextExp (moved c fs) ≡ nextExp fs
   unfolding nextExp
   next-moved fs = numbers-moved nextAfter 1 fs
 
-  -- the byte offset
   offset-moved : (size : ℕ → ℕ) (fs : List Arrival) (s : ℕ) → byteOffset size (moved c fs) s ≡ byteOffset size fs s
   unfolding byteOffset
   offset-moved size fs s = numbers-moved (λ (n t : ℕ). n + cond (ltb s t) (size t) 0) 0 fs
 
-  -- the largest n
   largest-moved : (fs : List Arrival) (s : ℕ) → largestN (moved c fs) s ≡ largestN fs s
   unfolding largestN
   largest-moved fs s = numbers-moved (λ (n t : ℕ). cond (ltb s t) (n + 1) 0) 0 fs
@@ -201,18 +202,15 @@ module _ (c : ℕ) where
       go true = refl
       go false = refl
 
-  -- the discontinuity
   pub discontinuity-moved : (fs : List Arrival) (s : ℕ) → discontinuity (moved c fs) s ≡ Option·map movedPlace (discontinuity fs s)
   unfolding discontinuity
   discontinuity-moved fs s = ap (firstAbove s) (placed-moved fs) ∙ above-moved s (placed fs)
 
-  -- the extent
   pub extent-moved : (i : ℕ) (d : Option FirstArrival) → extentFrom i (Option·map movedPlace d) ≡ extentFrom i d
   unfolding extentFrom
   extent-moved i none = refl
   extent-moved i (some j) = refl
 
-  -- the late time
   pub late-moved : (t : ℕ) (d : Option FirstArrival) → lateFrom (t + c) (Option·map movedPlace d) ≡ lateFrom t d
   unfolding lateFrom
   late-moved t none = refl
@@ -240,7 +238,6 @@ module _ (c : ℕ) where
 
 -- ---- two movements
 
--- moving by one amount and then by another is moving by their sum
 pub moved-twice : MovedTwice
 moved-twice b c [] = refl
 moved-twice b c (a ∷ l) =

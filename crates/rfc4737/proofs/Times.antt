@@ -1,4 +1,6 @@
--- The greatest time of some arrivals: under one arrival more, and that none of them is after it. Assumes nothing.
+-- The greatest time of some arrivals is a left fold of `nextReference`, which is at least the reference and the time (`reference-above`).
+-- So no arrival is after it (`until-greatest`), by induction on one arrival more: it does not fall, and is at least the new time. l are
+-- the arrivals, a is the next. Assumes nothing.
 use Prim.Native.Nat.{ℕ, _≤_}
 use mathlib.Core.Path.{_≡_, refl}
 use mathlib.Core.Bool.{Bool, true, false, cond}
@@ -20,7 +22,6 @@ reference-above reference time = go (ltb reference time) refl
     go true e = omega (arith, ltb-true)
     go false e = omega (arith, ltb-false)
 
--- under one arrival more
 pub greatest-more : (l : List Arrival) (a : Arrival) → greatestTime (l ++ (a ∷ [])) ≡ nextReference (greatestTime l) (a .time)
 unfolding greatestTime
 greatest-more l a = fold-more _ 0 l a

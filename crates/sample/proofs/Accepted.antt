@@ -1,5 +1,8 @@
--- An accepted file, for the crates above: what its sample satisfies, and that the values found in the file by its layout are the sample's.
--- Assumes nothing.
+-- An accepted file, for the crates above. Its layout has the counts of the file, so a place by the layout is the place by the counts, and what
+-- stands there is what the sample has at that place of its list (`size-found`, `arrival-found`). What the sample satisfies follows from `exact`: it
+-- is fit, so it keeps its limits, and the file is its file, so its length is the end of the last section and at most that of the longest sample.
+-- Here s is the sample, by e; y is the layout, by f; o says that the file is octets; i and j are places in the lists, z what is read past their
+-- end. Assumes nothing.
 use Prim.Native.Nat.{ℕ, _+_, _*_, _^_, _≤_, _<_}
 use native.Mathlib.Omega.{arith}
 use mathlib.Core.Path.{_≡_, sym, ap, _∙_, subst}
@@ -14,7 +17,7 @@ use Rattle.rfc4737.specs.Times.{backMost}
 use Rattle.sample.specs.Format.{Sample, longest, sizeWidth, arrivalWidth, itemsAt, lastEnd, fileOf}
 use Rattle.sample.specs.Judge.{FitSample}
 use Rattle.sample.specs.Decode.{labelCount, sentAt, sentCount, arrivedAt, arrivalCount, arrivalIn, sampleIn, decode, accepted, sampleOf, layoutOf}
-use Rattle.sample.specs.Places.{sizesAt, arrivalsAt, sizeFound, arrivalFound}
+use Rattle.sample.specs.Places.{noArrival, sizesAt, arrivalsAt, sizeFound, arrivalFound}
 use Rattle.sample.specs.declared.Layout.{Layout}
 use Rattle.sample.proofs.Items.{items-stand}
 use Rattle.rfc4737.proofs.Judged.{judged-number, judged-times}
@@ -31,10 +34,6 @@ found-sample file y e z =
     d ∙ sym (ap (λ x. accepted (sampleOf x)) d)
 
 module _ (file : List ℕ) (s : Sample) (e : decode file ≡ accepted s) where
-  -- the layout has the sample's lengths
-  pub accepted-layout : layoutOf (decode file) ≡ record { refusal = 0; label = length (s .label); sent = length (s .sizes); arrivals = length (s .arrivals) }
-  accepted-layout = ap layoutOf e
-
   -- ---- the values found are the sample's
 
   module _ (y : Layout) (f : y ≡ layoutOf (decode file)) where
@@ -75,11 +74,9 @@ module _ (file : List ℕ) (s : Sample) (e : decode file ≡ accepted s) where
   -- ---- what the sample satisfies, for a file of octets
 
   module _ (o : Octets file) where
-    -- it is fit
     pub accepted-fit : FitSample s
     accepted-fit = exact file o s .0 e .0
 
-    -- the file is its file
     pub accepted-file : file ≡ fileOf s
     accepted-file = exact file o s .0 e .1
 
@@ -87,7 +84,6 @@ module _ (file : List ℕ) (s : Sample) (e : decode file ≡ accepted s) where
     pub accepted-limits : Limits s
     accepted-limits = limits s (accepted-fit .judged)
 
-    -- the length of the file
     pub accepted-length : length file ≡ lastEnd (length (s .label)) (length (s .sizes)) (length (s .arrivals))
     accepted-length = ap length accepted-file ∙ file-length s
 
@@ -108,9 +104,9 @@ module _ (file : List ℕ) (s : Sample) (e : decode file ≡ accepted s) where
       number-within i h = judged-number (length (s .sizes)) 0 (s .arrivals) (accepted-limits .judged) i z h
 
       -- no arrival time is over 1,000 below an earlier one
-      pub times-back : (i j : ℕ) → i ≤ j → j < length (s .arrivals) → getD (s .arrivals) i z .time ≤ getD (s .arrivals) j z .time + backMost
-      times-back i j p h = judged-times (length (s .sizes)) 0 (s .arrivals) (accepted-limits .judged) i j z p h
+      pub times-within : (i j : ℕ) → i ≤ j → j < length (s .arrivals) → getD (s .arrivals) i z .time ≤ getD (s .arrivals) j z .time + backMost
+      times-within i j p h = judged-times (length (s .sizes)) 0 (s .arrivals) (accepted-limits .judged) i j z p h
 
     -- every arrival time fits eight octets
-    pub time-fits : (i : ℕ) → getD (s .arrivals) i (record { number = 0; time = 0 }) .time < 2 ^ 64
-    time-fits i = subst (λ (n : ℕ). n < 2 ^ 64) (List·getD-map (λ (a : Arrival). a .time) (s .arrivals) i (record { number = 0; time = 0 })) (accepted-fit .times i)
+    pub time-fits : (i : ℕ) → getD (s .arrivals) i noArrival .time < 2 ^ 64
+    time-fits i = subst (λ (n : ℕ). n < 2 ^ 64) (List·getD-map (λ (a : Arrival). a .time) (s .arrivals) i noArrival) (accepted-fit .times i)

@@ -1,4 +1,9 @@
--- What the reader, the label call and the writer answer, case by case. Assumes nothing.
+-- What the reader and the writer answer, by cases. The reader: the file is refused, a list is too short (8), or the lists are filled; the first
+-- refusal that is due settles what `decodeInto` gives, and with it the answer and the lists. Where nothing is refused the counts found are
+-- those of the file, so what was read by the layout is what its sections hold (`read-filled`). The writer: the label or a list is refused, the
+-- lent octets are too few, or three sections were written one after the other, which is one write of the file from the start (`write-filled`).
+-- Here y is what the check found, e that it is the file's layout, z that it has no refusal; n is a refusal; sizes′, numbers′, times′ and out′
+-- are what is lent after the call. Assumes nothing.
 use Prim.Native.Nat.{ℕ, zero, suc, _+_, _*_, _≤_, _<_, zero-le}
 use native.Mathlib.Omega.{arith}
 use mathlib.Core.Bool.{true, false, _||_}
@@ -17,7 +22,7 @@ use Rattle.sample.specs.Decode.{labelCount, sentAt, sentCount, arrivedAt
 use Rattle.sample.specs.Places.{sizesAt, arrivalsAt}
 use Rattle.sample.specs.Calls.{listsShort, decodeInto, ReadFrom, sampleFrom, sampleRefusal, WrittenTo}
 use Rattle.sample.specs.declared.Layout.{Layout}
-use Rattle.rfc4737.proofs.Due.{first-due, or-false}
+use Rattle.rfc4737.proofs.Due.{first-due, neither}
 use Rattle.rfc4737.proofs.Pairs.{arrivals-length}
 use Rattle.sample.proofs.Items.{size-long, octets-many}
 use Rattle.sample.proofs.Decoded.{refused-none, decided-refusal, decode-accepted, decode-refused, layout-accepted}
@@ -98,8 +103,8 @@ module _ (file sizes numbers times : List ℕ) where
       pub room-found : listsShort y (length sizes) (length numbers) (length times) ≡ false → Room file sizes numbers times y
       unfolding listsShort
       room-found t =
-          let a = or-false (ltb (length sizes) (y .sent)) (ltb (length numbers) (y .arrivals) || ltb (length times) (y .arrivals)) t in
-          let b = or-false (ltb (length numbers) (y .arrivals)) (ltb (length times) (y .arrivals)) (a .1) in
+          let a = neither (ltb (length sizes) (y .sent)) (ltb (length numbers) (y .arrivals) || ltb (length times) (y .arrivals)) t in
+          let b = neither (ltb (length numbers) (y .arrivals)) (ltb (length times) (y .arrivals)) (a .1) in
           let c = found-counts file y e z in
           let k = ap (λ (x : Layout). x .sent) c in
           let l = ap (λ (x : Layout). x .label) c in

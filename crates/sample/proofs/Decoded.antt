@@ -1,4 +1,10 @@
--- Decoding: what it says of a file that nothing is refused, and when that is so. Assumes nothing.
+-- Decoding, by its stages. Where the first refusal is 0 every stage's is (`each-none`), and conversely. So nothing of a section is refused
+-- exactly if its count is there and passes and its items are all there (`stage-none`, `none-stage`), and nothing of a file exactly if all that
+-- `WholeFile` lists holds (`refused-none`, `none-refused`). The answer follows from the first refusal alone (`decode-refused`,
+-- `decode-accepted`, `accepted-decode`), and the counts of a whole file are the lengths of what its sections hold (`layout-accepted`). Last, a
+-- refusal by the stage that refuses: where those before it are 0 it is the first.
+-- Here r and n are refusals, s and t samples; in the last part p, o, q and r say that the label's section, its octets, the sent packets'
+-- section and the arrivals' section are not refused. Assumes nothing.
 use Prim.Native.Nat.{ℕ, zero, suc, _≤_, _<_}
 use native.Mathlib.Omega.{arith}
 use mathlib.Core.Bool.{true, false}
@@ -6,30 +12,18 @@ use mathlib.Core.Path.{_≡_, refl, ap, _∙_}
 use mathlib.Core.List.{List, [], _∷_}
 use borrow.Author.Tests.{le-ltb, ltb-false}
 use lib.Dec.{ltb}
-use lib.ListN.{length, getD}
+use lib.ListN.{length}
 use Rattle.octets.specs.BigEndian.{beValue}
 use Rattle.octets.proofs.Memory.{part-length}
-use Rattle.rfc4737.specs.Refusals.{outside, inCase, firstOf, endsEarly, octetsFollow, longLabel, octetOutside, sentOutside, manyArrivals}
+use Rattle.rfc4737.specs.Refusals.{inCase, endsEarly, octetsFollow, longLabel, octetOutside, sentOutside, manyArrivals}
 use Rattle.rfc4737.specs.Judge.{sentMost, arrivalsMost, judgeSent, judgeArrivals, judge}
 use Rattle.sample.specs.Format.{Sample, labelMost, octetWidth, sizeWidth, arrivalWidth, itemsAt, endOf}
 use Rattle.sample.specs.Judge.{judgeLabel, someUnshown, judgeOctets}
 use Rattle.sample.specs.Decode.{countAt, labelCount, sentAt, sentCount, arrivedAt, arrivalCount, fileEnd, arrivalIn, sampleIn, sectionStage, fileRefusal, refused, accepted, decided, decode, decodedRefusal, layoutOf}
-use Rattle.rfc4737.proofs.Due.{first-none, first-due, first-one, case-none, between, not-outside}
+use Rattle.rfc4737.proofs.Due.{each-none, first-due, first-one, case-none, limit-none, not-outside}
 use Rattle.sample.proofs.Items.{items-length}
 
--- ---- none of some refusals is due
-
--- each of them is 0
-pub each-none : (rs : List ℕ) → firstOf rs ≡ 0 → (i : ℕ) → getD rs i 0 ≡ 0
-each-none [] e i = refl
-each-none (r ∷ rs) e zero = first-none r rs e .0
-each-none (r ∷ rs) e (suc i) = each-none rs (first-none r rs e .1) i
-
--- one for a number outside its limits: it lies between them
-pub limit-none : (least most n r : ℕ) → 0 < r → inCase (outside least most n) r ≡ 0 → (least ≤ n) × (n ≤ most)
-limit-none least most n r h e = between least most n (case-none (outside least most n) r h e)
-
--- one for a number below another: it is not
+-- a refusal for a number below another is not due: it is not below
 below-none : (m n r : ℕ) → 0 < r → inCase (ltb m n) r ≡ 0 → n ≤ m
 below-none m n r h e = ltb-false m n (case-none (ltb m n) r h e)
 

@@ -1,5 +1,11 @@
--- Decoding accepts exactly the octets of fit samples: an accepted file is the file of its sample, which is fit, and the file of a fit
--- sample decodes to it. Assumes nothing.
+-- Decoding accepts exactly the octets of fit samples (`exact`). Nothing of a sample is refused exactly if it keeps its limits (`limits`,
+-- `within-limits`). One way: in an accepted file each section's count and items, written back, are the octets that they were read from, so each
+-- section is a part of the file; the parts lie side by side and the last one ends with the file, so together they are the file (`file-back`).
+-- Its sample is fit, since what is read from a field's octets fits that field (`sample-fit`). The other way: in the file of a fit sample each
+-- section is found where those before it end, its count is read as it was written, and so are its items, as they fit their fields
+-- (`section-count`, `section-items`); so the sample found is the one that was written, and nothing is refused (`decode-file`).
+-- Here s is a sample and f that it is fit, o that the file is octets, w that nothing of it is refused; p is what stands before a section, os
+-- its items' octets, rest what follows it, n its count and at its place. Assumes nothing.
 use Prim.Native.Nat.{ℕ, _+_, _*_, _^_, _≤_, _<_}
 use native.Mathlib.Omega.{arith}
 use mathlib.Core.Bool.{Bool, true, false}
@@ -23,11 +29,11 @@ use Rattle.sample.specs.Judge.{judgeLabel, someUnshown, judgeOctets, sam
 use Rattle.sample.specs.Decode.{countAt, labelCount, sentAt, sentCount, arrivedAt, arrivalCount, arrivalIn, sampleIn, decode, accepted}
 use Rattle.sample.specs.Places.{noArrival}
 use Rattle.sample.specs.RoundTrip.{ExactFile}
-use Rattle.rfc4737.proofs.Due.{case-none, not-outside}
+use Rattle.rfc4737.proofs.Due.{each-none, case-none, limit-none, not-outside}
 use Rattle.sample.proofs.Items.{items-length, items-stand, part-fits, octets-many, read-written, written-read, arrival-long, arrival-read, arrival-back, time-stands, size-long, value-back}
 use Rattle.rfc4737.proofs.Judged.{ListsFit, lists-fit, fit-lists, judged-number}
 use Rattle.rfc4737.proofs.Pairs.{numbers-back, times-back, arrivals-back}
-use Rattle.sample.proofs.Decoded.{each-none, limit-none, WholeFile, refused-none, none-refused, decode-accepted, accepted-decode, label-length, sizes-length, arrivals-number}
+use Rattle.sample.proofs.Decoded.{WholeFile, refused-none, none-refused, decode-accepted, accepted-decode, label-length, sizes-length, arrivals-number}
 
 -- ---- limits of a sample
 
@@ -233,7 +239,6 @@ file-length s =
     ∙ (let g : length (labelSection s) + (length (sentSection s) + length (arrivedSection s)) ≡ lastEnd (length (s .label)) (length (s .sizes)) (length (s .arrivals)) = omega arith in g)
 
 module _ (s : Sample) (f : FitSample s) where
-  -- the count of the label
   label-count : labelCount (fileOf s) ≡ length (s .label)
   unfolding fileOf
   label-count =
@@ -270,7 +275,6 @@ module _ (s : Sample) (f : FitSample s) where
       ap (countAt (arrivedAt (fileOf s))) (sections s)
       ∙ section-count (labelSection s ++ sentSection s) (arrivalsPart s) [] (length (s .arrivals)) (arrivedAt (fileOf s)) arrived-begins (omega arith)
 
-  -- the label
   label-found : sampleIn (fileOf s) .label ≡ s .label
   unfolding fileOf sampleIn
   label-found =
@@ -278,14 +282,12 @@ module _ (s : Sample) (f : FitSample s) where
       ∙ ap (take (length (s .label))) (section-items [] (s .label) (sentSection s ++ arrivedSection s) (length (s .label)) 0 refl)
       ∙ take-at (s .label) (sentSection s ++ arrivedSection s) (length (s .label)) refl
 
-  -- the sizes
   sizes-found : sampleIn (fileOf s) .sizes ≡ s .sizes
   unfolding fileOf sampleIn
   sizes-found =
       ap₂ (itemsIn sizeWidth beValue) sent-count (section-items (labelSection s) (sizesPart s) (arrivedSection s) (length (s .sizes)) (sentAt (fileOf s)) sent-begins)
       ∙ read-written sizeOctets sizeWidth size-long beValue (s .sizes) 0 (arrivedSection s) (λ i h. value-octets sizeWidth (getD (s .sizes) i 0) (f .sizes i))
 
-  -- the arrivals
   arrivals-found : sampleIn (fileOf s) .arrivals ≡ s .arrivals
   unfolding sampleIn
   arrivals-found =
@@ -298,7 +300,6 @@ module _ (s : Sample) (f : FitSample s) where
       let q : getD (s .arrivals) i noArrival .number < 2 ^ 32 = omega arith in
       arrival-read (getD (s .arrivals) i noArrival) q (subst (λ (n : ℕ). n < 2 ^ 64) (List·getD-map (λ (x : Arrival). x .time) (s .arrivals) i noArrival) (f .times i)))
 
-  -- the sample that they make
   sample-found : sampleIn (fileOf s) ≡ s
   unfolding sampleIn
   sample-found = λ i. record { label = label-found i; sizes = sizes-found i; arrivals = arrivals-found i }

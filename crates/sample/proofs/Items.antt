@@ -1,5 +1,10 @@
--- Items of so many octets each, one after the other: where each stands, and that reading and writing them undo each other.
--- Assumes nothing.
+-- Items of `width` octets each, one after the other. By induction on their number item i stands at width * i (`items-getD`, `items-stand`), and
+-- there are width times as many octets as items (`octets-many`). Where each item, written, reads back as itself so do all of them
+-- (`read-written`), and where each item's octets, read, are written back as themselves so are all octets (`written-read`): both by splitting
+-- off the first item. Then an arrival, two numbers one after the other, and a size, one number, have this; and their values, as the loops find
+-- them in the part that is taken for each.
+-- Here `item` reads an item from its octets and `octets` writes it; xs are items, os octets, n or count a number of items, at and start places,
+-- i an item's place, z what is read past the end, a an arrival. Assumes nothing.
 use Prim.Native.Nat.{ℕ, zero, suc, _+_, _*_, _^_, _-_, _≤_, _<_}
 use native.Mathlib.Nat.{mul-zero, mul-suc}
 use native.Mathlib.Omega.{arith}
@@ -36,7 +41,6 @@ pub value-back : (width : ℕ) (os : List ℕ) → Octets os → length os ≡ w
 value-back width os o h = subst (λ (n : ℕ). beOctets n (beValue os) ≡ os) h (octets-value os o)
 
 module _ {ℓ} {A : Type ℓ} (width : ℕ) (item : List ℕ → A) where
-  -- as many as asked
   pub items-length : (n : ℕ) (os : List ℕ) → length (itemsIn width item n os) ≡ n
   unfolding itemsIn
   items-length zero os = refl
@@ -57,7 +61,6 @@ module _ {ℓ} {A : Type ℓ} (width : ℕ) (item : List ℕ → A) where
       items-getD n (drop at file) i z h ∙ ap (λ (l : List ℕ). item (take width l)) (drop-drop (width * i) at file)
 
 module _ {ℓ} {A : Type ℓ} (octets : A → List ℕ) where
-  -- items after items
   pub octets-append : (xs ys : List A) → itemOctets octets (xs ++ ys) ≡ itemOctets octets xs ++ itemOctets octets ys
   unfolding itemOctets
   octets-append [] ys = refl
@@ -71,7 +74,6 @@ module _ {ℓ} {A : Type ℓ} (octets : A → List ℕ) where
       ∙ ap (λ (l : List ℕ). itemOctets octets (take i xs) ++ l) (append-nil (octets (getD xs i z)))
 
   module _ (width : ℕ) (long : (x : A) → length (octets x) ≡ width) where
-    -- their number
     pub octets-many : (xs : List A) → length (itemOctets octets xs) ≡ width * length xs
     unfolding itemOctets
     octets-many [] = sym (mul-zero width)
@@ -103,7 +105,6 @@ module _ {ℓ} {A : Type ℓ} (octets : A → List ℕ) where
 
 -- ---- an arrival
 
--- its octets
 pub arrival-long : (a : Arrival) → length (arrivalOctets a) ≡ arrivalWidth
 unfolding arrivalOctets
 arrival-long a = simp (length-append, octets-length)
@@ -145,7 +146,6 @@ module _ (value : Arrival → ℕ) (count at : ℕ) (file : List ℕ) where
   abbrev pub valuesFrom : List ℕ
   valuesFrom = map value (itemsIn arrivalWidth arrivalIn count (drop at file))
 
-  -- as many
   pub values-many : length valuesFrom ≡ count
   values-many = length-map (itemsIn arrivalWidth arrivalIn count (drop at file)) value ∙ items-length arrivalWidth arrivalIn count (drop at file)
 
@@ -158,11 +158,10 @@ module _ (value : Arrival → ℕ) (count at : ℕ) (file : List ℕ) where
 -- ---- a size
 
 -- a size in its octets as they are taken, as one of the sizes
-pub size-found : (count at : ℕ) (file : List ℕ) (i n : ℕ) → i < count → n ≡ beValue (part 0 sizeWidth (taken (at + sizeWidth * i) sizeWidth file))
+pub size-taken : (count at : ℕ) (file : List ℕ) (i n : ℕ) → i < count → n ≡ beValue (part 0 sizeWidth (taken (at + sizeWidth * i) sizeWidth file))
     → n ≡ getD (itemsIn sizeWidth beValue count (drop at file)) i 0
-size-found count at file i n h e =
+size-taken count at file i n h e =
     taken-stands (at + sizeWidth * i) sizeWidth 0 sizeWidth (at + sizeWidth * i) file (omega arith) (omega arith) e ∙ sym (items-stand sizeWidth beValue count at file i 0 h)
 
--- its octets
 pub size-long : (size : ℕ) → length (sizeOctets size) ≡ sizeWidth
 size-long size = octets-length sizeWidth size

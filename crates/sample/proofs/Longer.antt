@@ -1,6 +1,10 @@
--- Files beside the longest sample: an accepted one is not longer, one is as long, and a longer one is refused as its first 57,415 octets are,
--- one more than the longest sample has.
--- Assumes nothing.
+-- Files beside the longest sample. A longer file is refused by the first test that fails: of the label's count (3), of its octets (13), of K
+-- (4), of the count of arrivals (5); if none fails, all sections end by the longest sample's length, and octets follow (2). No count or section
+-- can be missing, since what passes the tests asks for no more octets than there are. All that is tested stands in the first 57,415 octets, so
+-- these are refused alike (`longer-refused`, by the same tests in turn). A sample filled up to the limits is fit, and its file is as long as
+-- the longest (`filled-fit`, `filled-length`).
+-- Here f is a file longer than the longest sample, by h; a, o and b say that its label's count, its octets and K pass; k, l, n, s and r say of
+-- its beginning that it is longer too and has the same count of the label, label, K and count of arrivals. Assumes nothing.
 use Prim.Native.Nat.{ℕ, zero, suc, _+_, _-_, _^_, _≤_, _<_}
 use native.Mathlib.Omega.{arith}
 use mathlib.Core.Bool.{Bool, true, false}
@@ -173,7 +177,6 @@ longer-refused f h = first (outside 0 labelMost (labelCount f)) refl where
 
 -- ---- a sample that is filled
 
--- zeros are below every bound
 zeros-below : (m n : ℕ) → 0 < m → Below m (replicate n 0)
 zeros-below m zero h = below-nil m h
 zeros-below m (suc n) h = below-cons m 0 (replicate n 0) h (zeros-below m n h)
@@ -207,7 +210,6 @@ filled-fit label sent arrivals l p s a =
       times = again-below (2 ^ 64) arrivals (omega arith);
     }
 
--- its length
 filled-length : (label sent arrivals : ℕ) → length (fileOf (filled label sent arrivals)) ≡ lastEnd label sent arrivals
 unfolding filled
 filled-length label sent arrivals =

@@ -1,4 +1,6 @@
--- Moving the clock of a sample: as much of it is refused by any clock. Assumes nothing.
+-- Moving the clock of a sample s by c. The judge of arrivals answers the same by any clock (`judge-moved`), and nothing else that is refused
+-- asks for times; so a sample of an accepted file, which is fit by `exact`, is fit after the move where its times still fit their field, and
+-- its file decodes to it. Two movements are one by the sum, since they are for each arrival (`moved-twice`). Assumes nothing.
 use Prim.Native.Nat.{ℕ}
 use mathlib.Core.List.{List}
 use mathlib.Core.Path.{ap, _∙_}
@@ -25,6 +27,5 @@ moved-accepted file o s c e t =
     }) in
     decode-file (movedSample c s) (record { judged = j; sizes = f .sizes; times = t })
 
--- two movements
 pub sample-twice : SampleMovedTwice
 sample-twice b c s = ap (λ (l : List Arrival). record { label = s .label; sizes = s .sizes; arrivals = l }) (moved-twice b c (s .arrivals))

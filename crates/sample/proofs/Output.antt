@@ -1,5 +1,7 @@
--- What a call that writes answers, case by case: `own` is its own refusal, `os` the octets that it has to write, `out` the lent ones before
--- it and `out′` after it. Each case settles the refusal, and with it the octets. Assumes nothing.
+-- What a call that writes answers, case by case: `own` is its own refusal, `os` the octets that it has to write, `out` the lent ones before it
+-- and `out′` after it. Each case settles the first refusal, `own` before 8, and with it the octets, all or none (`by-refusal`). An answer
+-- without a refusal says that there was none of its own and that the octets stand at the start (`own-none`, `output-read`). r is a refusal, n
+-- the length that is answered, w that it is the call's answer. Assumes nothing.
 use Prim.Native.Nat.{ℕ, zero, suc, _≤_, _<_}
 use native.Mathlib.Omega.{arith}
 use mathlib.Core.Path.{_≡_, refl, sym, ap, ap₂, _∙_}

@@ -1,4 +1,8 @@
--- The readings of a file: what an answer says of the tests behind it, and the section that they make. Assumes nothing.
+-- What an answer of the readings says of the tests behind it. A number that is read, by cases on the test: `Ended` says that it holds, a
+-- value that it fails and which value it is (`read-ended`, `read-valued`). A section: by the tests in their order each of its four answers
+-- is that of `sectionReading` (`section-ended` to `section-whole`); and back, by cases on the stage's refusal, a whole section has none, and
+-- a refused one the stage's (`whole-section`, `refusal-section`, `refused-section`).
+-- Here t is a test, n what is read where it fails, v the value of the answer, r a refusal. Assumes nothing.
 use Prim.Native.Nat.{ℕ, zero, suc, _*_, _^_, _≤_, _<_}
 use native.Mathlib.Nat.{mul-le-mul}
 use native.Mathlib.Omega.{arith}
@@ -11,7 +15,7 @@ use Rattle.octets.specs.Below.{Octets}
 use Rattle.rfc4737.specs.Refusals.{outside, inCase, firstOf, endsEarly}
 use Rattle.sample.specs.Format.{countWidth, arrivalWidth, itemsAt, endOf}
 use Rattle.sample.specs.Decode.{countAt, sectionStage}
-use Rattle.sample.specs.Private.Readings.{countReading, placeReading, settled, sectionReading, refusalOfSection}
+use Rattle.sample.specs.Private.{readingTo, settled, sectionReading, refusalOfSection}
 use Rattle.sample.specs.declared.sections.Reading.the-variants.{Value, Ended}
 use Rattle.sample.specs.declared.sections.Section.the-variants.{Whole, Refused}
 use Rattle.sample.proofs.Items.{part-fits}
@@ -28,25 +32,15 @@ valued : (t : Bool) (n v : ℕ) → cond t Ended (Value n) ≡ Value v → (t �
 valued true n v e = absurd (let z : _≡_ {A = ℕ} 0 1 = cc in omega arith)
 valued false n v e = (refl, cc)
 
--- no count: the file ends before it
-pub count-ended : (at : ℕ) (file : List ℕ) → countReading at file ≡ Ended → ltb (length file) (itemsAt at) ≡ true
-unfolding countReading
-count-ended at file e = ended (ltb (length file) (itemsAt at)) (countAt at file) e
+-- no number: the file ends before the place
+pub read-ended : (place n : ℕ) (file : List ℕ) → readingTo place n file ≡ Ended → ltb (length file) place ≡ true
+unfolding readingTo
+read-ended place n file e = ended (ltb (length file) place) n e
 
--- a count: the file has it, and it is that count
-pub count-valued : (at : ℕ) (file : List ℕ) {v : ℕ} → countReading at file ≡ Value v → (ltb (length file) (itemsAt at) ≡ false) × (v ≡ countAt at file)
-unfolding countReading
-count-valued at file {v} e = valued (ltb (length file) (itemsAt at)) (countAt at file) v e
-
--- no place: the file ends before it
-pub place-ended : (place : ℕ) (file : List ℕ) → placeReading place file ≡ Ended → ltb (length file) place ≡ true
-unfolding placeReading
-place-ended place file e = ended (ltb (length file) place) place e
-
--- a place: the file has it, and it is that place
-pub place-valued : (place : ℕ) (file : List ℕ) {v : ℕ} → placeReading place file ≡ Value v → (ltb (length file) place ≡ false) × (v ≡ place)
-unfolding placeReading
-place-valued place file {v} e = valued (ltb (length file) place) place v e
+-- a number: the file has the place, and it is that number
+pub read-valued : (place n : ℕ) (file : List ℕ) {v : ℕ} → readingTo place n file ≡ Value v → (ltb (length file) place ≡ false) × (v ≡ n)
+unfolding readingTo
+read-valued place n file {v} e = valued (ltb (length file) place) n v e
 
 -- ---- bounds
 

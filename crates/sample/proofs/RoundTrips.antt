@@ -1,16 +1,21 @@
--- Both round trips: what was read is written back as the same octets, and what was written is read back as the same lists. Assumes nothing.
+-- Both round trips. Read, then written (`written-again`): a read without a refusal means that the file is accepted and that the lists begin
+-- with its sample's values (`into-none`); the writer is given these, so it writes the sample's file, which is the file that was read
+-- (`file-back`). Written, then read (`read-again`): a write without a refusal means that label and lists are not refused and that their file
+-- stands at the start (`output-read`); it decodes to their sample (`decode-file`), which the lists have room for (`into-room`).
+-- Here s is the sample; a, b and c are numbers of places; what is lent is sizes, numbers, times (in `read-again` sizes₀, numbers₀, times₀) and
+-- out before a call, and with ′ after it. Assumes nothing.
 use Prim.Native.Nat.{ℕ, _^_, _≤_}
 use native.Mathlib.Omega.{arith}
 use mathlib.Core.Path.{_≡_, sym, ap, ap₂, _∙_, subst}
 use mathlib.Core.List.{List, [], _∷_}
 use borrow.Author.Tests.{le-ltb}
-use lib.ListN.{length, take, length-map}
+use lib.ListN.{length, take, replicate, length-map, length-replicate}
 use Rattle.octets.specs.Below.{Below, Octets}
 use Rattle.octets.specs.Memory.{over}
 use Rattle.octets.proofs.Memory.{over-read}
 use Rattle.rfc4737.specs.declared.Arrival.{Arrival}
 use Rattle.rfc4737.specs.Refusals.{inCase, firstOf, outputShort}
-use Rattle.rfc4737.specs.Judge.{numbersOf, timesOf}
+use Rattle.rfc4737.specs.Judge.{arrivalsMost, numbersOf, timesOf}
 use Rattle.sample.specs.Format.{Sample, fileOf}
 use Rattle.sample.specs.Judge.{sampleRefusal, FitSample}
 use Rattle.sample.specs.Decode.{fileRefusal, sampleIn, decided, decode, accepted, sampleOf, decodedRefusal, layoutOf}
@@ -33,6 +38,10 @@ into-none a b c file e =
     let r = firstOf (fileRefusal file ∷ inCase (listsShort (layoutOf (decode file)) a b c) outputShort ∷ []) in
     let z : r ≡ 0 = sym (decided-refusal r (sampleIn file)) ∙ e in
     (first-none (fileRefusal file) (inCase (listsShort (layoutOf (decode file)) a b c) outputShort ∷ []) z .0, ap (λ (n : ℕ). decided n (sampleIn file)) z)
+
+-- a list of as many places as there are arrivals at most
+pub arrivals-room : arrivalsMost ≤ length (replicate {A = ℕ} arrivalsMost 0)
+arrivals-room = omega (arith, length-replicate {A = ℕ} arrivalsMost 0)
 
 -- the lists are long enough for a sample
 pub into-room : (a b c : ℕ) (file : List ℕ) (s : Sample) → decode file ≡ accepted s → length (s .sizes) ≤ a → length (s .arrivals) ≤ b → length (s .arrivals) ≤ c

@@ -4,8 +4,9 @@ ghost use Prim.Native.Nat.{_^_, _≤_, _<_};
 ghost use lib.ListN.{length};
 ghost use Rattle.octets.specs.Memory.{splice};
 ghost use Rattle.rfc4737.specs.Judge.{arrivalsFrom};
-ghost use Rattle.sample.specs.Format.{octetWidth, sizeWidth, arrivalWidth, endOf, section, sizeOctets, arrivalOctets, itemOctets};
-ghost use Rattle.sample.specs.Private.Readings.{countReading, placeReading, sectionReading, refusalOfSection};
+ghost use Rattle.sample.specs.Format.{octetWidth, sizeWidth, arrivalWidth, itemsAt, endOf, section, sizeOctets, arrivalOctets, itemOctets};
+ghost use Rattle.sample.specs.Decode.{countAt};
+ghost use Rattle.sample.specs.Private.{readingTo, sectionReading, refusalOfSection};
 use rfc4737::judge::outside;
 use rfc4737::refusal::ENDS_EARLY;
 
@@ -45,7 +46,7 @@ pub(crate) enum Section {
 // The count that stands at a place.
 fn count_at(file: &[u8], at: usize) -> Reading
     requires { ⌜ at ≤ length (now file) ⌝ }
-    ensures { λ r. ⌜ r ≡ countReading at (now (file .entry)) ⌝ }
+    ensures { λ r. ⌜ r ≡ readingTo (itemsAt at) (countAt at (now (file .entry))) (now (file .entry)) ⌝ }
 {
     if file.len() < at + COUNT_WIDTH {
         return Reading::Ended;
@@ -55,7 +56,7 @@ fn count_at(file: &[u8], at: usize) -> Reading
 
 // A place, where the file has as many octets.
 fn place_in(file: &[u8], place: usize) -> Reading
-    ensures { λ r. ⌜ r ≡ placeReading place (now (file .entry)) ⌝ }
+    ensures { λ r. ⌜ r ≡ readingTo place place (now (file .entry)) ⌝ }
 {
     if file.len() < place {
         return Reading::Ended;

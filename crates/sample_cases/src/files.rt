@@ -5,6 +5,7 @@ use crate::memory::OCTET;
 use crate::memory::ROOM;
 use crate::memory::SIZE;
 use crate::memory::TIME;
+use cases::OVER;
 use cases::fields::field;
 use cases::fields::number_in_16;
 use cases::lists::first_8;
@@ -84,9 +85,9 @@ fn read_into(file: &[u8], sizes: &mut [u16], numbers: &mut [u32], times: &mut [u
 
 // Writes of a file its name, what the check finds, and what is read where there is room for all.
 fn read_all(name: &[u8], file: &[u8]) {
-    let mut sizes = [SIZE; 4097];
-    let mut numbers = [NUMBER; 4097];
-    let mut times = [TIME; 4097];
+    let mut sizes = [SIZE; OVER];
+    let mut numbers = [NUMBER; OVER];
+    let mut times = [TIME; OVER];
     write_word(name);
     write_word(b": check ");
     write_layout(sample::check(file));
@@ -96,7 +97,7 @@ fn read_all(name: &[u8], file: &[u8]) {
 
 // Changes a number in a file, as three numbers from number n on say: its place, how many octets it has, and its value. One that is not
 // given has no octets.
-fn change(file: &mut [u8], changes: &[u8], n: u16) {
+fn change_number(file: &mut [u8], changes: &[u8], n: u16) {
     let at = number(changes, n as usize) % 65_536;
     let width = number(changes, n as usize + 1) % 65_536;
     octets::put_number(
@@ -125,10 +126,10 @@ pub(crate) fn run(line: &[u8]) {
         number_in_16(line, 4),
     );
     let changes = field(line, 5);
-    change(&mut file, changes, 0);
-    change(&mut file, changes, 3);
-    change(&mut file, changes, 6);
-    change(&mut file, changes, 9);
+    change_number(&mut file, changes, 0);
+    change_number(&mut file, changes, 3);
+    change_number(&mut file, changes, 6);
+    change_number(&mut file, changes, 9);
     read_all(field(line, 1), first_8(&file, number_or(line, 6, n)));
 }
 

@@ -2,6 +2,7 @@
 use crate::build::put_file;
 use crate::memory::OCTET;
 use crate::memory::ROOM;
+use cases::OVER;
 use cases::fields::field;
 use cases::fields::number_in_16;
 use cases::lists::fill_32;
@@ -55,9 +56,9 @@ fn write_same(written: &[u8], built: &[u8]) {
 // Writes a file from so many octets of label, sizes, numbers and times. The answer is how many octets it has.
 fn write_lists(line: &[u8], out: &mut [u8]) -> usize {
     let text = [b'x'; 65];
-    let sizes = [100u16; 4097];
-    let mut numbers = [0u32; 4097];
-    let mut times = [0u64; 4097];
+    let sizes = [100u16; OVER];
+    let mut numbers = [0u32; OVER];
+    let mut times = [0u64; OVER];
     series_32(&mut numbers, 1, 1);
     series_64(&mut times, 10, 10);
     write_into(

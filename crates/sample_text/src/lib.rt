@@ -7,6 +7,7 @@
 //   their times, where they are not by the rule;
 //   the place of a number in the file, of how many octets it is, and which one stands there instead;
 //   how many octets of the file are taken, with zeros after it, where that is not the whole.
+use cases::MOST;
 use cases::lists::fill_32;
 use cases::lists::fill_64;
 use cases::lists::first_16;
@@ -21,8 +22,8 @@ use std::num::wrapping_sub_u64;
 // The octets that suffice for every sample, and one more.
 pub const ROOM: usize = sample::LONGEST + 1;
 
-// The most packets, and arrivals.
-const MOST: usize = 4096;
+// The most packets.
+const PACKETS: u32 = MOST as u32;
 
 // Part n of a text.
 fn part_of(text: &[u8], n: usize) -> &[u8] {
@@ -30,7 +31,7 @@ fn part_of(text: &[u8], n: usize) -> &[u8] {
 }
 
 // Number i of part n of a text, as far as it has 32 bits.
-fn number_of(text: &[u8], n: usize, i: usize) -> u32 {
+fn number_in_part(text: &[u8], n: usize, i: usize) -> u32 {
     (number(part_of(text, n), i) % 4_294_967_296) as u32
 }
 
@@ -39,7 +40,7 @@ fn numbers_by(first: u32, step: u32) -> [u32; MOST] {
     let mut numbers = [0u32; MOST];
     let mut number = first;
     for i in 0..MOST {
-        numbers[i] = number % 4096 + 1;
+        numbers[i] = number % PACKETS + 1;
         number = wrapping_add_u32(number, step);
     }
     numbers
@@ -68,14 +69,14 @@ fn times_by(first: u64, rise: u64, fall: u64) -> [u64; MOST] {
 
 // Writes the sample of a text, with these numbers and times but for those that the text gives. The answer is how many octets it has.
 fn write_sample(text: &[u8], numbers: &mut [u32], times: &mut [u64], out: &mut [u8]) -> usize {
-    let size = (number_of(text, 1, 1) % 65_536) as u16;
+    let size = (number_in_part(text, 1, 1) % 65_536) as u16;
     let sizes = [size; MOST];
-    let arrivals = number_of(text, 2, 0) as usize;
+    let arrivals = number_in_part(text, 2, 0) as usize;
     fill_32(part_of(text, 4), numbers);
     fill_64(part_of(text, 5), times);
     let written = sample::write(
         part_of(text, 0),
-        first_16(&sizes, number_of(text, 1, 0) as usize),
+        first_16(&sizes, number_in_part(text, 1, 0) as usize),
         first_32(numbers, arrivals),
         first_64(times, arrivals),
         out,
@@ -84,24 +85,24 @@ fn write_sample(text: &[u8], numbers: &mut [u32], times: &mut [u64], out: &mut [
 }
 
 // Puts the number of a text that stands in its file instead of another.
-fn change(text: &[u8], out: &mut [u8]) {
+fn change_number(text: &[u8], out: &mut [u8]) {
     octets::put_number(
         out,
-        number_of(text, 6, 0) as usize,
-        number_of(text, 6, 1) as usize,
+        number_in_part(text, 6, 0) as usize,
+        number_in_part(text, 6, 1) as usize,
         number(part_of(text, 6), 2),
     );
 }
 
 // Puts the file of a text. The answer is how many octets of it are taken.
 pub fn put_sample(text: &[u8], out: &mut [u8]) -> usize {
-    let mut numbers = numbers_by(number_of(text, 2, 1), number_of(text, 2, 2));
+    let mut numbers = numbers_by(number_in_part(text, 2, 1), number_in_part(text, 2, 2));
     let times = part_of(text, 3);
     let mut times = times_by(number(times, 0), number(times, 1), number(times, 2));
     let whole = write_sample(text, &mut numbers, &mut times, out);
-    change(text, out);
+    change_number(text, out);
     if part_of(text, 7).len() == 0 {
         return whole;
     }
-    number_of(text, 7, 0) as usize
+    number_in_part(text, 7, 0) as usize
 }

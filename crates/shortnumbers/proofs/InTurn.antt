@@ -1,4 +1,7 @@
--- Full numbers in turn: their length, the one at a place, and that elements which keep their distance are found. Assumes nothing.
+-- Full numbers in turn: there is one for each (`turn-length`), each is found from the greatest of those before it (`turn-at`), and
+-- elements which keep their distance are found from their short ones (`turn-true`). Each is shown for any elements `before`, by induction
+-- on the list, where the element just found joins those before; in the last it is the true one, so that those before are true too. l is
+-- the list, a its first element, z what stands past the end. Assumes nothing.
 use Prim.Native.Nat.{ℕ, zero, suc, _<_}
 use native.Mathlib.Omega.{arith}
 use mathlib.Core.Path.{_≡_, refl, sym, ap, _∙_, subst}

@@ -1,4 +1,9 @@
--- The numbers found of a list: the turn of a loop that finds the next one, and what the list calls' contracts carry. Assumes nothing.
+-- The numbers found of a list. In the turn of a loop the number found from the greatest so far is the one at i (`found-here`, by
+-- `turn-at`), and the greater of both is the greatest then (`greatest-next`). The list call ends in one of three ways, and in each the
+-- first refusal that is due is known. What the contracts carry: a true number at its distance is a full number of its low bits, and there
+-- is only one (`lists-true`); and lists that the sample's writer does not refuse are a fit sample, to which its file decodes
+-- (`demand2-reads`). Here r is the range, k is K, g the greatest of the first i numbers found, n the one found at i, w a width.
+-- Assumes nothing.
 use Prim.Native.Nat.{ℕ, zero, suc, _+_, _^_, _≤_, _<_, max}
 use native.Mathlib.Omega.{arith}
 use mathlib.Core.Path.{_≡_, refl, sym, ap, _∙_, subst}
@@ -18,7 +23,7 @@ use Rattle.sample.specs.Format.{Sample}
 use Rattle.sample.specs.Judge.{FitSample}
 use Rattle.sample.specs.Calls.{sampleFrom}
 use Rattle.sample.proofs.Exact.{label-fit, from-none, decode-file}
-use Rattle.shortnumbers.specs.Number.{rangeOf, shortOf, Near, found}
+use Rattle.shortnumbers.specs.Number.{rangeOf, shortOf, Near, numberFound}
 use Rattle.shortnumbers.specs.InTurn.{greatestOf}
 use Rattle.shortnumbers.specs.Lists.{numbersFound, fillRefusal, FilledTo, TrueInLists, Demand2Reads, EveryList}
 use Rattle.shortnumbers.proofs.Numbers.{Even, even-width, only, exact}
@@ -26,7 +31,7 @@ use Rattle.shortnumbers.proofs.InTurn.{turn-length, turn-at, turn-true}
 
 -- one number for each short one
 pub found-length : (r : ℕ) (shorts : List ℕ) → length (numbersFound r shorts) ≡ length shorts
-found-length r shorts = turn-length greatestOf (found r) shorts
+found-length r shorts = turn-length greatestOf (numberFound r) shorts
 
 -- what stands past the last arrival
 abbrev pub none : Arrival
@@ -35,10 +40,10 @@ none = record { number = 0; time = 0 }
 -- ---- a loop over the short numbers: g is the greatest of the first i numbers found, and n is found from it at i
 
 module _ (r : ℕ) (shorts : List ℕ) (g i n : ℕ) (lt : i < length shorts) (so-far : g ≡ greatestOf (take i (numbersFound r shorts)))
-    (e : n ≡ found r g (getD shorts i 0)) where
+    (e : n ≡ numberFound r g (getD shorts i 0)) where
   -- it is the one at i
   pub found-here : n ≡ getD (numbersFound r shorts) i 0
-  found-here = e ∙ ap (λ (x : ℕ). found r x (getD shorts i 0)) so-far ∙ sym (turn-at greatestOf (found r) shorts i 0 lt)
+  found-here = e ∙ ap (λ (x : ℕ). numberFound r x (getD shorts i 0)) so-far ∙ sym (turn-at greatestOf (numberFound r) shorts i 0 lt)
 
   -- and the greater of both is the greatest of the first i + 1
   pub greatest-next : (next : ℕ) → next ≡ max g n → next ≡ greatestOf (take (i + 1) (numbersFound r shorts))
@@ -86,7 +91,7 @@ module _ (r k : ℕ) (shorts times numbers : List ℕ) where
 -- true numbers are found
 lists-true : (r : ℕ) → Even r → TrueInLists r
 lists-true r range numbers keeps =
-    turn-true greatestOf (found r) (shortOf r) (Near r)
+    turn-true greatestOf (numberFound r) (shortOf r) (Near r)
     (λ g n near. sym (only r range g (shortOf r n) n (record { bits = refl; near = near }))) numbers keeps
 
 -- lists that the sample's writer does not refuse are a sample to which its file decodes

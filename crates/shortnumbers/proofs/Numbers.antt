@@ -1,4 +1,8 @@
--- The number found is the full number and the only one, over any range that is even and not 0. Assumes nothing.
+-- The number found is the full number and the only one, over any range r that is even and not 0. From g less half the range the way up to
+-- the number found is `up g x`, below the range, and g with what it lacks to the next multiple of the range adds nothing to the low bits
+-- (`full-turn`). So a number n that keeps its distance, which lies less than the range above g less half of it, is just that far up
+-- (`near-found`); and the number found has the low bits x and keeps the distance (`within-full`). g is the greatest number accepted, x the
+-- short number. Assumes nothing.
 use Prim.Native.Nat.{ℕ, zero, suc, _+_, _-_, _*_, _^_, _%_, _/_, _≤_, _<_}
 use native.Mathlib.Nat.{mod-lt, mod-eq-of-lt, mod-add-mod, add-mod-right, add-mul-mod-self-right, div-add-mod', two-pow-succ}
 use native.Mathlib.Omega.{arith}
@@ -6,7 +10,7 @@ use mathlib.Core.Bool.{Bool, true, false, cond}
 use mathlib.Core.Path.{_≡_, refl, sym, ap, _∙_}
 use borrow.Author.Tests.{lt-ltb, ltb-true}
 use lib.Dec.{ltb}
-use Rattle.shortnumbers.specs.Number.{rangeOf, shortOf, Near, FullNumber, found, ExactNumber}
+use Rattle.shortnumbers.specs.Number.{rangeOf, shortOf, Near, FullNumber, numberFound, ExactNumber}
 
 -- a range: twice a number that is not 0
 pub record Even (r : ℕ) : Type 0 where
@@ -47,8 +51,8 @@ module _ (r : ℕ) (range : Even r) where
   up g x = (x + (r / 2 + lack g)) % r
 
   -- a number at its distance is found
-  near-found : (g n : ℕ) → Near r g n → n ≡ found r g (shortOf r n)
-  unfolding found
+  near-found : (g n : ℕ) → Near r g n → n ≡ numberFound r g (shortOf r n)
+  unfolding numberFound
   near-found g n near =
       let b : n % r < r = mod-lt n positive in
       let lo = near .from in
@@ -61,8 +65,8 @@ module _ (r : ℕ) (range : Even r) where
       rw (lt-ltb (n % r) r b, m) (omega arith)
 
   -- so any full number is
-  pub only : (g x n : ℕ) → FullNumber r g x n → n ≡ found r g x
-  only g x n f = near-found g n (f .near) ∙ ap (found r g) (f .bits)
+  pub only : (g x n : ℕ) → FullNumber r g x n → n ≡ numberFound r g x
+  only g x n f = near-found g n (f .near) ∙ ap (numberFound r g) (f .bits)
 
   -- the number found of a short number within its width
   within-full : (g x : ℕ) → x < r → 1 ≤ g + up g x - r / 2 → FullNumber r g x (g + up g x - r / 2)
@@ -78,8 +82,8 @@ module _ (r : ℕ) (range : Even r) where
       record { bits = m; near = record { from = omega arith; below = omega arith } }
 
   -- a number found that is a packet's is the full number
-  full : (g x : ℕ) → 1 ≤ found r g x → FullNumber r g x (found r g x)
-  unfolding found
+  full : (g x : ℕ) → 1 ≤ numberFound r g x → FullNumber r g x (numberFound r g x)
+  unfolding numberFound
   full g x = go (ltb x r) refl
     where
       go : (t : Bool) → ltb x r ≡ t → 1 ≤ cond t (g + up g x - r / 2) 0 → FullNumber r g x (cond t (g + up g x - r / 2) 0)
@@ -88,12 +92,3 @@ module _ (r : ℕ) (range : Even r) where
 
   pub exact : ExactNumber r
   exact = record { full = full; only = only }
-
-  -- at most half the range above the greatest
-  pub found-high : (g x : ℕ) → found r g x ≤ g + r / 2
-  unfolding found
-  found-high g x = go (ltb x r)
-    where
-      go : (t : Bool) → cond t (g + up g x - r / 2) 0 ≤ g + r / 2
-      go true = let u = mod-lt (x + (r / 2 + lack g)) positive in omega (arith, range .even)
-      go false = omega arith

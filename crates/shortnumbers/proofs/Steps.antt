@@ -1,5 +1,11 @@
--- The receiver's step with a short number: in a state whose NextExp is over 4,097 any number is refused alike; NextExp less 1 is the
--- greatest number accepted; and a run of short numbers is a run of the numbers found. Assumes nothing.
+-- The receiver's step with a short number. In a state whose NextExp is over 4,097 any number is refused alike, since it is unfit; in any
+-- other the number is found from NextExp less 1 (`step-found`). NextExp less 1 is the greatest number accepted (`next-greatest`), by
+-- induction on one arrival more: a copy is at most the greatest (`has-most`), and a first arrival makes NextExp one above the greater of
+-- both (`after-max`). A run of short numbers is a run of the numbers found: from equal states, after short numbers `done` and full ones
+-- `before`, the next short number is found from that state, and the states stay equal (`state-next`), so by induction on the list all that
+-- is said is the same (`outcomes-from`, `state-from`). True numbers that keep their distance are found by `turn-true` of InTurn.
+-- Here r is the range, k is K, s a state or a packet, g the greatest number, a an arrival, fs are the first arrivals, and t is a time or
+-- the outcome of a test. Assumes nothing.
 use Prim.Native.Nat.{ℕ, _+_, _≤_, _<_, max}
 use native.Mathlib.Omega.{arith}
 use mathlib.Core.Bool.{Bool, true, false, cond, _||_}
@@ -22,10 +28,10 @@ use Rattle.receiver.specs.Outcomes.{refusedOutcome}
 use Rattle.receiver.specs.Step.{stepRefusal, outcomeOf, stepWith, stepOf}
 use Rattle.receiver.specs.Account.{accountOf}
 use Rattle.receiver.specs.Demand3.{stateAfter, outcomeAfter, receiverOutcomes}
-use Rattle.receiver.specs.Private.Facts.{StreamFit}
+use Rattle.receiver.specs.Private.{StreamFit}
 use Rattle.receiver.proofs.Fits.{stream-false}
 use Rattle.receiver.proofs.Demand3.{next-after, demand3}
-use Rattle.shortnumbers.specs.Number.{rangeOf, shortOf, Near, found}
+use Rattle.shortnumbers.specs.Number.{rangeOf, shortOf, Near, numberFound}
 use Rattle.shortnumbers.specs.InTurn.{greatestOf, inTurn}
 use Rattle.shortnumbers.specs.Steps.{greatestBy, shortStep, shortStateAfter, shortOutcomeAfter, shortOutcomes, withFound, arrivalsFound, Demand3Reads, shortened, greatestAccepted, TrueByReceiver, EveryStep}
 use Rattle.shortnumbers.proofs.Numbers.{Even, even-width, only, exact}
@@ -46,15 +52,15 @@ same-unfit : (s : Receiver) (m n t : ℕ) → sentMost + 1 < s .stream .next →
 same-unfit s m n t h = unfit-step s m t (unfit s h) ∙ sym (unfit-step s n t (unfit s h))
 
 -- the step with the number found from g, which is NextExp less 1 in a fit state
-pub step-found : (r : ℕ) (s : Receiver) (short time g n : ℕ) → (s .stream .next ≤ sentMost + 1 → g ≡ greatestBy s) → n ≡ found r g short
+pub step-found : (r : ℕ) (s : Receiver) (short time g n : ℕ) → (s .stream .next ≤ sentMost + 1 → g ≡ greatestBy s) → n ≡ numberFound r g short
     → stepOf s n time ≡ shortStep r s short time
 unfolding shortStep
 step-found r s short time g n e f = go (ltb (sentMost + 1) (s .stream .next)) refl
   where
-    go : (t : Bool) → ltb (sentMost + 1) (s .stream .next) ≡ t → stepOf s n time ≡ stepOf s (found r (greatestBy s) short) time
-    go true q = same-unfit s n (found r (greatestBy s) short) time (ltb-true (sentMost + 1) (s .stream .next) q)
+    go : (t : Bool) → ltb (sentMost + 1) (s .stream .next) ≡ t → stepOf s n time ≡ stepOf s (numberFound r (greatestBy s) short) time
+    go true q = same-unfit s n (numberFound r (greatestBy s) short) time (ltb-true (sentMost + 1) (s .stream .next) q)
     go false q =
-        ap (λ (m : ℕ). stepOf s m time) (f ∙ ap (λ (x : ℕ). found r x short) (e (ltb-false (sentMost + 1) (s .stream .next) q)))
+        ap (λ (m : ℕ). stepOf s m time) (f ∙ ap (λ (x : ℕ). numberFound r x short) (e (ltb-false (sentMost + 1) (s .stream .next) q)))
 
 -- ---- NextExp less 1 is the greatest number
 

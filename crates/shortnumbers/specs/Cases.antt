@@ -2,7 +2,7 @@
 use Prim.Native.Nat.{ℕ}
 use mathlib.Core.List.{List, [], _∷_, map}
 use mathlib.Core.Path.{_≡_}
-use Rattle.shortnumbers.specs.Number.{rangeOf, found}
+use Rattle.shortnumbers.specs.Number.{rangeOf, numberFound}
 use Rattle.shortnumbers.specs.Lists.{numbersFound}
 
 -- the width, the greatest number accepted, a short number, and the number found
@@ -32,6 +32,6 @@ shortCases =
 -- what is found is what the tables say
 pub record FoundAsGiven : Type 0 where
   -- each number is found as its case says
-  pub one : map (λ (c : ShortCase). found (rangeOf (c .width)) (c .greatest) (c .short)) shortCases ≡ map (λ (c : ShortCase). c .number) shortCases
+  pub one : map (λ (c : ShortCase). numberFound (rangeOf (c .width)) (c .greatest) (c .short)) shortCases ≡ map (λ (c : ShortCase). c .number) shortCases
   -- 100, 200, 255, 256, 259, then 254 late, then 346, by their lowest 8 bits
   pub list : numbersFound (rangeOf 8) (100 ∷ 200 ∷ 255 ∷ 0 ∷ 3 ∷ 254 ∷ 90 ∷ []) ≡ (100 ∷ 200 ∷ 255 ∷ 256 ∷ 259 ∷ 254 ∷ 346 ∷ [])

@@ -12,12 +12,12 @@ use Rattle.sample.specs.Format.{fileOf}
 use Rattle.sample.specs.Decode.{decode, accepted}
 use Rattle.sample.specs.Calls.{sampleFrom, sampleRefusal}
 use Rattle.sample.specs.Output.{unlessRefused}
-use Rattle.shortnumbers.specs.Number.{rangeOf, shortOf, Near, found, ExactNumber}
+use Rattle.shortnumbers.specs.Number.{rangeOf, shortOf, Near, numberFound, ExactNumber}
 use Rattle.shortnumbers.specs.InTurn.{greatestOf, inTurn, EachKeeps}
 
 -- the numbers found of a list of short ones
 abbrev pub numbersFound : ℕ → List ℕ → List ℕ
-numbersFound r shorts = inTurn greatestOf (found r) [] shorts
+numbersFound r shorts = inTurn greatestOf (numberFound r) [] shorts
 
 -- the first refusal that is due where a list of so many places is filled: those of K, the numbers found and the times, then 8
 unfoldable pub fillRefusal : (r k room : ℕ) (shorts times : List ℕ) → ℕ

@@ -25,12 +25,12 @@ pub record FullNumber (r g x n : ℕ) : Type 0 where
 
 -- the number found: from g less half the range go up to the first number with those low bits. It is 0, which is no packet's number,
 -- where x is over its width or that number is below 0
-unfoldable pub found : (r g x : ℕ) → ℕ
-found r g x = cond (ltb x r) (g + (x + (r / 2 + (r - g % r))) % r - r / 2) 0
+unfoldable pub numberFound : (r g x : ℕ) → ℕ
+numberFound r g x = cond (ltb x r) (g + (x + (r / 2 + (r - g % r))) % r - r / 2) 0
 
 -- the number found is the full number, and the only one, over a range
 pub record ExactNumber (r : ℕ) : Type 0 where
   -- wherever it is a packet's number, it is the full number
-  pub full : (g x : ℕ) → 1 ≤ found r g x → FullNumber r g x (found r g x)
+  pub full : (g x : ℕ) → 1 ≤ numberFound r g x → FullNumber r g x (numberFound r g x)
   -- any full number is the one found
-  pub only : (g x n : ℕ) → FullNumber r g x n → n ≡ found r g x
+  pub only : (g x n : ℕ) → FullNumber r g x n → n ≡ numberFound r g x

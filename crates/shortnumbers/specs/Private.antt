@@ -1,2 +1,7 @@
--- What private functions say to each other: no public contract reaches these definitions. Assumes nothing.
-pub mod Ranges
+-- What private functions say to each other, which no public contract reaches: the ranges that the code takes. Assumes nothing.
+use Prim.Native.Nat.{ℕ, _≤_}
+
+-- a range of 1 to 10 bits
+pub record Narrow (r : ℕ) : Type 0 where
+  pub least : 2 ≤ r
+  pub most : r ≤ 1024

@@ -12,7 +12,7 @@ use Rattle.receiver.specs.declared.StepAnswer.{StepAnswer}
 use Rattle.receiver.specs.Step.{freshOf, stepOf}
 use Rattle.receiver.specs.Account.{accountOf}
 use Rattle.receiver.specs.Demand3.{stateAfter, receiverOutcomes, Demand3}
-use Rattle.shortnumbers.specs.Number.{rangeOf, shortOf, Near, found, ExactNumber}
+use Rattle.shortnumbers.specs.Number.{rangeOf, shortOf, Near, numberFound, ExactNumber}
 use Rattle.shortnumbers.specs.InTurn.{greatestOf, inTurn, EachKeeps}
 
 -- the greatest full number accepted, as a receiver has it: NextExp less 1
@@ -21,7 +21,7 @@ greatestBy s = s .stream .next - 1
 
 -- the step with a short number: the step with the number found
 unfoldable pub shortStep : (r : ℕ) (s : Receiver) (short time : ℕ) → StepAnswer
-shortStep r s short time = stepOf s (found r (greatestBy s) short) time
+shortStep r s short time = stepOf s (numberFound r (greatestBy s) short) time
 
 -- ---- short numbers fed to a fresh receiver for K
 
@@ -39,7 +39,7 @@ shortOutcomes r k fed = each (shortOutcomeAfter r k) fed
 
 -- an arrival with the number found, where g is the greatest
 abbrev pub withFound : (r g : ℕ) → Arrival → Arrival
-withFound r g a = record { number = found r g (a .number); time = a .time }
+withFound r g a = record { number = numberFound r g (a .number); time = a .time }
 
 -- the arrivals with the numbers found
 abbrev pub arrivalsFound : (r k : ℕ) → List Arrival → List Arrival

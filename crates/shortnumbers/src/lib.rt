@@ -5,11 +5,11 @@ ghost use Prim.Native.Nat.{_+_, _-_, _/_, _≤_, max};
 ghost use lib.ListN.{length};
 ghost use Rattle.octets.specs.Memory.{over};
 ghost use Rattle.rfc4737.specs.Judge.{sentMost, arrivalsMost, arrivalsFrom, judge, refusalOfLists};
-ghost use Rattle.shortnumbers.specs.Number.{rangeOf, found};
+ghost use Rattle.shortnumbers.specs.Number.{rangeOf, numberFound};
 ghost use Rattle.shortnumbers.specs.Lists.{numbersFound, FilledTo, EveryList};
 ghost use Rattle.shortnumbers.specs.Steps.{shortStep, EveryStep};
 ghost use Rattle.shortnumbers.specs.Cases.{FoundAsGiven};
-ghost use Rattle.shortnumbers.specs.Private.Ranges.{Narrow};
+ghost use Rattle.shortnumbers.specs.Private.{Narrow};
 use receiver::Receiver;
 use receiver::StepAnswer;
 use rfc4737::judge::ARRIVALS_MOST;
@@ -29,7 +29,7 @@ const RANGE_8: u32 = 256;
 const RANGE_10: u32 = 1024;
 
 // The greater of two numbers.
-fn greater(a: u32, b: u32) -> u32
+fn greater_of(a: u32, b: u32) -> u32
     ensures { λ r. ⌜ r ≡ max a b ⌝ }
 {
     if b <= a {
@@ -51,7 +51,7 @@ fn less(a: u32, b: u32) -> u32
 // The full number of a short one, after the greatest; 0 where there is none.
 fn full_number(range: u32, greatest: u32, short: u16) -> u32
     requires { ⌜ Narrow range × (greatest ≤ 2147483648) ⌝ }
-    ensures { λ r. ⌜ (r ≡ found range greatest short) × (r ≤ greatest + 512) ⌝ }
+    ensures { λ r. ⌜ (r ≡ numberFound range greatest short) × (r ≤ greatest + 512) ⌝ }
 {
     let x = short as u32;
     if range <= x {
@@ -77,7 +77,7 @@ fn judge_found(range: u32, k: u64, shorts: &[u16], times: &[u64]) -> u32
         if refusal != 0 {
             return refusal;
         }
-        greatest = greater(greatest, number);
+        greatest = greater_of(greatest, number);
         reference = next_reference(reference, time);
         i += 1;
     }
@@ -102,7 +102,7 @@ fn refusal_of_found(range: u32, k: u64, shorts: &[u16], times: &[u64]) -> u32
 }
 
 // Fills a list with the numbers found.
-fn fill(range: u32, shorts: &[u16], numbers: &mut [u32])
+fn fill_numbers(range: u32, shorts: &[u16], numbers: &mut [u32])
     requires { ⌜ Narrow range × (length (now shorts) ≤ arrivalsMost) × (length (now shorts) ≤ length (now numbers)) ⌝ }
     ensures { λ _. ⌜ now (numbers .exit) ≡ over (numbersFound range (now (shorts .entry))) (now (numbers .entry)) ⌝ }
 {
@@ -111,7 +111,7 @@ fn fill(range: u32, shorts: &[u16], numbers: &mut [u32])
     while i < shorts.len() {
         let number = full_number(range, greatest, shorts[i]);
         numbers[i] = number;
-        greatest = greater(greatest, number);
+        greatest = greater_of(greatest, number);
         i += 1;
     }
 }
@@ -128,7 +128,7 @@ fn full_numbers(range: u32, k: u32, shorts: &[u16], times: &[u64], numbers: &mut
     if numbers.len() < shorts.len() {
         return OUTPUT_SHORT;
     }
-    fill(range, shorts, numbers);
+    fill_numbers(range, shorts, numbers);
     0
 }
 
@@ -164,7 +164,7 @@ fn greatest_by(next: u32) -> u32
 }
 
 // The receiver's step with a short number, over a range.
-fn step(range: u32, state: Receiver, short: u16, time: u64) -> StepAnswer
+fn short_step(range: u32, state: Receiver, short: u16, time: u64) -> StepAnswer
     requires { ⌜ Narrow range ⌝ }
     ensures { λ r. ⌜ r ≡ shortStep range state short time ⌝ }
 {
@@ -178,7 +178,7 @@ pub fn step_8(state: Receiver, short: u16, time: u64) -> StepAnswer
     ensures { λ r. ⌜ r ≡ shortStep (rangeOf 8) state short time ⌝ }
     ensures everywidth { λ _. ⌜ EveryStep ⌝ }
 {
-    step(RANGE_8, state, short, time)
+    short_step(RANGE_8, state, short, time)
 }
 
 // The receiver's step with a short number of 10 bits.
@@ -186,5 +186,5 @@ pub fn step_10(state: Receiver, short: u16, time: u64) -> StepAnswer
     ensures { λ r. ⌜ r ≡ shortStep (rangeOf 10) state short time ⌝ }
     ensures everywidth { λ _. ⌜ EveryStep ⌝ }
 {
-    step(RANGE_10, state, short, time)
+    short_step(RANGE_10, state, short, time)
 }

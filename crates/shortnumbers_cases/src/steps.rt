@@ -19,7 +19,7 @@ fn receiver_for(k: u32) -> Receiver {
 }
 
 // One step with a short number, of 8 bits or of 10.
-fn step(eight: bool, r: Receiver, short: u16, time: u64) -> StepAnswer {
+fn short_step(eight: bool, r: Receiver, short: u16, time: u64) -> StepAnswer {
     if eight {
         return step_8(r, short, time);
     }
@@ -27,10 +27,10 @@ fn step(eight: bool, r: Receiver, short: u16, time: u64) -> StepAnswer {
 }
 
 // The receiver after short numbers that arrive at 5,000.
-fn after(eight: bool, start: Receiver, shorts: &[u16]) -> Receiver {
+fn receiver_after(eight: bool, start: Receiver, shorts: &[u16]) -> Receiver {
     let mut r = start;
     for i in 0..shorts.len() {
-        let s = step(eight, r, shorts[i], 5000);
+        let s = short_step(eight, r, shorts[i], 5000);
         let next = s.state;
         r = next;
     }
@@ -39,7 +39,7 @@ fn after(eight: bool, start: Receiver, shorts: &[u16]) -> Receiver {
 
 // Steps with the short number of a line, and writes what is said of it.
 fn one_more(line: &[u8], r: Receiver) {
-    let s = step(
+    let s = short_step(
         of_eight_bits(line),
         r,
         number_in_16(line, 4),
@@ -62,7 +62,7 @@ pub(crate) fn run(line: &[u8]) {
     let start = receiver_for(number_in_32(line, 2));
     one_more(
         line,
-        after(of_eight_bits(line), start, first_16(&shorts, n)),
+        receiver_after(of_eight_bits(line), start, first_16(&shorts, n)),
     );
 }
 

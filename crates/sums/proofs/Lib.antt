@@ -1,4 +1,4 @@
 -- Laws of the tree of sums. Assumes nothing.
 pub mod Lowest
-pub mod Held
+pub mod PartlyAdded
 pub mod Summed

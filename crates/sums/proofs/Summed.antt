@@ -6,11 +6,11 @@ use mathlib.Core.List.{List}
 use Prim.Native.Nat.{ℕ, zero, suc, _+_, _%_, _^_, _≤_, _<_}
 use native.Mathlib.Omega.{arith}
 use lib.Dec.{ltb}
-use lib.ListN.{length, getD, replicate}
+use lib.ListN.{length, getD, replicate, length-replicate, getD-replicate}
 use borrow.Author.Tests.{lt-ltb}
 use Rattle.sums.specs.Tree.{rest, share, Added, partsTo, sumTo, Summed}
 use Rattle.sums.proofs.Lowest.{rest-low}
-use Rattle.sums.proofs.Held.{share-sum}
+use Rattle.sums.proofs.PartlyAdded.{share-sum}
 
 -- more fuel than i changes nothing
 parts-enough : (fuel fuel′ : ℕ) (tree : List ℕ) (i : ℕ) → i ≤ fuel → i ≤ fuel′ → partsTo fuel tree i ≡ partsTo fuel′ tree i
@@ -40,12 +40,8 @@ parts-none tree = refl
 module _ (f : ℕ → ℕ) where
   -- a tree of zeros holds no values
   pub summed-none : (n : ℕ) → ((i : ℕ) → f i ≡ 0) → Summed f (replicate n 0)
-  summed-none n z = record { at = λ i a b. omega (arith, zeros n i, z i, z (rest i)) }
-    where
-      zeros : (n i : ℕ) → getD {A = ℕ} (replicate n 0) i 0 ≡ 0
-      zeros zero i = refl
-      zeros (suc n) zero = refl
-      zeros (suc n) (suc i) = zeros n i
+  summed-none n z =
+      record { at = λ i a b. omega (arith, getD-replicate {A = ℕ} n i 0 0 (omega (arith, length-replicate {A = ℕ} n 0)), z i, z (rest i)) }
 
   module _ (tree : List ℕ) (s : Summed f tree) where
     -- the places together

@@ -1,6 +1,12 @@
--- What the call answers: by its own refusal, by 8, or after the pass. Assumes nothing.
+-- What the call answers. With the file's own refusal (`swept-refused`), or with 8 where what is lent is too short (`swept-short`), the
+-- decoded file is one refused, so that nothing is set and all stays. Else all lists have room (`wide`), and with the table cleared the pass
+-- can begin (`ready`). It leaves what lies behind the table's first numbers, so that the table, cleared again, is zeros over what it was
+-- (`table-after`); and the lists have the figures of all answers over what they were. So at a record asked for there stand in each list the
+-- figures of the answer that `metrics::answer` gives (`at-list`), and both engines agree (`swept`).
+-- Here d is the decoded file, y its layout, e that it is, old what is lent before, table the cleared table, new what is lent after the
+-- pass, f that it is filled, table′ the table cleared again, and after all that is lent then. Assumes nothing.
 use mathlib.Core.Path.{_≡_, refl, sym, ap, _∙_}
-use mathlib.Core.Bool.{Bool, true, false, _||_, true≢false}
+use mathlib.Core.Bool.{Bool, true, false}
 use mathlib.Core.List.{List, _++_, map}
 use Prim.Native.Nat.{ℕ, zero, suc, _≤_, _<_}
 use native.Mathlib.Omega.{arith}
@@ -12,6 +18,7 @@ use Rattle.octets.specs.Memory.{over}
 use Rattle.octets.proofs.Memory.{over-length}
 use Rattle.rfc4737.specs.declared.Answer.{Answer}
 use Rattle.rfc4737.specs.Answer.{answers}
+use Rattle.rfc4737.proofs.Due.{neither}
 use Rattle.rfc4737.proofs.Folds.{length-answers}
 use Rattle.sample.specs.declared.Layout.{Layout}
 use Rattle.sample.specs.Decode.{Decoded, refused, accepted, sampleOf, decodedRefusal, layoutOf}
@@ -20,8 +27,8 @@ use Rattle.metrics.specs.Private.Sample.{FileLayout}
 use Rattle.metrics.specs.Figures.{recordAnswer, atRecord}
 use Rattle.metrics.proofs.RecordsAsked.{asked-within}
 use Rattle.sweep.specs.Figures.{figuresOf}
-use Rattle.sweep.specs.Swept.{places, Lent, lent, lentShort, short, decodedInto, SweptTo, figuresAt, EnginesAgree}
-use Rattle.sweep.specs.Private.PassInvariant.{SweepReady, FilledWith}
+use Rattle.sweep.specs.Calls.{tablePlaces, Lent, lent, lentShort, lentShortFor, decodedInto, SweptTo, figuresAt, EnginesAgree}
+use Rattle.sweep.specs.Private.{Room, SweepReady, FilledWith}
 
 -- with its own refusal
 pub swept-refused : (d : Decoded) (y : Layout) → y ≡ layoutOf d → (y .refusal ≡ 0 → ⊥) → (old : Lent) → SweptTo d old y old × EnginesAgree d y old
@@ -40,7 +47,7 @@ module _ (d : Decoded) (y : Layout) (e : y ≡ layoutOf d) (none : y .refusal �
 
   -- too short by the counts of the layout
   short-is : (b : Bool) → b ≡ lentShort (y .arrivals) (length (old .table)) (length (old .flags)) (length (old .positions)) (length (old .extents)) (length (old .lates))
-      → short d old ≡ b
+      → lentShortFor d old ≡ b
   short-is b h = sym (h ∙ rw e)
 
   into-short : true ≡ lentShort (y .arrivals) (length (old .table)) (length (old .flags)) (length (old .positions)) (length (old .extents)) (length (old .lates))
@@ -65,59 +72,43 @@ module _ (d : Decoded) (y : Layout) (e : y ≡ layoutOf d) (none : y .refusal �
     unfolding decodedInto
     into = rw (own, short-is false h)
 
-    -- the room that there is
-    pub record Wide : Type 0 where
-      pub table : places ≤ length (old .table)
-      pub flags : y .arrivals ≤ length (old .flags)
-      pub positions : y .arrivals ≤ length (old .positions)
-      pub extents : y .arrivals ≤ length (old .extents)
-      pub lates : y .arrivals ≤ length (old .lates)
-
-    pub wide : Wide
+    -- there is room in the table and in each list
+    pub wide : (tablePlaces ≤ length (old .table)) × Room (y .arrivals) (old .flags) (old .positions) (old .extents) (old .lates)
     unfolding lentShort
     wide =
-        go (ltb (length (old .table)) places) refl (ltb (length (old .flags)) (y .arrivals)) refl (ltb (length (old .positions)) (y .arrivals)) refl
-        (ltb (length (old .extents)) (y .arrivals)) refl (ltb (length (old .lates)) (y .arrivals)) refl h
-      where
-        go : (a : Bool) → ltb (length (old .table)) places ≡ a → (b : Bool) → ltb (length (old .flags)) (y .arrivals) ≡ b
-            → (c : Bool) → ltb (length (old .positions)) (y .arrivals) ≡ c → (f : Bool) → ltb (length (old .extents)) (y .arrivals) ≡ f
-            → (g : Bool) → ltb (length (old .lates)) (y .arrivals) ≡ g → false ≡ (a || (b || (c || (f || g)))) → Wide
-        go false p false q false r false s false t z =
-            record { table = ltb-false _ _ p; flags = ltb-false _ _ q; positions = ltb-false _ _ r; extents = ltb-false _ _ s; lates = ltb-false _ _ t }
-        go true p b q c r f s g t z = absurd (true≢false (sym z))
-        go false p true q c r f s g t z = absurd (true≢false (sym z))
-        go false p false q true r f s g t z = absurd (true≢false (sym z))
-        go false p false q false r true s g t z = absurd (true≢false (sym z))
-        go false p false q false r false s true t z = absurd (true≢false (sym z))
+        let t = neither (ltb (length (old .table)) tablePlaces) _ (sym h) in
+        let f = neither (ltb (length (old .flags)) (y .arrivals)) _ (t .1) in
+        let p = neither (ltb (length (old .positions)) (y .arrivals)) _ (f .1) in
+        let e = neither (ltb (length (old .extents)) (y .arrivals)) _ (p .1) in (
+          ltb-false _ _ (t .0),
+          record { flags = ltb-false _ _ (f .0); positions = ltb-false _ _ (p .0); extents = ltb-false _ _ (e .0); lates = ltb-false _ _ (e .1) },
+        )
 
-    module _ (laid : FileLayout d y) (table : List ℕ) (clear : table ≡ over (replicate places 0) (old .table)) where
-      zeros-length : length (replicate {A = ℕ} places 0) ≡ places
-      zeros-length = length-replicate {A = ℕ} places 0
+    module _ (laid : FileLayout d y) (table : List ℕ) (clear : table ≡ over (replicate tablePlaces 0) (old .table)) where
+      zeros-length : length (replicate {A = ℕ} tablePlaces 0) ≡ tablePlaces
+      zeros-length = length-replicate {A = ℕ} tablePlaces 0
 
       -- after the table is cleared
       pub ready : SweepReady d y (lent table (old .flags) (old .positions) (old .extents) (old .lates))
       ready =
           record {
             file = laid;
-            table = omega (arith, ap length clear, over-length (replicate places 0) (old .table) (omega (arith, zeros-length, wide .table)), wide .table);
-            zeros = λ k g. ap (λ (l : List ℕ). getD l k 0) clear ∙ List·getD-append (replicate places 0) (drop (length (replicate {A = ℕ} places 0)) (old .table)) 0 k (omega (arith, zeros-length)) ∙ getD-replicate places k 0 0 g;
-            flags = wide .flags;
-            positions = wide .positions;
-            extents = wide .extents;
-            lates = wide .lates;
+            table = omega (arith, ap length clear, over-length (replicate tablePlaces 0) (old .table) (omega (arith, zeros-length, wide .0)), wide .0);
+            zeros = λ k g. ap (λ (l : List ℕ). getD l k 0) clear ∙ List·getD-append (replicate tablePlaces 0) (drop (length (replicate {A = ℕ} tablePlaces 0)) (old .table)) 0 k (omega (arith, zeros-length)) ∙ getD-replicate tablePlaces k 0 0 g;
+            lists = wide .1;
           }
 
-      module _ (new : Lent) (f : FilledWith d (lent table (old .flags) (old .positions) (old .extents) (old .lates)) new)
-          (table′ : List ℕ) (clear′ : table′ ≡ over (replicate places 0) (new .table)) where
+      module _ (new : Lent) (f : FilledWith (answersOf d) (lent table (old .flags) (old .positions) (old .extents) (old .lates)) new)
+          (table′ : List ℕ) (clear′ : table′ ≡ over (replicate tablePlaces 0) (new .table)) where
         abbrev after : Lent
         after = lent table′ (new .flags) (new .positions) (new .extents) (new .lates)
 
         -- the table after it was cleared again
-        table-after : table′ ≡ over (replicate places 0) (old .table)
+        table-after : table′ ≡ over (replicate tablePlaces 0) (old .table)
         table-after =
             clear′
-            ∙ ap (λ (n : ℕ). replicate places 0 ++ drop n (new .table)) zeros-length
-            ∙ ap (λ (l : List ℕ). replicate places 0 ++ l) (f .table ∙ ap (drop places) clear ∙ drop-at (replicate places 0) (drop (length (replicate {A = ℕ} places 0)) (old .table)) places zeros-length)
+            ∙ ap (λ (n : ℕ). replicate tablePlaces 0 ++ drop n (new .table)) zeros-length
+            ∙ ap (λ (l : List ℕ). replicate tablePlaces 0 ++ l) (f .table ∙ ap (drop tablePlaces) clear ∙ drop-at (replicate tablePlaces 0) (drop (length (replicate {A = ℕ} tablePlaces 0)) (old .table)) tablePlaces zeros-length)
 
         -- what stands in a list at a record
         at-list : (g : Answer → ℕ) → g (Answer.InOrder (record { position = 0; jump = 0 })) ≡ 0 → (l l′ : List ℕ) → l′ ≡ over (map g (answersOf d)) l

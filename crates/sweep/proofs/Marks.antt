@@ -1,4 +1,12 @@
--- What the table holds under one arrival more, and what stands at the record of a jump. Assumes nothing.
+-- What the table holds of a packet under one arrival more, and what stands at the record of a jump. A packet below NextExp that has not
+-- arrived has a discontinuity, which has a record (`skipping-jump`); one from NextExp on has none, and 0 stands there (`mark-ahead`). A copy changes
+-- no mark (`mark-copy`). A first arrival marks its own packet as arrived, is the discontinuity of the packets that it skips, and leaves all
+-- others as they were (`mark-more`, by whether packet s is its own, has arrived, is below NextExp, is skipped). The position of a first
+-- arrival is one more than its place among the first arrivals, and stands at its record in the list of positions (`position-at`, by
+-- `listed-at` of metrics). Last, one value put at places one by one, which is a splice (`skip-next`), and what stands then at any
+-- place (`skipped-at`).
+-- Here l are the arrivals, a the next one, s a packet's number, fs first arrivals, p a place among them or what stands there, and k what is
+-- known of a discontinuity. Assumes nothing.
 use mathlib.Core.Path.{_≡_, refl, sym, ap, _∙_}
 use mathlib.Core.Bool.{Bool, true, false, cond, _&&_, true≢false, or-true}
 use mathlib.Core.List.{List, [], _∷_, _++_, map-append}
@@ -6,28 +14,29 @@ use mathlib.Core.Option.{Option, none, some}
 use Prim.Native.Nat.{ℕ, _+_, _-_, _≤_, _<_}
 use native.Mathlib.Omega.{arith}
 use lib.Dec.{eqb, leb, ltb}
-use lib.ListN.{length, getD, set, drop, length-append, length-map, List·getD-append}
-use lib.Seq.{getD-append-seam, getD-drop, drop-set-lt}
-use borrow.Author.Tests.{eqb-true, eqb-false, eq-eqb, ne-eqb, leb-true, leb-false, lt-leb, ltb-true, ltb-false}
+use lib.ListN.{length, getD, set, take, drop, replicate, length-replicate, getD-replicate, length-append, length-map, List·getD-append}
+use lib.Seq.{getD-append-seam, getD-take, getD-drop}
+use borrow.Author.Tests.{eqb-false, eq-eqb, ne-eqb, leb-true, leb-false, lt-leb, ltb-true, ltb-false}
+use Rattle.octets.specs.Memory.{splice}
+use Rattle.octets.proofs.Memory.{splice-length, splice-take, splice-tail, splice-drop, copy-start, copy-length, copy-next, copy-done}
 use Rattle.rfc4737.specs.declared.Arrival.{Arrival}
 use Rattle.rfc4737.specs.Arrivals.{has, firsts, firstRecord}
 use Rattle.rfc4737.specs.Order.{FirstArrival, nextExp, isInOrder}
 use Rattle.rfc4737.specs.Extent.{discontinuity}
 use Rattle.rfc4737.specs.Answer.{answerTo, answers, firstAnswer, inOrderAnswer, reorderedAnswer}
-use Rattle.rfc4737.proofs.Lists.{snoc-ind}
-use Rattle.rfc4737.proofs.Arrivals.{has-more, has-firsts, firsts-more, with-duplicate, with-first, record-more}
+use Rattle.rfc4737.proofs.Arrivals.{has-more, has-firsts, firsts-duplicate, firsts-first, record-more}
 use Rattle.rfc4737.proofs.Folds.{next-more, answer-first, first-in-order, first-reordered, answers-more, length-answers}
 use Rattle.rfc4737.proofs.Jumps.{nextAfter-below, reordered-discontinuity}
 use Rattle.rfc4737.proofs.Skipped.{SkippedAt, discontinuity-skipped}
-use Rattle.metrics.proofs.Follow.{filled-none, filled-more, discontinuity-stays, discontinuity-none, discontinuity-new, recorded-copy}
-use Rattle.metrics.proofs.Records.{record-some, has-at}
+use Rattle.metrics.proofs.TablesFollow.{discontinuity-stays, discontinuity-none, discontinuity-new, recorded-copy}
+use Rattle.metrics.proofs.Records.{has-at, record-stays, listed-at}
 use Rattle.metrics.proofs.CountsBySeen.{has-below}
 use Rattle.sample.specs.Places.{noArrival}
 use Rattle.sweep.specs.Figures.{figuresOf, positionsOf}
-use Rattle.sweep.specs.Private.Table.{arrivedMark, recordOf, markOf, Skipping}
+use Rattle.sweep.specs.Private.{arrivedMark, recordOf, markOf}
 
 -- a packet from NextExp on has not arrived
-pub ahead-new : (s : ℕ) (l : List Arrival) → nextExp (firsts l) ≤ s → has s l ≡ false
+ahead-new : (s : ℕ) (l : List Arrival) → nextExp (firsts l) ≤ s → has s l ≡ false
 ahead-new s l h = go (has s l) refl
   where
     go : (t : Bool) → has s l ≡ t → t ≡ false
@@ -35,7 +44,7 @@ ahead-new s l h = go (has s l) refl
     go true q = let k : s < nextExp (firsts l) = has-below s (firsts l) (has-firsts s l ∙ q) in absurd (omega arith)
 
 -- at a packet that has not arrived stands the record of its discontinuity
-pub mark-new : (l : List Arrival) (s : ℕ) → has s l ≡ false → markOf l s ≡ recordOf l (discontinuity (firsts l) s)
+mark-new : (l : List Arrival) (s : ℕ) → has s l ≡ false → markOf l s ≡ recordOf l (discontinuity (firsts l) s)
 unfolding markOf
 mark-new l s new = simp new
 
@@ -53,7 +62,7 @@ mark-ahead l s low h =
 
 -- the discontinuity of a packet below NextExp that has not arrived is the jump that skipped it: where it stands among the first
 -- arrivals, and its record is what stands at the packet
-pub record Behind (l : List Arrival) (s : ℕ) : Type 0 where
+pub record SkippingJump (l : List Arrival) (s : ℕ) : Type 0 where
   pub place : FirstArrival
   pub is : discontinuity (firsts l) s ≡ some place
   pub low : 1 ≤ place .position
@@ -77,9 +86,9 @@ placed-at fs s p k =
           ∙ ap (λ (p : FirstArrival). record { number = p .number; time = p .time }) (k .place),
     )
 
-pub behind : (l : List Arrival) (s : ℕ) → 1 ≤ s → has s l ≡ false → s < nextExp (firsts l) → Behind l s
+pub skipping-jump : (l : List Arrival) (s : ℕ) → 1 ≤ s → has s l ≡ false → s < nextExp (firsts l) → SkippingJump l s
 unfolding isInOrder recordOf
-behind l s low new h =
+skipping-jump l s low new h =
     let n = has-firsts s l ∙ new in
     let k = reordered-discontinuity s low (firsts l) n (lt-leb _ _ h) in
     let f = placed-at (firsts l) s (k .at) (discontinuity-skipped s low (firsts l) n (k .at) (k .is)) in
@@ -97,18 +106,11 @@ behind l s low new h =
 
 -- ---- one arrival more
 
--- the record of a packet that has arrived stays
-record-stays : (l : List Arrival) (a : Arrival) (s : ℕ) → has s l ≡ true → firstRecord s (l ++ (a ∷ [])) ≡ firstRecord s l
-record-stays l a s e = record-more s l a ∙ simp e
-
 -- a copy changes nothing
 pub mark-copy : (l : List Arrival) (a : Arrival) (s : ℕ) → has (a .number) l ≡ true → markOf (l ++ (a ∷ [])) s ≡ markOf l s
 unfolding recordOf
 mark-copy l a s arrived = go (has s l) refl
   where
-    same : firsts (l ++ (a ∷ [])) ≡ firsts l
-    same = firsts-more l a ∙ with-duplicate (firsts l) a (has-firsts (a .number) l ∙ arrived)
-
     kept : (o : Option FirstArrival) → recordOf (l ++ (a ∷ [])) o ≡ recordOf l o
     kept none = refl
     kept (some p) = recorded-copy l a arrived (p .number)
@@ -118,14 +120,10 @@ mark-copy l a s arrived = go (has s l) refl
     go false e =
         let other : a .number ≡ s → ⊥ = λ q. true≢false (sym arrived ∙ rw q e) in
         let new : has s (l ++ (a ∷ [])) ≡ false = has-more s l a ∙ rw (e, ne-eqb (a .number) s other) in
-        mark-new (l ++ (a ∷ [])) s new ∙ ap (λ (fs : List Arrival). recordOf (l ++ (a ∷ [])) (discontinuity fs s)) same ∙ kept (discontinuity (firsts l) s) ∙ sym (mark-new l s e)
+        mark-new (l ++ (a ∷ [])) s new ∙ ap (λ (fs : List Arrival). recordOf (l ++ (a ∷ [])) (discontinuity fs s)) (firsts-duplicate l a arrived) ∙ kept (discontinuity (firsts l) s) ∙ sym (mark-new l s e)
 
 module _ (l : List Arrival) (a : Arrival) (new : has (a .number) l ≡ false) where
-  -- it is the last of the first arrivals
-  pub one-more : firsts (l ++ (a ∷ [])) ≡ firsts l ++ (a ∷ [])
-  one-more = firsts-more l a ∙ with-first (firsts l) a (has-firsts (a .number) l ∙ new)
-
-  -- what stands at packet s then: at its own packet that it has arrived, at those that it skips its record
+  -- what stands at packet s under a first arrival: at its own packet that it has arrived, at those that it skips its record
   pub mark-more : (s : ℕ) → 1 ≤ s
       → markOf (l ++ (a ∷ [])) s
       ≡ cond (eqb (a .number) s) arrivedMark (cond (leb (nextExp (firsts l)) s && ltb s (a .number)) (length l + 1) (markOf l s))
@@ -137,24 +135,24 @@ module _ (l : List Arrival) (a : Arrival) (new : has (a .number) l ≡ false) wh
       rest other true e true q v r = absurd (true≢false (sym e ∙ ahead-new s l (leb-true _ _ q)))
       rest other true e false q v r = mark-arrived (l ++ (a ∷ [])) s (has-more s l a ∙ rw e) ∙ sym (mark-arrived l s e)
       rest other false e false q v r =
-          let k = behind l s low e (leb-false _ _ q) in
+          let k = skipping-jump l s low e (leb-false _ _ q) in
           let new′ : has s (l ++ (a ∷ [])) ≡ false = has-more s l a ∙ rw (e, ne-eqb (a .number) s other) in
           mark-new (l ++ (a ∷ [])) s new′
-          ∙ ap (λ (fs : List Arrival). recordOf (l ++ (a ∷ [])) (discontinuity fs s)) one-more
+          ∙ ap (λ (fs : List Arrival). recordOf (l ++ (a ∷ [])) (discontinuity fs s)) (firsts-first l a new)
           ∙ ap (recordOf (l ++ (a ∷ []))) (discontinuity-stays (firsts l) a s (k .place) (k .is))
           ∙ record-stays l a (k .place .number) (k .arrived)
           ∙ sym (k .mark)
       rest other false e true q true r =
           let new′ : has s (l ++ (a ∷ [])) ≡ false = has-more s l a ∙ rw (e, ne-eqb (a .number) s other) in
           mark-new (l ++ (a ∷ [])) s new′
-          ∙ ap (λ (fs : List Arrival). recordOf (l ++ (a ∷ [])) (discontinuity fs s)) one-more
+          ∙ ap (λ (fs : List Arrival). recordOf (l ++ (a ∷ [])) (discontinuity fs s)) (firsts-first l a new)
           ∙ ap (recordOf (l ++ (a ∷ []))) (discontinuity-new (firsts l) a s low (has-firsts s l ∙ e) (leb-true _ _ q) (ltb-true _ _ r))
           ∙ record-more (a .number) l a ∙ simp (new, eq-eqb (a .number) (a .number) refl)
       rest other false e true q false r =
           let behind : a .number ≤ s = ltb-false _ _ r in
           let past : a .number < s = omega (arith, other) in
           let ahead : nextExp (firsts (l ++ (a ∷ []))) ≤ s =
-          rw (one-more, next-more (firsts l) a) (nextAfter-below (nextExp (firsts l)) (a .number) s (leb-true _ _ q) past) in
+          rw (firsts-first l a new, next-more (firsts l) a) (nextAfter-below (nextExp (firsts l)) (a .number) s (leb-true _ _ q) past) in
           mark-ahead (l ++ (a ∷ [])) s low ahead ∙ sym (mark-ahead l s low (leb-true _ _ q))
 
       go : (t : Bool) → eqb (a .number) s ≡ t
@@ -165,7 +163,7 @@ module _ (l : List Arrival) (a : Arrival) (new : has (a .number) l ≡ false) wh
 -- ---- positions
 
 -- the position of a first arrival
-pub first-position : (size : ℕ → ℕ) (l : List Arrival) (a : Arrival) → has (a .number) l ≡ false
+first-position : (size : ℕ → ℕ) (l : List Arrival) (a : Arrival) → has (a .number) l ≡ false
     → figuresOf (answerTo size l a) .position ≡ length (firsts l) + 1
 unfolding figuresOf inOrderAnswer reorderedAnswer
 first-position size l a new = rw (answer-first size l a new) (go (leb (nextExp (firsts l)) (a .number)) refl)
@@ -175,85 +173,71 @@ first-position size l a new = rw (answer-first size l a new) (go (leb (nextExp (
     go false q = rw (first-reordered size (firsts l) a (leb-false _ _ q))
 
 -- the positions under one arrival more
-pub positions-more : (size : ℕ → ℕ) (l : List Arrival) (a : Arrival)
+positions-more : (size : ℕ → ℕ) (l : List Arrival) (a : Arrival)
     → positionsOf (answers size (l ++ (a ∷ []))) ≡ positionsOf (answers size l) ++ (figuresOf (answerTo size l a) .position ∷ [])
 positions-more size l a = rw (answers-more size l a) (map-append _ (answers size l) (answerTo size l a ∷ []))
 
 -- at the record of the first arrival at place p stands the position p + 1
 pub position-at : (size : ℕ → ℕ) (d : Arrival) (l : List Arrival) (p : ℕ) → p < length (firsts l)
     → getD (positionsOf (answers size l)) (firstRecord (getD (firsts l) p d .number) l - 1) 0 ≡ p + 1
-unfolding firsts
-position-at size d l = snoc-ind At more (λ p h. absurd (omega arith)) l
-  where
-    At : List Arrival → Type 0
-    At l = (p : ℕ) → p < length (firsts l) → getD (positionsOf (answers size l)) (firstRecord (getD (firsts l) p d .number) l - 1) 0 ≡ p + 1
+position-at size d =
+    listed-at d 0 (λ l. positionsOf (answers size l)) (λ l a. figuresOf (answerTo size l a) .position) (λ p a. p + 1)
+    (λ l. length-map (answers size l) _ ∙ length-answers size l) (positions-more size) (first-position size)
 
-    count : (l : List Arrival) → length (positionsOf (answers size l)) ≡ length l
-    count l = length-map (answers size l) _ ∙ length-answers size l
+-- ---- skipping: one value is put at the places from `from` to before `to`
 
-    earlier : (l : List Arrival) (a : Arrival) → At l → (p : ℕ) → p < length (firsts l)
-        → getD (positionsOf (answers size (l ++ (a ∷ [])))) (firstRecord (getD (firsts l) p d .number) (l ++ (a ∷ [])) - 1) 0 ≡ p + 1
-    earlier l a k p h =
-        let arrived : has (getD (firsts l) p d .number) l ≡ true = sym (has-firsts _ l) ∙ has-at d (firsts l) p h in
-        let r = record-some (getD (firsts l) p d .number) l arrived in
-        let low : firstRecord (getD (firsts l) p d .number) l - 1 < length (positionsOf (answers size l)) = omega (arith, count l) in
-        rw (record-stays l a (getD (firsts l) p d .number) arrived, positions-more size l a)
-        (List·getD-append (positionsOf (answers size l)) (figuresOf (answerTo size l a) .position ∷ []) 0 (firstRecord (getD (firsts l) p d .number) l - 1) low ∙ k p h)
+module _ (from to value : ℕ) (old : List ℕ) (up : from ≤ to) (room : to ≤ length old) where
+  -- the values that are put
+  abbrev run : List ℕ
+  run = replicate (to - from) value
 
-    last : (l : List Arrival) (a : Arrival) → has (a .number) l ≡ false
-        → getD (positionsOf (answers size (l ++ (a ∷ [])))) (firstRecord (a .number) (l ++ (a ∷ [])) - 1) 0 ≡ length (firsts l) + 1
-    last l a new =
-        let here : firstRecord (a .number) (l ++ (a ∷ [])) ≡ length l + 1 =
-        record-more (a .number) l a ∙ simp (new, eq-eqb (a .number) (a .number) refl) in
-        let at : firstRecord (a .number) (l ++ (a ∷ [])) - 1 ≡ length (positionsOf (answers size l)) = omega (arith, count l) in
-        rw (at, positions-more size l a) (getD-append-seam (positionsOf (answers size l)) (figuresOf (answerTo size l a) .position) [] 0 ∙ first-position size l a new)
+  run-length : length run ≡ to - from
+  run-length = length-replicate {A = ℕ} (to - from) value
 
-    new-at : (l : List Arrival) (a : Arrival) → At l → has (a .number) l ≡ false → (p : ℕ) → p < length (firsts l ++ (a ∷ []))
-        → (t : Bool) → eqb p (length (firsts l)) ≡ t
-        → getD (positionsOf (answers size (l ++ (a ∷ [])))) (firstRecord (getD (firsts l ++ (a ∷ [])) p d .number) (l ++ (a ∷ [])) - 1) 0 ≡ p + 1
-    new-at l a k new p h true q =
-        let e : getD (firsts l ++ (a ∷ [])) p d ≡ a = rw (eqb-true p (length (firsts l)) q) (getD-append-seam (firsts l) a [] d) in
-        rw e (last l a new ∙ ap (λ (n : ℕ). n + 1) (sym (eqb-true p (length (firsts l)) q)))
-    new-at l a k new p h false q =
-        let other : p ≡ length (firsts l) → ⊥ = eqb-false p (length (firsts l)) q in
-        let low : p < length (firsts l) = omega (arith, other, length-append (firsts l) (a ∷ [])) in
-        rw (List·getD-append (firsts l) (a ∷ []) d p low) (earlier l a k p low)
+  -- before the first place
+  pub skip-start : old ≡ splice from (take (from - from) run) old
+  skip-start = let e : from - from ≡ 0 = omega arith in rw e (copy-start from run old)
 
-    go : (l : List Arrival) (a : Arrival) → At l → (t : Bool) → has (a .number) l ≡ t → At (l ++ (a ∷ []))
-    go l a k true q p h =
-        let e : firsts (l ++ (a ∷ [])) ≡ firsts l = firsts-more l a ∙ with-duplicate (firsts l) a (has-firsts (a .number) l ∙ q) in
-        rw e (earlier l a k p (rw e at h))
-    go l a k false q p h =
-        let e : firsts (l ++ (a ∷ [])) ≡ firsts l ++ (a ∷ []) = one-more l a q in
-        rw e (new-at l a k q p (rw e at h) (eqb p (length (firsts l))) refl)
+  module _ (k : ℕ) (table : List ℕ) (low : from ≤ k) (high : k ≤ to) (e : table ≡ splice from (take (k - from) run) old) where
+    -- the length stays
+    pub skip-length : length table ≡ length old
+    skip-length = ap length e ∙ copy-length from run old (k - from) (omega (arith, run-length)) (omega arith)
 
-    more : (l : List Arrival) (a : Arrival) → At l → At (l ++ (a ∷ []))
-    more l a k = go l a k (has (a .number) l) refl
+    -- one place more
+    pub skip-next : k < to → set table k value ≡ splice from (take (k + 1 - from) run) old
+    skip-next h =
+        let m : from + (k - from) ≡ k = omega arith in
+        let n : k - from + 1 ≡ k + 1 - from = omega arith in
+        rw (m, n) at (copy-next from run old (k - from) 0 (omega (arith, run-length)) (omega arith) e (sym (getD-replicate (to - from) (k - from) value 0 (omega arith))))
 
--- ---- skipping
+    -- after the last place
+    pub skip-done : to ≤ k → table ≡ splice from run old
+    skip-done h = copy-done from run old (k - from) (omega (arith, run-length)) e
 
--- before the first place
-pub skipping-none : (from value : ℕ) (old : List ℕ) → Skipping from from value old old
-skipping-none from value old = record { filled = filled-none from value old; past = λ k h. refl }
+  -- then the length is as it was
+  pub skipped-length : length (splice from run old) ≡ length old
+  skipped-length = splice-length from run old (omega (arith, run-length))
 
--- one place more
-pub skipping-more : (from to value : ℕ) (old new : List ℕ) → from ≤ to → to < length new → Skipping from to value old new
-    → Skipping from (to + 1) value old (set new to value)
-skipping-more from to value old new h g f =
-    record {
-      filled = filled-more from to value old new h g (f .filled);
-      past = λ k a. drop-set-lt k new to value (omega arith) ∙ f .past k (omega arith);
-    }
+  -- and what stands from a later place on
+  pub skipped-past : (k : ℕ) → to ≤ k → drop k (splice from run old) ≡ drop k old
+  skipped-past k h = splice-drop from run old k (omega (arith, run-length)) (omega arith)
 
--- what stands then at any place
-pub skipping-at : (from to value : ℕ) (old new : List ℕ) → Skipping from to value old new → (k : ℕ)
-    → getD new k 0 ≡ cond (leb from k && ltb k to) value (getD old k 0)
-skipping-at from to value old new f k = go (leb from k) refl (ltb k to) refl
-  where
-    head : (l : List ℕ) → getD (drop k l) 0 0 ≡ getD l k 0
-    head l = let z : k + 0 ≡ k = omega arith in rw z at (getD-drop k l 0 0)
+  -- and at any place stands the value or what stood there
+  pub skipped-at : (k : ℕ) → getD (splice from run old) k 0 ≡ cond (leb from k && ltb k to) value (getD old k 0)
+  skipped-at k = go (leb from k) refl (ltb k to) refl
+    where
+      from-place : (n : ℕ) (l : List ℕ) → n ≤ k → getD (drop n l) (k - n) 0 ≡ getD l k 0
+      from-place n l h = let z : n + (k - n) ≡ k = omega arith in rw z at (getD-drop n l (k - n) 0)
 
-    go : (t : Bool) → leb from k ≡ t → (u : Bool) → ltb k to ≡ u → getD new k 0 ≡ cond (t && u) value (getD old k 0)
-    go true e true q = f .filled .inside k (leb-true _ _ e) (ltb-true _ _ q)
-    go true e false q = sym (head new) ∙ ap (λ (l : List ℕ). getD l 0 0) (f .past k (ltb-false _ _ q)) ∙ head old
-    go false e u q = f .filled .below k (leb-false _ _ e)
+      go : (t : Bool) → leb from k ≡ t → (u : Bool) → ltb k to ≡ u → getD (splice from run old) k 0 ≡ cond (t && u) value (getD old k 0)
+      go true e true q =
+          let l : from ≤ k = leb-true _ _ e in
+          let h : k < to = ltb-true _ _ q in
+          sym (from-place from (splice from run old) l) ∙ ap (λ (m : List ℕ). getD m (k - from) 0) (splice-tail from run old (omega arith))
+          ∙ List·getD-append run _ 0 (k - from) (omega (arith, run-length)) ∙ getD-replicate (to - from) (k - from) value 0 (omega arith)
+      go true e false q =
+          let h : to ≤ k = ltb-false _ _ q in
+          sym (from-place to (splice from run old) h) ∙ ap (λ (m : List ℕ). getD m (k - to) 0) (skipped-past to (omega arith)) ∙ from-place to old h
+      go false e u q =
+          let h : k < from = leb-false _ _ e in
+          sym (getD-take from (splice from run old) k 0 h) ∙ ap (λ (m : List ℕ). getD m k 0) (splice-take from run old from (omega arith) (omega arith)) ∙ getD-take from old k 0 h

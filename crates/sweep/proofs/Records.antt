@@ -1,13 +1,22 @@
--- The figures of record i + 1 by what stands in the table, and the table after it. Assumes nothing.
+-- The figures of record i + 1 by what stands at its packet in the table, the mark, and the table after it. A packet that has arrived has
+-- the mark 4,097, and any other 0 or the number of a record, which is at most 4,096; so the mark tells a copy (`is-copy`, `is-new`). The
+-- mark of a reordered packet is the record of its discontinuity: at that record stand its time in the file (`jump-time`) and its position
+-- in the list of positions (`jump-position`), which give late time and extent (`figures-late`). A copy leaves the table (`held-copy`).
+-- Under a first arrival `mark-more` says what must stand at each packet (`held-new`): where it is reordered only its own mark changes
+-- (`held-late`), and where it is in order the packets that it skips have been filled before (`held-in-order`).
+-- Here d is the decoded file, y its layout, i the records before, number and mark those of record i + 1, k what is known of them, h on
+-- which side of 4,096 the mark is, late that the number is below NextExp, t that the table is that after the records before, s any packet's
+-- number, which stands at place s - 1, and table′ the table after the record. Assumes nothing.
 use mathlib.Core.Path.{_≡_, refl, sym, ap, _∙_}
 use mathlib.Core.Bool.{Bool, true, false, cond, _&&_}
 use mathlib.Core.List.{List, [], _∷_, _++_}
 use Prim.Native.Nat.{ℕ, _+_, _-_, _≤_, _<_}
 use native.Mathlib.Omega.{arith}
 use lib.Dec.{eqb, leb, ltb}
-use lib.ListN.{length, getD, set, drop, length-set, length-append}
+use lib.ListN.{length, getD, set, take, drop, replicate, length-set, length-append}
 use lib.Seq.{getD-take, getD-set-same, getD-set-other, drop-set-lt}
 use borrow.Author.Tests.{eqb-true, eqb-false, leb-true, leb-false, le-leb, lt-leb, ltb-true, ltb-false, lt-ltb, le-ltb}
+use Rattle.octets.specs.Memory.{splice}
 use Rattle.rfc4737.specs.declared.Arrival.{Arrival}
 use Rattle.rfc4737.specs.Judge.{arrivalsMost}
 use Rattle.rfc4737.specs.Times.{elapsed}
@@ -16,28 +25,27 @@ use Rattle.rfc4737.specs.Arrivals.{has, firsts, firstRecord}
 use Rattle.rfc4737.specs.Order.{nextExp, nextAfter}
 use Rattle.rfc4737.specs.Extent.{extentFrom, lateFrom}
 use Rattle.rfc4737.specs.Answer.{inOrderAnswer, reorderedAnswer}
-use Rattle.rfc4737.proofs.Arrivals.{firsts-more, with-duplicate, has-firsts, length-firsts}
+use Rattle.rfc4737.proofs.Arrivals.{firsts-duplicate, firsts-first, length-firsts}
 use Rattle.rfc4737.proofs.Folds.{next-more, next-positive, answer-duplicate, answer-first, first-in-order, first-reordered}
 use Rattle.sample.specs.declared.Layout.{Layout}
 use Rattle.sample.specs.Decode.{Decoded}
 use Rattle.metrics.specs.Sample.{sizeOf, sampleArrivals}
 use Rattle.sample.specs.Places.{noArrival}
-use Rattle.metrics.specs.Private.Sample.{arrivalAt, before, answerAt, HasRecord}
-use Rattle.metrics.proofs.Follow.{before-more, before-length}
+use Rattle.metrics.specs.Private.Sample.{arrivalAt, before, answerAt, answersTo, HasRecord}
+use Rattle.metrics.proofs.TablesFollow.{before-more, before-length}
 use Rattle.metrics.proofs.Records.{record-some, first-at}
 use Rattle.sweep.specs.declared.table.State.{State}
-use Rattle.sweep.specs.Figures.{figuresOf}
-use Rattle.sweep.specs.Swept.{places}
-use Rattle.sweep.specs.Private.Table.{arrivedMark, markOf, TableAfter, Skipping}
-use Rattle.sweep.specs.Private.PassInvariant.{PositionsBefore}
-use Rattle.sweep.proofs.Marks.{mark-arrived, mark-copy, mark-more, one-more, mark-ahead, Behind, behind, position-at, skipping-at}
+use Rattle.sweep.specs.Figures.{figuresOf, positionsOf}
+use Rattle.sweep.specs.Calls.{tablePlaces}
+use Rattle.sweep.specs.Private.{arrivedMark, markOf, TableAfter}
+use Rattle.sweep.proofs.Marks.{mark-arrived, mark-copy, mark-more, mark-ahead, SkippingJump, skipping-jump, position-at, skipped-length, skipped-past, skipped-at}
 
 -- of record i + 1: its number, what stands at its packet in the table, and the state after the arrivals before it
-pub record Known (d : Decoded) (y : Layout) (i number mark : ℕ) (state : State) : Type 0 where
+pub record KnownRecord (d : Decoded) (y : Layout) (i number mark : ℕ) (state : State) : Type 0 where
   pub has : HasRecord d y i
   pub is : number ≡ arrivalAt d i .number
   pub low : 1 ≤ number
-  pub high : number ≤ places
+  pub high : number ≤ tablePlaces
   pub stands : mark ≡ markOf (before d i) number
   pub count : state .count ≡ length (firsts (before d i))
   pub next : state .next ≡ nextExp (firsts (before d i))
@@ -57,13 +65,13 @@ ltb-pred a b h g = go (ltb a b) refl
     go true e = let q : a < b = ltb-true _ _ e in lt-ltb (a - 1) (b - 1) (omega arith)
     go false e = let q : b ≤ a = ltb-false _ _ e in le-ltb (a - 1) (b - 1) (omega arith)
 
-module _ (d : Decoded) (y : Layout) (i number mark : ℕ) (state : State) (k : Known d y i number mark state) where
+module _ (d : Decoded) (y : Layout) (i number mark : ℕ) (state : State) (k : KnownRecord d y i number mark state) where
   -- there are few first arrivals
   pub few : (state .count ≤ i) × (i < arrivalsMost) × (1 ≤ state .next)
   few = omega (arith, k .count, k .next, length-firsts (before d i), before-length d y i (k .has), k .has .inside, k .has .file .few, next-positive (firsts (before d i)))
 
   -- a mark of at most 4,096 is at a packet that has not arrived
-  pub is-new : mark ≤ arrivalsMost → has (arrivalAt d i .number) (before d i) ≡ false
+  is-new : mark ≤ arrivalsMost → has (arrivalAt d i .number) (before d i) ≡ false
   is-new h = go (has (arrivalAt d i .number) (before d i)) refl
     where
       go : (t : Bool) → has (arrivalAt d i .number) (before d i) ≡ t → t ≡ false
@@ -73,9 +81,9 @@ module _ (d : Decoded) (y : Layout) (i number mark : ℕ) (state : State) (k : K
           absurd (omega arith)
 
   -- where its discontinuity stands if it is reordered
-  at-jump : mark ≤ arrivalsMost → number < state .next → Behind (before d i) (arrivalAt d i .number)
+  at-jump : mark ≤ arrivalsMost → number < state .next → SkippingJump (before d i) (arrivalAt d i .number)
   at-jump h late =
-      behind (before d i) (arrivalAt d i .number) (omega (arith, k .is, k .low)) (is-new h) (omega (arith, k .is, k .next))
+      skipping-jump (before d i) (arrivalAt d i .number) (omega (arith, k .is, k .low)) (is-new h) (omega (arith, k .is, k .next))
 
   mark-is : (h : mark ≤ arrivalsMost) (late : number < state .next) → mark ≡ firstRecord (at-jump h late .place .number) (before d i)
   mark-is h late = k .stands ∙ ap (markOf (before d i)) (k .is) ∙ at-jump h late .mark
@@ -103,13 +111,14 @@ module _ (d : Decoded) (y : Layout) (i number mark : ℕ) (state : State) (k : K
       ∙ ap (λ (a : Arrival). a .time) (first-at noArrival (before d i) (at-jump h late .place .position - 1) (place-inside h late))
       ∙ ap (λ (a : Arrival). a .time) (at-jump h late .stands)
 
-  module _ (positions : List ℕ) (p : PositionsBefore d i positions) where
+  module _ (positions : List ℕ) (p : take i positions ≡ positionsOf (answersTo d i)) where
     -- and its position in the list of positions
     jump-position : (h : mark ≤ arrivalsMost) (late : number < state .next) → getD positions (mark - 1) 0 ≡ at-jump h late .place .position
     jump-position h late =
         let f = at-jump h late in
         let e = position-at (sizeOf d) noArrival (before d i) (at-jump h late .place .position - 1) (place-inside h late) in
-        p .at (mark - 1) (omega (arith, jump-inside h late))
+        sym (getD-take i positions (mark - 1) 0 (omega (arith, jump-inside h late)))
+        ∙ ap (λ (l : List ℕ). getD l (mark - 1) 0) p
         ∙ rw (← mark-at h late) at e
         ∙ omega (arith, f .low)
 
@@ -151,7 +160,7 @@ module _ (d : Decoded) (y : Layout) (i number mark : ℕ) (state : State) (k : K
           let e : mark ≡ 0 = k .stands ∙ ap (markOf (before d i)) (k .is) ∙ mark-ahead (before d i) s (omega (arith, k .is, k .low)) (leb-true _ _ r) in
           absurd (omega arith)
       go false q false r =
-          let j = behind (before d i) s (omega (arith, k .is, k .low)) q (leb-false _ _ r) in
+          let j = skipping-jump (before d i) s (omega (arith, k .is, k .low)) q (leb-false _ _ r) in
           let e : mark ≡ firstRecord (j .place .number) (before d i) = k .stands ∙ ap (markOf (before d i)) (k .is) ∙ j .mark in
           let b = record-some (j .place .number) (before d i) (j .arrived) in
           absurd (omega (arith, e, b, few, before-length d y i (k .has)))
@@ -168,8 +177,7 @@ module _ (d : Decoded) (y : Layout) (i number mark : ℕ) (state : State) (k : K
     pub held-copy : arrivalsMost < mark → TableAfter (before d (i + 1)) table state
     held-copy h =
         let arrived = is-copy h in
-        let same : firsts (before d i ++ (arrivalAt d i ∷ [])) ≡ firsts (before d i) =
-        firsts-more (before d i) (arrivalAt d i) ∙ with-duplicate (firsts (before d i)) (arrivalAt d i) (has-firsts (arrivalAt d i .number) (before d i) ∙ arrived) in
+        let same : firsts (before d i ++ (arrivalAt d i ∷ [])) ≡ firsts (before d i) = firsts-duplicate (before d i) (arrivalAt d i) arrived in
         rw (before-more d y i (k .has))
         (record {
           room = t .room;
@@ -180,7 +188,7 @@ module _ (d : Decoded) (y : Layout) (i number mark : ℕ) (state : State) (k : K
 
     -- after a first arrival: at its packet that it has arrived, at those that it skips its record, all else as it was
     held-new : mark ≤ arrivalsMost → (table′ : List ℕ) → length table′ ≡ length table
-        → ((s : ℕ) → 1 ≤ s → s ≤ places → getD table′ (s - 1) 0 ≡ cond (eqb number s) arrivedMark (cond (leb (state .next) s && ltb s number) (i + 1) (getD table (s - 1) 0)))
+        → ((s : ℕ) → 1 ≤ s → s ≤ tablePlaces → getD table′ (s - 1) 0 ≡ cond (eqb number s) arrivedMark (cond (leb (state .next) s && ltb s number) (i + 1) (getD table (s - 1) 0)))
         → (next : ℕ) → next ≡ nextAfter (state .next) number
         → TableAfter (before d (i + 1)) table′ (record { count = state .count + 1; next = next })
     held-new h table′ same at next e =
@@ -190,8 +198,8 @@ module _ (d : Decoded) (y : Layout) (i number mark : ℕ) (state : State) (k : K
           room = omega (arith, same, t .room);
           at = λ s low high. at s low high
               ∙ rw (t .at s low high, k .is, t .next) (sym (rw (before-length d y i (k .has)) at (mark-more (before d i) (arrivalAt d i) new s low)));
-          count = rw (one-more (before d i) (arrivalAt d i) new, length-append (firsts (before d i)) (arrivalAt d i ∷ [])) (ap (λ (n : ℕ). n + 1) (t .count));
-          next = rw (one-more (before d i) (arrivalAt d i) new, next-more (firsts (before d i)) (arrivalAt d i)) (e ∙ rw (t .next, k .is));
+          count = rw (firsts-first (before d i) (arrivalAt d i) new, length-append (firsts (before d i)) (arrivalAt d i ∷ [])) (ap (λ (n : ℕ). n + 1) (t .count));
+          next = rw (firsts-first (before d i) (arrivalAt d i) new, next-more (firsts (before d i)) (arrivalAt d i)) (e ∙ rw (t .next, k .is));
         })
 
     -- one that is reordered
@@ -202,7 +210,7 @@ module _ (d : Decoded) (y : Layout) (i number mark : ℕ) (state : State) (k : K
         held-new h (set table (number - 1) arrivedMark) (length-set table (number - 1) arrivedMark) (λ s low high. go s low high (eqb number s) refl)
         (state .next) (rw (lt-leb (state .next) number late))
       where
-        go : (s : ℕ) → 1 ≤ s → s ≤ places → (b : Bool) → eqb number s ≡ b
+        go : (s : ℕ) → 1 ≤ s → s ≤ tablePlaces → (b : Bool) → eqb number s ≡ b
             → getD (set table (number - 1) arrivedMark) (s - 1) 0 ≡ cond b arrivedMark (cond (leb (state .next) s && ltb s number) (i + 1) (getD table (s - 1) 0))
         go s low high true q =
             let e : number ≡ s = eqb-true number s q in
@@ -219,30 +227,37 @@ module _ (d : Decoded) (y : Layout) (i number mark : ℕ) (state : State) (k : K
                 let b : number ≤ s = omega arith in
                 rw (le-ltb s number b)
 
-    -- one that is in order
-    pub held-in-order : mark ≤ arrivalsMost → state .next ≤ number → (filled : List ℕ) → Skipping (state .next - 1) (number - 1) (i + 1) table filled
-        → TableAfter (before d (i + 1)) (set filled (number - 1) arrivedMark) (record { count = state .count + 1; next = number + 1 })
-    unfolding nextAfter
-    held-in-order h ahead filled f =
-        held-new h (set filled (number - 1) arrivedMark) (length-set filled (number - 1) arrivedMark ∙ f .filled .same) (λ s low high. go s low high (eqb number s) refl)
-        (number + 1) (rw (le-leb (state .next) number ahead))
-      where
-        go : (s : ℕ) → 1 ≤ s → s ≤ places → (b : Bool) → eqb number s ≡ b
-            → getD (set filled (number - 1) arrivedMark) (s - 1) 0 ≡ cond b arrivedMark (cond (leb (state .next) s && ltb s number) (i + 1) (getD table (s - 1) 0))
-        go s low high true q =
-            let e : number ≡ s = eqb-true number s q in
-            rw e (getD-set-same filled (s - 1) arrivedMark 0 (omega (arith, t .room, f .filled .same)))
-        go s low high false q =
-            let other : number ≡ s → ⊥ = eqb-false number s q in
-            let apart : s - 1 ≡ number - 1 → ⊥ = λ e. other (omega (arith, k .low)) in
-            getD-set-other filled (number - 1) (s - 1) arrivedMark 0 apart ∙ skipping-at _ _ _ _ _ f (s - 1)
-            ∙ rw (leb-pred (state .next) s (few .2) low, ltb-pred s number low (k .low))
-
     -- places past the table's stay
-    pub rest-late : drop places (set table (number - 1) arrivedMark) ≡ drop places table
-    rest-late = drop-set-lt places table (number - 1) arrivedMark (omega (arith, k .low, k .high))
+    pub rest-late : drop tablePlaces (set table (number - 1) arrivedMark) ≡ drop tablePlaces table
+    rest-late = drop-set-lt tablePlaces table (number - 1) arrivedMark (omega (arith, k .low, k .high))
 
-    pub rest-in-order : (filled : List ℕ) → Skipping (state .next - 1) (number - 1) (i + 1) table filled
-        → drop places (set filled (number - 1) arrivedMark) ≡ drop places table
-    rest-in-order filled f =
-        drop-set-lt places filled (number - 1) arrivedMark (omega (arith, k .low, k .high)) ∙ f .past places (omega (arith, k .high))
+    -- one that is in order: its record is put at those that it skips
+    module _ (ahead : state .next ≤ number) (filled : List ℕ) (f : filled ≡ splice (state .next - 1) (replicate (number - 1 - (state .next - 1)) (i + 1)) table) where
+      inside : (state .next - 1 ≤ number - 1) × (number - 1 < length table)
+      inside = omega (arith, k .low, k .high, t .room)
+
+      same : length filled ≡ length table
+      same = ap length f ∙ skipped-length _ _ _ table (inside .0) (omega (arith, inside .1))
+
+      pub held-in-order : mark ≤ arrivalsMost → TableAfter (before d (i + 1)) (set filled (number - 1) arrivedMark) (record { count = state .count + 1; next = number + 1 })
+      unfolding nextAfter
+      held-in-order h =
+          held-new h (set filled (number - 1) arrivedMark) (length-set filled (number - 1) arrivedMark ∙ same) (λ s low high. go s low high (eqb number s) refl)
+          (number + 1) (rw (le-leb (state .next) number ahead))
+        where
+          go : (s : ℕ) → 1 ≤ s → s ≤ tablePlaces → (b : Bool) → eqb number s ≡ b
+              → getD (set filled (number - 1) arrivedMark) (s - 1) 0 ≡ cond b arrivedMark (cond (leb (state .next) s && ltb s number) (i + 1) (getD table (s - 1) 0))
+          go s low high true q =
+              let e : number ≡ s = eqb-true number s q in
+              rw e (getD-set-same filled (s - 1) arrivedMark 0 (omega (arith, t .room, same)))
+          go s low high false q =
+              let other : number ≡ s → ⊥ = eqb-false number s q in
+              let apart : s - 1 ≡ number - 1 → ⊥ = λ e. other (omega (arith, k .low)) in
+              getD-set-other filled (number - 1) (s - 1) arrivedMark 0 apart
+              ∙ ap (λ (l : List ℕ). getD l (s - 1) 0) f ∙ skipped-at _ _ _ table (inside .0) (omega (arith, inside .1)) (s - 1)
+              ∙ rw (leb-pred (state .next) s (few .2) low, ltb-pred s number low (k .low))
+
+      pub rest-in-order : drop tablePlaces (set filled (number - 1) arrivedMark) ≡ drop tablePlaces table
+      rest-in-order =
+          drop-set-lt tablePlaces filled (number - 1) arrivedMark (omega (arith, k .low, k .high))
+          ∙ ap (drop tablePlaces) f ∙ skipped-past _ _ _ table (inside .0) (omega (arith, inside .1)) tablePlaces (omega (arith, k .high))

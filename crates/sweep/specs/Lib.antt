@@ -1,4 +1,4 @@
--- What the sweep answers (Swept, over Figures). Assumes nothing.
+-- What the sweep answers (Calls, over Figures). Assumes nothing.
 pub mod Figures
-pub mod Swept
+pub mod Calls
 pub mod Private

@@ -2,7 +2,7 @@
 // lists with the flag, position, extent and late time of every record. The whole is linear in arrivals and packets.
 ghost use mathlib.Core.Path.{_≡_};
 ghost use Rattle.sample.specs.Decode.{decode, refused, layoutOf};
-ghost use Rattle.sweep.specs.Swept.{lentShort, lent, SweptTo, EnginesAgree};
+ghost use Rattle.sweep.specs.Calls.{lentShort, lent, SweptTo, EnginesAgree};
 
 mod pass;
 mod table;
@@ -24,7 +24,7 @@ pub struct Figures {
 }
 
 // The answer that a refusal has.
-fn refused_with(refusal: u32) -> Layout
+fn refused_layout(refusal: u32) -> Layout
     ensures { λ r. ⌜ r ≡ layoutOf (refused refusal) ⌝ }
 {
     Layout {
@@ -90,7 +90,7 @@ pub fn sweep(
         extents.len(),
         lates.len(),
     ) {
-        return refused_with(OUTPUT_SHORT);
+        return refused_layout(OUTPUT_SHORT);
     }
     clear(table);
     pass(file, y, table, flags, positions, extents, lates);

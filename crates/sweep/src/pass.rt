@@ -1,17 +1,17 @@
 // The pass over the arrivals: of each record the figures go into the lists, and what it changes into the table.
 ghost use mathlib.Core.Path.{_≡_};
 ghost use Prim.Native.Nat.{_+_, _≤_};
-ghost use lib.ListN.{drop};
+ghost use lib.ListN.{take, drop};
 ghost use Rattle.sample.specs.Decode.{decode};
-ghost use Rattle.metrics.specs.Private.Sample.{HasRecord, arrivalAt, before, answerAt};
-ghost use Rattle.sweep.specs.Figures.{figuresOf};
-ghost use Rattle.sweep.specs.Swept.{places, lent};
-ghost use Rattle.sweep.specs.Private.Table.{TableAfter};
-ghost use Rattle.sweep.specs.Private.PassInvariant.{SweepReady, Room, PositionsBefore, Put, FilledWith};
+ghost use Rattle.metrics.specs.Private.Sample.{HasRecord, arrivalAt, before, answerAt, answersTo};
+ghost use Rattle.metrics.specs.Sample.{answersOf};
+ghost use Rattle.sweep.specs.Figures.{figuresOf, positionsOf};
+ghost use Rattle.sweep.specs.Calls.{tablePlaces, lent};
+ghost use Rattle.sweep.specs.Private.{TableAfter, Room, SweepReady, Put, FilledWith};
 use crate::Figures;
 use crate::table::ARRIVED;
 use crate::table::State;
-use crate::table::skip;
+use crate::table::note_skipped;
 use rfc4737::Arrival;
 use rfc4737::judge::ARRIVALS_MOST;
 use rfc4737::numbering::DUPLICATE;
@@ -33,7 +33,7 @@ const FLAG_DUPLICATE: u8 = DUPLICATE as u8;
 const RECORDS: usize = ARRIVALS_MOST as usize;
 
 // A number of the table, as a place.
-fn wide(x: u16) -> usize
+fn index_of(x: u16) -> usize
     ensures { λ r. ⌜ r ≡ x ⌝ }
 {
     x as usize
@@ -54,7 +54,7 @@ fn figures(flag: u8, position: u32, extent: u32, late: u64) -> Figures
 // The arrival of record i + 1, read where it stands: no test of the file's length is in the loop.
 fn arrival_at(file: &[u8], y: Layout, i: usize) -> Arrival
     requires { ⌜ HasRecord (decode (now file)) y i ⌝ }
-    ensures { λ r. ⌜ (r ≡ arrivalAt (decode (now (file .entry))) i) × (1 ≤ r .number) × (r .number ≤ places) ⌝ }
+    ensures { λ r. ⌜ (r ≡ arrivalAt (decode (now (file .entry))) i) × (1 ≤ r .number) × (r .number ≤ tablePlaces) ⌝ }
 {
     let start = sample::arrivals_at(y) + 12 * i;
     let end = start + 12;
@@ -63,7 +63,7 @@ fn arrival_at(file: &[u8], y: Layout, i: usize) -> Arrival
 }
 
 // Puts the figures of record i + 1 into the lists.
-fn put(
+fn put_figures(
     flags: &mut [u8],
     positions: &mut [u32],
     extents: &mut [u32],
@@ -71,7 +71,7 @@ fn put(
     i: u32,
     f: Figures,
 )
-    requires { ⌜ Room i (now flags) (now positions) (now extents) (now lates) ⌝ }
+    requires { ⌜ Room (i + 1) (now flags) (now positions) (now extents) (now lates) ⌝ }
     ensures { λ _. ⌜ Put i f (now (flags .entry)) (now (positions .entry)) (now (extents .entry)) (now (lates .entry))
         (now (flags .exit)) (now (positions .exit)) (now (extents .exit)) (now (lates .exit)) ⌝ }
 {
@@ -97,29 +97,29 @@ fn pass_record(
     state: State,
 ) -> State
     requires { ⌜ HasRecord (decode (now file)) y i × TableAfter (before (decode (now file)) i) (now table) state
-        × Room i (now flags) (now positions) (now extents) (now lates) × PositionsBefore (decode (now file)) i (now positions) ⌝ }
+        × Room (i + 1) (now flags) (now positions) (now extents) (now lates) × (take i (now positions) ≡ positionsOf (answersTo (decode (now file)) i)) ⌝ }
     ensures { λ r. ⌜ TableAfter (before (decode (now (file .entry))) (i + 1)) (now (table .exit)) r
-        × (drop places (now (table .exit)) ≡ drop places (now (table .entry)))
+        × (drop tablePlaces (now (table .exit)) ≡ drop tablePlaces (now (table .entry)))
         × Put i (figuresOf (answerAt (decode (now (file .entry))) i)) (now (flags .entry)) (now (positions .entry)) (now (extents .entry)) (now (lates .entry))
         (now (flags .exit)) (now (positions .exit)) (now (extents .exit)) (now (lates .exit)) ⌝ }
 {
     let arrival = arrival_at(file, y, i as usize);
     let number = arrival.number;
     let at = number as usize - 1;
-    let mark = wide(table[at]);
+    let mark = index_of(table[at]);
     if RECORDS < mark {
         let f = figures(FLAG_DUPLICATE, 0, 0, 0);
-        put(flags, positions, extents, lates, i, f);
+        put_figures(flags, positions, extents, lates, i, f);
         return state;
     }
     let count = state.count + 1;
     let next = state.next;
     if next <= number {
         let from = next as usize - 1;
-        skip(table, from, at, (i + 1) as u16);
+        note_skipped(table, from, at, (i + 1) as u16);
         table[at] = ARRIVED;
         let f = figures(FLAG_IN_ORDER, count, 0, 0);
-        put(flags, positions, extents, lates, i, f);
+        put_figures(flags, positions, extents, lates, i, f);
         let after = number + 1;
         return State { count, next: after };
     }
@@ -130,11 +130,11 @@ fn pass_record(
     let own = arrival.time;
     if own < past {
         let f = figures(FLAG_BEFORE, count, extent, past - own);
-        put(flags, positions, extents, lates, i, f);
+        put_figures(flags, positions, extents, lates, i, f);
         return State { count, next };
     }
     let f = figures(FLAG_AFTER, count, extent, own - past);
-    put(flags, positions, extents, lates, i, f);
+    put_figures(flags, positions, extents, lates, i, f);
     State { count, next }
 }
 
@@ -149,7 +149,7 @@ pub(crate) fn pass(
     lates: &mut [u64],
 )
     requires { ⌜ SweepReady (decode (now file)) y (lent (now table) (now flags) (now positions) (now extents) (now lates)) ⌝ }
-    ensures { λ _. ⌜ FilledWith (decode (now (file .entry)))
+    ensures { λ _. ⌜ FilledWith (answersOf (decode (now (file .entry))))
         (lent (now (table .entry)) (now (flags .entry)) (now (positions .entry)) (now (extents .entry)) (now (lates .entry)))
         (lent (now (table .exit)) (now (flags .exit)) (now (positions .exit)) (now (extents .exit)) (now (lates .exit))) ⌝ }
 {

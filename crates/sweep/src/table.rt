@@ -1,11 +1,10 @@
 // The table by packet number, packet s at place s - 1: 0 for a packet that no jump has skipped, the record of the jump that
 // did, or a number over 4,096 if the packet has arrived. Each place is written at most four times.
 ghost use mathlib.Core.Path.{_≡_};
-ghost use Prim.Native.Nat.{_≤_};
+ghost use Prim.Native.Nat.{_-_, _≤_};
 ghost use lib.ListN.{length, replicate};
-ghost use Rattle.octets.specs.Memory.{over};
-ghost use Rattle.sweep.specs.Swept.{places};
-ghost use Rattle.sweep.specs.Private.Table.{Skipping};
+ghost use Rattle.octets.specs.Memory.{over, splice};
+ghost use Rattle.sweep.specs.Calls.{tablePlaces};
 use rfc4737::judge::ARRIVALS_MOST;
 use rfc4737::judge::SENT_MOST;
 
@@ -23,8 +22,8 @@ pub(crate) struct State {
 
 // Sets the numbers of the table to 0.
 pub(crate) fn clear(table: &mut [u16])
-    requires { ⌜ places ≤ length (now table) ⌝ }
-    ensures { λ _. ⌜ now (table .exit) ≡ over (replicate places 0) (now (table .entry)) ⌝ }
+    requires { ⌜ tablePlaces ≤ length (now table) ⌝ }
+    ensures { λ _. ⌜ now (table .exit) ≡ over (replicate tablePlaces 0) (now (table .entry)) ⌝ }
 {
     let mut k: usize = 0;
     while k < PLACES {
@@ -34,9 +33,9 @@ pub(crate) fn clear(table: &mut [u16])
 }
 
 // Puts the record of a jump at the places from `from` to before `to`.
-pub(crate) fn skip(table: &mut [u16], from: usize, to: usize, jump: u16)
+pub(crate) fn note_skipped(table: &mut [u16], from: usize, to: usize, jump: u16)
     requires { ⌜ (from ≤ to) × (to ≤ length (now table)) ⌝ }
-    ensures { λ _. ⌜ Skipping from to jump (now (table .entry)) (now (table .exit)) ⌝ }
+    ensures { λ _. ⌜ now (table .exit) ≡ splice from (replicate (to - from) jump) (now (table .entry)) ⌝ }
 {
     let mut k = from;
     while k < to {

@@ -3,10 +3,8 @@
 // lists and the table hold after it. Before it every place of them holds one value, which is not written where it stays. A line there
 // begins with whether the lists are written or only what they come to, `list` or `sums`; then stand the case's name, the text of its
 // sample, what the table holds before, and how many places there are in the table and for flags, positions, extents and late times.
-mod after;
+mod lists;
 
-use after::write_lists;
-use after::write_table;
 use cases::fields::field;
 use cases::fields::number_in;
 use cases::fields::number_in_16;
@@ -14,8 +12,10 @@ use cases::lists::first_8;
 use cases::print::write_number;
 use cases::print::write_word;
 use cases::text::count;
+use cases::text::input;
 use cases::text::part;
-use libc::STDIN_FILENO;
+use lists::write_lists;
+use lists::write_table;
 use sample::Layout;
 use sample_text::ROOM;
 use sample_text::put_sample;
@@ -109,15 +109,10 @@ fn run(line: &[u8]) {
 }
 
 // Runs the cases of all lines.
-fn run_all(text: &[u8]) {
+fn main() {
+    let mut room = [0u8; MOST];
+    let text = input(&mut room);
     for i in 0..count(text, b'\n') {
         run(part(text, b'\n', i));
     }
-}
-
-// Runs all cases.
-fn main() {
-    let mut text = [0u8; MOST];
-    let n = io::read_full(STDIN_FILENO, &mut text);
-    run_all(first_8(&text, n));
 }

@@ -1,5 +1,9 @@
--- A log that is not refused: it has the form, its arrivals are not refused, and with payload sizes of one size they are a fit
--- sample. Assumes nothing.
+-- A log that is not refused. Line by line (`accepted-lines`, by induction on the lines with the count and the reference carried along) an
+-- answer without a refusal means that the first line decodes, is not the 4,097th and is not refused, and that the others are so from the next
+-- reference on; `AcceptedLines` collects what holds then: the form, the judge's answer, times that fit, how many there are. With K in its range
+-- this is a log of the form whose arrivals are not refused as lists (`accepted-log`, `accepted-lists`); with K payload sizes of one size they
+-- are a fit sample (`fit-sample`), which the sample's writer refuses with nothing but 8 and whose file decodes to it (`fit-log`).
+-- Here k is K, l a line and ls lines, a the arrival of a line, s a sample. Assumes nothing.
 use Prim.Native.Nat.{ℕ, zero, suc, _+_, _^_, _≤_, _<_}
 use native.Mathlib.Nat.{add-zero, zero-add}
 use native.Mathlib.Omega.{arith}
@@ -14,12 +18,12 @@ use Rattle.octets.proofs.Below.{below-nil, below-cons}
 use Rattle.octets.proofs.Text.{lines-joined}
 use Rattle.rfc4737.specs.declared.Arrival.{Arrival}
 use Rattle.rfc4737.specs.Judge.{sentMost, arrivalsMost, numbersOf, timesOf, arrivalsFrom, judgeOne, judge, judgeSent, refusalOfLists}
-use Rattle.rfc4737.specs.Refusals.{outside, inCase, manyArrivals, sentOutside, outputShort}
+use Rattle.rfc4737.specs.Refusals.{inCase, manyArrivals, sentOutside, outputShort, lineMalformed}
 use Rattle.rfc4737.specs.Times.{nextReference}
-use Rattle.rfc4737.proofs.Due.{first-none, first-next, first-one, case-none, not-outside, between}
+use Rattle.rfc4737.proofs.Due.{first-none, first-next, first-one, case-none, not-outside, limit-none}
 use Rattle.rfc4737.proofs.Judged.{fit-lists}
 use Rattle.rfc4737.proofs.Pairs.{arrivals-back}
-use Rattle.sample.specs.Format.{Sample, fileOf}
+use Rattle.sample.specs.Format.{Sample, labelMost, fileOf}
 use Rattle.sample.specs.Judge.{judgeLabel, someUnshown, FitSample}
 use Rattle.sample.specs.Decode.{decode, accepted}
 use Rattle.sample.specs.Calls.{sampleRefusal, WrittenTo}
@@ -38,7 +42,7 @@ use Rattle.textlog.proofs.Filling.{lines-length}
 -- ---- lines of which none is refused
 
 -- what holds of them, where so many lines come before them
-pub record Lines (k count reference : ℕ) (ls : List (List ℕ)) : Type 0 where
+pub record AcceptedLines (k count reference : ℕ) (ls : List (List ℕ)) : Type 0 where
   pub answer : judgeLines k count reference ls ≡ record { refusal = 0; arrivals = count + length ls; line = 0 }
   pub form : Log (flatten ls) (arrivalsOfLines ls)
   pub decodes : (j : ℕ) → j < length ls → decodeLine (getD ls j []) ≡ malformed → ⊥
@@ -47,7 +51,7 @@ pub record Lines (k count reference : ℕ) (ls : List (List ℕ)) : Type 0 where
   pub few : count + length ls ≤ arrivalsMost
 
 -- no line
-no-lines : (k count reference : ℕ) → count ≤ arrivalsMost → Lines k count reference []
+no-lines : (k count reference : ℕ) → count ≤ arrivalsMost → AcceptedLines k count reference []
 unfolding judgeLines judge flatten arrivalsOfLines
 no-lines k count reference h =
     record {
@@ -62,7 +66,7 @@ no-lines k count reference h =
 -- a line of which nothing is refused, and others
 one-line : (k count reference : ℕ) (l : List ℕ) (ls : List (List ℕ)) (a : Arrival) → decodeLine l ≡ arrived a → judgeOne k reference a ≡ 0
     → judgeLines k count reference (l ∷ ls) ≡ judgeLines k (count + 1) (nextReference reference (a .time)) ls
-    → Lines k (count + 1) (nextReference reference (a .time)) ls → Lines k count reference (l ∷ ls)
+    → AcceptedLines k (count + 1) (nextReference reference (a .time)) ls → AcceptedLines k count reference (l ∷ ls)
 unfolding judge flatten arrivalsOfLines
 one-line k count reference l ls a d j y r =
     let n : count + 1 + length ls ≡ count + suc (length ls) = omega arith in
@@ -83,18 +87,19 @@ one-line k count reference l ls a d j y r =
     first zero b m = absurd (let z : _≡_ {A = ℕ} 0 1 = cc in omega arith)
     first (suc i) b m = r .decodes i (omega arith) m
 
-pub accepted-lines : (k count reference : ℕ) (ls : List (List ℕ)) → count ≤ arrivalsMost → judgeLines k count reference ls .refusal ≡ 0
-    → Lines k count reference ls
+-- so it is with all lines of an answer without a refusal
+accepted-lines : (k count reference : ℕ) (ls : List (List ℕ)) → count ≤ arrivalsMost → judgeLines k count reference ls .refusal ≡ 0
+    → AcceptedLines k count reference ls
 accepted-lines k count reference [] h e = no-lines k count reference h
 accepted-lines k count reference (l ∷ ls) h e =
     go (decodeLine l) refl (accepted-lines k (count + 1) (nextReference reference (arrivalOr0 (decodeLine l) .time)) ls)
   where
     go : (d : DecodedLine) → decodeLine l ≡ d
         → (count + 1 ≤ arrivalsMost → judgeLines k (count + 1) (nextReference reference (arrivalOr0 d .time)) ls .refusal ≡ 0
-        → Lines k (count + 1) (nextReference reference (arrivalOr0 d .time)) ls)
-        → Lines k count reference (l ∷ ls)
+        → AcceptedLines k (count + 1) (nextReference reference (arrivalOr0 d .time)) ls)
+        → AcceptedLines k count reference (l ∷ ls)
     go malformed d f =
-        let z : _≡_ {A = ℕ} 14 0 = ap (λ (y : LogImport). y .refusal) (sym (judge-first k count reference l ls malformed d)) ∙ e in
+        let z : _≡_ {A = ℕ} lineMalformed 0 = ap (λ (y : LogImport). y .refusal) (sym (judge-first k count reference l ls malformed d)) ∙ e in
         absurd (omega arith)
     go (arrived a) d f =
         let y = judge-first k count reference l ls (arrived a) d in
@@ -106,20 +111,20 @@ accepted-lines k count reference (l ∷ ls) h e =
 -- ---- a log
 
 -- what holds of a log that is not refused
-pub record Accepted (k : ℕ) (log : List ℕ) : Type 0 where
+pub record AcceptedLog (k : ℕ) (log : List ℕ) : Type 0 where
   pub sent : judgeSent k ≡ 0
   pub least : 1 ≤ k
   pub most : k ≤ sentMost
   pub answer : judgeLog k log ≡ record { refusal = 0; arrivals = length (lines log); line = 0 }
   pub form : Log log (logArrivals log)
-  pub inTurn : Lines k 0 0 (lines log)
+  pub inTurn : AcceptedLines k 0 0 (lines log)
 
-pub accepted-log : (k : ℕ) (log : List ℕ) → judgeLog k log .refusal ≡ 0 → Accepted k log
+pub accepted-log : (k : ℕ) (log : List ℕ) → judgeLog k log .refusal ≡ 0 → AcceptedLog k log
 unfolding judgeLog
 accepted-log k log e =
     let s = unless-split (judgeSent k) 0 (judgeLines k 0 0 (lines log)) e in
     let a = accepted-lines k 0 0 (lines log) (omega arith) (s .2) in
-    let b = between 1 sentMost k (case-none (outside 1 sentMost k) sentOutside (omega arith) (s .0)) in
+    let b = limit-none 1 sentMost k sentOutside (omega arith) (s .0) in
     record {
       sent = s .0;
       least = b .0;
@@ -143,11 +148,11 @@ module _ (k : ℕ) (log : List ℕ) (e : judgeLog k log .refusal ≡ 0) where
       (ap (judge k 0) (arrivals-back (logArrivals log)) ∙ a .inTurn .judged)
 
   -- with so many payload sizes of one size, they are a fit sample
-  pub fit-sample : (size : ℕ) → size < 2 ^ 16 → FitSample (sampleWith k size (logArrivals log))
+  fit-sample : (size : ℕ) → size < 2 ^ 16 → FitSample (sampleWith k size (logArrivals log))
   unfolding sampleRefusal someUnshown
   fit-sample size h =
       let m : length (replicate k size) ≡ k = length-replicate k size in
-      let z : judgeLabel 0 ≡ 0 = rw (not-outside 0 64 0 (omega arith) (omega arith)) in
+      let z : judgeLabel 0 ≡ 0 = rw (not-outside 0 labelMost 0 (omega arith) (omega arith)) in
       record {
         judged = rw (z, m, accepted-lists);
         sizes = below-replicate k;
@@ -173,7 +178,7 @@ module _ (s : Sample) (fit : FitSample s) where
   unfolding outputRefusal
   short-alone room = rw (fit .judged, same) (first-one _)
 
-  pub fit-writable : Writable s
+  fit-writable : Writable s
   fit-writable = record { fit = fit; refusal = λ out out′ written w. w .refusal ∙ short-alone (length out); decodes = written-decodes }
     where
       written-decodes : (out out′ : List ℕ) (written : WriteAnswer)

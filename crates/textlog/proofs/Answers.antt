@@ -1,4 +1,7 @@
--- What the importer answers at each `return` of the code. Assumes nothing.
+-- What the importer answers, by cases of y, what `judge_log` answered: a refusal is the answer, and the lists stay; with none, 8 comes last
+-- (`last`): a list is too short, or both have a place for each line, since there are as many arrivals as lines and each line decodes (`fillable`),
+-- and they are filled. No log that is not refused has more than 4,096 lines, so with as many places 8 is never given (`import-room`).
+-- Here z says that y has no refusal, r is an answer; numbers′ and times′ are the lists after the call. Assumes nothing.
 use Prim.Native.Nat.{ℕ, zero, suc, _≤_}
 use native.Mathlib.Omega.{arith}
 use mathlib.Core.Bool.{Bool, true, false}
@@ -11,10 +14,10 @@ use Rattle.octets.specs.Memory.{over}
 use Rattle.rfc4737.specs.Judge.{arrivalsMost, numbersOf, timesOf}
 use Rattle.octets.specs.Text.{lines}
 use Rattle.rfc4737.specs.Refusals.{inCase, outputShort}
-use Rattle.rfc4737.proofs.Due.{or-false}
+use Rattle.rfc4737.proofs.Due.{neither}
 use Rattle.textlog.specs.Decode.{logArrivals, unless, judgeLog}
 use Rattle.textlog.specs.Calls.{logListsShort, shortLast, importAnswer, arrivalsUnless, LogImportedFrom}
-use Rattle.textlog.specs.Private.Filling.{Fillable}
+use Rattle.textlog.specs.Private.{Fillable}
 use Rattle.textlog.specs.declared.LogImport.{LogImport}
 use Rattle.textlog.proofs.Accepted.{accepted-log}
 
@@ -64,7 +67,7 @@ module _ (k : ℕ) (log numbers times : List ℕ) (y : LogImport) (e : y ≡ jud
       fillable =
           let a = accepted-log k log none in
           let m : y .arrivals ≡ length (lines log) = ap (λ (x : LogImport). x .arrivals) (e ∙ a .answer) in
-          let s = or-false (ltb (length numbers) (y .arrivals)) (ltb (length times) (y .arrivals)) h in
+          let s = neither (ltb (length numbers) (y .arrivals)) (ltb (length times) (y .arrivals)) h in
           let p = ltb-false (length numbers) (y .arrivals) (s .0) in
           let q = ltb-false (length times) (y .arrivals) (s .1) in
           record { decodes = a .inTurn .decodes; numbersRoom = omega arith; timesRoom = omega arith }

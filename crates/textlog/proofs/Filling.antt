@@ -1,5 +1,9 @@
 -- A loop that fills two lists with the arrivals of a log: after i lines, which end at the place `at`, the lists hold the values of the first i
--- arrivals, and the log from there on has the lines that are left (`Filled`). What is left from i on, x ∷ xs, gives element i (`left`). Assumes nothing.
+-- arrivals, and the log from there on has the lines that are left (`Filled`). The line that is read at `at` is the first of these, so it is
+-- line i and its arrival is arrival i (`here`, by `left`: of a list whose rest from i on is x ∷ xs, x is element i); its values are stored at i
+-- (`filled-next`). No malformed line is begins-with, since every line decodes (`none-bad`); where the log ends no line is left (`filled-done`).
+-- Here n, τ and end are the number, the time and the end of the line that is read, value one of both; numbers₀ and times₀ are the lists where
+-- the loop begins, numbers and times at its head, with ′ after the turn. Assumes nothing.
 use Prim.Native.Nat.{ℕ, zero, suc, _+_, _≤_, _<_}
 use native.Mathlib.Nat.{add-zero}
 use native.Mathlib.Omega.{arith}
@@ -12,8 +16,9 @@ use Rattle.octets.specs.Text.{lines}
 use Rattle.octets.proofs.Memory.{fill-length, fill-done}
 use Rattle.rfc4737.specs.declared.Arrival.{Arrival}
 use Rattle.rfc4737.specs.Judge.{numbersOf, timesOf}
+use Rattle.sample.specs.Places.{noArrival}
 use Rattle.textlog.specs.Decode.{lineIn, DecodedLine, decodeLine, arrivalOr0, arrivalsOfLines, logArrivals}
-use Rattle.textlog.specs.Private.Filling.{Fillable}
+use Rattle.textlog.specs.Private.{Fillable}
 use Rattle.textlog.specs.declared.reading.Reading.the-variants.{Read, Malformed}
 use Rattle.textlog.proofs.Lines.{line-read, line-unread}
 
@@ -21,8 +26,8 @@ use Rattle.textlog.proofs.Lines.{line-read, line-unread}
 
 module _ {ℓ} {A : Type ℓ} where
   -- what is left of a list from a place on: that place, its element, and what is left after it
-  left : (l : List A) (i : ℕ) (z x : A) (xs : List A) → drop i l ≡ x ∷ xs → (i < length l) × (x ≡ getD l i z) × (drop (i + 1) l ≡ xs)
-  left l i z x xs e = (
+  rest-begins : (l : List A) (i : ℕ) (z x : A) (xs : List A) → drop i l ≡ x ∷ xs → (i < length l) × (x ≡ getD l i z) × (drop (i + 1) l ≡ xs)
+  rest-begins l i z x xs e = (
     omega (arith, length-drop i l, ap length e),
     sym (ap (λ (k : ℕ). getD l k z) (sym (add-zero i)) ∙ sym (getD-drop i l 0 z) ∙ ap (λ (y : List A). getD y 0 z) e),
     sym (drop-drop 1 i l) ∙ ap (drop 1) e,
@@ -33,7 +38,6 @@ drop-map f zero l = refl
 drop-map f (suc i) [] = refl
 drop-map f (suc i) (x ∷ l) = drop-map f i l
 
--- as many arrivals as lines
 pub lines-length : (ls : List (List ℕ)) → length (arrivalsOfLines ls) ≡ length ls
 unfolding arrivalsOfLines
 lines-length ls = length-map ls _
@@ -84,7 +88,7 @@ module _ (log numbers₀ times₀ : List ℕ) (room : Fillable log numbers₀ ti
   pub none-bad : at < length log → lineIn at (drop at log) ≡ Malformed → ⊥
   none-bad h e =
       let b = line-unread log at h e in
-      let s = left (lines log) i [] (b .text) (b .others) (sym (f .rest) ∙ b .lead) in
+      let s = rest-begins (lines log) i [] (b .text) (b .others) (sym (f .rest) ∙ b .lead) in
       room .decodes i (s .0) (ap decodeLine (sym (s .1)) ∙ b .gives)
 
   -- no line is left
@@ -101,19 +105,19 @@ module _ (log numbers₀ times₀ : List ℕ) (room : Fillable log numbers₀ ti
 
   module _ (n τ end : ℕ) (e : lineIn at (drop at log) ≡ Read n τ end) where
     -- a line is read: it is line i, and its arrival is arrival i
-    record Here : Type 0 where
+    record LineHere : Type 0 where
       pub within : i < length (lines log)
       pub onward : lines (drop end log) ≡ drop (i + 1) (lines log)
       pub arrival : drop i (logArrivals log) ≡ record { number = n; time = τ } ∷ drop (i + 1) (logArrivals log)
 
-    here : Here
+    here : LineHere
     here =
         let b = line-read log at e in
         let l = sym (f .rest) ∙ b .lead in
-        let s = left (lines log) i [] (b .text) (lines (drop end log)) l in
+        let s = rest-begins (lines log) i [] (b .text) (lines (drop end log)) l in
         let m : drop i (logArrivals log) ≡ record { number = n; time = τ } ∷ arrivalsOfLines (lines (drop end log)) =
         lines-drop i (lines log) ∙ ap arrivalsOfLines l ∙ lines-first (b .text) (lines (drop end log)) _ (b .gives) in
-        let t = left (logArrivals log) i (record { number = 0; time = 0 }) _ _ m in
+        let t = rest-begins (logArrivals log) i noArrival _ _ m in
         record {
           within = s .0;
           onward = sym (s .2);
@@ -130,8 +134,8 @@ module _ (log numbers₀ times₀ : List ℕ) (room : Fillable log numbers₀ ti
         → Filled log numbers₀ times₀ end (i + 1) numbers′ times′
     filled-next fn ft =
         let h = here in
-        let p = left (numbersOf (logArrivals log)) i 0 n (numbersOf (drop (i + 1) (logArrivals log))) (drop-map (λ (a : Arrival). a .number) i (logArrivals log) ∙ ap numbersOf (h .arrival)) in
-        let q = left (timesOf (logArrivals log)) i 0 τ (timesOf (drop (i + 1) (logArrivals log))) (drop-map (λ (a : Arrival). a .time) i (logArrivals log) ∙ ap timesOf (h .arrival)) in
+        let p = rest-begins (numbersOf (logArrivals log)) i 0 n (numbersOf (drop (i + 1) (logArrivals log))) (drop-map (λ (a : Arrival). a .number) i (logArrivals log) ∙ ap numbersOf (h .arrival)) in
+        let q = rest-begins (timesOf (logArrivals log)) i 0 τ (timesOf (drop (i + 1) (logArrivals log))) (drop-map (λ (a : Arrival). a .time) i (logArrivals log) ∙ ap timesOf (h .arrival)) in
         record {
           rest = h .onward;
           some = omega (arith, h .within);

@@ -1,4 +1,9 @@
--- The lines of a log in turn: a loop that judges them, each of whose answers is that of all lines. Assumes nothing.
+-- The lines of a log in turn. What the first line decodes to decides, or the lines after it do (`judge-first`). In the loop the answer of all
+-- lines is that of those from the place `at` on (inv). A line that is read there is their first, and the rest are those from its end on
+-- (`read`): it is the 4,097th, or its arrival is refused, or the rest decides (`judge-many`, `judge-stop`, `judge-next`). Where none is read
+-- the first line is malformed (`judge-bad`), and at the end none is left (`judge-done`).
+-- Here r is a refusal, y an answer, l a line and ls those after it, d what a line decodes to, a its arrival; n, τ and end are what is read, and
+-- `count` lines come before it. Assumes nothing.
 use Prim.Native.Nat.{ℕ, zero, suc, _+_, _≤_, _<_}
 use native.Mathlib.Omega.{arith}
 use mathlib.Core.Path.{_≡_, refl, sym, ap, _∙_}
@@ -45,7 +50,7 @@ module _ (k count reference : ℕ) (l : List ℕ) (ls : List (List ℕ)) where
       ap (λ (x : DecodedLine). unless (judgeLine k count reference x) (count + 1) (judgeLines k (count + 1) (nextReference reference (arrivalOr0 x .time)) ls)) g
 
   -- an arrival among the first 4,096: its own refusal is that of its line
-  pub few-one : (a : Arrival) → count < arrivalsMost → judgeLine k count reference (arrived a) ≡ judgeOne k reference a
+  few-one : (a : Arrival) → count < arrivalsMost → judgeLine k count reference (arrived a) ≡ judgeOne k reference a
   few-one a few = rw (lt-leb arrivalsMost count few) (first-one (judgeOne k reference a))
 
   -- an arrival of which nothing is refused

@@ -1,13 +1,13 @@
 -- Laws of text logs, and some lines and logs computed.
-mod Begun
-mod Sound
-mod Complete
+mod LeadingDigits
+mod ReadHasForm
+mod FormIsRead
 mod Lines
-mod Places
+mod LinesAtPlaces
 mod Judging
 pub mod Filling
 pub mod Accepted
 pub mod Answers
-mod Written
+mod WrittenLines
 mod RoundTrips
 mod Cases

@@ -1,5 +1,9 @@
--- The lines of a log: the first of them, what a line of the form is among them, and what is read at a place of the log.
--- Assumes nothing.
+-- The lines of a log. A line of the form has a line feed at its end and no other, so it is the first line of a text that begins with it
+-- (`line-first`). A line decodes exactly if it has the form and fits (`exact-line`): `complete` reads what has the form, to its end; `sound`
+-- gives the form of what is read, and as it is read to its end nothing is left over. So what is read at a place of a log is the first line from
+-- there on, and the others are those of what follows (`line-read`); and where nothing is read the first line is malformed, since otherwise it
+-- would be read (`line-unread`).
+-- Here l and text are lines, a is an arrival, n its number, τ its time, u what follows a line; at and end are places in the log. Assumes nothing.
 use Prim.Native.Nat.{ℕ, suc, _+_, _≤_, _<_}
 use native.Mathlib.Nat.{zero-add}
 use native.Mathlib.Omega.{arith}
@@ -18,11 +22,12 @@ use Rattle.textlog.specs.Decode.{lineIn, DecodedLine, malformed, arrived
 use Rattle.textlog.specs.RoundTrip.{ExactLine}
 use Rattle.textlog.specs.declared.reading.Reading.{Reading}
 use Rattle.textlog.specs.declared.reading.Reading.the-variants.{Read, Malformed}
-use Rattle.textlog.proofs.Sound.{sound}
-use Rattle.textlog.proofs.Complete.{complete}
+use Rattle.textlog.proofs.ReadHasForm.{sound}
+use Rattle.textlog.proofs.FormIsRead.{complete}
 
 -- ---- a line of the form is the first of the text that it begins
 
+-- digits and times have no line feed
 plain-digits : {ds : List ℕ} → Digits ds → Plain ds
 plain-digits (one {o} h k) = some (ne-eqb o lineFeed (λ e. omega arith)) none
 plain-digits (more {o} h k d) = some (ne-eqb o lineFeed (λ e. omega arith)) (plain-digits d)
@@ -77,21 +82,20 @@ decoded l a h =
     empty [] e = refl
     empty (o ∷ x) e = absurd (omega arith)
 
--- both
 pub exact-line : ExactLine
 exact-line = λ l a. (decoded l a, decodes l a)
 
 -- ---- what is read at a place of a log, and the first line from there on
 
 -- a line is read there: it is the first, and the others are those of what follows
-pub record Next (log : List ℕ) (at n τ end : ℕ) : Type 0 where
+pub record FirstLine (log : List ℕ) (at n τ end : ℕ) : Type 0 where
   pub text : List ℕ
   pub lead : lines (drop at log) ≡ text ∷ lines (drop end log)
   pub gives : decodeLine text ≡ arrived (record { number = n; time = τ })
   pub onward : at < end
   pub number : n ≤ numberMost
 
-pub line-read : (log : List ℕ) (at : ℕ) {n τ end : ℕ} → lineIn at (drop at log) ≡ Read n τ end → Next log at n τ end
+pub line-read : (log : List ℕ) (at : ℕ) {n τ end : ℕ} → lineIn at (drop at log) ≡ Read n τ end → FirstLine log at n τ end
 line-read log at {n} {τ} {end} h =
     let s = sound at (drop at log) h in
     let d : drop end log ≡ s .rest =
@@ -111,13 +115,13 @@ line-read log at {n} {τ} {end} h =
     long (line {ns} {ts} d t) = omega (arith, length-append ns (semicolon ∷ (ts ++ (lineFeed ∷ []))))
 
 -- none is: the first line is malformed
-pub record Bad (log : List ℕ) (at : ℕ) : Type 0 where
+pub record MalformedLine (log : List ℕ) (at : ℕ) : Type 0 where
   pub text : List ℕ
   pub others : List (List ℕ)
   pub lead : lines (drop at log) ≡ text ∷ others
   pub gives : decodeLine text ≡ malformed
 
-pub line-unread : (log : List ℕ) (at : ℕ) → at < length log → lineIn at (drop at log) ≡ Malformed → Bad log at
+pub line-unread : (log : List ℕ) (at : ℕ) → at < length log → lineIn at (drop at log) ≡ Malformed → MalformedLine log at
 line-unread log at h e =
     let f = first-line (getD log at 0) (drop (suc at) log) in
     let text : List ℕ = getD log at 0 ∷ f .text in
@@ -125,7 +129,7 @@ line-unread log at h e =
     go text (f .rest) (lines (f .rest)) w (ap lines (drop-cons log at 0 h) ∙ f .lead) (decodeLine text) refl
   where
     go : (text rest : List ℕ) (others : List (List ℕ)) → drop at log ≡ text ++ rest → lines (drop at log) ≡ text ∷ others
-        → (d : DecodedLine) → decodeLine text ≡ d → Bad log at
+        → (d : DecodedLine) → decodeLine text ≡ d → MalformedLine log at
     go text rest others w l malformed g = record { text = text; others = others; lead = l; gives = g }
     go text rest others w l (arrived a) g =
         let f = decoded text a g in

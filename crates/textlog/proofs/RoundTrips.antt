@@ -1,4 +1,10 @@
--- A log of the form is read as its arrivals, a written log has the form, and so what is written reads back. Assumes nothing.
+-- A log of the form is read as its arrivals: by induction over the form its first line is the first of the lines and decodes to the arrival
+-- (`form-arrivals`), and no line is refused where no arrival is (`form-judged`); with Accepted.antt, a log is not refused exactly if it has the
+-- form of arrivals that are not refused (`exact-log`). A written log has the form: digits of a number, by induction over them, three decimals,
+-- a time, a line, then lines in turn (`log-form`). So what is written reads back (`read-again`): without a refusal the log stands at the start,
+-- and there is room for its arrivals.
+-- Here k is K, l are arrivals and a is one, rest those after it, n a number, t a time, d a digit's value. In `read-again` w and r say what was
+-- written and read, out, numbers₀ and times₀ are what was lent, and with ′ what is left. Assumes nothing.
 use Prim.Native.Nat.{ℕ, _+_, _*_, _/_, _%_, _^_, _≤_, _<_}
 use native.Mathlib.Nat.{add-zero, zero-add}
 use native.Mathlib.Omega.{arith}
@@ -53,7 +59,7 @@ form-judged k count reference (after {l} {log} {a} {rest} f g) j few =
     ∙ ap (λ (n : ℕ). record { refusal = 0; arrivals = n; line = 0 }) n
 
 -- so the log is not refused where its arrivals, as lists, are not
-pub form-read : (k : ℕ) {log : List ℕ} {l : List Arrival} → Log log l → judge k 0 l ≡ 0 → ListsFit k (numbersOf l) (timesOf l)
+form-read : (k : ℕ) {log : List ℕ} {l : List Arrival} → Log log l → judge k 0 l ≡ 0 → ListsFit k (numbersOf l) (timesOf l)
     → judgeLog k log ≡ record { refusal = 0; arrivals = length l; line = 0 }
 unfolding judgeLog
 form-read k {log} {l} g j f =

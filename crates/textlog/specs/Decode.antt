@@ -18,8 +18,8 @@ use Rattle.textlog.specs.declared.reading.Reading.the-variants.{Read, Ma
 -- ---- a line, read in stages from the place where a text t begins
 
 -- whether an octet is a comma or a point
-unfoldable pub mark : ℕ → Bool
-mark o = eqb o comma || eqb o point
+unfoldable pub isDecimalMark : ℕ → Bool
+isDecimalMark o = eqb o comma || eqb o point
 
 -- the octet after the digits with which a text begins, 0 at the end of the text
 abbrev pub octetAfter : List ℕ → ℕ
@@ -45,7 +45,7 @@ unfoldable pub timeIn : (number at : ℕ) (t : List ℕ) → Reading
 timeIn number at t =
     cond (eqb (digitCount t) 0) Malformed
     (cond (eqb (octetAfter t) lineFeed) (inRange number (1000 * leadingValue t) (at + digitCount t + 1))
-    (cond (mark (octetAfter t)) (fractionIn number (leadingValue t) (at + digitCount t + 1) (textAfter t))
+    (cond (isDecimalMark (octetAfter t)) (fractionIn number (leadingValue t) (at + digitCount t + 1) (textAfter t))
     Malformed))
 
 -- the line that begins at `at`: its number, its time, and where it ends

@@ -29,9 +29,9 @@ pub data Digits : List ℕ → Type 0 where
   more : {o : ℕ} {ds : List ℕ} → 48 ≤ o → o ≤ 57 → Digits ds → Digits (o ∷ ds)
 
 -- what may stand before the decimals
-pub data Mark : ℕ → Type 0 where
-  byComma : Mark comma
-  byPoint : Mark point
+pub data DecimalMark : ℕ → Type 0 where
+  byComma : DecimalMark comma
+  byPoint : DecimalMark point
 
 -- one to three decimals of a millisecond, in microseconds: `5` is 500, `05` is 50, `005` is 5
 abbrev pub thousandths : List ℕ → ℕ
@@ -40,7 +40,7 @@ thousandths ds = decimalValue ds * 10 ^ (3 - length ds)
 -- a time, with its microseconds: milliseconds, then optionally a comma or a point and one to three decimals
 pub data Time : List ℕ → ℕ → Type 0 where
   whole : {ms : List ℕ} → Digits ms → Time ms (1000 * decimalValue ms)
-  parted : {ms ds : List ℕ} {o : ℕ} → Digits ms → Mark o → Digits ds → length ds ≤ 3
+  parted : {ms ds : List ℕ} {o : ℕ} → Digits ms → DecimalMark o → Digits ds → length ds ≤ 3
       → Time (ms ++ (o ∷ ds)) (1000 * decimalValue ms + thousandths ds)
 
 -- a line, with its number and its time in microseconds

@@ -7,7 +7,7 @@ ghost use Rattle.textlog.specs.Decode.{judgeLines, judgeLog, logArrivals
 ghost use Rattle.textlog.specs.Calls.{logListsShort, LogImportedFrom, LogWrittenTo};
 ghost use Rattle.textlog.specs.RoundTrip.{ExactLine, ExactLog, ImportedIsFit, LogReadAgain};
 ghost use Rattle.textlog.specs.Cases.{LinesReadAsGiven, LinesWrittenAsGiven};
-ghost use Rattle.textlog.specs.Private.Filling.{Fillable};
+ghost use Rattle.textlog.specs.Private.{Fillable};
 
 mod reading;
 mod writing;
@@ -38,7 +38,7 @@ pub struct LogImport {
 }
 
 // The answer that a refusal has, at a line or, for 0, at none.
-fn refused(refusal: u32, line: u32) -> LogImport
+fn refused_import(refusal: u32, line: u32) -> LogImport
     ensures { λ r. ⌜ r ≡ record { refusal = refusal; arrivals = 0; line = line } ⌝ }
 {
     LogImport {
@@ -57,14 +57,14 @@ fn judge_lines(log: &[u8], k: u32) -> LogImport
     let mut count: u32 = 0;
     while at < log.len() {
         let Reading::Read(number, time, end) = line_at(log, at) else {
-            return refused(LINE_MALFORMED, count + 1);
+            return refused_import(LINE_MALFORMED, count + 1);
         };
         if ARRIVALS_MOST <= count as u64 {
-            return refused(MANY_ARRIVALS, count + 1);
+            return refused_import(MANY_ARRIVALS, count + 1);
         }
         let refusal = judge_one(k as u64, reference, number as u64, time);
         if refusal != 0 {
-            return refused(refusal, count + 1);
+            return refused_import(refusal, count + 1);
         }
         reference = next_reference(reference, time);
         at = end;
@@ -82,13 +82,13 @@ fn judge_log(log: &[u8], k: u32) -> LogImport
     ensures { λ r. ⌜ r ≡ judgeLog k (now (log .entry)) ⌝ }
 {
     if outside(1, SENT_MOST, k as u64) {
-        return refused(SENT_OUTSIDE, 0);
+        return refused_import(SENT_OUTSIDE, 0);
     }
     judge_lines(log, k)
 }
 
 // Fills lists with the numbers and times of a log that is not refused.
-fn fill(log: &[u8], numbers: &mut [u32], times: &mut [u64])
+fn fill_arrivals(log: &[u8], numbers: &mut [u32], times: &mut [u64])
     requires { ⌜ Fillable (now log) (now numbers) (now times) ⌝ }
     ensures { λ _. ⌜ (now (numbers .exit) ≡ over (numbersOf (logArrivals (now (log .entry)))) (now (numbers .entry)))
         × (now (times .exit) ≡ over (timesOf (logArrivals (now (log .entry)))) (now (times .entry))) ⌝ }
@@ -129,9 +129,9 @@ pub fn import(log: &[u8], k: u32, numbers: &mut [u32], times: &mut [u64]) -> Log
         return found;
     }
     if too_short(found.arrivals, numbers.len(), times.len()) {
-        return refused(OUTPUT_SHORT, 0);
+        return refused_import(OUTPUT_SHORT, 0);
     }
-    fill(log, numbers, times);
+    fill_arrivals(log, numbers, times);
     found
 }
 

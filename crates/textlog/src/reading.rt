@@ -3,7 +3,7 @@
 ghost use mathlib.Core.Path.{_≡_};
 ghost use Prim.Native.Nat.{_+_, _*_, _^_, _-_, _≤_, _<_};
 ghost use lib.ListN.{getD, drop};
-ghost use Rattle.textlog.specs.Decode.{mark, inRange, fractionIn, timeIn, lineIn};
+ghost use Rattle.textlog.specs.Decode.{isDecimalMark, inRange, fractionIn, timeIn, lineIn};
 use decimal::reading::number_at;
 
 // A line that is of the form and in range: its number, its time in microseconds and where it ends.
@@ -31,8 +31,8 @@ fn octet_at(log: &[u8], at: usize) -> u8
 }
 
 // Whether an octet may stand before the decimals.
-fn is_mark(octet: u8) -> bool
-    ensures { λ r. ⌜ r ≡ mark octet ⌝ }
+fn is_decimal_mark(octet: u8) -> bool
+    ensures { λ r. ⌜ r ≡ isDecimalMark octet ⌝ }
 {
     if octet == b',' {
         return true;
@@ -100,7 +100,7 @@ fn time_at(log: &[u8], at: usize, number: u32) -> Reading
     if octet == b'\n' {
         return in_range(number, digits.value, 0, end + 1);
     }
-    if !is_mark(octet) {
+    if !is_decimal_mark(octet) {
         return Reading::Malformed;
     }
     fraction_at(log, end + 1, number, digits.value)

@@ -13,7 +13,7 @@ fn octet_for(octet: u8) -> u8 {
 }
 
 // Puts the octets that those of a field stand for, as far as there are places. The answer is how many there are.
-pub(crate) fn octets_of(field: &[u8], out: &mut [u8]) -> usize {
+pub(crate) fn put_octets_for(field: &[u8], out: &mut [u8]) -> usize {
     let n = least(field.len(), out.len());
     for i in 0..n {
         out[i] = octet_for(field[i]);

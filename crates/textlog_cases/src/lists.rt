@@ -6,8 +6,8 @@ use cases::print::write_64;
 use cases::print::write_answer;
 use cases::print::write_number;
 use cases::print::write_word;
-use cases::sums::sum_32;
-use cases::sums::sum_64;
+use cases::totals::sum_32;
+use cases::totals::sum_64;
 use textlog::LogImport;
 
 // What numbers are filled with.

@@ -1,9 +1,11 @@
 // The cases of long logs: 4,096 lines and more, and a million digits.
-use crate::fields::octets_of;
+use crate::fields::put_octets_for;
 use crate::lists::NUMBER;
 use crate::lists::TIME;
 use crate::lists::import_and_sum;
 use crate::lists::import_into;
+use cases::MOST;
+use cases::OVER;
 use cases::fields::field;
 use cases::fields::first_octet;
 use cases::fields::number_in_32;
@@ -14,9 +16,12 @@ use cases::lists::least;
 const LINE: usize = 7;
 
 // The most lines, and their octets.
-const LINES: usize = 4097;
+const LINES: usize = OVER;
 
-const MOST: usize = LINES * LINE;
+const OCTETS: usize = LINES * LINE;
+
+// The most places of a list that they are imported into.
+pub(crate) const PLACES: usize = OVER + 1;
 
 // The last digit of a number.
 fn last_digit(n: usize) -> u8 {
@@ -24,8 +29,8 @@ fn last_digit(n: usize) -> u8 {
 }
 
 // All lines in turn.
-fn lines_in_turn() -> [u8; MOST] {
-    let mut log = [0u8; MOST];
+fn lines_in_turn() -> [u8; OCTETS] {
+    let mut log = [0u8; OCTETS];
     for i in 0..LINES {
         let n = i + 1;
         let line = [
@@ -42,15 +47,15 @@ fn lines_in_turn() -> [u8; MOST] {
     log
 }
 
-// Imports the first so many lines of a log into lists of so many places: 4,098 at most.
+// Imports the first so many lines of a log into lists of so many places, PLACES at most.
 fn import_lines(line: &[u8], log: &[u8]) {
-    let mut numbers = [NUMBER; 4098];
-    let mut times = [TIME; 4098];
-    let n = least(number_in_32(line, 2) as usize, 4098);
+    let mut numbers = [NUMBER; PLACES];
+    let mut times = [TIME; PLACES];
+    let n = least(number_in_32(line, 2) as usize, PLACES);
     let lines = first_8(log, number_in_32(line, 3) as usize * LINE);
     import_and_sum(
         field(line, 1),
-        4096,
+        MOST as u32,
         lines,
         &mut numbers[0..n],
         &mut times[0..n],
@@ -61,7 +66,7 @@ fn import_lines(line: &[u8], log: &[u8]) {
 pub(crate) fn run_lines(line: &[u8]) {
     let mut log = lines_in_turn();
     let mut other = [0u8; LINE];
-    let n = octets_of(field(line, 5), &mut other);
+    let n = put_octets_for(field(line, 5), &mut other);
     octets::put_octets(
         &mut log,
         number_in_32(line, 4) as usize * LINE,
@@ -87,8 +92,8 @@ fn import_digits(name: &[u8], digit: u8, first: &[u8], at: usize, last: &[u8], e
 pub(crate) fn run_digits(line: &[u8]) {
     let mut before = [0u8; 8];
     let mut after = [0u8; 8];
-    let m = octets_of(field(line, 3), &mut before);
-    let n = octets_of(field(line, 5), &mut after);
+    let m = put_octets_for(field(line, 3), &mut before);
+    let n = put_octets_for(field(line, 5), &mut after);
     import_digits(
         field(line, 1),
         first_octet(field(line, 2)),

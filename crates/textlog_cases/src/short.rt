@@ -1,5 +1,5 @@
 // The cases of short logs.
-use crate::fields::octets_of;
+use crate::fields::put_octets_for;
 use crate::lists::NUMBER;
 use crate::lists::TIME;
 use crate::lists::import_into;
@@ -14,7 +14,7 @@ const PLACES: usize = 5;
 // Runs the case of a line.
 pub(crate) fn run(line: &[u8]) {
     let mut octets = [0u8; 128];
-    let length = octets_of(field(line, 3), &mut octets);
+    let length = put_octets_for(field(line, 3), &mut octets);
     let mut numbers = [NUMBER; PLACES];
     let mut times = [TIME; PLACES];
     let n = least(number_in_32(line, 4) as usize, PLACES);

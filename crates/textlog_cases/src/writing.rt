@@ -3,6 +3,8 @@ use crate::lists::NUMBER;
 use crate::lists::OCTET;
 use crate::lists::TIME;
 use crate::lists::import_and_sum;
+use crate::long::PLACES;
+use cases::OVER;
 use cases::fields::field;
 use cases::fields::number_in_32;
 use cases::lists::fill_32;
@@ -57,8 +59,8 @@ fn write_and_import(name: &[u8], numbers: &[u32], times: &[u64]) {
         b"and import them",
         1,
         first_8(&out, n),
-        &mut [NUMBER; 4098],
-        &mut [TIME; 4098],
+        &mut [NUMBER; PLACES],
+        &mut [TIME; PLACES],
     );
 }
 
@@ -67,7 +69,7 @@ pub(crate) fn run_many(line: &[u8]) {
     let n = number_in_32(line, 2) as usize;
     write_and_import(
         field(line, 1),
-        first_32(&[1u32; 4097], n),
-        first_64(&[4500u64; 4097], n),
+        first_32(&[1u32; OVER], n),
+        first_64(&[4500u64; OVER], n),
     );
 }

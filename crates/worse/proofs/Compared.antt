@@ -1,4 +1,9 @@
--- What is compared of two decoded files a and b: with a refusal, and with none. Assumes nothing.
+-- What is compared of two decoded files a and b. The refusal of both is the first file's, or the second's where the first has none
+-- (`first-refused`, `second-refusal`). Each answer is chosen by `beside`, which goes by that refusal and then by the worse of the two: so
+-- with a refusal it is what stands beside one, and with none what stands beside the sample found; the laws are these cases, for the
+-- comparison, the label, its start and its place.
+-- Here r is the refusal, z that there is none, l the worse one, p and q are where the first and the second file stand, and x is a
+-- comparison. Assumes nothing.
 use Prim.Native.Nat.{ℕ, zero, suc, _+_, _<_}
 use native.Mathlib.Omega.{arith}
 use mathlib.Core.Path.{_≡_, refl, sym, ap, _∙_}
@@ -9,7 +14,7 @@ use Rattle.sample.specs.Calls.{labelPlace}
 use Rattle.worse.specs.declared.Comparison.{Comparison}
 use Rattle.worse.specs.declared.Link.{Link}
 use Rattle.worse.specs.declared.Link.the-variants.{First, Second}
-use Rattle.worse.specs.Worse.{refusalOfBoth, worseOf, comparisonOf, worseLabel, worseStart, worsePlace}
+use Rattle.worse.specs.Worse.{refusalOfBoth, worseOf, beside, comparisonOf, worseLabel, worseStart, worsePlace}
 
 module _ (a b : Decoded) where
   -- ---- the refusal
@@ -65,26 +70,16 @@ module _ (a b : Decoded) where
     pub linked : (l : Link) → comparisonOf a b .link ≡ l → worseOf a b ≡ l
     linked l e = ap (λ (x : Comparison). x .link) (compared (worseOf a b) refl) ∙ e
 
-    pub label-first : worseOf a b ≡ First → sampleOf a .label ≡ worseLabel a b
-    unfolding worseLabel
-    label-first e = rw (z, e) refl
+    -- what is said of it
+    module _ (l : Link) (e : worseOf a b ≡ l) where
+      pub label-of : beside [] (sampleOf a .label) (sampleOf b .label) 0 l ≡ worseLabel a b
+      unfolding worseLabel
+      label-of = rw (z, e) refl
 
-    pub label-second : worseOf a b ≡ Second → sampleOf b .label ≡ worseLabel a b
-    unfolding worseLabel
-    label-second e = rw (z, e) refl
+      pub start-of : beside 0 (labelPlace a) (labelPlace b) 0 l ≡ worseStart a b
+      unfolding worseStart
+      start-of = rw (z, e) refl
 
-    pub start-first : worseOf a b ≡ First → labelPlace a ≡ worseStart a b
-    unfolding worseStart
-    start-first e = rw (z, e) refl
-
-    pub start-second : worseOf a b ≡ Second → labelPlace b ≡ worseStart a b
-    unfolding worseStart
-    start-second e = rw (z, e) refl
-
-    pub place-first : worseOf a b ≡ First → (p q : ℕ × ℕ) → (p .0, labelPlace a + p .1) ≡ worsePlace a b p q
-    unfolding worsePlace
-    place-first e p q = rw (z, e) refl
-
-    pub place-second : worseOf a b ≡ Second → (p q : ℕ × ℕ) → (q .0, labelPlace b + q .1) ≡ worsePlace a b p q
-    unfolding worsePlace
-    place-second e p q = rw (z, e) refl
+      pub place-of : (p q : ℕ × ℕ) → beside p (p .0, labelPlace a + p .1) (q .0, labelPlace b + q .1) 0 l ≡ worsePlace a b p q
+      unfolding worsePlace
+      place-of p q = rw (z, e) refl

@@ -6,8 +6,8 @@ use cases::lists::first_8;
 use cases::print::write_number;
 use cases::print::write_word;
 use cases::text::count;
+use cases::text::input;
 use cases::text::part;
-use libc::STDIN_FILENO;
 use sample_text::ROOM;
 use sample_text::put_sample;
 use worse::Link;
@@ -18,7 +18,7 @@ use worse::worse;
 const MOST: usize = 4096;
 
 // Writes what is found of two samples.
-fn write_found<'a>(first: &'a [u8], second: &'a [u8]) {
+fn write_comparison<'a>(first: &'a [u8], second: &'a [u8]) {
     let found = compare(first, second);
     write_number(b": refusal ", found.refusal as u64);
     let link = found.link;
@@ -37,19 +37,14 @@ fn run(line: &[u8]) {
     let m = put_sample(field(line, 1), &mut a);
     let n = put_sample(field(line, 2), &mut b);
     write_word(field(line, 0));
-    write_found(first_8(&a, m), first_8(&b, n));
+    write_comparison(first_8(&a, m), first_8(&b, n));
 }
 
 // Runs the cases of all lines.
-fn run_all(text: &[u8]) {
+fn main() {
+    let mut room = [0u8; MOST];
+    let text = input(&mut room);
     for i in 0..count(text, b'\n') {
         run(part(text, b'\n', i));
     }
-}
-
-// Runs all cases.
-fn main() {
-    let mut text = [0u8; MOST];
-    let n = io::read_full(STDIN_FILENO, &mut text);
-    run_all(first_8(&text, n));
 }

@@ -54,7 +54,7 @@ fn write_label(label: &[u8]) {
 }
 
 // Writes what is found of two accepted samples.
-fn write_found<'a>(first: &'a [u8], second: &'a [u8]) {
+fn write_comparison<'a>(first: &'a [u8], second: &'a [u8]) {
     let found = worse::compare(first, second);
     let turned = worse::compare(second, first);
     let link = found.link;
@@ -76,14 +76,14 @@ fn write_refusal(name: &[u8], file: &[u8]) -> bool {
 }
 
 // Compares two samples.
-fn compare<'a>(first: &'a [u8], second: &'a [u8]) {
+fn compare_files<'a>(first: &'a [u8], second: &'a [u8]) {
     if write_refusal(b"first", first) {
         return;
     }
     if write_refusal(b"second", second) {
         return;
     }
-    write_found(first, second);
+    write_comparison(first, second);
     write_ratio(b"first ", metrics::counts(first).counts);
     write_ratio(b"second ", metrics::counts(second).counts);
 }
@@ -116,5 +116,5 @@ fn main() {
     let mut second = [0u8; INPUT_OCTETS];
     let m = read_argument(1, &mut first);
     let n = read_argument(2, &mut second);
-    compare(first_octets(&first, m), first_octets(&second, n));
+    compare_files(first_octets(&first, m), first_octets(&second, n));
 }

@@ -1,5 +1,6 @@
--- `count` meets its contract. The loop's invariant: the digits cut off and those of the rest are as many as `v` has, so they are at most 20.
--- The measure is the rest. Assumes nothing.
+-- `decimal::count` meets its contract. The loop's invariant: `cut` and the number of digits of the rest are together the number of digits of
+-- `v`. It is at most 20, so no sum wraps. A turn cuts four digits off a rest of more than four (`cut-off`); after the loop the tests place the
+-- rest between powers of ten (`one-digit`, `exactly`). The measure is the rest. Assumes nothing.
 use mathlib.Core.Path.{_≡_, ap}
 use Prim.Native.Nat.{_+_, _≤_}
 use native.Mathlib.Omega.{arith}
@@ -9,6 +10,7 @@ use Rattle.decimal.proofs.Laws.{one-digit, cut-off, exactly, at-most-20
 use Rattle.decimal.proofs.count.Statement.{statement}
 use Rattle.decimal.proofs.count.Tie as tie
 
+-- rest₀ and cut₀ are rest and cut where the loop begins
 abbrev Inv-loop : tie.InvT-loop
 Inv-loop v rest₀ cut₀ rest cut = cut + length (decimalOf rest) ≡ length (decimalOf v)
 

@@ -1,4 +1,5 @@
--- `put_decimal` meets its contract: the test before `write` is that of `put`. Assumes nothing.
+-- `decimal::put_decimal` meets its contract: the two tests before `write_decimal` say together that there is room for the digits, which is the test of
+-- `put`; where one fails memory stays. Assumes nothing.
 use mathlib.Core.Path.{sym, _∙_}
 use native.Mathlib.Omega.{arith}
 use borrow.Author.Needs.{needs}
@@ -10,7 +11,7 @@ use Rattle.decimal.proofs.put_decimal.Tie as tie
 returns : tie.Need-returns
 returns c =
     let a = c .before .before .before .before .before .before .before .before .args in
-    (search needs, c .before .before .write .ensures ∙ sym (put-room (a .at) (decimalOf (a .v)) (a .out .now) (omega arith)))
+    (search needs, c .before .before .write-decimal .ensures ∙ sym (put-room (a .at) (decimalOf (a .v)) (a .out .now) (omega arith)))
 
 returns-2 : tie.Need-returns-2
 returns-2 c =

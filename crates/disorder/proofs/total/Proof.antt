@@ -1,4 +1,5 @@
--- `disorder::total` meets its contract by those of its callees, and the theorems hold. Assumes nothing.
+-- `disorder::total` meets its contract: the check lays the file out, so that `disorder_of` can be asked; that the total is the sum of byte
+-- offsets and the least number of exchanges are laws. Assumes nothing.
 use denote.Ref.{now}
 use borrow.Author.Needs.{needs}
 use Rattle.sample.specs.Decode.{decode}
@@ -6,7 +7,7 @@ use Rattle.metrics.specs.Private.Sample.{FileLayout}
 use Rattle.metrics.proofs.FoundInFile.{laid}
 use Rattle.disorder.specs.Sample.{sampleDisorder}
 use Rattle.disorder.proofs.Disorder.{offsets-count-pairs, wrong-least}
-use Rattle.disorder.proofs.Disordered.{sums-offsets}
+use Rattle.disorder.proofs.DisorderInFile.{sums-offsets}
 use Rattle.disorder.proofs.total.Statement.{statement}
 use Rattle.disorder.proofs.total.Tie as tie
 

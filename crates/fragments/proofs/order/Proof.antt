@@ -1,4 +1,5 @@
--- `fragments::order` meets its contract: refused, the lists stay; else `accepted` gives what `mark` asks, and it fills both. Assumes nothing.
+-- `fragments::order` meets its contract: with a refusal of `order_refusal` the lists stay (`refused-over`); with none `accepted` gives what
+-- `order_accepted` asks, and it fills both. Beside each answer stand the theorems that the contract carries. Assumes nothing.
 use Rattle.fragments.proofs.Whole.{whole-flags}
 use Rattle.fragments.proofs.Cases.{flagged-as-given}
 use Rattle.fragments.proofs.Accepted.{accepted, refused-over}
@@ -15,20 +16,20 @@ use Rattle.fragments.proofs.order.Tie as tie
 returns : tie.Need-returns
 returns c =
     let a = c .before .before .before .before .before .before .before .before .before .args in
-    (record { refusal = c .before .refusal-of .ensures; filledFlags = refused-over _ (flags (piecesOf (now (a .numbers)) (now (a .times)) (now (a .lengths)) (now (a .mores)) (now (a .offsets)))) (now (a .flagged)) (c .if1 .taken); filledUsable = refused-over _ (usable (piecesOf (now (a .numbers)) (now (a .times)) (now (a .lengths)) (now (a .mores)) (now (a .offsets)))) (now (a .used)) (c .if1 .taken) }, (whole-flags (piecesOf (now (a .numbers)) (now (a .times)) (now (a .lengths)) (now (a .mores)) (now (a .offsets))), flagged-as-given))
+    (record { refusal = c .before .order-refusal .ensures; filledFlags = refused-over _ (flags (piecesOf (now (a .numbers)) (now (a .times)) (now (a .lengths)) (now (a .mores)) (now (a .offsets)))) (now (a .flagged)) (c .if1 .taken); filledUsable = refused-over _ (usable (piecesOf (now (a .numbers)) (now (a .times)) (now (a .lengths)) (now (a .mores)) (now (a .offsets)))) (now (a .used)) (c .if1 .taken) }, (whole-flags (piecesOf (now (a .numbers)) (now (a .times)) (now (a .lengths)) (now (a .mores)) (now (a .offsets))), flagged-as-given))
 
-mark-requires : tie.Need-mark-requires
-mark-requires c κs =
+order-accepted-requires : tie.Need-order-accepted-requires
+order-accepted-requires c κs =
     let a = c .before .before .before .before .before .before .before .before .before .before .before .args in
-    let k = accepted (a .k) (now (a .numbers)) (now (a .times)) (now (a .lengths)) (now (a .mores)) (now (a .offsets)) (length (now (a .flagged))) (length (now (a .used))) (sym (c .before .before .before .refusal-of .ensures) ∙ c .before .before .if1 .left) in
-    (k .sent, k .lists, k .inside, k .numbers, k .flagRoom, k .usedRoom)
+    let k = accepted (a .k) (now (a .numbers)) (now (a .times)) (now (a .lengths)) (now (a .mores)) (now (a .offsets)) (length (now (a .flagged))) (length (now (a .used))) (sym (c .before .before .before .order-refusal .ensures) ∙ c .before .before .if1 .left) in
+    (k .sent, k .lists, k .numbers, k .many, k .flagRoom, k .usedRoom)
 
 returns-2 : tie.Need-returns-2
 returns-2 c =
     let a = c .before .before .before .before .before .before .before .before .before .before .before .before .before .before .before .before .args in
-    (record { refusal = sym (c .before .before .before .before .before .before .before .if1 .left) ∙ c .before .before .before .before .before .before .before .before .refusal-of .ensures; filledFlags = c .before .before .before .before .mark .ensures .0; filledUsable = c .before .before .before .before .mark .ensures .1 }, (whole-flags (piecesOf (now (a .numbers)) (now (a .times)) (now (a .lengths)) (now (a .mores)) (now (a .offsets))), flagged-as-given))
+    (record { refusal = sym (c .before .before .before .before .before .before .before .if1 .left) ∙ c .before .before .before .before .before .before .before .before .order-refusal .ensures; filledFlags = c .before .before .before .before .order-accepted .ensures .0; filledUsable = c .before .before .before .before .order-accepted .ensures .1 }, (whole-flags (piecesOf (now (a .numbers)) (now (a .times)) (now (a .lengths)) (now (a .mores)) (now (a .offsets))), flagged-as-given))
 
 pub order-spec : {M : Type 1} → statement M
 order-spec =
     tie.close
-    (tie.spec (λ c κs. search needs) returns mark-requires (λ c. search needs) (λ c. search needs) returns-2)
+    (tie.spec (λ c κs. search needs) returns order-accepted-requires (λ c. search needs) (λ c. search needs) returns-2)

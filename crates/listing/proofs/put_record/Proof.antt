@@ -1,5 +1,5 @@
--- `listing::put_record` meets its contract: with room for the longest line it is written in place, else it is written
--- beside and then copied. Assumes nothing.
+-- `listing::put_record` meets its contract: with room for the longest line it is written in place (`whole`), else at the start of a buffer,
+-- and copied from there (`copied`). Assumes nothing.
 use Prim.Native.Nat.{_+_, _≤_}
 use mathlib.Core.Path.{sym, _∙_}
 use native.Mathlib.Omega.{arith}
@@ -34,13 +34,9 @@ put-record-spec =
     (tie.spec
     (λ c κs. search needs)
     write-record-requires
-    (λ c. search needs)
-    (λ c. search needs)
+    (λ c. search needs) (λ c. search needs)
     returns
-    (λ c. search needs)
-    (λ c κs. search needs)
-    (λ c. search needs)
+    (λ c. search needs) (λ c κs. search needs) (λ c. search needs)
     slice-aggregate-put-octets
-    (λ c κs. search needs)
-    (λ c. search needs)
+    (λ c κs. search needs) (λ c. search needs)
     returns-2)

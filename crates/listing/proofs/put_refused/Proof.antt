@@ -1,4 +1,5 @@
--- `listing::put_refused` meets its contract: the line is written beside, and then copied. Assumes nothing.
+-- `listing::put_refused` meets its contract: the line is written at the start of a buffer that has room for any line, and copied from there
+-- (`copied`). Assumes nothing.
 use borrow.Author.Needs.{needs}
 use Rattle.listing.proofs.Parts.{read-length, copied}
 use Rattle.listing.proofs.put_refused.Statement.{statement}
@@ -16,10 +17,7 @@ pub put-refused-spec : {M : Type 1} → statement M
 put-refused-spec =
     tie.close
     (tie.spec
-    (λ c. search needs)
-    (λ c κs. search needs)
-    (λ c. search needs)
+    (λ c. search needs) (λ c κs. search needs) (λ c. search needs)
     slice-aggregate-put-octets
-    (λ c κs. search needs)
-    (λ c. search needs)
+    (λ c κs. search needs) (λ c. search needs)
     returns)

@@ -1,4 +1,4 @@
--- `listing::write_digit` meets its contract: one octet is stored. Assumes nothing.
+-- `listing::write_digit` meets its contract: one octet is stored, at the place of a digit (`one`). Assumes nothing.
 use Prim.Native.Nat.{_+_}
 use borrow.Author.Needs.{needs}
 use Rattle.listing.proofs.Parts.{one}
@@ -12,9 +12,5 @@ pub write-digit-spec : {M : Type 1} → statement M
 write-digit-spec =
     tie.close
     (tie.spec
-    (λ c. search needs)
-    (λ c. search needs)
-    (λ c. search needs)
-    (λ c. search needs)
-    (λ c. search needs)
+    (λ c. search needs) (λ c. search needs) (λ c. search needs) (λ c. search needs) (λ c. search needs)
     returns)

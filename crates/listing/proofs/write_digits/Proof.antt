@@ -1,4 +1,4 @@
--- `listing::write_digits` meets its contract: the digits are put, and the octet stored after them. Assumes nothing.
+-- `listing::write_digits` meets its contract: the digits are put, and the octet is stored after them (`with-after`). Assumes nothing.
 use borrow.Author.Needs.{needs}
 use Rattle.decimal.specs.Decimal.{decimalOf}
 use Rattle.listing.proofs.Parts.{with-after}

@@ -1,4 +1,5 @@
--- `listing::write_end` meets its contract: its parts follow each other. Assumes nothing.
+-- `listing::write_end` meets its contract: a word and six numbers, one after the other, are the fields of its line (`then`). Here e1 to e7
+-- are these parts, s the start. Assumes nothing.
 use Prim.Native.Nat.{_≤_}
 use native.Mathlib.Omega.{arith}
 use mathlib.Core.List.{append-assoc}
@@ -27,13 +28,6 @@ pub write-end-spec : {M : Type 1} → statement M
 write-end-spec =
     tie.close
     (tie.spec
-    (λ c. search needs)
-    (λ c κs. search needs)
-    (λ c κs. search needs)
-    (λ c κs. search needs)
-    (λ c κs. search needs)
-    (λ c κs. search needs)
-    (λ c κs. search needs)
-    (λ c κs. search needs)
-    (λ c. search needs)
+    (λ c. search needs) (λ c κs. search needs) (λ c κs. search needs) (λ c κs. search needs) (λ c κs. search needs)
+    (λ c κs. search needs) (λ c κs. search needs) (λ c κs. search needs) (λ c. search needs)
     returns)

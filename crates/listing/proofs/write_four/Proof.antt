@@ -1,4 +1,4 @@
--- `listing::write_four` meets its contract: one pair follows the other. Assumes nothing.
+-- `listing::write_four` meets its contract: one pair of digits follows the other (`then`). Assumes nothing.
 use Prim.Native.Nat.{_≤_}
 use native.Mathlib.Omega.{arith}
 use lib.ListN.{length}
@@ -17,7 +17,5 @@ pub write-four-spec : {M : Type 1} → statement M
 write-four-spec =
     tie.close
     (tie.spec
-    (λ c κs. search needs)
-    (λ c κs. search needs)
-    (λ c. search needs)
+    (λ c κs. search needs) (λ c κs. search needs) (λ c. search needs)
     returns)

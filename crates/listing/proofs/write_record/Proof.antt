@@ -1,4 +1,5 @@
--- `listing::write_record` meets its contract: its parts follow each other. Assumes nothing.
+-- `listing::write_record` meets its contract: the record, its number and its answer, one after the other, are its line (`record-parts`).
+-- Here e1 to e3 are these parts, a the arguments. Assumes nothing.
 use Prim.Native.Nat.{_≤_}
 use native.Mathlib.Omega.{arith}
 use lib.ListN.{length}
@@ -21,8 +22,5 @@ pub write-record-spec : {M : Type 1} → statement M
 write-record-spec =
     tie.close
     (tie.spec
-    (λ c κs. search needs)
-    (λ c κs. search needs)
-    (λ c κs. search needs)
-    (λ c. search needs)
+    (λ c κs. search needs) (λ c κs. search needs) (λ c κs. search needs) (λ c. search needs)
     returns)

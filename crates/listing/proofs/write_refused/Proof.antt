@@ -1,4 +1,5 @@
--- `listing::write_refused` meets its contract: its parts follow each other. Assumes nothing.
+-- `listing::write_refused` meets its contract: a word and a number, one after the other, are the fields of its line (`then`). Here e1 and e2
+-- are these parts, s the start. Assumes nothing.
 use Prim.Native.Nat.{_≤_}
 use native.Mathlib.Omega.{arith}
 use mathlib.Core.List.{append-assoc}
@@ -22,8 +23,5 @@ pub write-refused-spec : {M : Type 1} → statement M
 write-refused-spec =
     tie.close
     (tie.spec
-    (λ c. search needs)
-    (λ c κs. search needs)
-    (λ c κs. search needs)
-    (λ c. search needs)
+    (λ c. search needs) (λ c κs. search needs) (λ c κs. search needs) (λ c. search needs)
     returns)

@@ -1,4 +1,5 @@
--- `listing::write_sign` meets its contract: an octet is stored only for a time before, by more than 0. Assumes nothing.
+-- `listing::write_sign` meets its contract: a minus is stored only for a time before, by more than 0 (`one`), which is when the definition has
+-- one; else nothing is written (`nothing`). Assumes nothing.
 use native.Mathlib.Omega.{arith}
 use borrow.Author.Needs.{needs}
 use borrow.Author.Tests.{lt-ltb, le-ltb}
@@ -34,8 +35,6 @@ write-sign-spec =
     (λ c. search needs)
     enum-told
     returns
-    (λ c. search needs)
-    (λ c. search needs)
-    (λ c. search needs)
+    (λ c. search needs) (λ c. search needs) (λ c. search needs)
     returns-2
     returns-3)

@@ -1,4 +1,4 @@
--- `listing::write_word` meets its contract: the word is put, and the octet stored after it. Assumes nothing.
+-- `listing::write_word` meets its contract: the word is put, and the octet is stored after it (`with-after`). Assumes nothing.
 use borrow.Author.Needs.{needs}
 use Rattle.listing.proofs.Parts.{with-after}
 use Rattle.listing.proofs.write_word.Statement.{statement}

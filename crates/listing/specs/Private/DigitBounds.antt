@@ -37,6 +37,7 @@ pub record CountsWithin (c : Counts) : Type 0 where
   pub arrived : FourDigits (c .arrived)
   pub reordered : FourDigits (c .reordered)
   pub duplicates : FourDigits (c .duplicates)
+  pub inorder : FourDigits (c .inorder)
   pub closed : FourDigits (c .runs .closed)
   pub squares : c .runs .squares < 10 ^ 8
   pub current : FourDigits (c .runs .current)

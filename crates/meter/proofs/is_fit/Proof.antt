@@ -13,7 +13,7 @@ use Rattle.meter.proofs.is_fit.Tie as tie
 
 -- past the first test stream 1 is fit
 first-fit : (c : tie.Else1) → fitOnMeter (receiverOf one (c .before .before .before .before .before .before .args .m)) ≡ true
-first-fit c = fit-known _ _ _ _ (c .before .before .receiver-of .ensures) (c .before .stream-fit .ensures) (not-false _ (c .if1 .left))
+first-fit c = fit-known _ _ _ _ (c .before .before .receiver-of .ensures) (c .before .fit-on-meter .ensures) (not-false _ (c .if1 .left))
 
 -- past the second stream 2 is
 second-fit : (c : tie.Else2) →
@@ -21,17 +21,17 @@ second-fit : (c : tie.Else2) →
 second-fit c =
     fit-known _ _ _ _
     (second-known (c .before .before .before .before .before .before .before .before .before .before .args .m) _ _ (c .before .before .receiver-of2 .ensures) (c .before .before .before .turned .ensures))
-    (c .before .stream-fit2 .ensures) (not-false _ (c .if2 .left))
+    (c .before .fit-on-meter2 .ensures) (not-false _ (c .if2 .left))
 
 returns : tie.Need-returns
 returns c =
-    unfit-first _ (fit-known _ _ _ _ (c .before .before .receiver-of .ensures) (c .before .stream-fit .ensures) (not-true _ (c .if1 .taken)))
+    unfit-first _ (fit-known _ _ _ _ (c .before .before .receiver-of .ensures) (c .before .fit-on-meter .ensures) (not-true _ (c .if1 .taken)))
 
 returns-2 : tie.Need-returns-2
 returns-2 c =
     let s = c .before .before .before .before in
     unfit-second _ (first-fit s)
-    (fit-known _ _ _ _ (second-known (s .before .before .before .before .before .before .args .m) _ _ (c .before .before .receiver-of2 .ensures) (c .before .before .before .turned .ensures)) (c .before .stream-fit2 .ensures) (not-true _ (c .if2 .taken)))
+    (fit-known _ _ _ _ (second-known (s .before .before .before .before .before .before .args .m) _ _ (c .before .before .receiver-of2 .ensures) (c .before .before .before .turned .ensures)) (c .before .fit-on-meter2 .ensures) (not-true _ (c .if2 .taken)))
 
 add-result : tie.Need-add-result
 add-result c =
@@ -45,12 +45,9 @@ pub is-fit-spec : {M : Type 1} → statement M
 is-fit-spec =
     tie.close
     (tie.spec
-    (λ c κs. search needs)
-    (λ c κs. search needs)
+    (λ c κs. search needs) (λ c κs. search needs)
     returns
-    (λ c κs. search needs)
-    (λ c κs. search needs)
-    (λ c κs. search needs)
+    (λ c κs. search needs) (λ c κs. search needs) (λ c κs. search needs)
     returns-2
     add-result
     returns-3)

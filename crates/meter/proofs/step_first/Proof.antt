@@ -1,5 +1,5 @@
--- `meter::step_first` meets its contract: the receiver's step, keeping as many jumps as the stream can beside its neighbour.
--- Assumes nothing.
+-- `meter::step_first` meets its contract: the receiver's step, keeping as many jumps as the stream can beside its neighbour, is the step
+-- on the stream (`step-kept`). Assumes nothing.
 use mathlib.Core.Path.{ap, _∙_}
 use borrow.Author.Needs.{needs}
 use Rattle.meter.specs.declared.StreamState.{StreamState}
@@ -16,7 +16,7 @@ returns c =
     let s = c .before .before .before .before .before .before .before .before .before in
     let x = c .before .before .before .before .step-within .result in
     ap (λ (t : StreamState). record { outcome = x .outcome; state = record { first = t; second = s .args .m .second; places = x .state .places } })
-    (c .state-of .ensures)
+    (c .stream-in .ensures)
     ∙ step-kept one (s .args .m) (s .args .number) (s .args .time) _ _ x (s .pre)
     (c .before .before .before .before .before .before .most-beside .ensures)
     (c .before .before .before .before .before .receiver-of .ensures)

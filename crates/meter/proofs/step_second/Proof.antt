@@ -1,5 +1,5 @@
--- `meter::step_second` meets its contract: the receiver's step on the places turned, keeping as many jumps as the stream can beside
--- its neighbour. Assumes nothing.
+-- `meter::step_second` meets its contract: the receiver's step on the places turned, keeping as many jumps as the stream can beside its
+-- neighbour, is the step on the stream (`step-kept`), once the places are turned back. Assumes nothing.
 use mathlib.Core.Path.{ap, _∙_}
 use borrow.Author.Needs.{needs}
 use Rattle.receiver.specs.declared.Places.{Places}
@@ -17,7 +17,7 @@ returns c =
     let s = c .before .before .before .before .before .before .before .before .before .before in
     let x = c .before .before .before .before .step-within .result in
     ap (λ (t : StreamState). record { outcome = x .outcome; state = record { first = s .args .m .first; second = t; places = c .turned2 .result } })
-    (c .before .state-of .ensures)
+    (c .before .stream-in .ensures)
     ∙ ap (λ (p : Places). record { outcome = x .outcome; state = record { first = s .args .m .first; second = streamIn (x .state); places = p } })
     (c .turned2 .ensures)
     ∙ step-kept two (s .args .m) (s .args .number) (s .args .time) _ _ x (s .pre)
@@ -30,9 +30,5 @@ step-second-spec =
     tie.close
     (tie.spec
     most-beside-requires
-    (λ c κs. search needs)
-    (λ c κs. search needs)
-    (λ c κs. search needs)
-    (λ c κs. search needs)
-    (λ c κs. search needs)
+    (λ c κs. search needs) (λ c κs. search needs) (λ c κs. search needs) (λ c κs. search needs) (λ c κs. search needs)
     returns)

@@ -1,5 +1,5 @@
--- `agreement` meets its contract: with a refusal the text is not looked at, else it is compared. Any listing has room in
--- LISTING_OCTETS. Assumes nothing.
+-- `metrics::agreement` meets its contract: with a refusal the text is not looked at (`agreed-refused`), else it is compared
+-- (`agreed-accepted`). That any listing has room in LISTING_OCTETS is a law. Assumes nothing.
 use Prim.Native.Nat.{_≤_}
 use borrow.Author.Needs.{needs}
 use denote.Ref.{now}
@@ -9,12 +9,11 @@ use Rattle.octets.proofs.Below.{below-fits}
 use Rattle.listing.specs.Room.{listingOctets}
 use Rattle.sample.specs.Decode.{decode}
 use Rattle.metrics.specs.Report.{sampleText}
-use Rattle.metrics.proofs.Left.{agreed-refused, agreed-accepted}
+use Rattle.metrics.proofs.Agreed.{agreed-refused, agreed-accepted}
 use Rattle.metrics.proofs.Listed.{sample-within}
 use Rattle.metrics.proofs.agreement.Statement.{statement}
 use Rattle.metrics.proofs.agreement.Tie as tie
 
--- any listing has room in LISTING_OCTETS
 room : (c : tie.After-layout) → length (sampleText (decode (now (c .before .before .before .args .file)))) ≤ listingOctets
 room c =
     let file = now (c .before .before .before .args .file) in
@@ -26,7 +25,7 @@ returns c = (agreed-refused _ _ (c .before .before .layout .ensures) _ (c .if1 .
 returns-2 : tie.Need-returns-2
 returns-2 c =
     let l = c .before .before .before .before in
-    (agreed-accepted _ _ (l .layout .ensures) _ (c .before .before .if1 .left) _ (c .before .compare .ensures) _ (c .same .ensures), room l)
+    (agreed-accepted _ _ (l .layout .ensures) _ (c .before .before .if1 .left) _ (c .before .compare-listing .ensures) _ (c .same-text .ensures), room l)
 
 pub agreement-spec : {M : Type 1} → statement M
 agreement-spec =

@@ -1,4 +1,4 @@
--- `answer` meets its contract by those of its callees; the cases hold by themselves. Assumes nothing.
+-- `metrics::answer` meets its contract by that of `answer_of`; that the cases hold is a law. Assumes nothing.
 use borrow.Author.Needs.{needs}
 use Rattle.rfc4737.proofs.Cases.{cases-hold}
 use Rattle.metrics.proofs.answer.Statement.{statement}

@@ -1,4 +1,4 @@
--- `counts` meets its contract by those of its callees. Assumes nothing.
+-- `metrics::counts` meets its contract: the layout has the file's refusal, and `counts_of` gives the counts of its sample. Assumes nothing.
 use Rattle.metrics.specs.Figures.{sampleCounts}
 use borrow.Author.Needs.{needs}
 use Rattle.metrics.proofs.counts.Statement.{statement}

@@ -1,4 +1,4 @@
--- `degree` meets its contract by those of its callees. Assumes nothing.
+-- `metrics::degree` meets its contract: the ratio of the two counts of `n_reordered` is the degree over the same answers. Assumes nothing.
 use Rattle.rfc4737.specs.Ratios.{degree}
 use Rattle.metrics.specs.Figures.{degreeCounts, sampleDegree}
 use borrow.Author.Needs.{needs}

@@ -1,5 +1,5 @@
--- `listing` meets its contract: with a refusal nothing is written, else the lines of the file's sample. What it carries are laws.
--- Assumes nothing.
+-- `metrics::listing` meets its contract: with a refusal nothing is written (`nothing-written`), else `write_listing` writes the lines of the file's
+-- sample, which fit as nothing is refused (`whole-written`). What it carries are laws. Assumes nothing.
 use Prim.Native.Nat.{_≤_}
 use borrow.Author.Needs.{needs}
 use denote.Ref.{now}
@@ -28,13 +28,13 @@ carries c =
     (sample-within file (c .layout .result) (c .layout .ensures) o, (example-holds, clock-moved file o))
 
 returns : tie.Need-returns
-returns c = (nothing-written _ _ _ _ (c .before .refusal-into .ensures) (c .if1 .taken), carries (c .before .before))
+returns c = (nothing-written _ _ _ _ (c .before .listing-refusal .ensures) (c .if1 .taken), carries (c .before .before))
 
 returns-2 : tie.Need-returns-2
 returns-2 c =
     let r = c .before .before .before .before .before in
-    let e = c .before .before .list .ensures in
-    (whole-written _ _ _ _ (r .refusal-into .ensures) (c .before .before .before .before .if1 .left) (e .0) (e .1), carries (r .before))
+    let e = c .before .before .write-listing .ensures in
+    (whole-written _ _ _ _ (r .listing-refusal .ensures) (c .before .before .before .before .if1 .left) (e .0) (e .1), carries (r .before))
 
 pub listing-spec : {M : Type 1} → statement M
 listing-spec =

@@ -1,4 +1,5 @@
--- `ratios` meets its contract by those of its callees. Assumes nothing.
+-- `metrics::ratios` meets its contract: the counts are shares for n = 1 and n = 3 of the file's sample, and their ratios are those of the
+-- definition. Assumes nothing.
 use Rattle.rfc4737.specs.Ratios.{ratios}
 use Rattle.metrics.specs.Figures.{sampleRatios}
 use Rattle.metrics.specs.Private.Steps.{ratiosBy, sharesOf}

@@ -1,4 +1,4 @@
--- `tally` meets its contract by those of its callees. Assumes nothing.
+-- `metrics::tally` meets its contract: the layout has the file's refusal, and `tally_of` gives the tally of its sample. Assumes nothing.
 use Rattle.metrics.specs.Figures.{sampleTally}
 use borrow.Author.Needs.{needs}
 use Rattle.metrics.proofs.tally.Statement.{statement}

@@ -1,23 +1,21 @@
--- What the tables of the engine hold after some arrivals. Assumes nothing.
+-- What the tables of the engine hold after some arrivals, and the class that they give an arrival. Assumes nothing.
 use mathlib.Core.Path.{_≡_}
 use mathlib.Core.Bool.{false, cond}
 use mathlib.Core.List.{List, [], _∷_, _++_}
-use mathlib.Core.Option.{Option, none, some}
+use mathlib.Core.Option.{some}
 use Prim.Native.Nat.{ℕ, _+_, _-_, _≤_, _<_}
 use lib.Dec.{eqb, leb}
 use lib.ListN.{length, take, getD}
 use Rattle.rfc4737.specs.declared.Arrival.{Arrival}
 use Rattle.rfc4737.specs.declared.Answer.{Answer}
+use Rattle.rfc4737.specs.declared.ReorderedFigures.{ReorderedFigures}
 use Rattle.rfc4737.specs.Arrivals.{has, firsts, firstRecord}
 use Rattle.rfc4737.specs.Order.{FirstArrival, nextExp}
 use Rattle.rfc4737.specs.Extent.{discontinuity, largestN}
-use Rattle.rfc4737.specs.Answer.{reorderedAnswer}
 use Rattle.rfc4737.specs.Judge.{sentMost, arrivalsMost}
-use Rattle.sample.specs.Decode.{Decoded}
-use Rattle.metrics.specs.Sample.{sizeOf}
 use Rattle.sample.specs.Places.{noArrival}
-use Rattle.metrics.specs.Private.Sample.{arrivalAt, before, answerAt, numberPlaces}
-use Rattle.metrics.specs.declared.look.Class.{Class}
+use Rattle.metrics.specs.Private.Sample.{numberPlaces}
+use Rattle.metrics.specs.declared.classes.Class.{Class}
 use Rattle.metrics.specs.declared.tables.State.{State}
 
 -- a list after one value was put at the places from `from` to before `to`, all else as it was
@@ -26,11 +24,6 @@ pub record Filled (from to value : ℕ) (old new : List ℕ) : Type 0 where
   pub inside : (k : ℕ) → from ≤ k → k < to → getD new k 0 ≡ value
   pub below : (k : ℕ) → k < from → getD new k 0 ≡ getD old k 0
   pub past : (k : ℕ) → to ≤ k → getD new k 0 ≡ getD old k 0
-
--- the position of a discontinuity; 0 if there is none
-abbrev pub placeOf : Option FirstArrival → ℕ
-placeOf none = 0
-placeOf (some p) = p .position
 
 -- a table has the numbers of some first arrivals, by position, and so many are there
 pub record NumberTable (fs : List Arrival) (numbers : List ℕ) (count : ℕ) : Type 0 where
@@ -65,7 +58,7 @@ pub record EngineTables (earlier : List Arrival) (numbers records skipped : List
   pub next : state .next ≡ nextExp (firsts earlier)
   pub recorded : RecordTable earlier records
   pub skips : (s : ℕ) → 1 ≤ s → s < nextExp (firsts earlier) → has s earlier ≡ false
-      → getD skipped s 0 ≡ placeOf (discontinuity (firsts earlier) s)
+      → (p : FirstArrival) → discontinuity (firsts earlier) s ≡ some p → getD skipped s 0 ≡ p .position
 
 -- a table has at the packet of each first arrival what with `more` is 1 and its own largest n, and 0 at every packet from NextExp on
 pub record LinkTable (more : ℕ) (fs : List Arrival) (links : List ℕ) : Type 0 where
@@ -90,19 +83,6 @@ pub record NotedRecord (i number largest : ℕ) (numbers records skipped : List 
       → (has number l ≡ false → number < nextExp (firsts l) → largest ≡ largestN (firsts l) number)
       → LinkTable 1 (firsts l) skipped → LinkTable 1 (firsts (l ++ (a ∷ []))) skipped′
 
--- record i + 1 is reordered, with its discontinuity at a position
-pub record LateRecord (d : Decoded) (i at : ℕ) : Type 0 where
-  pub place : FirstArrival
-  pub position : place .position ≡ at
-  pub is : discontinuity (firsts (before d i)) (arrivalAt d i .number) ≡ some place
-  pub answer : answerAt d i ≡ reorderedAnswer (sizeOf d) (firsts (before d i)) (arrivalAt d i) (some place)
-
--- the class of an answer: its kind, with what is known of it in one step
-abbrev pub classOf : Answer → Class
-classOf (Answer.Duplicate d) = Class.Duplicate (d .first)
-classOf (Answer.InOrder d) = Class.InOrder (d .jump)
-classOf (Answer.Reordered d) = Class.Reordered (d .position - d .extent)
-
 -- the class of an arrival of this number, by the tables and NextExp
 unfoldable pub classBy : List ℕ → List ℕ → ℕ → ℕ → Class
 classBy records skipped next number =
@@ -110,20 +90,20 @@ classBy records skipped next number =
     (cond (leb next number) (Class.InOrder (number - next)) (Class.Reordered (getD skipped number 0)))
     (Class.Duplicate (getD records number 0))
 
--- what a class says of the answer for record i + 1, after so many first arrivals
-abbrev pub ClassAnswer : Decoded → ℕ → ℕ → Class → Type 0
-ClassAnswer d i count (Class.Duplicate first) = answerAt d i ≡ Answer.Duplicate (record { first = first })
-ClassAnswer d i count (Class.InOrder jump) = answerAt d i ≡ Answer.InOrder (record { position = count + 1; jump = jump })
-ClassAnswer d i count (Class.Reordered at) = LateRecord d i at
+-- the answer of a class after so many first arrivals, with those figures of a reordered packet that its class does not tell
+abbrev pub answerBy : ℕ → Class → ReorderedFigures → Answer
+answerBy count (Class.Duplicate first) f = Answer.Duplicate (record { first = first })
+answerBy count (Class.InOrder jump) f = Answer.InOrder (record { position = count + 1; jump = jump })
+answerBy count (Class.Reordered at) f =
+    Answer.Reordered (record { position = count + 1; extent = count + 1 - at; late = f .late; offset = f .offset; largest = f .largest })
 
--- a figure that only a reordered packet has: 0 for any other class
-abbrev pub lateOnly : ℕ → Class → ℕ
-lateOnly n (Class.Duplicate first) = 0
-lateOnly n (Class.InOrder jump) = 0
-lateOnly n (Class.Reordered at) = n
+-- a class is that of an answer, after so many first arrivals
+pub record ClassOf (count : ℕ) (class : Class) (a : Answer) : Type 0 where
+  pub figures : ReorderedFigures
+  pub is : a ≡ answerBy count class figures
 
--- a packet that is reordered by its class has not arrived
-abbrev pub NewIfLate : ℕ → List Arrival → Class → Type 0
-NewIfLate s fs (Class.Duplicate first) = Unit
-NewIfLate s fs (Class.InOrder jump) = Unit
-NewIfLate s fs (Class.Reordered at) = has s fs ≡ false
+-- what holds of a reordered packet, by the position of its discontinuity; nothing is said of any other class
+abbrev pub IfLate : (ℕ → Type 0) → Class → Type 0
+IfLate holds (Class.Duplicate first) = Unit
+IfLate holds (Class.InOrder jump) = Unit
+IfLate holds (Class.Reordered at) = holds at

@@ -1,25 +1,47 @@
--- What taking a line tells: it is put into lent memory or, comparing, held against a text. Assumes nothing.
-use Prim.Native.Nat.{ℕ, _≤_}
+-- What taking the lines of a listing tells: they are put into lent memory or, comparing, held against a text. Assumes nothing.
+use Prim.Native.Nat.{ℕ, _+_, _≤_}
 use mathlib.Core.Path.{_≡_}
 use mathlib.Core.Bool.{Bool, true, false}
-use mathlib.Core.List.{List}
-use lib.ListN.{length, take, drop}
-use Rattle.octets.specs.Memory.{put}
-use Rattle.metrics.specs.Private.Compared.{Agreed}
+use mathlib.Core.List.{List, _++_}
+use lib.Dec.{eqb}
+use lib.ListN.{length, drop}
+use Rattle.octets.specs.Memory.{splice}
+use Rattle.rfc4737.specs.Runs.{counts}
+use Rattle.listing.specs.Lines.{headerLine, recordLines}
+use Rattle.sample.specs.declared.Layout.{Layout}
+use Rattle.sample.specs.Decode.{Decoded}
+use Rattle.metrics.specs.Agreement.{common}
+use Rattle.metrics.specs.Report.{sampleText}
+use Rattle.metrics.specs.Sample.{answersOf}
+use Rattle.metrics.specs.Private.Sample.{before, answersTo}
 use Rattle.metrics.specs.declared.parts.Part.{Part}
+use Rattle.metrics.specs.declared.pass.PassResult.{PassResult}
+
+-- how many octets of some lines stand at a text's start, and whether all of them do
+pub record Agreed (lines text : List ℕ) (r : Part) : Type 0 where
+  pub octets : r .octets ≡ common lines text
+  pub whole : r .whole ≡ eqb (common lines text) (length lines)
 
 -- a line can be compared: memory has room for one, and the place is one of the text's
 pub record LineRoom (comparing : Bool) (text : List ℕ) (at : ℕ) (out : List ℕ) : Type 0 where
   pub room : comparing ≡ true → 93 ≤ length out
   pub inside : comparing ≡ true → at ≤ length text
 
--- the first n octets of memory are a line that was put or, comparing, are held against a text from a place on
-pub record LineHeld (comparing : Bool) (out text : List ℕ) (at n : ℕ) (r : Part) : Type 0 where
-  pub listed : comparing ≡ false → r ≡ record { octets = n; whole = true }
-  pub compared : comparing ≡ true → Agreed (take n out) (drop at text) r
-
--- a line was put into `old` from a place on or, comparing, held against a text from there on
-pub record LineTaken (comparing : Bool) (line text : List ℕ) (at : ℕ) (old new : List ℕ) (r : Part) : Type 0 where
-  pub listed : comparing ≡ false → (r ≡ record { octets = length line; whole = true }) × (new ≡ put at line old)
-  pub compared : comparing ≡ true → Agreed line (drop at text) r
+-- lines were put into `old` from a place on, if they fit, or, comparing, held against a text from there on
+pub record Taken (comparing : Bool) (lines text : List ℕ) (at : ℕ) (old new : List ℕ) (r : Part) : Type 0 where
+  pub listed : comparing ≡ false → (r ≡ record { octets = length lines; whole = true }) × (at + length lines ≤ length old → new ≡ splice at lines old)
+  pub compared : comparing ≡ true → Agreed lines (drop at text) r
   pub places : length new ≡ length old
+
+-- the listing up to record i
+abbrev pub linesTo : Decoded → Layout → ℕ → List ℕ
+linesTo d y i = headerLine (y .sent) (y .arrivals) ++ recordLines (before d i) (answersTo d i)
+
+-- record i is behind: the lines up to it are taken, of so many octets
+abbrev pub PassedTo : Decoded → Layout → List ℕ → Bool → ℕ → ℕ → List ℕ → List ℕ → Type 0
+PassedTo d y text comparing i at old new = Taken comparing (linesTo d y i) text 0 old new (record { octets = at; whole = true })
+
+-- all records are behind or, where a line differs, the listing is known to differ there
+pub record PassEnded (d : Decoded) (y : Layout) (text : List ℕ) (comparing : Bool) (old new : List ℕ) (r : PassResult) : Type 0 where
+  pub all : r .part .whole ≡ true → PassedTo d y text comparing (y .arrivals) (r .part .octets) old new × (r .counts ≡ counts (answersOf d))
+  pub differs : r .part .whole ≡ false → Taken comparing (sampleText d) text 0 old new (r .part)

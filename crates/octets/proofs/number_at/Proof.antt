@@ -1,5 +1,5 @@
--- `octets::number_at` meets its contract: past the end no octet stands; with enough octets left those of the width are read; else those up
--- to the end, which are the part too. Assumes nothing.
+-- `octets::number_at` meets its contract: past the end no octet stands, and their value is 0; with enough octets left `value_of` reads those of
+-- the width; else it reads those up to the end, and the part of the width is all of these too. Assumes nothing.
 use Prim.Native.Nat.{ℕ, _-_, min}
 use native.Mathlib.Omega.{arith}
 use mathlib.Core.Path.{sym, ap, _∙_}
@@ -37,8 +37,7 @@ number-at-spec =
     (tie.spec
     (λ c κs. search needs)
     returns
-    (λ c. search needs)
-    (λ c κs. search needs)
+    (λ c. search needs) (λ c κs. search needs)
     returns-2
     (λ c κs. search needs)
     returns-3)

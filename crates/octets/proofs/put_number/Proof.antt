@@ -1,4 +1,5 @@
--- `octets::put_number` meets its contract: the test is that of `put`, and where it holds the octets are spliced in. Assumes nothing.
+-- `octets::put_number` meets its contract: `has_room` answers the test of `put`, since there are as many octets as the width; where it holds
+-- `write_number` splices them in, else memory stays. `read-back` is the theorem that the contract carries. Assumes nothing.
 use Prim.Native.Nat.{_+_, _≤_}
 use mathlib.Core.Path.{sym, _∙_}
 use borrow.Author.Needs.{needs}
@@ -34,8 +35,7 @@ pub put-number-spec : {M : Type 1} → statement M
 put-number-spec =
     tie.close
     (tie.spec
-    (λ c κs. search needs)
-    (λ c κs. search needs)
+    (λ c κs. search needs) (λ c κs. search needs)
     write-number-requires
     (λ c. search needs)
     returns

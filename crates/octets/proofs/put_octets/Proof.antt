@@ -1,4 +1,5 @@
--- `octets::put_octets` meets its contract: the test is that of `put`, and where it holds the octets are spliced in. Assumes nothing.
+-- `octets::put_octets` meets its contract: `has_room` answers the test of `put`; where it holds `write_octets` splices the octets in, else
+-- memory stays. Assumes nothing.
 use mathlib.Core.Path.{sym, _∙_}
 use borrow.Author.Needs.{needs}
 use borrow.Author.Tests.{leb-true}

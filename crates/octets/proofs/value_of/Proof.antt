@@ -1,5 +1,6 @@
--- `octets::value_of` meets its contract. The loop's invariant: i is at most n, and v is the value of the first i octets from the place
--- on; so v is below 256 ^ 7 before an eighth octet. The measure is what is left of n. Assumes nothing.
+-- `octets::value_of` meets its contract. The loop's invariant: i is at most n, and v is the value of the first i octets from the place on. n is
+-- at most 8, so v is below 256 ^ 7 before each octet, and the product and the sum fit 64 bits; a turn is `value-part-snoc`. The measure is
+-- n - i. Assumes nothing.
 use Prim.Native.Nat.{_+_, _-_, _^_, _≤_, _<_}
 use native.Mathlib.Omega.{arith}
 use mathlib.Core.Path.{_≡_, sym}
@@ -12,6 +13,7 @@ use Rattle.octets.proofs.BigEndian.{value-nil, value-part, value-part-s
 use Rattle.octets.proofs.value_of.Statement.{statement}
 use Rattle.octets.proofs.value_of.Tie as tie
 
+-- v₀ and i₀ are v and i where the loop begins
 abbrev Inv-loop : tie.InvT-loop
 Inv-loop s at n v₀ i₀ v i = (i ≤ n) × (v ≡ beValue (part at i s))
 

@@ -1,5 +1,6 @@
--- `octets::write_number` meets its contract. The loop's invariant: what stands there, with the rest written in the first i octets, is the
--- whole number written into what stood there at first. The measure is i. Assumes nothing.
+-- `octets::write_number` meets its contract. The loop's invariant: i is at most n, memory keeps its length, and memory as it is with `rest`
+-- written in i octets is memory at the entry with all of `v` written in n. A turn stores the last of these i octets, and the others are those
+-- of rest / 256 (`turn`); with i = 0 nothing is left to write. The measure is i. Assumes nothing.
 use Prim.Native.Nat.{ℕ, _+_, _-_, _/_, _%_, _≤_, _<_}
 use native.Mathlib.Omega.{arith}
 use mathlib.Core.Path.{_≡_, refl, sym, _∙_}
@@ -12,6 +13,7 @@ use Rattle.octets.proofs.Memory.{splice-nil, splice-last}
 use Rattle.octets.proofs.write_number.Statement.{statement}
 use Rattle.octets.proofs.write_number.Tie as tie
 
+-- out₀, rest₀ and i₀ are the values where the loop begins, out, rest and i those at its head
 abbrev Inv-loop : tie.InvT-loop
 Inv-loop out₀ at n v rest₀ i₀ out rest i =
     (i ≤ n) × (length out ≡ length out₀) × (splice at (beOctets i rest) out ≡ splice at (beOctets n v) out₀)

@@ -1,5 +1,5 @@
--- `octets::write_octets` meets its contract. The loop's invariant: the first i octets of s are written into what stood there at first. The
--- measure is what is left of s. Assumes nothing.
+-- `octets::write_octets` meets its contract. The loop's invariant: i is at most the length of s, memory keeps its length, and it is memory at
+-- the entry with the first i octets of s written from `at` on; it is the loop of `copy-next`. The measure is what is left of s. Assumes nothing.
 use Prim.Native.Nat.{_-_, _≤_}
 use native.Mathlib.Omega.{arith}
 use mathlib.Core.Path.{_≡_, refl}
@@ -9,6 +9,7 @@ use Rattle.octets.proofs.Memory.{copy-start, copy-next, copy-done}
 use Rattle.octets.proofs.write_octets.Statement.{statement}
 use Rattle.octets.proofs.write_octets.Tie as tie
 
+-- out₀ and i₀ are the values where the loop begins, out and i those at its head
 abbrev Inv-loop : tie.InvT-loop
 Inv-loop out₀ at s i₀ out i = (i ≤ length s) × (length out ≡ length out₀) × (out ≡ splice at (take i s) out₀)
 

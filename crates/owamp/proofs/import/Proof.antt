@@ -1,4 +1,6 @@
--- `owamp::import` meets its contract: refused, a list too short, or filled and converted. Assumes nothing.
+-- `owamp::import` meets its contract: `records_refusal` gives the refusal of K and the records; with none (`none`), a list with fewer places than
+-- arrivals is 8; else `fill_arrivals` leaves the arrivals in order, whose times rise, so that `to_microseconds` may take off the first, which is the
+-- smallest (`times-converted`). Beside each answer stand the theorems that the contract carries (`carried`). Assumes nothing.
 use borrow.Author.Needs.{needs}
 use native.Mathlib.Omega.{arith}
 use Prim.Native.Nat.{ℕ}
@@ -36,7 +38,7 @@ records c = now (start c .args .records)
 
 -- that they are not, and how many arrivals there are
 none : (c : tie.Else1) → recordsRefusal (start c .args .k) (records c) ≡ 0
-none c = sym (c .before .refusal-in .ensures) ∙ c .if1 .left
+none c = sym (c .before .records-refusal .ensures) ∙ c .if1 .left
 
 many : (c : tie.Else1) → c .before .before .arrivals-among .result ≡ length (recordsArrivals (records c))
 many c = c .before .before .arrivals-among .ensures
@@ -45,7 +47,7 @@ returns : tie.Need-returns
 returns c =
     let a = c .before .before .before .before .before .before .args in
     let os = now (a .records) in
-    (import-refused (a .k) os (now (a .numbers)) (now (a .times)) (c .before .refusal-in .result) (c .before .refusal-in .ensures) (c .if1 .taken), carried (a .k) os)
+    (import-refused (a .k) os (now (a .numbers)) (now (a .times)) (c .before .records-refusal .result) (c .before .records-refusal .ensures) (c .if1 .taken), carried (a .k) os)
 
 returns-2 : tie.Need-returns-2
 returns-2 c =
@@ -57,16 +59,16 @@ returns-3 c =
     let e = c .before .before in
     (import-short-times _ (records e) (now (start e .args .numbers)) (now (start e .args .times)) (none e) (many e) (c .if3 .taken), carried (start e .args .k) (records e))
 
-fill-requires : tie.Need-fill-requires
-fill-requires c κs =
+fill-arrivals-requires : tie.Need-fill-arrivals-requires
+fill-arrivals-requires c κs =
     let e = c .before .before .before .before in
     let f = none-refused (start e .args .k) (records e) (none e) in
     (omega (arith, c .before .before .before .if2 .left, many e), omega (arith, c .before .before .if3 .left, many e), numbers-fit (start e .args .k) (recordsArrivals (records e)) (f .most) (f .numbers))
 
-convert-requires : tie.Need-convert-requires
-convert-requires c κs =
+to-microseconds-requires : tie.Need-to-microseconds-requires
+to-microseconds-requires c κs =
     let e = c .before .before .before .before .before .before .before .before .before .before in
-    let f = c .before .before .before .before .before .fill in
+    let f = c .before .before .before .before .before .fill-arrivals in
     let k = f .kept .1 .0 in
     let n = many e in
     (omega arith, λ i h. filled-first (records e) (now (start e .args .times)) (f .ensures .1) i (omega arith))
@@ -81,22 +83,20 @@ returns-4 c =
     let e = c .before .before .before .before .before .before .before .before .before .before .before .before .before in
     let a = start e .args in
     let l = recordsArrivals (records e) in
-    let f = c .before .before .before .before .before .before .before .before .fill .ensures in
-    let t = times-converted (inTimeOrder l) _ (now (a .times)) (in-order l .rising) (many e ∙ sym (order-length l)) (f .1) (c .before .before .convert .ensures) in
+    let f = c .before .before .before .before .before .before .before .before .fill-arrivals .ensures in
+    let t = times-converted (inTimeOrder l) _ (now (a .times)) (in-order l .rising) (many e ∙ sym (order-length l)) (f .1) (c .before .before .to-microseconds .ensures) in
     (import-filled (a .k) (records e) (now (a .numbers)) (now (a .times)) _ (none e) (many e) (c .before .before .before .before .before .before .before .before .before .before .before .before .if2 .left) (c .before .before .before .before .before .before .before .before .before .before .before .if3 .left) (f .0) t, carried (a .k) (records e))
 
 pub import-spec : {M : Type 1} → statement M
 import-spec =
     tie.close
     (tie.spec
-    (λ c κs. search needs)
-    (λ c κs. search needs)
+    (λ c κs. search needs) (λ c κs. search needs)
     returns
     returns-2
     returns-3
-    fill-requires
-    convert-requires
+    fill-arrivals-requires
+    to-microseconds-requires
     cast-t16
-    (λ c. search needs)
-    (λ c. search needs)
+    (λ c. search needs) (λ c. search needs)
     returns-4)

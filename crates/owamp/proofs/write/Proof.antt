@@ -1,4 +1,6 @@
--- `owamp::write` meets its contract: the sample's refusal, 18, 8, or written. Assumes nothing.
+-- `owamp::write` meets its contract: a refusal of `check` is the file's own; with none the layout is that of an accepted file (`found`), so
+-- `judge_seconds` may judge its times (18); then too few lent octets are 8; else `write_records` writes the records. At each return the first
+-- refusal is known, and what is written with it. Beside each answer stand the theorems that the contract carries (`carried`). Assumes nothing.
 use borrow.Author.Needs.{needs}
 use native.Mathlib.Omega.{arith}
 use Prim.Native.Nat.{ℕ, _*_}
@@ -10,11 +12,11 @@ use denote.Ref.{now}
 use Rattle.octets.specs.Below.{Octets}
 use Rattle.octets.proofs.Below.{below-fits}
 use Rattle.octets.proofs.Memory.{over-splice}
-use Rattle.sample.specs.Decode.{decode, sampleOf, decodedRefusal}
+use Rattle.sample.specs.Decode.{decode, sampleOf, decodedRefusal, layoutOf}
+use Rattle.owamp.specs.Record.{recordWidth}
 use Rattle.owamp.specs.Calls.{recordsOf, arrivalsOfFile}
 use Rattle.owamp.specs.RoundTrip.{RecordsReadAgain}
 use Rattle.owamp.specs.Cases.{RecordsWrittenAsGiven}
-use Rattle.owamp.specs.Private.Reading.{AcceptedLayout}
 use Rattle.owamp.proofs.Cases.{written-as-given}
 use Rattle.sample.proofs.Accepted.{found-sample, accepted-limits}
 use Rattle.owamp.proofs.RoundTrips.{records-many}
@@ -39,14 +41,14 @@ octets : (c : tie.Else1) → Octets (file c)
 octets c = below-fits w8 (file c) (c .before .before .before .before .shared-slice-known .given)
 
 -- its layout, the refusal that is not due, and how many arrivals it has
-found : (c : tie.Else1) → AcceptedLayout (file c) (c .before .before .check .result)
-found c = record { layout = c .before .before .check .ensures .0; accepted = c .if1 .left }
+found : (c : tie.Else1) → (c .before .before .check .result ≡ layoutOf (decode (file c))) × (c .before .before .check .result .refusal ≡ 0)
+found c = (c .before .before .check .ensures .0, c .if1 .left)
 
 none : (c : tie.Else1) → decodedRefusal (decode (file c)) ≡ 0
 none c = sym (found-refusal (file c) _ (c .before .before .check .ensures .0)) ∙ c .if1 .left
 
-many : (c : tie.Else1) → (c .before .before .check .result .arrivals ≡ length (arrivalsOfFile (file c))) × (length (recordsOf (arrivalsOfFile (file c))) ≡ 25 * length (arrivalsOfFile (file c)))
-many c = (found-many (file c) _ (found c), records-many (arrivalsOfFile (file c)))
+many : (c : tie.Else1) → (c .before .before .check .result .arrivals ≡ length (arrivalsOfFile (file c))) × (length (recordsOf (arrivalsOfFile (file c))) ≡ recordWidth * length (arrivalsOfFile (file c)))
+many c = (found-many (file c) _ (found c .0), records-many (arrivalsOfFile (file c)))
 
 returns : tie.Need-returns
 returns c =
@@ -75,7 +77,7 @@ cast-t11 : tie.Need-cast-t11
 cast-t11 c =
     let e = c .before .before .before .before .before .before .before .before in
     let f = found e in
-    let d = found-sample (file e) _ (f .layout) (f .accepted) in
+    let d = found-sample (file e) _ (f .0) (f .1) in
     omega (arith, accepted-limits (file e) (sampleOf (decode (file e))) d (octets e) .arrivalsFit, many e)
 
 returns-4 : tie.Need-returns-4
@@ -95,8 +97,7 @@ write-spec =
     returns
     judge-seconds-requires
     returns-2
-    (λ c. search needs)
-    (λ c. search needs)
+    (λ c. search needs) (λ c. search needs)
     returns-3
     write-records-requires
     cast-t11

@@ -1,4 +1,6 @@
--- `owamp::write_records` meets its contract: The loop's invariant: the records of the first i arrivals stand from the start on. Assumes nothing.
+-- `owamp::write_records` meets its contract. The loop's invariant: from the start on stand the records of the first i arrivals, all else is as
+-- it was. A turn reads arrival i, whose number is at least 1 as the file is accepted (`there`, `number-within`), and puts its record into the
+-- octets lent for it (`write-next`). The measure is the number of arrivals left. Assumes nothing.
 use borrow.Author.Needs.{needs}
 use native.Mathlib.Omega.{arith}
 use Prim.Native.Nat.{_+_, _-_, _*_, _≤_}
@@ -13,6 +15,7 @@ use Rattle.octets.proofs.Memory.{taken}
 use Rattle.rfc4737.specs.declared.Arrival.{Arrival}
 use Rattle.sample.specs.Format.{itemOctets}
 use Rattle.sample.specs.Decode.{decode, sampleOf}
+use Rattle.owamp.specs.Record.{recordWidth}
 use Rattle.owamp.specs.Calls.{recordOctets, recordsOf, arrivalsOfFile}
 use Rattle.sample.specs.Places.{noArrival}
 use Rattle.sample.proofs.Accepted.{found-sample, arrival-found, number-within}
@@ -22,6 +25,7 @@ use Rattle.owamp.proofs.Writing.{found-many}
 use Rattle.owamp.proofs.write_records.Statement.{statement}
 use Rattle.owamp.proofs.write_records.Tie as tie
 
+-- out₀ and i₀ are the values where the loop begins, out and i those at its head
 abbrev Inv-loop : tie.InvT-loop
 Inv-loop file found out₀ count i₀ out i = (i ≤ count) × (out ≡ splice 0 (itemOctets recordOctets (take i (arrivalsOfFile file))) out₀)
 
@@ -32,10 +36,10 @@ abbrev μ-loop : tie.MeasureT-loop
 kept : (c : tie.At-loop Inv-loop μ-loop) → length (c .loop .out) ≡ length (now (c .before .before .before .args .out))
 kept c =
     let a = c .before .before .before in
-    let m = found-many (now (a .args .file)) (a .args .found) (a .pre .0) in
+    let m = found-many (now (a .args .file)) (a .args .found) (a .pre .0 .0) in
     let xs = arrivalsOfFile (now (a .args .file)) in
-    let r : 0 + 25 * length xs ≤ length (now (a .args .out)) = omega (arith, a .pre .1) in
-    write-length recordOctets 25 record-long xs 0 (now (a .args .out)) r (c .loop .i) (c .loop .inv .1) (omega arith)
+    let r : 0 + recordWidth * length xs ≤ length (now (a .args .out)) = omega (arith, a .pre .1) in
+    write-length recordOctets recordWidth record-long xs 0 (now (a .args .out)) r (c .loop .i) (c .loop .inv .1) (omega arith)
 
 -- the arrival that was read
 there : (c : tie.After-arrival Inv-loop μ-loop) → c .arrival .result ≡ getD (arrivalsOfFile (now (c .before .before .before .before .before .args .file))) (c .before .before .loop .i) noArrival
@@ -43,15 +47,15 @@ there c =
     let a = c .before .before .before .before .before in
     let f = now (a .args .file) in
     c .arrival .ensures
-    ∙ arrival-found f (sampleOf (decode f)) (found-sample f (a .args .found) (a .pre .0 .layout) (a .pre .0 .accepted)) (a .args .found) (a .pre .0 .layout) (c .before .before .loop .i) noArrival (search needs)
+    ∙ arrival-found f (sampleOf (decode f)) (found-sample f (a .args .found) (a .pre .0 .0) (a .pre .0 .1)) (a .args .found) (a .pre .0 .0) (c .before .before .loop .i) noArrival (search needs)
 
 loop-holds : tie.Need-loop-holds Inv-loop μ-loop
 loop-holds c =
     let a = c .before .before in
-    let m = found-many (now (a .args .file)) (a .args .found) (a .pre .0) in
+    let m = found-many (now (a .args .file)) (a .args .found) (a .pre .0 .0) in
     let xs = arrivalsOfFile (now (a .args .file)) in
-    let r : 0 + 25 * length xs ≤ length (now (a .args .out)) = omega (arith, a .pre .1) in
-    (search needs, write-start recordOctets 25 record-long xs 0 (now (a .args .out)) r)
+    let r : 0 + recordWidth * length xs ≤ length (now (a .args .out)) = omega (arith, a .pre .1) in
+    (search needs, write-start recordOctets recordWidth record-long xs 0 (now (a .args .out)) r)
 
 part-lent-end : tie.Need-part-lent-end Inv-loop μ-loop
 part-lent-end c =
@@ -59,32 +63,32 @@ part-lent-end c =
     let p = c .before .before .before .before .before .pre .1 in
     omega arith
 
-put-record-requires : tie.Need-put-record-requires Inv-loop μ-loop
-put-record-requires c κs =
+put-packet-record-requires : tie.Need-put-packet-record-requires Inv-loop μ-loop
+put-packet-record-requires c κs =
     let l = c .before .before .before in
     let a = c .before .before .before .before .before .before in
-    let m = found-many (now (a .args .file)) (a .args .found) (a .pre .0) in
+    let m = found-many (now (a .args .file)) (a .args .found) (a .pre .0 .0) in
     let xs = arrivalsOfFile (now (a .args .file)) in
-    let r : 0 + 25 * length xs ≤ length (now (a .args .out)) = omega (arith, a .pre .1) in
+    let r : 0 + recordWidth * length xs ≤ length (now (a .args .out)) = omega (arith, a .pre .1) in
     let f = now (a .args .file) in
     let k = kept l in
     let e = ap (λ (x : Arrival). x .number) (there (c .before)) in
     let o = below-fits w8 f (l .before .before .shared-slice-known .given) in
-    let w = number-within f (sampleOf (decode f)) (found-sample f (a .args .found) (a .pre .0 .layout) (a .pre .0 .accepted)) o noArrival (l .loop .i) (omega arith) .0 in
+    let w = number-within f (sampleOf (decode f)) (found-sample f (a .args .found) (a .pre .0 .0) (a .pre .0 .1)) o noArrival (l .loop .i) (omega arith) .0 in
     (omega arith, simp (length-take, length-drop) (omega arith))
 
 loop-again : tie.Need-loop-again Inv-loop μ-loop
 loop-again c =
     let l = c .before .before .before .before .before .before in
     let a = c .before .before .before .before .before .before .before .before .before in
-    let m = found-many (now (a .args .file)) (a .args .found) (a .pre .0) in
+    let m = found-many (now (a .args .file)) (a .args .found) (a .pre .0 .0) in
     let xs = arrivalsOfFile (now (a .args .file)) in
-    let r : 0 + 25 * length xs ≤ length (now (a .args .out)) = omega (arith, a .pre .1) in
+    let r : 0 + recordWidth * length xs ≤ length (now (a .args .out)) = omega (arith, a .pre .1) in
     let i = l .loop .i in
-    let z : 0 + 25 * i ≡ 25 * i = zero-add (25 * i) in
-    let q : c .before .before .put-record .last .0 ≡ put 0 (recordOctets (getD xs i noArrival)) (taken (0 + 25 * i) 25 (l .loop .out)) =
-    rw z (c .before .before .put-record .ensures ∙ ap (λ (x : Arrival). put 0 (recordOctets x) (taken (25 * i) 25 (l .loop .out))) (there (c .before .before .before .before))) in
-    let n = write-next recordOctets 25 record-long xs 0 (now (a .args .out)) r i (l .loop .inv .1) noArrival (omega arith) q in
+    let z : 0 + recordWidth * i ≡ recordWidth * i = zero-add (recordWidth * i) in
+    let q : c .before .before .put-packet-record .last .0 ≡ put 0 (recordOctets (getD xs i noArrival)) (taken (0 + recordWidth * i) recordWidth (l .loop .out)) =
+    rw z (c .before .before .put-packet-record .ensures ∙ ap (λ (x : Arrival). put 0 (recordOctets x) (taken (recordWidth * i) recordWidth (l .loop .out))) (there (c .before .before .before .before))) in
+    let n = write-next recordOctets recordWidth record-long xs 0 (now (a .args .out)) r i (l .loop .inv .1) noArrival (omega arith) q in
     (search needs, rw z at n)
 
 same-length : tie.Need-same-length Inv-loop μ-loop
@@ -95,10 +99,10 @@ unfolding recordsOf
 returns c =
     let l = c .before in
     let a = c .before .before .before .before in
-    let m = found-many (now (a .args .file)) (a .args .found) (a .pre .0) in
+    let m = found-many (now (a .args .file)) (a .args .found) (a .pre .0 .0) in
     let xs = arrivalsOfFile (now (a .args .file)) in
-    let r : 0 + 25 * length xs ≤ length (now (a .args .out)) = omega (arith, a .pre .1) in
-    write-done recordOctets 25 record-long xs 0 (now (a .args .out)) r (l .loop .i) (l .loop .inv .1) (omega arith)
+    let r : 0 + recordWidth * length xs ≤ length (now (a .args .out)) = omega (arith, a .pre .1) in
+    write-done recordOctets recordWidth record-long xs 0 (now (a .args .out)) r (l .loop .i) (l .loop .inv .1) (omega arith)
 
 pub write-records-spec : {M : Type 1} → statement M
 write-records-spec =
@@ -107,16 +111,11 @@ write-records-spec =
     Inv-loop
     μ-loop
     loop-holds
-    (λ c κs. search needs)
-    (λ c. search needs)
-    (λ c. search needs)
-    (λ c. search needs)
-    (λ c. search needs)
+    (λ c κs. search needs) (λ c. search needs) (λ c. search needs) (λ c. search needs) (λ c. search needs)
     (λ c. search needs)
     part-lent-end
-    put-record-requires
-    (λ c. search needs)
-    (λ c. search needs)
+    put-packet-record-requires
+    (λ c. search needs) (λ c. search needs)
     loop-again
     same-length
     returns)

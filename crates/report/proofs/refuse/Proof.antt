@@ -1,4 +1,5 @@
--- `refuse` puts the line, and answers 0 where it was too long. Assumes nothing.
+-- `report::refuse` meets its contract: the line is put if it fits (`put-fitting`); where it does not nothing is put, and the answer is 0
+-- (`put-short`). Assumes nothing.
 use native.Mathlib.Omega.{arith}
 use borrow.Author.Needs.{needs}
 use Rattle.report.proofs.Laws.{put-short, put-fitting}

@@ -1,4 +1,5 @@
--- `report` puts the line of a refused input, else the listing of its sample. Assumes nothing.
+-- `report::report` meets its contract: a refused input's text is the line of its refusal (`text-refused`), which is short; an accepted
+-- one's is its listing (`text-accepted`, `listed-text`), which has room by what `metrics::listing` carries. Assumes nothing.
 use mathlib.Core.Path.{_≡_, sym, ap, _∙_}
 use Prim.Native.Nat.{_^_, _<_}
 use native.Mathlib.Omega.{arith}
@@ -36,11 +37,7 @@ pub report-spec : {M : Type 1} → statement M
 report-spec =
     tie.close
     (tie.spec
-    (λ c κs. search needs)
-    (λ c κs. search needs)
-    (λ c. search needs)
+    (λ c κs. search needs) (λ c κs. search needs) (λ c. search needs)
     returns
-    (λ c κs. search needs)
-    (λ c. search needs)
-    (λ c. search needs)
+    (λ c κs. search needs) (λ c. search needs) (λ c. search needs)
     returns-2)

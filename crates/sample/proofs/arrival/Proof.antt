@@ -1,4 +1,5 @@
--- `sample::arrival` meets its contract: the twelve octets at the arrival's place, where the file has them. Assumes nothing.
+-- `sample::arrival` meets its contract: the test is that of `arrivalFound`, whether the file ends before the twelve octets at the arrival's
+-- place; where it has them `arrival_of` reads them. Assumes nothing.
 use borrow.Author.Needs.{needs}
 use Prim.Native.Nat.{ℕ, _+_, _*_, _≤_}
 use native.Mathlib.Omega.{arith}
@@ -35,13 +36,7 @@ pub arrival-spec : {M : Type 1} → statement M
 arrival-spec =
     tie.close
     (tie.spec
-    (λ c κs. search needs)
-    (λ c. search needs)
-    (λ c. search needs)
-    (λ c. search needs)
+    (λ c κs. search needs) (λ c. search needs) (λ c. search needs) (λ c. search needs)
     returns
-    (λ c. search needs)
-    (λ c. search needs)
-    (λ c. search needs)
-    (λ c κs. search needs)
+    (λ c. search needs) (λ c. search needs) (λ c. search needs) (λ c κs. search needs)
     returns-2)

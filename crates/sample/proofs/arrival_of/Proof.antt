@@ -1,4 +1,5 @@
--- `sample::arrival_of` meets its contract: the first octets are the number, those after them the time. Assumes nothing.
+-- `sample::arrival_of` meets its contract: the first four octets are the number, which fits 32 bits, and the eight after them the time.
+-- Assumes nothing.
 use borrow.Author.Needs.{needs}
 use Prim.Native.Nat.{_^_, _<_}
 use native.Mathlib.Omega.{arith}

@@ -1,4 +1,8 @@
--- `sample::check` meets its contract: at each `return` the readings that led there say which stage refuses, or that none does. Assumes nothing.
+-- `sample::check` meets its contract: each reading that passes says that its stage refuses nothing and gives the counts and places of the file
+-- (`labelled`, `looked`, `counted`, `arrived`, `judged`). So at each `return` the stages before are known to be 0, and the refusal is that of
+-- the stage that failed; at the last none is due, and the counts are the layout. Beside the answer stand the theorems that the contract carries
+-- (`promised`). f is the file; l, o, k and b are places in the code: after the label, after its octets, and after the sections that follow.
+-- Assumes nothing.
 use borrow.Author.Needs.{needs}
 use Prim.Native.Nat.{ℕ, _+_, _*_, _-_, _≤_, _<_}
 use native.Mathlib.Omega.{arith}
@@ -19,7 +23,7 @@ use Rattle.sample.specs.Judge.{judgeLabel, someUnshown}
 use Rattle.sample.specs.Decode.{labelCount, sentAt, sentCount, arrivedAt, arrivalCount, fileEnd, arrivalIn, sampleIn, fileRefusal, refused, decode, layoutOf}
 use Rattle.sample.specs.RoundTrip.{ExactFile, Lengths}
 use Rattle.sample.specs.Cases.{RefusalsInOrder}
-use Rattle.sample.specs.Private.Readings.{refusalOfSection, sectionReading}
+use Rattle.sample.specs.Private.{refusalOfSection, sectionReading}
 use Rattle.sample.specs.declared.Layout.{Layout}
 use Rattle.sample.proofs.Readings.{whole-section, refusal-section, refused-section}
 use Rattle.sample.proofs.Decoded.{labelStage, sentStage, arrivedStage, endStage, WholeFile, refused-none, stage-none, decode-refused, layout-accepted, refused-label, refused-octets, refused-sent, refused-arrived, refused-end, refused-arrivals}
@@ -266,29 +270,20 @@ pub check-spec : {M : Type 1} → statement M
 check-spec =
     tie.close
     (tie.spec
-    (λ c κs. search needs)
-    (λ c. search needs)
+    (λ c κs. search needs) (λ c. search needs)
     enum-told
-    (λ c κs. search needs)
-    (λ c κs. search needs)
+    (λ c κs. search needs) (λ c κs. search needs)
     returns
     sub-shown
     part-shown-start
     part-shown-end
-    (λ c κs. search needs)
-    (λ c κs. search needs)
+    (λ c κs. search needs) (λ c κs. search needs)
     returns-2
     section-at-requires-2
-    (λ c. search needs)
-    (λ c. search needs)
-    (λ c κs. search needs)
-    (λ c κs. search needs)
+    (λ c. search needs) (λ c. search needs) (λ c κs. search needs) (λ c κs. search needs)
     returns-3
     section-at-requires-3
-    (λ c. search needs)
-    (λ c. search needs)
-    (λ c κs. search needs)
-    (λ c κs. search needs)
+    (λ c. search needs) (λ c. search needs) (λ c κs. search needs) (λ c κs. search needs)
     returns-4
     (λ c κs. search needs)
     returns-5

@@ -1,4 +1,6 @@
--- `sample::label` meets its contract: what the check found says whether the part is the label's or the empty one. Assumes nothing.
+-- `sample::label` meets its contract: with a refusal of `check` the file decodes to it, and its label is the empty part at the start; with none
+-- the count found is that of the file, so the part from behind the count to where the section ends is the label, and lies within the file.
+-- Assumes nothing.
 use borrow.Author.Needs.{needs}
 use Prim.Native.Nat.{ℕ, _+_, _-_}
 use native.Mathlib.Omega.{arith}
@@ -45,14 +47,8 @@ pub label-spec : {M : Type 1} → statement M
 label-spec =
     tie.close
     (tie.spec
-    (λ c κs. search needs)
-    (λ c. search needs)
-    (λ c. search needs)
-    (λ c. search needs)
+    (λ c κs. search needs) (λ c. search needs) (λ c. search needs) (λ c. search needs)
     returns
-    (λ c. search needs)
-    (λ c κs. search needs)
-    (λ c. search needs)
-    (λ c. search needs)
+    (λ c. search needs) (λ c κs. search needs) (λ c. search needs) (λ c. search needs)
     part-result-end-2
     returns-2)

@@ -1,4 +1,4 @@
--- `sample::payload_size` meets its contract: the octets at the size's place. Assumes nothing.
+-- `sample::payload_size` meets its contract: `number_at` reads the two octets at the size's place, and their value fits 16 bits. Assumes nothing.
 use borrow.Author.Needs.{needs}
 use Prim.Native.Nat.{ℕ, _+_, _*_, _^_, _<_}
 use native.Mathlib.Omega.{arith}

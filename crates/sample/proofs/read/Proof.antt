@@ -1,4 +1,6 @@
--- `sample::read` meets its contract: the file is refused, a list is too short, or the lists are filled. Assumes nothing.
+-- `sample::read` meets its contract: a refusal of `check` is answered, and a list that is too short is 8, both with the lists as they were;
+-- else what was found lies within the file and the lists have places for it (`found`), so both calls may fill them (`read-filled`). Beside each
+-- answer stands the round trip (`written-again`). a are the arguments, f is the file, y what `check` answers. Assumes nothing.
 use borrow.Author.Needs.{needs}
 use Prim.Native.Nat.{ℕ}
 use native.Mathlib.Omega.{arith}
@@ -84,16 +86,11 @@ read-spec =
     (tie.spec
     (λ c κs. search needs)
     returns
-    (λ c κs. search needs)
-    (λ c κs. search needs)
+    (λ c κs. search needs) (λ c κs. search needs)
     returns-2
-    (λ c κs. search needs)
-    (λ c. search needs)
+    (λ c κs. search needs) (λ c. search needs)
     fill-sizes-requires
-    (λ c. search needs)
-    (λ c κs. search needs)
+    (λ c. search needs) (λ c κs. search needs)
     fill-arrivals-requires
-    (λ c. search needs)
-    (λ c. search needs)
-    (λ c. search needs)
+    (λ c. search needs) (λ c. search needs) (λ c. search needs)
     returns-3)

@@ -1,4 +1,6 @@
--- `sample::write` meets its contract: the label or a list is refused, the lent octets are too few, or the file is written. Assumes nothing.
+-- `sample::write` meets its contract: where `refusal_of_sample` finds one it is answered; where it finds none the label and lists keep their
+-- limits (`limited`), so the places that are computed fit and are those of the layout (`places`). With too few lent octets the answer is 8; else
+-- the three calls splice the sections one behind the other (`write-filled`). Beside each answer stands the round trip (`again`). Assumes nothing.
 use borrow.Author.Needs.{needs}
 use Prim.Native.Nat.{_≤_}
 use native.Mathlib.Omega.{arith}
@@ -109,8 +111,7 @@ write-spec =
     end-of-requires-2
     end-of-requires-3
     returns-2
-    (λ c κs. search needs)
-    (λ c κs. search needs)
+    (λ c κs. search needs) (λ c κs. search needs)
     write-arrivals-requires
     cast-t19
     (λ c. search needs)

@@ -1,12 +1,13 @@
--- `shortnumbers::full_number` meets its contract: the sum is that of the definition, and nothing of it wraps. Assumes nothing.
+-- `shortnumbers::full_number` meets its contract: the sum is that of the definition, and nothing of it wraps, as the remainders are below
+-- the range, which is at most 1,024. Assumes nothing.
 use Prim.Native.Nat.{ℕ, _+_, _-_, _/_, _%_, _<_}
 use native.Mathlib.Nat.{mod-lt}
 use native.Mathlib.Omega.{arith}
 use mathlib.Core.Path.{refl, _∙_}
 use borrow.Author.Needs.{needs}
 use borrow.Author.Tests.{lt-ltb, le-ltb}
-use Rattle.shortnumbers.specs.Number.{found}
-use Rattle.shortnumbers.specs.Private.Ranges.{Narrow}
+use Rattle.shortnumbers.specs.Number.{numberFound}
+use Rattle.shortnumbers.specs.Private.{Narrow}
 use Rattle.shortnumbers.proofs.full_number.Statement.{statement}
 use Rattle.shortnumbers.proofs.full_number.Tie as tie
 
@@ -15,7 +16,7 @@ below : (r n : ℕ) → Narrow r → n % r < r
 below r n range = mod-lt n (omega (arith, range .least))
 
 returns : tie.Need-returns
-unfolding found
+unfolding numberFound
 returns c = (rw (le-ltb _ _ (c .if1 .taken)), omega arith)
 
 sub-up : tie.Need-sub-up
@@ -29,7 +30,7 @@ add-up-3 c =
     omega (arith, p .0 .most, p .1)
 
 returns-2 : tie.Need-returns-2
-unfolding found
+unfolding numberFound
 returns-2 c =
     let a = c .before .before .args in
     let p = c .before .before .pre in

@@ -1,4 +1,5 @@
--- `shortnumbers::full_numbers` meets its contract: K and the lists are refused, the list is too short, or it is filled. Assumes nothing.
+-- `shortnumbers::full_numbers` meets its contract: K and the lists are refused, the list is too short, or it is filled, each by its law of
+-- Lists. Where nothing is refused there are at most 4,096 short numbers, as `fill_numbers` asks. Assumes nothing.
 use native.Mathlib.Omega.{arith}
 use mathlib.Core.Path.{sym, _∙_}
 use borrow.Author.Needs.{needs}
@@ -20,8 +21,8 @@ returns-2 c =
     filled-short (a .range) (a .k) (now (a .shorts)) (now (a .times)) (now (a .numbers))
     (sym (c .before .before .refusal-of-found .ensures) ∙ c .before .if1 .left) (c .if2 .taken)
 
-fill-requires : tie.Need-fill-requires
-fill-requires c κs =
+fill-numbers-requires : tie.Need-fill-numbers-requires
+fill-numbers-requires c κs =
     let a = c .before .before .before .before .before .before .before .args in
     let f = lists-fit (a .k) (numbersFound (a .range) (now (a .shorts))) (now (a .times)) (sym (c .before .before .before .refusal-of-found .ensures) ∙ c .before .before .if1 .left) in
     let m = found-length (a .range) (now (a .shorts)) in
@@ -31,8 +32,8 @@ returns-3 : tie.Need-returns-3
 returns-3 c =
     let a = c .before .before .before .before .before .before .before .before .before .before .args in
     filled-whole (a .range) (a .k) (now (a .shorts)) (now (a .times)) (now (a .numbers)) _
-    (sym (c .before .before .before .before .before .before .refusal-of-found .ensures) ∙ c .before .before .before .before .before .if1 .left) (c .before .before .before .before .if2 .left) (c .before .before .fill .ensures)
+    (sym (c .before .before .before .before .before .before .refusal-of-found .ensures) ∙ c .before .before .before .before .before .if1 .left) (c .before .before .before .before .if2 .left) (c .before .before .fill-numbers .ensures)
 
 pub full-numbers-spec : {M : Type 1} → statement M
 full-numbers-spec =
-    tie.close (tie.spec (λ c κs. search needs) returns returns-2 fill-requires (λ c. search needs) returns-3)
+    tie.close (tie.spec (λ c κs. search needs) returns returns-2 fill-numbers-requires (λ c. search needs) returns-3)

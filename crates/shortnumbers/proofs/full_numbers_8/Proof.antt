@@ -1,4 +1,5 @@
--- `shortnumbers::full_numbers_8` meets its contract: it is the list call over its range. Assumes nothing.
+-- `shortnumbers::full_numbers_8` meets its contract: it is the list call over its range; what holds of every width and the tables are
+-- laws. Assumes nothing.
 use borrow.Author.Needs.{needs}
 use Rattle.shortnumbers.proofs.Lists.{every-list}
 use Rattle.shortnumbers.proofs.Cases.{found-as-given}

@@ -1,5 +1,6 @@
--- `shortnumbers::judge_found` meets its contract. The loop's invariant: the greatest is that of the first i numbers found, at most 512 for each,
--- and judging all arrivals is judging what is left of them from the reference. The measure is the number of arrivals left. Assumes nothing.
+-- `shortnumbers::judge_found` meets its contract. The loop's invariant: the greatest is that of the first i numbers found, at most 512 for
+-- each, and judging all arrivals is judging what is left of them from the reference. A turn returns the refusal of the arrival at i
+-- (`judge-stop`) or goes on past it (`greatest-next`, `judge-next`). The measure is the number of arrivals left. Assumes nothing.
 use Prim.Native.Nat.{ℕ, _+_, _-_, _*_, _≤_}
 use native.Mathlib.Omega.{arith}
 use mathlib.Core.Path.{_≡_, refl, ap, sym, _∙_}
@@ -17,6 +18,7 @@ use Rattle.shortnumbers.proofs.Lists.{none, found-length, greatest-next
 use Rattle.shortnumbers.proofs.judge_found.Statement.{statement}
 use Rattle.shortnumbers.proofs.judge_found.Tie as tie
 
+-- greatest₀, reference₀ and i₀ are `greatest`, `reference` and `i` where the loop begins, greatest, reference and i are they at its head
 abbrev Inv-loop : tie.InvT-loop
 Inv-loop range k shorts times greatest₀ reference₀ i₀ greatest reference i =
     (i ≤ length shorts) × (greatest ≤ 512 * i) × (greatest ≡ greatestOf (take i (numbersFound range shorts)))
@@ -70,7 +72,7 @@ loop-again c =
     let m = many l in
     let lt = n .before .before .loop-test .taken in
     let one = c .before .before .before .judge-one in
-    let g = c .before .greater in (
+    let g = c .before .greater-of in (
       omega arith,
       omega (arith, g .ensures, n .full-number .ensures .1, l .loop .inv .1),
       greatest-next _ _ (l .loop .greatest) _ _ lt (l .loop .inv .2) (n .full-number .ensures .0) (g .result) (g .ensures),
@@ -90,17 +92,10 @@ judge-found-spec =
     Inv-loop
     μ-loop
     loop-holds
-    (λ c. search needs)
-    (λ c. search needs)
+    (λ c. search needs) (λ c. search needs)
     full-number-requires
-    (λ c. search needs)
-    (λ c. search needs)
-    (λ c. search needs)
-    (λ c κs. search needs)
+    (λ c. search needs) (λ c. search needs) (λ c. search needs) (λ c κs. search needs)
     returns
-    (λ c κs. search needs)
-    (λ c κs. search needs)
-    (λ c. search needs)
-    (λ c. search needs)
+    (λ c κs. search needs) (λ c κs. search needs) (λ c. search needs) (λ c. search needs)
     loop-again
     returns-2)

@@ -1,15 +1,17 @@
--- `add` meets its contract. The loop's invariant: the place i holds the number, and the value stands at the places before it. The
--- measure is what is left of the places. Assumes nothing.
+-- `sums::add` meets its contract. The loop's invariant: the place i holds the number, and the value stands at the places before it
+-- (`Partly`). A turn adds the value at i and goes to the next place that holds the number (`partly-next`, `rest-next`). The measure is
+-- what is left of the places. Assumes nothing.
 use Prim.Native.Nat.{_-_, _≤_, _<_}
 use native.Mathlib.Omega.{arith}
 use borrow.Author.Needs.{needs}
 use lib.ListN.{length}
 use Rattle.sums.specs.Tree.{rest}
 use Rattle.sums.proofs.Lowest.{rest-low, rest-next}
-use Rattle.sums.proofs.Held.{Partly, partly-none, partly-next, partly-all, added-nowhere}
+use Rattle.sums.proofs.PartlyAdded.{Partly, partly-none, partly-next, partly-all, added-nowhere}
 use Rattle.sums.proofs.add.Statement.{statement}
 use Rattle.sums.proofs.add.Tie as tie
 
+-- tree₀ and i₀ are `tree` and `i` where the loop begins, tree and i are they at its head
 abbrev Inv-loop : tie.InvT-loop
 Inv-loop tree₀ number value i₀ tree i = (number ≤ i) × (rest i < number) × Partly number value i tree₀ tree
 

@@ -1,4 +1,4 @@
--- `rest` meets its contract: the code computes the definition, and i - 1 does not wrap as i is at least 1. Assumes nothing.
+-- `sums::rest` meets its contract: the code computes the definition, and i - 1 does not wrap as i is at least 1. Assumes nothing.
 use borrow.Author.Needs.{needs}
 use Rattle.sums.specs.Tree.{rest}
 use Rattle.sums.proofs.rest.Statement.{statement}

@@ -1,5 +1,6 @@
--- `sum_to` meets its contract. The loop's invariant: the sum, with what stands at the place i and those after it, wraps to what is asked
--- for. The measure is i. Assumes nothing.
+-- `sums::sum_to` meets its contract. The loop's invariant: the sum, with what stands at the place i and those after it, wraps to what is
+-- asked for. A turn takes the place i into the sum, and those after it are those of `rest i` (`parts-first`). The measure is i.
+-- Assumes nothing.
 use mathlib.Core.Path.{_≡_}
 use Prim.Native.Nat.{_+_, _%_, _^_, _<_}
 use native.Mathlib.Omega.{arith}
@@ -12,6 +13,7 @@ use Rattle.sums.proofs.Summed.{parts-first, parts-none}
 use Rattle.sums.proofs.sum_to.Statement.{statement}
 use Rattle.sums.proofs.sum_to.Tie as tie
 
+-- i₀ and sum₀ are `i` and `sum` where the loop begins, i and sum are they at its head
 abbrev Inv-loop : tie.InvT-loop
 Inv-loop tree number i₀ sum₀ i sum =
     (i < length tree) × (sum < 2 ^ 32) × ((sum + partsTo i tree i) % 2 ^ 32 ≡ partsTo number tree number % 2 ^ 32)

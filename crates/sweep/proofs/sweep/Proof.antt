@@ -1,4 +1,6 @@
--- `sweep` meets its contract: with the file's refusal, with 8, and after the pass. Assumes nothing.
+-- `sweep::sweep` meets its contract: the file's own refusal comes first (`swept-refused`), then 8 (`swept-short`); else the cleared table
+-- is ready for the pass (`ready`), which leaves its length, so that it can be cleared again, and the lists have all figures (`swept`).
+-- Here q is the place after the check, k after the lists are found long enough, and a where the pass is called. Assumes nothing.
 use borrow.Author.Needs.{needs}
 use native.Mathlib.Omega.{arith}
 use mathlib.Core.Path.{sym, _∙_}
@@ -6,7 +8,7 @@ use denote.Ref.{now}
 use Rattle.sample.specs.Decode.{decode}
 use Rattle.metrics.specs.Private.Sample.{FileLayout}
 use Rattle.metrics.proofs.FoundInFile.{laid}
-use Rattle.sweep.specs.Swept.{Lent, lent}
+use Rattle.sweep.specs.Calls.{Lent, lent}
 use Rattle.sweep.proofs.Answers.{swept-refused, swept-short, wide, ready, swept}
 use Rattle.sweep.proofs.sweep.Statement.{statement}
 use Rattle.sweep.proofs.sweep.Tie as tie
@@ -29,14 +31,14 @@ returns c = swept-refused _ _ (c .before .before .check .ensures .0) (c .if1 .ta
 returns-2 : tie.Need-returns-2
 returns-2 c =
     swept-short _ _ (c .before .before .before .before .before .check .ensures .0) (c .before .before .before .if1 .left) _ (sym (c .before .if2 .taken) ∙ c .before .before .too-short .ensures) _
-    (c .refused-with .ensures)
+    (c .refused-layout .ensures)
 
 clear-requires : tie.Need-clear-requires
 clear-requires c κs =
     let k = c .before in
     let q = k .before .before .before .before in
     wide (decode (now (start q .args .file))) _ (q .check .ensures .0) (k .before .before .if1 .left) (lentAt (start q))
-    (sym (k .if2 .left) ∙ k .before .too-short .ensures) .table
+    (sym (k .if2 .left) ∙ k .before .too-short .ensures) .0
 
 pass-requires : tie.Need-pass-requires
 pass-requires c κs =
@@ -70,15 +72,10 @@ sweep-spec =
     (tie.spec
     (λ c κs. search needs)
     returns
-    (λ c κs. search needs)
-    (λ c κs. search needs)
+    (λ c κs. search needs) (λ c κs. search needs)
     returns-2
     clear-requires
     pass-requires
     clear-requires-2
-    (λ c. search needs)
-    (λ c. search needs)
-    (λ c. search needs)
-    (λ c. search needs)
-    (λ c. search needs)
+    (λ c. search needs) (λ c. search needs) (λ c. search needs) (λ c. search needs) (λ c. search needs)
     returns-3)

@@ -1,4 +1,5 @@
--- `textlog::import` meets its contract: the log is refused, a list is too short, or both are filled. Assumes nothing.
+-- `textlog::import` meets its contract: a refusal of `judge_log` is the answer; with none, a list too short is 8; else every line decodes and has its
+-- places (`fillable`), and `fill_arrivals` fills both. Beside each answer stand the theorems that the contract carries (`carried`). Assumes nothing.
 use Prim.Native.Nat.{ℕ}
 use mathlib.Core.Path.{sym, _∙_}
 use mathlib.Core.List.{List}
@@ -31,12 +32,12 @@ returns-2 c =
     let a = c .before .before .before .before .before .before .before .before .before .args in
     let j = c .before .before .before .before .before .judge-log in
     let short = sym (c .before .before .too-short .ensures) ∙ c .before .if2 .taken in (
-      import-short (a .k) (now (a .log)) (now (a .numbers)) (now (a .times)) (j .result) (j .ensures) (c .before .before .before .if1 .left) short (c .refused .ensures),
+      import-short (a .k) (now (a .log)) (now (a .numbers)) (now (a .times)) (j .result) (j .ensures) (c .before .before .before .if1 .left) short (c .refused-import .ensures),
       carried (a .k) (now (a .log)),
     )
 
-fill-requires : tie.Need-fill-requires
-fill-requires c κs =
+fill-arrivals-requires : tie.Need-fill-arrivals-requires
+fill-arrivals-requires c κs =
     let a = c .before .before .before .before .before .before .before .before .before .before .args in
     let j = c .before .before .before .before .before .before .judge-log in
     let room = sym (c .before .before .before .too-short .ensures) ∙ c .before .before .if2 .left in
@@ -48,7 +49,7 @@ returns-3 c =
     let j = c .before .before .before .before .before .before .before .before .before .before .before .judge-log in
     let none = c .before .before .before .before .before .before .before .before .before .if1 .left in
     let room = sym (c .before .before .before .before .before .before .before .before .too-short .ensures) ∙ c .before .before .before .before .before .before .before .if2 .left in
-    let f = c .before .before .before .before .fill .ensures in (
+    let f = c .before .before .before .before .fill-arrivals .ensures in (
       import-filled (a .k) (now (a .log)) (now (a .numbers)) (now (a .times)) (j .result) (j .ensures) none room (f .0) (f .1),
       carried (a .k) (now (a .log)),
     )
@@ -59,10 +60,8 @@ import-spec =
     (tie.spec
     (λ c κs. search needs)
     returns
-    (λ c κs. search needs)
-    (λ c κs. search needs)
+    (λ c κs. search needs) (λ c κs. search needs)
     returns-2
-    fill-requires
-    (λ c. search needs)
-    (λ c. search needs)
+    fill-arrivals-requires
+    (λ c. search needs) (λ c. search needs)
     returns-3)

@@ -1,5 +1,6 @@
--- `textlog::judge_lines` meets its contract. The loop's invariant: at most 4,096 lines are passed, and the answer of all lines is
--- that of those left. The measure is what is left of the log. Assumes nothing.
+-- `textlog::judge_lines` meets its contract. The loop's invariant: at most 4,096 lines are passed, and the answer of all lines is that of those
+-- left, with `count` lines before them and the reference that these leave. Each return is a law of Judging.antt for the line that is read at
+-- `at`, or that none is. The measure is what is left of the log: a line has at least an octet. Assumes nothing.
 use Prim.Native.Nat.{_-_, _≤_}
 use native.Mathlib.Omega.{arith}
 use mathlib.Core.Path.{_≡_, refl, sym, _∙_}
@@ -15,6 +16,7 @@ use Rattle.textlog.proofs.Judging.{judge-bad, judge-done, judge-many, j
 use Rattle.textlog.proofs.judge_lines.Statement.{statement}
 use Rattle.textlog.proofs.judge_lines.Tie as tie
 
+-- reference₀, at₀ and count₀ are the values where the loop begins, reference, at and count those at its head
 abbrev Inv-loop : tie.InvT-loop
 Inv-loop log k reference₀ at₀ count₀ reference at count =
     (count ≤ arrivalsMost) × (judgeLines k 0 0 (lines log) ≡ judgeLines k count reference (lines (drop at log)))
@@ -39,7 +41,7 @@ returns : tie.Need-returns Inv-loop μ-loop
 returns c =
     let a = c .before .before .before .before .before .before .before .args in
     let l = c .before .before .before .before .before .loop in
-    c .refused .ensures
+    c .refused-import .ensures
     ∙ judge-bad (a .k) (now (a .log)) (l .count) (l .reference) (l .at) (l .inv .1) (c .before .before .before .before .loop-test .taken)
     (sym (c .before .before .before .line-at .ensures) ∙ c .before .enum-told .given .1)
 
@@ -47,7 +49,7 @@ returns-2 : tie.Need-returns-2 Inv-loop μ-loop
 returns-2 c =
     let a = c .before .before .before .before .before .before .before .before .before .args in
     let l = c .before .before .before .before .before .before .before .loop in
-    c .refused2 .ensures
+    c .refused-import2 .ensures
     ∙ judge-many (a .k) (now (a .log)) (l .count) (l .reference) (l .at) (l .inv .1) _ _ _ (read (c .before .before)) (c .before .if1 .taken)
 
 returns-3 : tie.Need-returns-3 Inv-loop μ-loop
@@ -55,7 +57,7 @@ returns-3 c =
     let a = c .before .before .before .before .before .before .before .before .before .before .before .args in
     let l = c .before .before .before .before .before .before .before .before .before .loop in
     let j = c .before .before .judge-one in
-    c .refused3 .ensures
+    c .refused-import3 .ensures
     ∙ judge-stop (a .k) (now (a .log)) (l .count) (l .reference) (l .at) (l .inv .1) _ _ _ (read (c .before .before .before .before))
     (c .before .before .before .if1 .left) (j .result) (j .ensures) (c .before .if2 .taken)
 
@@ -86,23 +88,15 @@ judge-lines-spec =
     Inv-loop
     μ-loop
     loop-holds
-    (λ c κs. search needs)
-    (λ c. search needs)
+    (λ c κs. search needs) (λ c. search needs)
     enum-told
-    (λ c. search needs)
-    (λ c κs. search needs)
+    (λ c. search needs) (λ c κs. search needs)
     returns
-    (λ c. search needs)
-    (λ c. search needs)
-    (λ c κs. search needs)
+    (λ c. search needs) (λ c. search needs) (λ c κs. search needs)
     returns-2
-    (λ c. search needs)
-    (λ c κs. search needs)
-    (λ c. search needs)
-    (λ c κs. search needs)
+    (λ c. search needs) (λ c κs. search needs) (λ c. search needs) (λ c κs. search needs)
     returns-3
-    (λ c κs. search needs)
-    (λ c. search needs)
+    (λ c κs. search needs) (λ c. search needs)
     loop-less
     loop-again
     returns-4)

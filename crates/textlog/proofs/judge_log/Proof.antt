@@ -1,4 +1,5 @@
--- `textlog::judge_log` meets its contract: K outside its range is refused before any line is looked at. Assumes nothing.
+-- `textlog::judge_log` meets its contract: `outside` answers the test of K, whose refusal comes before any line; else the lines decide.
+-- Assumes nothing.
 use mathlib.Core.Path.{sym, _∙_}
 use borrow.Author.Needs.{needs}
 use Rattle.textlog.specs.Decode.{judgeLog}
@@ -7,7 +8,7 @@ use Rattle.textlog.proofs.judge_log.Tie as tie
 
 returns : tie.Need-returns
 unfolding judgeLog
-returns c = c .refused .ensures ∙ sym (simp (sym (c .before .before .outside .ensures) ∙ c .before .if1 .taken))
+returns c = c .refused-import .ensures ∙ sym (simp (sym (c .before .before .outside .ensures) ∙ c .before .if1 .taken))
 
 returns-2 : tie.Need-returns-2
 unfolding judgeLog

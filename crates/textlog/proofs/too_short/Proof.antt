@@ -1,4 +1,5 @@
--- `textlog::too_short` meets its contract: by the list of numbers, else by that of times. Assumes nothing.
+-- `textlog::too_short` meets its contract: the test of the list of numbers is the first half of `logListsShort`, and where it fails that of the
+-- times, the second, is returned. Assumes nothing.
 use borrow.Author.Tests.{lt-ltb, le-ltb}
 use Rattle.textlog.specs.Calls.{logListsShort}
 use Rattle.textlog.proofs.too_short.Statement.{statement}

@@ -1,4 +1,6 @@
--- `textlog::write` meets its contract: the lists are refused, the lent octets are too few, or the log is written. Assumes nothing.
+-- `textlog::write` meets its contract: a refusal of the lists is answered; with none they are equally long and at most 4,096, which
+-- `log_length` asks for; with fewer lent octets than it counts the answer is 8; else `put_lines` writes the log. Beside each answer stand the
+-- theorems that the contract carries (`carried`). Assumes nothing.
 use native.Mathlib.Omega.{arith}
 use mathlib.Core.Path.{sym, _∙_}
 use borrow.Author.Needs.{needs}

@@ -1,4 +1,5 @@
--- `worse::greater` meets its contract: a product of two numbers of 32 bits fits 64. Assumes nothing.
+-- `worse::greater` meets its contract: it compares the products that the definition has, and a product of two numbers of 32 bits fits 64.
+-- Assumes nothing.
 use borrow.Author.Needs.{needs}
 use Prim.Native.Nat.{ℕ, _*_, _^_, _≤_, _<_}
 use native.Mathlib.Omega.{arith}

@@ -1,4 +1,5 @@
--- `capi::figures::answer_figures` meets its contract: the answer is one of three. Assumes nothing.
+-- `capi::figures::answer_figures` meets its contract: the answer is one of three, and in each the definition computes to these figures;
+-- the number and the amount of a late time are what `directed` and `amount` ensure. Assumes nothing.
 use mathlib.Core.Path.{refl}
 use borrow.Author.Needs.{needs}
 use Rattle.capi.proofs.figures.answer_figures.Statement.{statement}
@@ -17,11 +18,7 @@ pub answer-figures-spec : {M : Type 1} → statement M
 answer-figures-spec =
     tie.close
     (tie.spec
-    (λ c. search needs)
-    (λ c. search needs)
-    (λ c. search needs)
-    (λ c κs. search needs)
-    (λ c κs. search needs)
+    (λ c. search needs) (λ c. search needs) (λ c. search needs) (λ c κs. search needs) (λ c κs. search needs)
     returns
     returns-2
     returns-3)

@@ -1,4 +1,5 @@
--- `capi::figures::degree_figures` meets its contract: the ratio is undefined or known. Assumes nothing.
+-- `capi::figures::degree_figures` meets its contract: the ratio is undefined or known, and known it has the bits that `bits_of` ensures.
+-- Assumes nothing.
 use mathlib.Core.Path.{refl}
 use borrow.Author.Needs.{needs}
 use Rattle.capi.proofs.figures.degree_figures.Statement.{statement}

@@ -1,4 +1,5 @@
--- `capi::figures::gap_figures` meets its contract: there is a gap or none. Assumes nothing.
+-- `capi::figures::gap_figures` meets its contract: there is a gap or none, and in both the definition computes to these figures.
+-- Assumes nothing.
 use mathlib.Core.Path.{refl}
 use borrow.Author.Needs.{needs}
 use Rattle.capi.proofs.figures.gap_figures.Statement.{statement}

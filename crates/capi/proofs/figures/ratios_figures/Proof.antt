@@ -1,4 +1,5 @@
--- `capi::figures::ratios_figures` meets its contract: the figures are undefined or known. Assumes nothing.
+-- `capi::figures::ratios_figures` meets its contract: the figures are undefined or known, and known each has the bits that `bits_of`
+-- ensures. Assumes nothing.
 use mathlib.Core.Path.{refl}
 use borrow.Author.Needs.{needs}
 use Rattle.capi.proofs.figures.ratios_figures.Statement.{statement}
@@ -20,9 +21,6 @@ ratios-figures-spec =
     tie.close
     (tie.spec
     enum-told
-    (λ c. search needs)
-    (λ c κs. search needs)
-    (λ c κs. search needs)
-    (λ c κs. search needs)
+    (λ c. search needs) (λ c κs. search needs) (λ c κs. search needs) (λ c κs. search needs)
     returns
     returns-2)

@@ -1,5 +1,5 @@
--- `capi::link::krakobran_worse` meets its contract: the comparison says whose label it is, and the label's part where it stands.
--- Assumes nothing.
+-- `capi::link::krakobran_worse` meets its contract: what `compare` found says whose label it is, and `label_part` where that stands; with
+-- a refusal the definition has the first link, 0 and 0 too. a and b are the two files decoded. Assumes nothing.
 use borrow.Author.Needs.{needs}
 use Prim.Native.Nat.{ℕ, _<_}
 use native.Mathlib.Omega.{arith}
@@ -10,7 +10,7 @@ use Rattle.sample.specs.Decode.{Decoded, decode}
 use Rattle.worse.specs.declared.Comparison.{Comparison}
 use Rattle.worse.specs.declared.Link.the-variants.{First, Second}
 use Rattle.worse.specs.Worse.{comparisonOf, worseLabel, worseStart}
-use Rattle.worse.proofs.Compared.{refusal-found, compared-refused, start-refused, label-refused, compared, linked, start-first, start-second, label-first, label-second}
+use Rattle.worse.proofs.Compared.{refusal-found, compared-refused, start-refused, label-refused, compared, linked, start-of, label-of}
 use Rattle.capi.specs.declared.label.LabelPart.{LabelPart}
 use Rattle.capi.specs.Link.{linkNumber, worseLink}
 use Rattle.capi.proofs.link.krakobran_worse.Statement.{statement}
@@ -43,7 +43,7 @@ returns-2 c =
     let l = linked a b z First (sym (ap (λ (x : Comparison). x .link) (found .ensures)) ∙ search (c .before .enum-told .given)) in
     let p = c .label-part .ensures in
     given a b (record { refusal = 0; link = First }) (c .label-part .result .start) (c .label-part .result .length) (compared a b z First l)
-    (ap (λ (x : LabelPart). x .start) p ∙ start-first a b z l) (ap (λ (x : LabelPart). x .length) p ∙ ap length (label-first a b z l))
+    (ap (λ (x : LabelPart). x .start) p ∙ start-of a b z First l) (ap (λ (x : LabelPart). x .length) p ∙ ap length (label-of a b z First l))
 
 returns-3 : tie.Need-returns-3
 returns-3 c =
@@ -54,7 +54,7 @@ returns-3 c =
     let l = linked a b z Second (sym (ap (λ (x : Comparison). x .link) (found .ensures)) ∙ search (c .before .enum-told2 .given)) in
     let p = c .label-part2 .ensures in
     given a b (record { refusal = 0; link = Second }) (c .label-part2 .result .start) (c .label-part2 .result .length) (compared a b z Second l)
-    (ap (λ (x : LabelPart). x .start) p ∙ start-second a b z l) (ap (λ (x : LabelPart). x .length) p ∙ ap length (label-second a b z l))
+    (ap (λ (x : LabelPart). x .start) p ∙ start-of a b z Second l) (ap (λ (x : LabelPart). x .length) p ∙ ap length (label-of a b z Second l))
 
 pub krakobran-worse-spec : {M : Type 1} → statement M
 krakobran-worse-spec =
@@ -63,8 +63,6 @@ krakobran-worse-spec =
     (λ c κs. search needs)
     returns
     enum-told
-    (λ c κs. search needs)
-    (λ c. search needs)
-    (λ c κs. search needs)
+    (λ c κs. search needs) (λ c. search needs) (λ c κs. search needs)
     returns-2
     returns-3)

@@ -1,4 +1,5 @@
--- `capi::outcomes::receiver_figures` meets its contract: what is noted is one of four. Assumes nothing.
+-- `capi::outcomes::receiver_figures` meets its contract: what is noted is one of four, and in each the definition computes to these
+-- figures; those of a reordered packet are what `late_figures` ensures. Assumes nothing.
 use mathlib.Core.Path.{refl}
 use borrow.Author.Needs.{needs}
 use Rattle.capi.proofs.outcomes.receiver_figures.Statement.{statement}
@@ -24,11 +25,7 @@ receiver-figures-spec =
     tie.close
     (tie.spec
     enum-told
-    (λ c. search needs)
-    (λ c. search needs)
-    (λ c κs. search needs)
-    (λ c. search needs)
-    (λ c κs. search needs)
+    (λ c. search needs) (λ c. search needs) (λ c κs. search needs) (λ c. search needs) (λ c κs. search needs)
     returns
     returns-2
     returns-3

@@ -1,4 +1,5 @@
--- `checker_cases::changes::changes` is safe and ends. Invariant: the end is the length of the listing. Measure: the places that are left.
+-- `checker_cases::changes::changes` is safe and ends. Invariant: the end is the length of the listing, which stays. Measure: the places that
+-- are left.
 use borrow.Author.Needs.{needs}
 use Prim.Native.Nat.{_-_}
 use mathlib.Core.Path.{_≡_}

@@ -1,4 +1,5 @@
--- `decimal::reading::is_digit` meets its contract: by the one bound, then by the other. Assumes nothing.
+-- `decimal::reading::is_digit` meets its contract: below 48 the first half of `digit` fails; else it holds, and the second half is what is
+-- returned. Assumes nothing.
 use borrow.Author.Tests.{lt-leb, le-leb}
 use Rattle.decimal.specs.Reading.{digit}
 use Rattle.decimal.proofs.reading.is_digit.Statement.{statement}

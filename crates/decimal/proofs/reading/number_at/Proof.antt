@@ -1,5 +1,7 @@
--- `decimal::reading::number_at` meets its contract. The loop's invariant: the digits up to `end` are passed, and `value` is their
--- number. The measure is what is left of the octets. Assumes nothing.
+-- `decimal::reading::number_at` meets its contract. The loop's invariant is `Passed`: the octets from `at` to `end` are digits, and `value` is
+-- their number, or the greatest of 64 bits. An octet that is no digit, or the end of the octets, ends them (`passed-all`); a digit is one more
+-- (`passed-more`), and `is_digit` gives the bounds that `with_digit` asks for. `back` is the theorem that the contract carries. The measure is
+-- what is left of the octets. Assumes nothing.
 use Prim.Native.Nat.{_-_}
 use borrow.Author.Needs.{needs}
 use borrow.Author.Tests.{not-true, not-false}
@@ -10,6 +12,7 @@ use Rattle.decimal.proofs.Leading.{digit-bounds, none-past, back, Passe
 use Rattle.decimal.proofs.reading.number_at.Statement.{statement}
 use Rattle.decimal.proofs.reading.number_at.Tie as tie
 
+-- value₀ and end₀ are value and end where the loop begins
 abbrev Inv-loop : tie.InvT-loop
 Inv-loop s at value₀ end₀ value end = Passed s at value end
 
@@ -43,11 +46,9 @@ number-at-spec =
     Inv-loop
     μ-loop
     loop-holds
-    (λ c. search needs)
-    (λ c κs. search needs)
+    (λ c. search needs) (λ c κs. search needs)
     returns
     with-digit-requires
-    (λ c. search needs)
-    (λ c. search needs)
+    (λ c. search needs) (λ c. search needs)
     loop-again
     returns-2)

@@ -1,5 +1,6 @@
--- `disorder_of` goes over the arrivals. The loop's invariant: the table has the packets that have arrived before record i + 1, the
--- tree and the pairs are those of the first arrivals before it. The measure is what is left of the arrivals. Assumes nothing.
+-- `disorder::pairs::disorder_of` meets its contract. The loop's invariant: the table has the packets that have arrived before record i + 1,
+-- the tree and the pairs are those of the first arrivals before it. The table tells whether record i + 1 is one (`firsts-seen`), and
+-- `pairs_after` adds it then. The measure is what is left of the arrivals. Assumes nothing.
 use mathlib.Core.Path.{_≡_, sym, ap}
 use Prim.Native.Nat.{_≤_, _-_}
 use native.Mathlib.Omega.{arith}
@@ -11,13 +12,14 @@ use Rattle.rfc4737.specs.Arrivals.{firsts}
 use Rattle.rfc4737.proofs.Arrivals.{length-firsts}
 use Rattle.sample.specs.Decode.{decode}
 use Rattle.metrics.specs.Private.Sample.{before, arrivalAt, HasRecord}
-use Rattle.metrics.proofs.Follow.{before-length}
+use Rattle.metrics.proofs.TablesFollow.{before-length}
 use Rattle.metrics.proofs.FoundInFile.{arrival-known}
-use Rattle.disorder.specs.Private.Pairs.{PairTree}
-use Rattle.disorder.proofs.Disordered.{paired-start, SeenTable, arrived-start, arrived-next, firsts-seen, disorder-end}
+use Rattle.disorder.specs.Private.{PairTree}
+use Rattle.disorder.proofs.DisorderInFile.{paired-start, SeenTable, arrived-start, arrived-next, firsts-seen, disorder-end}
 use Rattle.disorder.proofs.pairs.disorder_of.Statement.{statement}
 use Rattle.disorder.proofs.pairs.disorder_of.Tie as tie
 
+-- counts₀ to i₀ are the values where the loop begins, counts to i those at its head; counts is the tree
 abbrev Inv-loop : tie.InvT-loop
 Inv-loop file y counts₀ seen₀ p₀ i₀ counts seen p i =
     (i ≤ y .arrivals) × SeenTable (decode file) i seen × PairTree (firsts (before (decode file) i)) counts p
@@ -49,8 +51,8 @@ cast-at c = omega (arith, known c .2)
 array-read-arrived : tie.Need-array-read-arrived Inv-loop μ-loop
 array-read-arrived c = omega (arith, known c .2)
 
-paired-requires : tie.Need-paired-requires Inv-loop μ-loop
-paired-requires c κs =
+pairs-after-requires : tie.Need-pairs-after-requires Inv-loop μ-loop
+pairs-after-requires c κs =
     let n = known (c .before) in
     let h = here (c .before .before) in
     let d = decode (now (c .before .before .before .before .before .before .before .args .file)) in
@@ -77,7 +79,7 @@ loop-again c =
     let n = known (c .before .before .before) in (
       omega (arith, h .inside),
       arrived-next _ _ _ h _ (l .inv .1) _ (n .0) (n .2),
-      rw (firsts-seen _ _ _ h _ (l .inv .1) _ (n .0) (n .2)) (c .before .paired .ensures _ _ (sym (n .0)) (l .inv .2)),
+      rw (firsts-seen _ _ _ h _ (l .inv .1) _ (n .0) (n .2)) (c .before .pairs-after .ensures _ _ (sym (n .0)) (l .inv .2)),
     )
 
 returns : tie.Need-returns Inv-loop μ-loop
@@ -95,7 +97,7 @@ disorder-of-spec =
     cast-at
     array-read-arrived
     (λ c. search needs)
-    paired-requires
+    pairs-after-requires
     array-write-seen
     add-i
     loop-less

@@ -1,8 +1,9 @@
--- `fragments::cover::complete` meets its contract. The loop's invariant: none of the arrivals before j ends by the reach; the measure is what is
--- left of the span. By `complete-ends` the search for such an arrival decides, and outside the span there is none. Assumes nothing.
+-- `fragments::cover::complete` meets its contract. The loop's invariant: none of the arrivals before j ends by the reach. By `complete-ends`
+-- the search for such an arrival decides, and outside the span there is none (`none-start`, `none-done`). The measure is what is left of the
+-- span. Assumes nothing.
 use Rattle.fragments.proofs.Spans.{None, none-start, none-more, none-done}
 use Rattle.fragments.proofs.Laws.{pieces-length, some-at, ends-of, complete-ends}
-use Rattle.fragments.specs.Private.Engine.{noPiece, endsBy}
+use Rattle.fragments.specs.Private.{noPiece, endsBy}
 use Rattle.fragments.specs.declared.Piece.{Piece}
 use Rattle.fragments.specs.Pieces.{piecesOf, some}
 use Rattle.fragments.specs.Usable.{complete}
@@ -16,6 +17,7 @@ use mathlib.Core.Path.{_≡_, sym, ap, _∙_}
 use Rattle.fragments.proofs.cover.complete.Statement.{statement}
 use Rattle.fragments.proofs.cover.complete.Tie as tie
 
+-- j₀ is j where the loop begins
 abbrev Inv-loop : tie.InvT-loop
 Inv-loop numbers times lengths mores offsets s from to reach j₀ j = None (endsBy s reach) (piecesOf numbers times lengths mores offsets) j
 
@@ -84,7 +86,6 @@ complete-spec =
     piece-at-requires
     (λ c κs. search needs)
     returns
-    (λ c. search needs)
-    (λ c. search needs)
+    (λ c. search needs) (λ c. search needs)
     loop-again
     returns-2)

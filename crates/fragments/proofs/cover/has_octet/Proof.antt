@@ -15,7 +15,7 @@ returns-2 c = simp (eq-eqb _ _ (c .before .before .if1 .left), lt-leb _ _ (c .if
 
 returns-3 : tie.Need-returns-3
 unfolding hasOctet
-returns-3 c = simp (eq-eqb _ _ (c .before .before .before .if1 .left), le-leb _ _ (c .before .if2 .left), c .end-of .ensures)
+returns-3 c = simp (eq-eqb _ _ (c .before .before .before .if1 .left), le-leb _ _ (c .before .if2 .left), c .piece-end .ensures)
 
 pub has-octet-spec : {M : Type 1} → statement M
 has-octet-spec = tie.close (tie.spec returns (λ c. search needs) (λ c. search needs) returns-2 (λ c κs. search needs) returns-3)

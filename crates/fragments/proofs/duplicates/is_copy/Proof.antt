@@ -1,8 +1,9 @@
--- `fragments::duplicates::is_copy` meets its contract. The loop's invariant: a is a copy of none of the arrivals before j; the measure
--- is what is left of the first i. Those before `from` are of other packets. Assumes nothing.
+-- `fragments::duplicates::is_copy` meets its contract. The loop's invariant: a is a copy of none of the arrivals before j. Those before `from`
+-- are of other packets, so none of them is one (`none-start`); an arrival of which a is a copy settles it, else it is one more that is not. The
+-- measure is what is left of the first i. Assumes nothing.
 use Rattle.fragments.proofs.Spans.{None, none-start, none-more, none-done}
 use Rattle.fragments.proofs.Laws.{pieces-length, some-at, copy-of}
-use Rattle.fragments.specs.Private.Engine.{noPiece}
+use Rattle.fragments.specs.Private.{noPiece}
 use Rattle.fragments.specs.declared.Piece.{Piece}
 use Rattle.fragments.specs.Pieces.{piecesOf, copies, isCopy}
 use lib.Seq.{getD-take}
@@ -16,6 +17,7 @@ use mathlib.Core.Path.{_≡_, sym, ap, _∙_}
 use Rattle.fragments.proofs.duplicates.is_copy.Statement.{statement}
 use Rattle.fragments.proofs.duplicates.is_copy.Tie as tie
 
+-- j₀ is j where the loop begins
 abbrev Inv-loop : tie.InvT-loop
 Inv-loop numbers times lengths mores offsets a from i j₀ j = None (copies a) (take i (piecesOf numbers times lengths mores offsets)) j
 
@@ -83,7 +85,6 @@ is-copy-spec =
     piece-at-requires
     (λ c κs. search needs)
     returns
-    (λ c. search needs)
-    (λ c. search needs)
+    (λ c. search needs) (λ c. search needs)
     loop-again
     returns-2)

@@ -17,7 +17,7 @@ returns-2 c = simp (sym (c .before .before .before .is-whole .ensures) ∙ c .be
 
 returns-3 : tie.Need-returns-3
 unfolding isUnfit
-returns-3 c = rw (sym (c .before .before .before .before .before .before .is-whole .ensures) ∙ c .before .before .before .before .before .if1 .left, ne-eqb _ _ (c .before .before .before .if2 .left), eq-eqb _ _ (c .before .if3 .taken), c .end-of .ensures)
+returns-3 c = rw (sym (c .before .before .before .before .before .before .is-whole .ensures) ∙ c .before .before .before .before .before .if1 .left, ne-eqb _ _ (c .before .before .before .if2 .left), eq-eqb _ _ (c .before .if3 .taken), c .piece-end .ensures)
 
 returns-4 : tie.Need-returns-4
 unfolding isUnfit
@@ -25,7 +25,7 @@ returns-4 c = rw (sym (c .before .before .before .before .before .before .before
 
 returns-5 : tie.Need-returns-5
 unfolding isUnfit
-returns-5 c = rw (sym (c .before .before .before .before .before .before .before .before .is-whole .ensures) ∙ c .before .before .before .before .before .before .before .if1 .left, ne-eqb _ _ (c .before .before .before .before .before .if2 .left), ne-eqb _ _ (c .before .before .before .if3 .left), eq-eqb _ _ (c .before .if4 .left), c .end-of2 .ensures)
+returns-5 c = rw (sym (c .before .before .before .before .before .before .before .before .is-whole .ensures) ∙ c .before .before .before .before .before .before .before .if1 .left, ne-eqb _ _ (c .before .before .before .before .before .if2 .left), ne-eqb _ _ (c .before .before .before .if3 .left), eq-eqb _ _ (c .before .if4 .left), c .piece-end2 .ensures)
 
 pub is-unfit-spec : {M : Type 1} → statement M
 is-unfit-spec =

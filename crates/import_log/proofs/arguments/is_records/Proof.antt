@@ -1,4 +1,5 @@
--- `import_log::arguments::is_records` meets its contract: another length decides, else the value of the octets does. Assumes nothing.
+-- `import_log::arguments::is_records` meets its contract: another length decides, else `number_at` gives the value of the octets, and the
+-- constant is the value of the word. Assumes nothing.
 use mathlib.Core.Path.{ap}
 use borrow.Author.Needs.{needs}
 use borrow.Author.Tests.{eq-eqb, ne-eqb}

@@ -1,5 +1,6 @@
--- `import_log::convert::convert_lists` meets its contract: the import was refused, or what the lists hold is written, with the first K of equal
--- sizes. Assumes nothing.
+-- `import_log::convert::convert_lists` meets its contract: a refused import is answered as it is; else K is at most 4,096 and the lists hold
+-- the arrivals in their first places, so these parts can be taken, and `write` is given them with the first K of equal sizes
+-- (`convert-written`). Assumes nothing.
 use mathlib.Core.Path.{sym, ap, _∙_}
 use borrow.Author.Needs.{needs}
 use lib.ListN.{length, length-replicate}
@@ -39,12 +40,10 @@ convert-lists-spec =
     tie.close
     (tie.spec
     returns
-    (λ c. search needs)
-    (λ c. search needs)
+    (λ c. search needs) (λ c. search needs)
     array-share-prefix-sizes
     slice-aggregate-write-2
     slice-aggregate-write-3
     slice-aggregate-write-4
-    (λ c κs. search needs)
-    (λ c. search needs)
+    (λ c κs. search needs) (λ c. search needs)
     returns-2)

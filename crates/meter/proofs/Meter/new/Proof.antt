@@ -1,4 +1,5 @@
--- `meter::Meter::new` meets its contract, which carries demand 3 and independence. Assumes nothing.
+-- `meter::Meter::new` meets its contract: its streams and places are those of a fresh receiver for K = 1, which is what the definition
+-- says; demand 3 and independence are laws. Assumes nothing.
 use mathlib.Core.Path.{_≡_, ap, _∙_}
 use borrow.Author.Needs.{needs}
 use Rattle.receiver.specs.declared.FreshAnswer.{FreshAnswer}
@@ -23,7 +24,7 @@ made f t u e a b =
 
 returns : tie.Need-returns
 returns c =
-    (made _ _ _ (c .before .before .before .before .fresh .ensures .0) (c .before .state-of .ensures) (c .state-of2 .ensures), (demand3, independence))
+    (made _ _ _ (c .before .before .before .before .fresh .ensures .0) (c .before .stream-in .ensures) (c .stream-in2 .ensures), (demand3, independence))
 
 pub new-spec : {M : Type 1} → statement M
 new-spec = tie.close (tie.spec (λ c κs. search needs) (λ c κs. search needs) (λ c κs. search needs) returns)

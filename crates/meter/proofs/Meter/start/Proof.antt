@@ -1,4 +1,5 @@
--- `meter::Meter::start` meets its contract: each return is a case of the definition, in its order. Assumes nothing.
+-- `meter::Meter::start` meets its contract: each return is a case of the definition, in its order, by the tests that led there; and as it
+-- is the definition's, a refused start leaves an equal meter (`start-refused`). Assumes nothing.
 use Prim.Native.Nat.{ℕ}
 use mathlib.Core.Bool.{false}
 use mathlib.Core.Path.{_≡_, sym, ap, _∙_}
@@ -50,7 +51,7 @@ returns-4 : tie.Need-returns-4
 returns-4 c =
     let b = c .before .before .before .before .before .before .before in
     carries _ _ _ _
-    (with-known one (b .before .before .before .before .args .self) _ _ _ (c .with-first .ensures) (c .before .state-of .ensures)
+    (with-known one (b .before .before .before .before .args .self) _ _ _ (c .with-first .ensures) (c .before .stream-in .ensures)
     ∙ start-done _ _ _ one (side-one _ (c .before .before .if4 .taken)) (sym (b .before .is-fit .ensures) ∙ not-false _ (b .if2 .left)) _
     (c .before .before .before .before .before .before .fresh .ensures .0) (c .before .before .before .before .if3 .left))
 
@@ -60,7 +61,7 @@ returns-5 c =
     let w = between 1 2 _ (on-stream (b .before .before)) in
     let n : b .before .before .before .before .args .stream ≡ 2 = omega (arith, w .0, w .1, c .before .before .if4 .left) in
     carries _ _ _ _
-    (with-known two (b .before .before .before .before .args .self) _ _ _ (c .with-second .ensures) (c .before .state-of2 .ensures)
+    (with-known two (b .before .before .before .before .args .self) _ _ _ (c .with-second .ensures) (c .before .stream-in2 .ensures)
     ∙ start-done _ _ _ two (side-two _ n) (sym (b .before .is-fit .ensures) ∙ not-false _ (b .if2 .left)) _
     (c .before .before .before .before .before .before .fresh .ensures .0) (c .before .before .before .before .if3 .left))
 
@@ -74,9 +75,7 @@ start-spec =
     returns-2
     (λ c κs. search needs)
     returns-3
-    (λ c κs. search needs)
-    (λ c κs. search needs)
+    (λ c κs. search needs) (λ c κs. search needs)
     returns-4
-    (λ c κs. search needs)
-    (λ c κs. search needs)
+    (λ c κs. search needs) (λ c κs. search needs)
     returns-5)

@@ -1,4 +1,5 @@
--- `meter::Meter::step` meets its contract: each return is a case of the definition, in its order. Assumes nothing.
+-- `meter::Meter::step` meets its contract: each return is a case of the definition, in its order, by the tests that led there; and as it
+-- is the definition's, a refused step leaves an equal meter (`step-refused`). Assumes nothing.
 use Prim.Native.Nat.{ℕ}
 use mathlib.Core.Bool.{false}
 use mathlib.Core.Path.{_≡_, sym, ap, _∙_}
@@ -61,11 +62,9 @@ pub step-spec : {M : Type 1} → statement M
 step-spec =
     tie.close
     (tie.spec
-    (λ c κs. search needs)
-    (λ c κs. search needs)
+    (λ c κs. search needs) (λ c κs. search needs)
     returns
-    (λ c κs. search needs)
-    (λ c κs. search needs)
+    (λ c κs. search needs) (λ c κs. search needs)
     returns-2
     step-first-requires
     returns-3

@@ -1,11 +1,12 @@
--- `answer_of` looks at the record asked for after those before it are noted. Assumes nothing.
+-- `metrics::answers::answer_of` meets its contract: the refusal is the call's (`laid-record`); without one the record asked for is there,
+-- so that the records before it can be noted, and `answer_at` gives its answer (`answered`). Assumes nothing.
 use mathlib.Core.Path.{_≡_, sym, _∙_}
 use Prim.Native.Nat.{_≤_}
 use native.Mathlib.Omega.{arith}
 use denote.Ref.{now}
 use Rattle.sample.specs.Decode.{decode}
 use Rattle.metrics.specs.Figures.{recordRefusal}
-use Rattle.metrics.proofs.Follow.{arrivals-laid}
+use Rattle.metrics.proofs.TablesFollow.{arrivals-laid}
 use Rattle.metrics.proofs.OneArrivalMore.{follows-start}
 use Rattle.metrics.proofs.RecordsAsked.{laid-record, record-inside, answered-refused, answered}
 use borrow.Author.Needs.{needs}
@@ -13,8 +14,8 @@ use Rattle.metrics.proofs.answers.answer_of.Statement.{statement}
 use Rattle.metrics.proofs.answers.answer_of.Tie as tie
 
 -- the refusal is that of the call
-refusal : (c : tie.After-refusal-of) → c .refusal-of .result ≡ recordRefusal (decode (now (c .before .before .args .file))) (c .before .before .args .asked)
-refusal c = laid-record _ _ (c .before .before .pre) _ (c .before .before .args .asked) (c .refusal-of .ensures)
+refusal : (c : tie.After-asked-refusal) → c .asked-refusal .result ≡ recordRefusal (decode (now (c .before .before .args .file))) (c .before .before .args .asked)
+refusal c = laid-record _ _ (c .before .before .pre) _ (c .before .before .args .asked) (c .asked-refusal .ensures)
 
 -- without one a record is asked for
 inside : (c : tie.Else1) → (1 ≤ c .before .before .before .args .asked) × (c .before .before .before .args .asked ≤ c .before .before .before .args .y .arrivals)
@@ -29,15 +30,15 @@ returns c = answered-refused _ _ _ (refusal (c .before)) (c .if1 .taken)
 sub-i : tie.Need-sub-i
 sub-i c = inside c .0
 
-follow-requires : tie.Need-follow-requires
-follow-requires c κs = (c .before .before .before .before .before .before .pre, omega (arith, inside (c .before .before .before)), follows-start (decode (now (c .before .before .before .before .before .before .args .file))))
+note-records-requires : tie.Need-note-records-requires
+note-records-requires c κs = (c .before .before .before .before .before .before .pre, omega (arith, inside (c .before .before .before)), follows-start (decode (now (c .before .before .before .before .before .before .args .file))))
 
-look-requires : tie.Need-look-requires
-look-requires c κs = (record { file = c .before .before .before .before .before .before .before .before .before .before .pre; inside = omega (arith, inside (c .before .before .before .before .before .before .before)) }, c .before .before .before .follow .ensures)
+answer-at-requires : tie.Need-answer-at-requires
+answer-at-requires c κs = (record { file = c .before .before .before .before .before .before .before .before .before .before .pre; inside = omega (arith, inside (c .before .before .before .before .before .before .before)) }, c .before .before .before .note-records .ensures)
 
 returns-2 : tie.Need-returns-2
-returns-2 c = answered _ _ _ (refusal (c .before .before .before .before .before .before .before .before .before)) (c .before .before .before .before .before .before .before .before .if1 .left) _ (c .look .ensures)
+returns-2 c = answered _ _ _ (refusal (c .before .before .before .before .before .before .before .before .before)) (c .before .before .before .before .before .before .before .before .if1 .left) _ (c .answer-at .ensures)
 
 pub answer-of-spec : {M : Type 1} → statement M
 answer-of-spec =
-    tie.close (tie.spec (λ c κs. search needs) returns sub-i follow-requires look-requires returns-2)
+    tie.close (tie.spec (λ c κs. search needs) returns sub-i note-records-requires answer-at-requires returns-2)

@@ -1,6 +1,8 @@
--- `advance` answers by the class of the arrival, from the byte offset by the tree and the largest n by links, and notes it. Assumes nothing.
+-- `metrics::engine::advance` meets its contract: the class that the tables give is the answer's (`told`); `late_figures` gives a reordered
+-- packet's byte offset, as it has not arrived (`new-told`), and largest n, and `answer_by` makes the answer of them. Noting the record then
+-- leaves what is known after it (`engine-next`). Assumes nothing.
 use mathlib.Core.Path.{_≡_, ap, _∙_}
-use Prim.Native.Nat.{ℕ, _≤_}
+use Prim.Native.Nat.{_≤_}
 use denote.Ref.{now}
 use Rattle.rfc4737.specs.Arrivals.{firsts}
 use Rattle.rfc4737.specs.Extent.{byteOffset, largestN}
@@ -8,16 +10,15 @@ use Rattle.rfc4737.specs.Judge.{sentMost}
 use Rattle.sample.specs.Decode.{decode}
 use Rattle.metrics.specs.Sample.{sizeOf}
 use Rattle.metrics.specs.Private.Sample.{arrivalAt, before}
-use Rattle.metrics.specs.Private.Tables.{lateOnly}
-use Rattle.metrics.proofs.Follow.{number-few}
-use Rattle.metrics.proofs.AnswersByClass.{told, new-told, class-told}
+use Rattle.metrics.proofs.TablesFollow.{number-few}
+use Rattle.metrics.proofs.AnswersByClass.{told, new-told, late-both}
 use Rattle.metrics.proofs.NotingArrivals.{noting}
-use Rattle.metrics.proofs.EngineState.{running-filling, links-laid, running-next}
+use Rattle.metrics.proofs.EngineState.{engine-filling, links-laid, engine-next}
 use borrow.Author.Needs.{needs}
 use Rattle.metrics.proofs.engine.advance.Statement.{statement}
 use Rattle.metrics.proofs.engine.advance.Tie as tie
 
--- the number of the arrival
+-- the arrival's number is that of record i + 1, and that of a packet
 number : (c : tie.Start) → (c .args .arrival .number ≡ arrivalAt (decode (now (c .args .file))) (c .args .i) .number)
     × (1 ≤ c .args .arrival .number) × (c .args .arrival .number ≤ sentMost)
 number c = number-few _ _ _ (c .pre .0) _ (c .pre .1)
@@ -29,7 +30,7 @@ late-figures-requires : tie.Need-late-figures-requires
 late-figures-requires c κs =
     let s = c .before .before .before .before .before .before .before .before .before .before in
     let p = s .pre in
-    (running-filling _ _ _ (p .0) _ _ _ _ _ (p .2), number s .1, number s .2, links-laid _ _ _ (p .0) _ _ _ _ (p .2 .follows .numbered) (p .2 .linked) .1)
+    (engine-filling _ _ _ (p .0) _ _ _ _ _ (p .2), number s .1, number s .2, links-laid _ _ _ (p .0) _ _ _ _ (p .2 .follows .numbered) (p .2 .linked) .1)
 
 answer-by-requires : tie.Need-answer-by-requires
 answer-by-requires c κs =
@@ -46,9 +47,9 @@ answer-by-requires c κs =
       p .1,
       f .numbered,
       f .recorded,
-      told _ _ _ _ _ _ f _ (n .0) (n .1) (n .2) _ e,
-      late .2 (new-told d (s .args .i) _ _ _ _ f _ (n .0) (n .1) (n .2) _ e) ∙ ap (λ (s : ℕ). lateOnly (byteOffset (sizeOf d) fs s) k) (n .0),
-      late .1 ∙ ap (λ (s : ℕ). lateOnly (largestN fs s) k) (n .0),
+      told d (s .args .i) _ _ _ _ f _ (n .0) (n .1) (n .2) _ e,
+      late-both k (λ at new l. (l .1 new ∙ ap (byteOffset (sizeOf d) fs) (n .0), l .0 ∙ ap (largestN fs) (n .0)))
+          (new-told d (s .args .i) _ _ _ _ f _ (n .0) (n .1) (n .2) _ e) (late .1),
     )
 
 note-requires : tie.Need-note-requires
@@ -62,8 +63,8 @@ returns c =
     let e = c .before .before .before .before .before .before .before .before .before .before .before .before .before .before .class-of .ensures in
     let late = c .before .before .before .before .before .before .before .before .before .before .late-figures .ensures .1 _ (f .numbered) (s .pre .2 .totalled) in (
       c .before .before .before .before .before .answer-by .ensures,
-      class-told (decode (now (s .args .file))) (s .args .i) _ _ (told _ _ _ _ _ _ f _ (n .0) (n .1) (n .2) _ e),
-      running-next _ _ _ (s .pre .0) _ _ _ _ f _ (n .0) (n .1) (n .2) _ e _ (late .1) _ _ _ _ (c .before .note .ensures) _ _ (s .pre .2 .linked) (late .0),
+      told (decode (now (s .args .file))) (s .args .i) _ _ _ _ f _ (n .0) (n .1) (n .2) _ e,
+      engine-next _ _ _ (s .pre .0) _ _ _ _ f _ (n .0) (n .1) (n .2) _ e _ _ (late .1) _ _ _ _ (c .before .note .ensures) _ _ (s .pre .2 .linked) (late .0),
     )
 
 pub advance-spec : {M : Type 1} → statement M

@@ -1,6 +1,7 @@
--- `counts_of` goes over the arrivals. The loop's invariant: the table has the packets that have arrived before i, `next` is their NextExp,
--- and the counts are those of their answers. The measure is what is left of the arrivals. Assumes nothing.
-use mathlib.Core.Path.{_≡_, sym, ap, ap₂, _∙_}
+-- `metrics::figures::counts_of` meets its contract. The loop's invariant: the table has the packets that have arrived before i, `next` is
+-- their NextExp, and the counts are those of their answers. One arrival more is `seen-next` and `counts-seen`; the counts stay small, as
+-- there are at most 4,096 arrivals. The measure is what is left of the arrivals. Assumes nothing.
+use mathlib.Core.Path.{_≡_, sym, ap, _∙_}
 use Prim.Native.Nat.{_≤_, _<_, _-_}
 use native.Mathlib.Omega.{arith}
 use denote.Ref.{now}
@@ -8,16 +9,17 @@ use Rattle.rfc4737.specs.Runs.{counts}
 use Rattle.rfc4737.specs.Judge.{arrivalsMost}
 use Rattle.sample.specs.Decode.{decode}
 use Rattle.metrics.specs.Private.Sample.{before, answersTo, HasRecord}
-use Rattle.metrics.specs.Private.Steps.{countsBy}
 use borrow.Author.Needs.{needs}
-use Rattle.metrics.proofs.OneArrivalMore.{answers-start, answers-end, answers-length, counts-small}
-use Rattle.metrics.proofs.CountsBySeen.{Seen, seen-start, seen-next, counts-seen}
+use Rattle.metrics.proofs.OneArrivalMore.{answers-start, answers-end, answers-length}
+use Rattle.metrics.proofs.CountsBySeen.{SeenPackets, seen-start, seen-next, counts-seen}
+use Rattle.metrics.proofs.DigitBounds.{counts-within}
 use Rattle.metrics.proofs.figures.counts_of.Statement.{statement}
 use Rattle.metrics.proofs.figures.counts_of.Tie as tie
 
+-- seen₀, next₀, c₀ and i₀ are the values where the loop begins, seen, next, c and i those at its head
 abbrev Inv-loop : tie.InvT-loop
 Inv-loop file y seen₀ next₀ c₀ i₀ seen next c i =
-    (i ≤ y .arrivals) × Seen (before (decode file) i) seen next × (c ≡ counts (answersTo (decode file) i))
+    (i ≤ y .arrivals) × SeenPackets (before (decode file) i) seen next × (c ≡ counts (answersTo (decode file) i))
 
 abbrev μ-loop : tie.MeasureT-loop
 μ-loop file y seen₀ next₀ c₀ i₀ seen next c i = y .arrivals - i
@@ -35,23 +37,23 @@ loop-holds c =
     let d = decode (now (c .before .before .args .file)) in
     (omega arith, seen-start d, c .no-counts .ensures ∙ sym (ap counts (answers-start d)))
 
-number-requires : tie.Need-number-requires Inv-loop μ-loop
-number-requires c κs = record { file = c .before .before .before .before .before .pre; inside = c .if1 .taken }
+number-of-requires : tie.Need-number-of-requires Inv-loop μ-loop
+number-of-requires c κs = record { file = c .before .before .before .before .before .pre; inside = c .if1 .taken }
 
 kind-of-requires : tie.Need-kind-of-requires Inv-loop μ-loop
-kind-of-requires c κs = c .before .number .ensures .2
+kind-of-requires c κs = c .before .number-of .ensures .2
 
-counted-requires : tie.Need-counted-requires Inv-loop μ-loop
-counted-requires c κs = rw (c .before .before .before .before .before .loop .inv .2) (counts-small _ (omega (arith, answers-length _ _ _ (here c), few c)))
+counts-after-requires : tie.Need-counts-after-requires Inv-loop μ-loop
+counts-after-requires c κs = rw (c .before .before .before .before .before .loop .inv .2) (counts-within _ (omega (arith, answers-length _ _ _ (here c), few c)))
 
 cast-at : tie.Need-cast-at Inv-loop μ-loop
-cast-at c = omega (arith, c .before .before .before .number .ensures .2)
+cast-at c = omega (arith, c .before .before .before .number-of .ensures .2)
 
 array-write-seen : tie.Need-array-write-seen Inv-loop μ-loop
-array-write-seen c = omega (arith, c .before .before .before .number .ensures .2, c .before .before .before .before .before .before .loop .inv .1 .places)
+array-write-seen c = omega (arith, c .before .before .before .number-of .ensures .2, c .before .before .before .before .before .before .loop .inv .1 .places)
 
 next-after-requires : tie.Need-next-after-requires Inv-loop μ-loop
-next-after-requires c κs = c .before .before .before .number .ensures .2
+next-after-requires c κs = c .before .before .before .number-of .ensures .2
 
 add-i : tie.Need-add-i Inv-loop μ-loop
 add-i c = omega (arith, few (c .before .before))
@@ -63,10 +65,10 @@ loop-again : tie.Need-loop-again Inv-loop μ-loop
 loop-again c =
     let l = c .before .before .before .before .before .before .before .loop in
     let at = c .before .before in
-    let n = c .before .before .before .before .number .ensures in (
+    let n = c .before .before .before .before .number-of .ensures in (
       omega (arith, here at .inside),
       rw (c .next-after .ensures) (seen-next _ _ _ (here at) _ _ (l .inv .1) _ (n .0) (n .2)),
-      c .before .counted .ensures ∙ ap₂ countsBy (l .inv .2) (at .kind-of .ensures) ∙ sym (counts-seen _ _ _ (here at) _ _ (l .inv .1) _ (n .0) (n .2)),
+      counts-seen _ _ _ (here at) _ _ (l .inv .1) _ (n .0) (n .2) (at .kind-of .ensures) (λ m a. c .before .counts-after .ensures _ m a (l .inv .2)),
     )
 
 returns : tie.Need-returns Inv-loop μ-loop
@@ -80,9 +82,9 @@ counts-of-spec =
     μ-loop
     (λ c κs. search needs)
     loop-holds
-    number-requires
+    number-of-requires
     kind-of-requires
-    counted-requires
+    counts-after-requires
     cast-at
     array-write-seen
     next-after-requires

@@ -1,4 +1,4 @@
--- `kind_of` goes by the table, then by NextExp. Assumes nothing.
+-- `metrics::figures::kind_of` meets its contract: each return is one case of `kindBy`, by the table and then by NextExp. Assumes nothing.
 use native.Mathlib.Omega.{arith}
 use borrow.Author.Tests.{le-leb, lt-leb}
 use Rattle.metrics.specs.Private.Steps.{kindBy}

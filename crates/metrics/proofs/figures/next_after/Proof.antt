@@ -1,4 +1,4 @@
--- `next_after` goes by the order of the two. Assumes nothing.
+-- `metrics::figures::next_after` meets its contract: the test is that of `nextAfter`. Assumes nothing.
 use native.Mathlib.Omega.{arith}
 use borrow.Author.Tests.{le-leb, lt-leb}
 use Rattle.rfc4737.specs.Order.{nextAfter}

@@ -1,4 +1,4 @@
--- `no_counts`: over no answers each count is 0. Assumes nothing.
+-- `metrics::figures::no_counts` meets its contract: over no answers each count is 0. Assumes nothing.
 use mathlib.Core.Path.{refl}
 use Rattle.rfc4737.specs.Arrivals.{count}
 use Rattle.rfc4737.specs.Runs.{arrived, runs, counts}

@@ -1,5 +1,6 @@
--- `shares_of` goes over the arrivals. The loop's invariant: the tables and the shares are those of the arrivals before i. The measure is
--- what is left of the arrivals. Assumes nothing.
+-- `metrics::figures::shares_of` meets its contract. The loop's invariant: the tables and the shares are those of the arrivals before i. One
+-- arrival more is what `shares_after` ensures, which can be called, since the shares are small (`shares-few`) and links can be gone along
+-- (`links-laid`). The measure is what is left of the arrivals. Assumes nothing.
 use mathlib.Core.Path.{sym, ap, _∙_}
 use Prim.Native.Nat.{_≤_, _-_}
 use native.Mathlib.Omega.{arith}
@@ -9,12 +10,13 @@ use Rattle.sample.specs.Decode.{decode}
 use Rattle.metrics.specs.Sample.{sizeOf, sampleArrivals}
 use Rattle.metrics.specs.Private.Sample.{before, HasRecord}
 use Rattle.metrics.specs.Private.Steps.{sharesOf, ShareTables}
-use Rattle.metrics.proofs.Follow.{arrivals-laid, before-more, before-length}
+use Rattle.metrics.proofs.TablesFollow.{arrivals-laid, before-more, before-length}
 use Rattle.metrics.proofs.EngineState.{links-laid}
 use Rattle.metrics.proofs.Shares.{shares-start, shares-few}
 use Rattle.metrics.proofs.figures.shares_of.Statement.{statement}
 use Rattle.metrics.proofs.figures.shares_of.Tie as tie
 
+-- numbers₀, links₀, shares₀ and i₀ are the values where the loop begins, numbers, links, shares and i those at its head
 abbrev Inv-loop : tie.InvT-loop
 Inv-loop file y low high numbers₀ links₀ shares₀ i₀ numbers links shares i =
     (i ≤ y .arrivals) × ShareTables low high (sizeOf (decode file)) (before (decode file) i) numbers links shares
@@ -23,21 +25,21 @@ abbrev μ-loop : tie.MeasureT-loop
 μ-loop file y low high numbers₀ links₀ shares₀ i₀ numbers links shares i = y .arrivals - i
 
 -- record i + 1 is there
-here : (c : tie.After-number Inv-loop μ-loop) → HasRecord (decode (now (c .before .before .before .before .before .args .file))) (c .before .before .before .before .before .args .y) (c .before .before .before .loop .i)
+here : (c : tie.After-number-of Inv-loop μ-loop) → HasRecord (decode (now (c .before .before .before .before .before .args .file))) (c .before .before .before .before .before .args .y) (c .before .before .before .loop .i)
 here c = record { file = c .before .before .before .before .before .pre; inside = c .before .if1 .taken }
 
 loop-holds : tie.Need-loop-holds Inv-loop μ-loop
 loop-holds c = (omega arith, shares-start _ _ (decode (now (c .before .args .file))))
 
-number-requires : tie.Need-number-requires Inv-loop μ-loop
-number-requires c κs = record { file = c .before .before .before .before .pre; inside = c .if1 .taken }
+number-of-requires : tie.Need-number-of-requires Inv-loop μ-loop
+number-of-requires c κs = record { file = c .before .before .before .before .pre; inside = c .if1 .taken }
 
-share-requires : tie.Need-share-requires Inv-loop μ-loop
-share-requires c κs =
+shares-after-requires : tie.Need-shares-after-requires Inv-loop μ-loop
+shares-after-requires c κs =
     let t = c .before .before .before .before .before .loop .inv .1 in
     let h = here (c .before .before) in
     let few = shares-few _ _ _ _ _ (t .shares) (omega (arith, before-length _ _ _ h, h .inside, h .file .few)) in (
-      c .before .before .number .ensures .2,
+      c .before .before .number-of .ensures .2,
       few .0,
       few .1,
       few .2,
@@ -57,7 +59,7 @@ loop-again : tie.Need-loop-again Inv-loop μ-loop
 loop-again c =
     let h = here (c .before .before .before) in (
       omega (arith, h .inside),
-      rw (before-more _ _ _ h) (c .share .ensures _ _ _ (sym (c .before .before .before .number .ensures .0)) (c .before .before .before .before .before .before .loop .inv .1)),
+      rw (before-more _ _ _ h) (c .shares-after .ensures _ _ _ (sym (c .before .before .before .number-of .ensures .0)) (c .before .before .before .before .before .before .loop .inv .1)),
     )
 
 returns : tie.Need-returns Inv-loop μ-loop
@@ -72,8 +74,8 @@ shares-of-spec =
     Inv-loop
     μ-loop
     loop-holds
-    number-requires
-    share-requires
+    number-of-requires
+    shares-after-requires
     add-i
     loop-less
     loop-again

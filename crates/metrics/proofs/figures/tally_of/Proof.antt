@@ -1,5 +1,6 @@
--- `tally_of` goes over the arrivals. The loop's invariant: the tables follow the arrivals before i, and the tally is that of their
--- answers. The measure is what is left of the arrivals. Assumes nothing.
+-- `metrics::figures::tally_of` meets its contract. The loop's invariant: the tables follow the arrivals before i, and the tally is that of
+-- their answers. The class of record i + 1 is its answer's (`told`), so that `tally_after` makes the step of the tally (`tally-next`); its
+-- counts are at most the answers so far (`tally-le`). The measure is what is left of the arrivals. Assumes nothing.
 use mathlib.Core.Path.{_≡_, sym, ap, _∙_}
 use Prim.Native.Nat.{ℕ, _≤_, _<_, _-_}
 use native.Mathlib.Omega.{arith}
@@ -9,16 +10,17 @@ use Rattle.rfc4737.specs.Tally.{tally}
 use Rattle.rfc4737.proofs.Folds.{length-tally, tally-le}
 use Rattle.rfc4737.specs.Judge.{sentMost, arrivalsMost}
 use Rattle.sample.specs.Decode.{decode}
-use Rattle.metrics.specs.Private.Sample.{before, answersTo, HasRecord}
-use Rattle.metrics.specs.Private.Tables.{EngineTables, ClassAnswer}
+use Rattle.metrics.specs.Private.Sample.{before, answerAt, answersTo, HasRecord}
+use Rattle.metrics.specs.Private.Tables.{EngineTables, ClassOf}
 use borrow.Author.Needs.{needs}
-use Rattle.metrics.proofs.Follow.{numbered-le}
+use Rattle.metrics.proofs.TablesFollow.{numbered-le}
 use Rattle.metrics.proofs.NotingArrivals.{noting, noted-follows}
 use Rattle.metrics.proofs.AnswersByClass.{told}
 use Rattle.metrics.proofs.OneArrivalMore.{follows-start, answers-start, answers-end, answers-length, inside-told, tally-none, tally-next}
 use Rattle.metrics.proofs.figures.tally_of.Statement.{statement}
 use Rattle.metrics.proofs.figures.tally_of.Tie as tie
 
+-- numbers₀ to i₀ are the values where the loop begins, numbers to i those at its head
 abbrev Inv-loop : tie.InvT-loop
 Inv-loop file y numbers₀ records₀ skipped₀ t₀ state₀ i₀ numbers records skipped t state i =
     (i ≤ y .arrivals) × EngineTables (before (decode file) i) numbers records skipped state × (t ≡ tally (answersTo (decode file) i))
@@ -30,12 +32,12 @@ abbrev μ-loop : tie.MeasureT-loop
 here : (c : tie.After-class-of Inv-loop μ-loop) → HasRecord (decode (now (c .before .before .before .before .before .before .before .before .before .args .file))) (c .before .before .before .before .before .before .before .before .before .args .y) (c .before .before .before .before .before .before .loop .i)
 here c = record { file = c .before .before .before .before .before .before .before .before .before .pre; inside = c .before .before .before .before .if1 .taken }
 
--- its class tells its answer
-class-told : (c : tie.After-class-of Inv-loop μ-loop)
-    → ClassAnswer (decode (now (c .before .before .before .before .before .before .before .before .before .args .file))) (c .before .before .before .before .before .before .loop .i) (c .before .before .before .before .before .before .loop .state .count) (c .class-of .result)
-class-told c =
-    let n = c .before .before .before .number .ensures in
-    told _ _ _ _ _ _ (c .before .before .before .before .before .before .loop .inv .1) _ (n .0) (n .1) (n .2) _ (c .class-of .ensures)
+-- its class is its answer's
+class-answer : (c : tie.After-class-of Inv-loop μ-loop)
+    → ClassOf (c .before .before .before .before .before .before .loop .state .count) (c .class-of .result) (answerAt (decode (now (c .before .before .before .before .before .before .before .before .before .args .file))) (c .before .before .before .before .before .before .loop .i))
+class-answer c =
+    let n = c .before .before .before .number-of .ensures in
+    told (decode (now (c .before .before .before .before .before .before .before .before .before .args .file))) (c .before .before .before .before .before .before .loop .i) _ _ _ _ (c .before .before .before .before .before .before .loop .inv .1) _ (n .0) (n .1) (n .2) _ (c .class-of .ensures)
 
 -- the first arrivals before it, and the arrivals, are few
 few : (c : tie.After-class-of Inv-loop μ-loop) → (c .before .before .before .before .before .before .loop .state .count ≤ c .before .before .before .before .before .before .loop .i) × (c .before .before .before .before .before .before .loop .i < arrivalsMost)
@@ -44,24 +46,24 @@ few c = numbered-le _ _ _ (here c) _ _ (c .before .before .before .before .befor
 loop-holds : tie.Need-loop-holds Inv-loop μ-loop
 loop-holds c =
     let d = decode (now (c .before .before .args .file)) in
-    (omega arith, rw (c .start .ensures) (follows-start d), sym (ap tally (answers-start d) ∙ tally-none))
+    (omega arith, rw (c .start-state .ensures) (follows-start d), sym (ap tally (answers-start d) ∙ tally-none))
 
-number-requires : tie.Need-number-requires Inv-loop μ-loop
-number-requires c κs = record { file = c .before .before .before .before .before .pre; inside = c .if1 .taken }
+number-of-requires : tie.Need-number-of-requires Inv-loop μ-loop
+number-of-requires c κs = record { file = c .before .before .before .before .before .pre; inside = c .if1 .taken }
 
 class-of-requires : tie.Need-class-of-requires Inv-loop μ-loop
-class-of-requires c κs = c .before .before .number .ensures .2
+class-of-requires c κs = c .before .before .number-of .ensures .2
 
-tallied-requires : tie.Need-tallied-requires Inv-loop μ-loop
-tallied-requires c κs =
+tally-after-requires : tie.Need-tally-after-requires Inv-loop μ-loop
+tally-after-requires c κs =
     let l = c .before .before .before .before .before .before .before .loop in
     let at = c .before in
     let most : (k : ℕ) → getD (tally (answersTo (decode (now (c .before .before .before .before .before .before .before .before .before .before .args .file))) (l .i))) k 0 ≤ sentMost =
     λ k. omega (arith, few at, tally-le (answersTo (decode (now (c .before .before .before .before .before .before .before .before .before .before .args .file))) (l .i)) k, answers-length _ _ _ (here at)) in
-    (rw (l .inv .2) (length-tally _), rw (l .inv .2) most, omega (arith, few at), inside-told _ _ _ (here at) _ _ _ _ (l .inv .1) (at .class-of .result) (class-told at))
+    (rw (l .inv .2) (length-tally _), rw (l .inv .2) most, omega (arith, few at), inside-told _ _ _ (here at) _ _ _ _ (l .inv .1) (at .class-of .result) (class-answer at))
 
 note-requires : tie.Need-note-requires Inv-loop μ-loop
-note-requires c κs = noting _ _ _ (here (c .before .before .before .before .before)) _ _ _ _ (c .before .before .before .before .before .before .before .before .before .before .before .loop .inv .1) _ (c .before .before .before .before .before .before .before .before .number .ensures .0)
+note-requires c κs = noting _ _ _ (here (c .before .before .before .before .before)) _ _ _ _ (c .before .before .before .before .before .before .before .before .before .before .before .loop .inv .1) _ (c .before .before .before .before .before .before .before .before .number-of .ensures .0)
 
 add-i : tie.Need-add-i Inv-loop μ-loop
 add-i c = omega (arith, few (c .before .before .before .before .before .before))
@@ -74,8 +76,8 @@ loop-again c =
     let l = c .before .before .before .before .before .before .before .before .before .before .before .before .loop in
     let at = c .before .before .before .before .before .before in (
       omega (arith, here at .inside),
-      noted-follows _ _ _ (here at) _ _ _ _ (l .inv .1) _ (c .before .before .before .before .before .before .before .before .before .number .ensures .0) _ _ _ _ _ (c .note .ensures),
-      c .before .before .before .before .tallied .ensures ∙ rw (l .inv .2) (sym (tally-next _ _ _ (here at) _ _ (class-told at) (l .inv .1 .numbered .all))),
+      noted-follows _ _ _ (here at) _ _ _ _ (l .inv .1) _ (c .before .before .before .before .before .before .before .before .before .number-of .ensures .0) _ _ _ _ _ (c .note .ensures),
+      c .before .before .before .before .tally-after .ensures _ (class-answer at) ∙ rw (l .inv .2) (sym (tally-next _ _ _ (here at))),
     )
 
 returns : tie.Need-returns Inv-loop μ-loop
@@ -89,9 +91,9 @@ tally-of-spec =
     μ-loop
     (λ c κs. search needs)
     loop-holds
-    number-requires
+    number-of-requires
     class-of-requires
-    tallied-requires
+    tally-after-requires
     note-requires
     add-i
     loop-less

@@ -1,23 +1,23 @@
--- `gap_at` looks at the position, then for the last discontinuity before it, then at both discoverers. Assumes nothing.
-use mathlib.Core.Path.{sym, _∙_}
+-- `metrics::gaps::gap_at` meets its contract: there is no gap where p is no discontinuity (`gap-other`) or none is before it (`gap-first`),
+-- and else it goes by both discoverers (`gap-near`). The neighbour is before p (`last-le`), so that it is a place of the table. Assumes nothing.
 use mathlib.Core.Bool.{true, false}
 use Prim.Native.Nat.{_-_, _≤_}
 use native.Mathlib.Omega.{arith}
 use denote.Ref.{now}
-use borrow.Author.Tests.{eq-eqb, ne-eqb, lt-ltb, le-ltb}
-use Rattle.metrics.specs.Private.Steps.{lastTo, gapBy}
-use Rattle.metrics.proofs.Discovered.{last-le, gap-after}
+use borrow.Author.Tests.{lt-ltb, le-ltb}
+use Rattle.metrics.specs.Private.Steps.{lastTo}
+use Rattle.metrics.proofs.Discovered.{last-le, gap-other, gap-first, gap-near}
 use borrow.Author.Needs.{needs}
 use Rattle.metrics.proofs.gaps.gap_at.Statement.{statement}
 use Rattle.metrics.proofs.gaps.gap_at.Tie as tie
 
 returns : tie.Need-returns
-unfolding gapBy
-returns c = simp (eq-eqb _ 0 (c .if1 .taken))
+returns c = let p = c .before .before .pre in λ l m inside. gap-other l _ m _ (p .0) (p .1) inside (c .if1 .taken)
 
 returns-2 : tie.Need-returns-2
-unfolding gapBy
-returns-2 c = simp (ne-eqb _ 0 (c .before .before .if1 .left), sym (c .before .last-to .ensures) ∙ c .if2 .taken)
+returns-2 c =
+    let p = c .before .before .before .before .pre in
+    λ l m inside. gap-first l _ m _ (p .0) (p .1) inside (c .before .before .if1 .left) _ (c .before .last-to .ensures) (c .if2 .taken)
 
 -- the neighbour is before p
 near : (c : tie.Else2) → lastTo (now (c .before .before .before .before .args .found)) (c .before .before .before .before .args .p - 1) ≤ c .before .before .before .before .args .p - 1
@@ -36,26 +36,29 @@ sub-t18 : tie.Need-sub-t18
 sub-t18 c = omega (arith, c .before .before .before .before .last-to .ensures, near (c .before .before .before))
 
 returns-3 : tie.Need-returns-3
-returns-3 c = let e = c .before .before .before in gap-after _ _ _ true (e .before .before .if1 .left) (e .before .last-to .ensures) (e .if2 .left) (lt-ltb _ _ (c .if3 .taken))
+returns-3 c =
+    let e = c .before .before .before in
+    let p = e .before .before .before .before .pre in
+    λ l m inside. gap-near l _ m _ (p .0) (p .1) inside (e .before .before .if1 .left) _ (e .before .last-to .ensures) true (e .if2 .left) (lt-ltb _ _ (c .if3 .taken))
 
 returns-4 : tie.Need-returns-4
-returns-4 c = let e = c .before .before .before in gap-after _ _ _ false (e .before .before .if1 .left) (e .before .last-to .ensures) (e .if2 .left) (le-ltb _ _ (c .if3 .left))
+returns-4 c =
+    let e = c .before .before .before in
+    let p = e .before .before .before .before .pre in
+    λ l m inside. gap-near l _ m _ (p .0) (p .1) inside (e .before .before .if1 .left) _ (e .before .last-to .ensures) false (e .if2 .left) (le-ltb _ _ (c .if3 .left))
 
 pub gap-at-spec : {M : Type 1} → statement M
 gap-at-spec =
     tie.close
     (tie.spec
-    (λ c. search needs)
-    (λ c. search needs)
+    (λ c. search needs) (λ c. search needs)
     returns
-    (λ c. search needs)
-    (λ c κs. search needs)
+    (λ c. search needs) (λ c κs. search needs)
     returns-2
     cast-neighbour
     mul-if3
     element-copy-out-if3
-    (λ c. search needs)
-    (λ c. search needs)
+    (λ c. search needs) (λ c. search needs)
     sub-t18
     returns-3
     returns-4)

@@ -1,4 +1,5 @@
--- `last_to` goes down from p. The loop's invariant: the last discontinuity up to p is the last up to q. The measure is q. Assumes nothing.
+-- `metrics::gaps::last_to` meets its contract. The loop's invariant: the last discontinuity up to p is the last up to q. It is q if q is
+-- marked (`last-here`), else the last before q (`last-before`), and none up to 0. The measure is q. Assumes nothing.
 use mathlib.Core.Path.{_≡_, refl, sym, _∙_}
 use Prim.Native.Nat.{_≤_}
 use native.Mathlib.Omega.{arith}
@@ -7,6 +8,7 @@ use Rattle.metrics.proofs.Discovered.{last-here, last-before, last-none
 use Rattle.metrics.proofs.gaps.last_to.Statement.{statement}
 use Rattle.metrics.proofs.gaps.last_to.Tie as tie
 
+-- q₀ is q where the loop begins
 abbrev Inv-loop : tie.InvT-loop
 Inv-loop found p q₀ q = (q ≤ p) × (lastTo found p ≡ lastTo found q)
 

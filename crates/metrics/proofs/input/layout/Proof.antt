@@ -1,4 +1,5 @@
--- `layout` gives what the check finds. Assumes nothing.
+-- `metrics::input::layout` meets its contract: the check answers the layout of what the file decodes to, which keeps the limits of a sample
+-- (`laid`). Assumes nothing.
 use Rattle.metrics.proofs.FoundInFile.{laid}
 use borrow.Author.Needs.{needs}
 use Rattle.metrics.proofs.input.layout.Statement.{statement}

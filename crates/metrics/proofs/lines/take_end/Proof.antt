@@ -1,4 +1,5 @@
--- `take_end` meets its contract: its line is put, and then held. Assumes nothing.
+-- `metrics::lines::take_end` meets its contract: the line is put at its place or, comparing, at the start, where it has room; then it is
+-- held against the text (`line-ready`, `line-taken`). Assumes nothing.
 use Prim.Native.Nat.{_≤_}
 use native.Mathlib.Omega.{arith}
 use borrow.Author.Needs.{needs}
@@ -13,12 +14,12 @@ use Rattle.metrics.proofs.lines.take_end.Tie as tie
 few : (c : tie.Start) → length (endLine (c .args .c)) ≤ 93
 few c = omega (arith, end-octets _ (c .pre .1))
 
-held-requires : tie.Need-held-requires
-held-requires c κs = line-ready _ _ _ _ (c .before .before .before .put-end .ensures .0) (few (c .before .before .before .before .before .before .before .before)) (c .before .before .before .before .before .before .before .before .pre .0) (c .before .before .before .before .put-place .ensures) (c .before .before .before .put-end .ensures .1)
+line-part-requires : tie.Need-line-part-requires
+line-part-requires c κs = line-ready _ _ _ _ (c .before .before .before .put-end .ensures .0) (few (c .before .before .before .before .before .before .before .before)) (c .before .before .before .before .before .before .before .before .pre .0) (c .before .before .before .before .put-place .ensures) (c .before .before .before .put-end .ensures .1)
 
 returns : tie.Need-returns
-returns c = line-taken _ _ _ _ (c .before .before .before .before .put-end .ensures .0) (few (c .before .before .before .before .before .before .before .before .before)) (c .before .before .before .before .before .before .before .before .before .pre .0) (c .before .before .before .before .before .put-place .ensures) (c .before .before .before .before .put-end .ensures .1) (c .held .ensures)
+returns c = line-taken _ _ _ _ (c .before .before .before .before .put-end .ensures .0) (few (c .before .before .before .before .before .before .before .before .before)) (c .before .before .before .before .before .before .before .before .before .pre .0) (c .before .before .before .before .before .put-place .ensures) (c .before .before .before .before .put-end .ensures .1) (c .line-part .ensures)
 
 pub take-end-spec : {M : Type 1} → statement M
 take-end-spec =
-    tie.close (tie.spec (λ c κs. search needs) (λ c κs. search needs) held-requires (λ c. search needs) returns)
+    tie.close (tie.spec (λ c κs. search needs) (λ c κs. search needs) line-part-requires (λ c. search needs) returns)

@@ -1,4 +1,5 @@
--- `take_header` meets its contract: its line is put, and then held. Assumes nothing.
+-- `metrics::lines::take_header` meets its contract: the line is put at the start, which is its place, comparing or not (`same-start`); then
+-- it is held against the text (`line-ready`, `line-taken`). Assumes nothing.
 use Prim.Native.Nat.{_≤_}
 use native.Mathlib.Omega.{arith}
 use borrow.Author.Needs.{needs}
@@ -13,11 +14,11 @@ use Rattle.metrics.proofs.lines.take_header.Tie as tie
 few : (c : tie.Start) → length (headerLine (c .args .k) (c .args .a)) ≤ 93
 few c = omega (arith, header-octets _ _ (c .pre .1) (c .pre .2))
 
-held-requires : tie.Need-held-requires
-held-requires c κs = line-ready _ _ _ 0 (c .before .before .before .put-header .ensures .0) (few (c .before .before .before .before .before .before .before)) (c .before .before .before .before .before .before .before .pre .0) (same-start (c .before .before .before .before .before .before .before .args .comparing)) (c .before .before .before .put-header .ensures .1)
+line-part-requires : tie.Need-line-part-requires
+line-part-requires c κs = line-ready _ _ _ 0 (c .before .before .before .put-header .ensures .0) (few (c .before .before .before .before .before .before .before)) (c .before .before .before .before .before .before .before .pre .0) (same-start (c .before .before .before .before .before .before .before .args .comparing)) (c .before .before .before .put-header .ensures .1)
 
 returns : tie.Need-returns
-returns c = line-taken _ _ _ 0 (c .before .before .before .before .put-header .ensures .0) (few (c .before .before .before .before .before .before .before .before)) (c .before .before .before .before .before .before .before .before .pre .0) (same-start (c .before .before .before .before .before .before .before .before .args .comparing)) (c .before .before .before .before .put-header .ensures .1) (c .held .ensures)
+returns c = line-taken _ _ _ 0 (c .before .before .before .before .put-header .ensures .0) (few (c .before .before .before .before .before .before .before .before)) (c .before .before .before .before .before .before .before .before .pre .0) (same-start (c .before .before .before .before .before .before .before .before .args .comparing)) (c .before .before .before .before .put-header .ensures .1) (c .line-part .ensures)
 
 pub take-header-spec : {M : Type 1} → statement M
-take-header-spec = tie.close (tie.spec (λ c κs. search needs) held-requires (λ c. search needs) returns)
+take-header-spec = tie.close (tie.spec (λ c κs. search needs) line-part-requires (λ c. search needs) returns)

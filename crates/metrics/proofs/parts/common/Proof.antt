@@ -1,5 +1,6 @@
--- `common` goes on while the octets agree. The loop's invariant: the whole is what agrees so far and what is left. The measure is what is left of the first
--- text. Assumes nothing.
+-- `metrics::parts::common` meets its contract. The loop's invariant: what the texts have in common is i octets and what is left of both has
+-- in common. An equal octet moves i on (`common-step`); where the other text ends, octets differ or the first text ends, it is i. The
+-- measure is what is left of the first text. Assumes nothing.
 use Prim.Native.Nat.{_+_, _-_, _≤_}
 use native.Mathlib.Omega.{arith}
 use native.Mathlib.Nat.{zero-add}
@@ -10,6 +11,7 @@ use Rattle.metrics.proofs.Common.{common-step, common-stop, common-end,
 use Rattle.metrics.proofs.parts.common.Statement.{statement}
 use Rattle.metrics.proofs.parts.common.Tie as tie
 
+-- i₀ is i where the loop begins
 abbrev Inv-loop : tie.InvT-loop
 Inv-loop one other i₀ i = (i ≤ length one) × (common one other ≡ i + common (drop i one) (drop i other))
 

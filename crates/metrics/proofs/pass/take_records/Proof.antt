@@ -1,7 +1,9 @@
--- `take_records` goes over the records. The loop's invariant: the engine knows the arrivals before i, the counts are those of their answers, and
--- their lines are written or agree with the text. The measure is what is left of the arrivals. Assumes nothing.
+-- `metrics::pass::take_records` meets its contract. The loop's invariant: the engine knows the arrivals before i, the counts are those of
+-- their answers, and their lines are written or agree with the text. `advance` gives the answer for record i + 1, whose figures have few
+-- digits; a line that differs ends the pass (`passed-stop`), any other is one step more of each part of the invariant (`passed-next`), and
+-- where i is A all records are behind (`passed-all`). The measure is what is left of the arrivals. Assumes nothing.
 use Prim.Native.Nat.{_+_, _-_, _^_, _≤_, _<_}
-use mathlib.Core.Path.{_≡_, sym, ap, ap₂, _∙_}
+use mathlib.Core.Path.{_≡_, sym, ap, _∙_}
 use native.Mathlib.Omega.{arith}
 use borrow.Author.Needs.{needs}
 use borrow.Author.Tests.{not-true, not-false}
@@ -13,16 +15,18 @@ use Rattle.rfc4737.specs.Runs.{counts}
 use Rattle.rfc4737.specs.Judge.{arrivalsMost}
 use Rattle.sample.specs.Decode.{decode}
 use Rattle.metrics.specs.Private.Engine.{EngineState}
-use Rattle.metrics.specs.Private.Passed.{PassedTo}
 use Rattle.metrics.specs.Private.Sample.{answersTo, HasRecord}
-use Rattle.metrics.specs.Private.Steps.{countsBy}
-use Rattle.metrics.proofs.DigitBounds.{answers-within}
-use Rattle.metrics.proofs.OneArrivalMore.{answers-start, answers-length, answers-next, counts-small, counts-more}
-use Rattle.metrics.proofs.Passing.{passed-next, passed-stop, passed-all, place-fits}
-use Rattle.metrics.proofs.EngineState.{running-start}
+use Rattle.metrics.specs.Private.Taken.{PassedTo}
+use Rattle.metrics.proofs.DigitBounds.{answers-within, counts-within}
+use Rattle.metrics.proofs.Listed.{lines-within}
+use Rattle.metrics.proofs.OneArrivalMore.{answers-start, answers-length, answers-next}
+use Rattle.metrics.proofs.Passing.{taken-inside, taken-fits, line-more, passed-next, passed-stop, passed-all}
+use Rattle.metrics.proofs.EngineState.{engine-start}
 use Rattle.metrics.proofs.pass.take_records.Statement.{statement}
 use Rattle.metrics.proofs.pass.take_records.Tie as tie
 
+-- numbers₀ to i₀ and out₀ are the values where the loop begins, the same without ₀ those at its head, with known for `counts`; out₀ has the
+-- first line
 abbrev Inv-loop : tie.InvT-loop
 Inv-loop file y out₀ text comparing start numbers₀ records₀ skipped₀ tree₀ engine₀ counts₀ at₀ i₀ out numbers records skipped tree engine known at i =
     (i ≤ y .arrivals) × EngineState (decode file) i numbers records skipped tree engine × (known ≡ counts (answersTo (decode file) i))
@@ -44,23 +48,25 @@ few c = omega (arith, c .if1 .taken, c .before .before .before .before .before .
 fits : (c : tie.After-struct-known2 Inv-loop μ-loop) → c .before .before .before .before .before .before .before .before .before .before .before .before .before .before .loop .at + c .before .before .before .take-record .result .octets < 2 ^ 64
 fits c =
     let a = c .before .before .before .before .before .before .before .before .before .before .before .before .before .before .before .before .before .before .before .before .args in
-    place-fits (now (a .file)) (below-fits w8 (now (a .file)) (c .before .before .before .before .before .before .before .before .before .before .before .before .before .before .before .before .before .before .before .shared-slice-known .given)) (a .y) (now (a .text)) (c .before .before .before .before .before .before .before .before .before .before .before .before .before .before .before .before .before .before .before .before .good .1 .1 .1 .0 .0) (a .comparing)
-    (here (c .before .before .before .before .before .before .before .before .before .before .before .before)) (c .before .before .before .before .before .before .before .before .before .before .before .before .before .before .loop .inv .3) (ap (λ (b : Arrival). b .number) (c .before .before .before .before .before .before .before .before .before .before .before .arrival .ensures .0)) (c .before .before .before .before .before .before .advance .ensures .0) (c .before .before .before .take-record .ensures)
+    let h = here (c .before .before .before .before .before .before .before .before .before .before .before .before) in
+    let lines = lines-within (now (a .file)) (a .y) (h .file) (below-fits w8 (now (a .file)) (c .before .before .before .before .before .before .before .before .before .before .before .before .before .before .before .before .before .before .before .shared-slice-known .given)) (c .before .before .before .before .before .before .before .before .before .before .before .before .before .before .loop .i + 1) (omega (arith, h .inside)) in
+    taken-fits (c .before .before .before .before .before .before .before .before .before .before .before .before .before .before .before .before .before .before .before .before .good .1 .1 .1 .0 .0) (omega (arith, h .file .few, lines))
+    (line-more _ _ _ _ h (c .before .before .before .before .before .before .before .before .before .before .before .before .before .before .loop .inv .3) (ap (λ (b : Arrival). b .number) (c .before .before .before .before .before .before .before .before .before .before .before .arrival-at .ensures .0)) (c .before .before .before .before .before .before .advance .ensures .0) (c .before .before .before .take-record .ensures))
 
 loop-holds : tie.Need-loop-holds Inv-loop μ-loop
 loop-holds c =
     let d = decode (now (c .before .before .before .before .before .args .file)) in (
       omega arith,
-      rw (c .before .fresh-engine .ensures) (running-start d),
+      rw (c .before .fresh-engine .ensures) (engine-start d),
       c .no-counts .ensures ∙ sym (ap counts (answers-start d)),
       c .before .before .before .before .before .pre .2,
     )
 
-arrival-requires : tie.Need-arrival-requires Inv-loop μ-loop
-arrival-requires c κs = here c
+arrival-at-requires : tie.Need-arrival-at-requires Inv-loop μ-loop
+arrival-at-requires c κs = here c
 
 advance-requires : tie.Need-advance-requires Inv-loop μ-loop
-advance-requires c κs = (here (c .before .before .before .before .before), c .before .before .before .before .arrival .ensures .0, c .before .before .before .before .before .before .before .loop .inv .1)
+advance-requires c κs = (here (c .before .before .before .before .before), c .before .before .before .before .arrival-at .ensures .0, c .before .before .before .before .before .before .before .loop .inv .1)
 
 add-take-record : tie.Need-add-take-record Inv-loop μ-loop
 add-take-record c = omega (arith, few (c .before .before .before .before .before .before .before .before))
@@ -69,31 +75,31 @@ take-record-requires : tie.Need-take-record-requires Inv-loop μ-loop
 take-record-requires c κs =
     let file = now (c .before .before .before .before .before .before .before .before .before .before .before .before .before .before .before .before .args .file) in
     let l = c .before .before .before .before .before .before .before .before .before .before .loop in (
-      record { room = λ e. omega (arith, c .before .before .before .before .before .before .before .before .before .before .before .before .before .before .before .before .pre .1 .room e, l .inv .3 .places); inside = λ e. l .inv .3 .compared e .most },
+      record { room = λ e. omega (arith, c .before .before .before .before .before .before .before .before .before .before .before .before .before .before .before .before .pre .1 .room e, l .inv .3 .places); inside = taken-inside (l .inv .3) },
       omega (arith, few (c .before .before .before .before .before .before .before .before)),
-      omega (arith, c .before .before .before .before .before .before .before .arrival .ensures .1),
+      omega (arith, c .before .before .before .before .before .before .before .arrival-at .ensures .1),
       rw (c .before .before .advance .ensures .0) (answers-within file _ (l .i) (below-fits w8 file (c .before .before .before .before .before .before .before .before .before .before .before .before .before .before .before .shared-slice-known .given)) (here (c .before .before .before .before .before .before .before .before))),
     )
 
-after-requires : tie.Need-after-requires Inv-loop μ-loop
-after-requires c κs = fits (c .before)
+part-after-requires : tie.Need-part-after-requires Inv-loop μ-loop
+part-after-requires c κs = fits (c .before)
 
 same-length : tie.Need-same-length Inv-loop μ-loop
 same-length c = c .before .before .before .before .before .take-record .ensures .places ∙ c .before .before .before .before .before .before .before .before .before .before .before .before .before .before .before .before .loop .inv .3 .places
 
 returns : tie.Need-returns Inv-loop μ-loop
 returns c =
-    rw (c .after .ensures)
-    (passed-stop _ _ _ _ (here (c .before .before .before .before .before .before .before .before .before .before .before .before .before .before)) (c .before .before .before .before .before .before .before .before .before .before .before .before .before .before .before .before .loop .inv .3) (ap (λ (b : Arrival). b .number) (c .before .before .before .before .before .before .before .before .before .before .before .before .before .arrival .ensures .0)) (c .before .before .before .before .before .before .before .before .advance .ensures .0)
+    rw (c .part-after .ensures)
+    (passed-stop _ _ _ _ (here (c .before .before .before .before .before .before .before .before .before .before .before .before .before .before)) (c .before .before .before .before .before .before .before .before .before .before .before .before .before .before .before .before .loop .inv .3) (ap (λ (b : Arrival). b .number) (c .before .before .before .before .before .before .before .before .before .before .before .before .before .arrival-at .ensures .0)) (c .before .before .before .before .before .before .before .before .advance .ensures .0)
     (c .before .before .before .before .before .take-record .ensures) _ (not-true _ (c .before .if2 .taken)))
 
 add-at : tie.Need-add-at Inv-loop μ-loop
 add-at c = omega (arith, fits (c .before .before))
 
-counted-requires : tie.Need-counted-requires Inv-loop μ-loop
-counted-requires c κs =
+counts-after-requires : tie.Need-counts-after-requires Inv-loop μ-loop
+counts-after-requires c κs =
     let r = c .before .before .before .before .before .before .before .before .before .before .before .before .before .before in
-    rw (c .before .before .before .before .before .before .before .before .before .before .before .before .before .before .before .before .loop .inv .2) (counts-small _ (omega (arith, answers-length _ _ _ (here r), few r)))
+    rw (c .before .before .before .before .before .before .before .before .before .before .before .before .before .before .before .before .loop .inv .2) (counts-within _ (omega (arith, answers-length _ _ _ (here r), few r)))
 
 add-i : tie.Need-add-i Inv-loop μ-loop
 add-i c = omega (arith, few (c .before .before .before .before .before .before .before .before .before .before .before .before .before .before .before .before))
@@ -108,8 +114,8 @@ loop-again c =
     let step = c .before .before .before .before .before .before .before .before .before .before .advance .ensures in (
       omega (arith, h .inside),
       step .2,
-      c .before .counted .ensures ∙ ap₂ countsBy (l .inv .2) (step .1) ∙ sym (ap counts (answers-next _ _ _ h) ∙ counts-more _ _),
-      passed-next _ _ _ _ h (l .inv .3) (ap (λ (b : Arrival). b .number) (c .before .before .before .before .before .before .before .before .before .before .before .before .before .before .before .arrival .ensures .0)) (step .0) (c .before .before .before .before .before .before .before .take-record .ensures)
+      c .before .counts-after .ensures _ _ _ (l .inv .2) (step .1) ∙ sym (ap counts (answers-next _ _ _ h)),
+      passed-next _ _ _ _ h (l .inv .3) (ap (λ (b : Arrival). b .number) (c .before .before .before .before .before .before .before .before .before .before .before .before .before .before .before .arrival-at .ensures .0)) (step .0) (c .before .before .before .before .before .before .before .take-record .ensures)
           (not-false _ (c .before .before .before .if2 .left)),
     )
 
@@ -127,19 +133,18 @@ take-records-spec =
     (tie.spec
     Inv-loop
     μ-loop
-    (λ c κs. search needs)
-    (λ c κs. search needs)
+    (λ c κs. search needs) (λ c κs. search needs)
     loop-holds
-    arrival-requires
+    arrival-at-requires
     (λ c. search needs)
     advance-requires
     add-take-record
     take-record-requires
-    after-requires
+    part-after-requires
     same-length
     returns
     add-at
-    counted-requires
+    counts-after-requires
     add-i
     loop-less
     loop-again

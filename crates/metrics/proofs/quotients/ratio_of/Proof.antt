@@ -1,4 +1,4 @@
--- `ratio_of` tests the lower count. Assumes nothing.
+-- `metrics::quotients::ratio_of` meets its contract: the test of the lower count is that of `ratioOf`. Assumes nothing.
 use borrow.Author.Tests.{eq-eqb, ne-eqb}
 use Rattle.rfc4737.specs.Ratios.{ratioOf}
 use borrow.Author.Needs.{needs}

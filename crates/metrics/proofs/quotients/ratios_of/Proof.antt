@@ -1,4 +1,5 @@
--- `ratios_of` tests the lower count. Assumes nothing.
+-- `metrics::quotients::ratios_of` meets its contract: the test of L is that of `ratiosBy`, and each of the three figures is a `quotient`.
+-- Assumes nothing.
 use borrow.Author.Tests.{eq-eqb, ne-eqb}
 use Rattle.metrics.specs.Private.Steps.{ratiosBy}
 use borrow.Author.Needs.{needs}

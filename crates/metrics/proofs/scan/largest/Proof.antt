@@ -1,4 +1,6 @@
--- `largest` goes back one by one. The loop's invariant: the numbers from p to before `count` are above s. The measure is p. Assumes nothing.
+-- `metrics::scan::largest` meets its contract. The loop's invariant: the numbers from place p to before `count` are above s. Where the one
+-- before them is too, p goes back by one (`above-back`); where it is not, or p is 0, the largest n is `count` less p (`largest-back`). The
+-- measure is p. Assumes nothing.
 use mathlib.Core.Path.{refl}
 use native.Mathlib.Omega.{arith}
 use borrow.Author.Needs.{needs}
@@ -7,6 +9,7 @@ use Rattle.metrics.proofs.Reordered.{above-none, above-back, largest-ba
 use Rattle.metrics.proofs.scan.largest.Statement.{statement}
 use Rattle.metrics.proofs.scan.largest.Tie as tie
 
+-- p₀ is p where the loop begins
 abbrev Inv-loop : tie.InvT-loop
 Inv-loop numbers count s p₀ p = Above numbers s p count
 

@@ -1,5 +1,6 @@
--- `largest_by_links` goes back along the links. The loop's invariant: the numbers from p to before `count` are above s. The measure is p.
--- Assumes nothing.
+-- `metrics::scan::largest_by_links` meets its contract. The loop's invariant: the numbers from place p to before `count` are above s. Where
+-- the one before them is too, so are those that its link passes over (`above-link`), at least itself and at most as many as there are, so
+-- that p falls; where it is not, or p is 0, the largest n is `count` less p (`largest-back`). The measure is p. Assumes nothing.
 use mathlib.Core.Path.{refl}
 use Prim.Native.Nat.{_+_, _-_, _≤_}
 use native.Mathlib.Omega.{arith}
@@ -13,6 +14,7 @@ use Rattle.metrics.proofs.Links.{above-link}
 use Rattle.metrics.proofs.scan.largest_by_links.Statement.{statement}
 use Rattle.metrics.proofs.scan.largest_by_links.Tie as tie
 
+-- p₀ is p where the loop begins
 abbrev Inv-loop : tie.InvT-loop
 Inv-loop numbers links more count s p₀ p = Above numbers s p count
 

@@ -1,5 +1,6 @@
--- `offset` sums the sizes of the greater numbers. The loop's invariant: the sum is the byte offset over the positions passed, and at
--- most 65,535 for each. The measure is what is left of the positions. Assumes nothing.
+-- `metrics::scan::offset` meets its contract. The loop's invariant: the sum is the byte offset over the positions passed, given that it is
+-- 0 over the first `from`, and at most 65,535 for each; so it fits. One position more is `offset-greater` or `offset-same`, and after the
+-- last it is the byte offset over all (`offset-all`). The measure is what is left of the positions. Assumes nothing.
 use mathlib.Core.Path.{sym}
 use mathlib.Core.Logic.{⊎-elim}
 use Prim.Native.Nat.{_-_, _*_, _≤_}
@@ -12,6 +13,7 @@ use Rattle.metrics.proofs.Reordered.{OffsetTo, offset-greater, offset-s
 use Rattle.metrics.proofs.scan.offset.Statement.{statement}
 use Rattle.metrics.proofs.scan.offset.Tie as tie
 
+-- sum₀ and p₀ are sum and p where the loop begins
 abbrev Inv-loop : tie.InvT-loop
 Inv-loop file y numbers from count s sum₀ p₀ sum p = (sum ≤ 65535 * p) × OffsetTo numbers count s (sizeOf (decode file)) from p sum
 
@@ -21,14 +23,14 @@ abbrev μ-loop : tie.MeasureT-loop
 loop-holds : tie.Need-loop-holds Inv-loop μ-loop
 loop-holds c = (omega arith, λ fs h zero. sym zero)
 
-size-requires : tie.Need-size-requires Inv-loop μ-loop
-size-requires c κs =
+size-of-requires : tie.Need-size-of-requires Inv-loop μ-loop
+size-of-requires c κs =
     let k = c .before .before .before .before .before .before .pre in
     let n = k .2 .inside (c .before .before .before .before .loop .p) (c .before .before .before .loop-test .taken) in
     (k .0, omega (arith, n, c .before .wide .ensures), omega (arith, n, c .before .wide .ensures))
 
 add-sum : tie.Need-add-sum Inv-loop μ-loop
-add-sum c = omega (arith, c .size .ensures .1)
+add-sum c = omega (arith, c .size-of .ensures .1)
 
 loop-again : tie.Need-loop-again Inv-loop μ-loop
 loop-again c =
@@ -58,7 +60,7 @@ offset-spec =
     (λ c. omega arith)
     (λ c. omega arith)
     (λ c κs. search needs)
-    size-requires
+    size-of-requires
     add-sum
     (λ c. omega arith)
     (λ c. omega arith)

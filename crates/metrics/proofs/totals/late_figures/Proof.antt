@@ -1,5 +1,6 @@
--- `late_figures` goes by the class; of a reordered packet it goes along the links, and asks the tree, which has all first arrivals by
--- then. Assumes nothing.
+-- `metrics::totals::late_figures` meets its contract: only a reordered packet has these figures, so 0 is right for any other class. Of one
+-- the largest n is found along the links; `fill_tree` puts all first arrivals into the tree, and then the total less the sum up to the packet's
+-- pair is its byte offset (`offset-summed`). Assumes nothing.
 use mathlib.Core.Path.{ap, _∙_}
 use Prim.Native.Nat.{ℕ, _-_, _≤_}
 use native.Mathlib.Omega.{arith}
@@ -25,14 +26,14 @@ sub-t19 : tie.Need-sub-t19
 sub-t19 c =
     let s = c .before .before .before .before .before .before .before .before .before .before .before .before in
     let k = s .pre .0 in
-    let f = c .before .before .before .before .before .fill .ensures (k .fs) (k .numbered) (k .totalled) in
+    let f = c .before .before .before .before .before .fill-tree .ensures (k .fs) (k .numbered) (k .totalled) in
     omega (arith, c .before .sum-to .ensures, total-sum _ (sizes (c .before .before .before .before .before .before .before .before .before .before .before)) (k .fs) (omega (arith, k .numbered .all, k .few)) _ _ (s .args .s) (f .1 ∙ k .numbered .all) (s .pre .2) (f .0))
 
 returns : tie.Need-returns
-returns c = (omega arith, λ fs n t. (t, rw (c .enum-told .given .1), λ new. rw (c .enum-told .given .1)))
+returns c = (omega arith, λ fs n t. (t, rw (c .enum-told .given .1) tt))
 
 returns-2 : tie.Need-returns-2
-returns-2 c = (omega arith, λ fs n t. (t, rw (c .enum-told2 .given .1), λ new. rw (c .enum-told2 .given .1)))
+returns-2 c = (omega arith, λ fs n t. (t, rw (c .enum-told2 .given .1) tt))
 
 returns-3 : tie.Need-returns-3
 returns-3 c =
@@ -41,13 +42,14 @@ returns-3 c =
     let l = c .before .before .before .before .before .before .before .largest-by-links .ensures in (
       l .0,
       λ fs n t.
-          let f = c .before .before .before .before .before .fill .ensures fs n t in (
+          let f = c .before .before .before .before .before .fill-tree .ensures fs n t in (
             f .0,
-            rw is (l .1 fs n),
-            λ new.
-                rw is
-                (ap (λ (m : ℕ). c .before .before .before .before .before .fill .result .total - m) (c .before .sum-to .ensures)
-                ∙ offset-summed _ (sizes (c .before .before .before .before .before .before .before .before .before .before .before)) fs (omega (arith, n .all, s .pre .0 .few)) _ _ (s .args .s) (f .1 ∙ n .all) (s .pre .1) (s .pre .2) (f .0) (rw is at new)),
+            rw is (
+              l .1 fs n,
+              λ new.
+                  ap (λ (m : ℕ). c .before .before .before .before .before .fill-tree .result .total - m) (c .before .sum-to .ensures)
+                  ∙ offset-summed _ (sizes (c .before .before .before .before .before .before .before .before .before .before .before)) fs (omega (arith, n .all, s .pre .0 .few)) _ _ (s .args .s) (f .1 ∙ n .all) (s .pre .1) (s .pre .2) (f .0) new,
+            ),
           ),
     )
 
@@ -56,11 +58,7 @@ late-figures-spec =
     tie.close
     (tie.spec
     enum-told
-    (λ c. search needs)
-    (λ c. search needs)
-    (λ c κs. search needs)
-    (λ c κs. search needs)
-    (λ c κs. search needs)
+    (λ c. search needs) (λ c. search needs) (λ c κs. search needs) (λ c κs. search needs) (λ c κs. search needs)
     sub-t19
     returns
     returns-2

@@ -1,4 +1,5 @@
--- `owamp::clock::microseconds` meets its contract: seconds and fractions apart, so that nothing overflows. Assumes nothing.
+-- `owamp::clock::microseconds` meets its contract: seconds and fractions are multiplied apart, so that nothing overflows, and give the same
+-- quotient (`by-halves`). Assumes nothing.
 use borrow.Author.Needs.{needs}
 use Rattle.owamp.proofs.Clocks.{by-halves}
 use Rattle.owamp.proofs.clock.microseconds.Statement.{statement}

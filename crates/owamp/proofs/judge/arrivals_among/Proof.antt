@@ -1,4 +1,5 @@
--- `owamp::judge::arrivals_among` meets its contract: The loop's invariant: n is the number of arrivals among the first i records. Assumes nothing.
+-- `owamp::judge::arrivals_among` meets its contract. The loop's invariant: n is the number of arrivals among the first i records, so it is at
+-- most i and no sum wraps. A turn is `count-next`. The measure is the number of records left. Assumes nothing.
 use borrow.Author.Needs.{needs}
 use native.Mathlib.Omega.{arith}
 use Prim.Native.Nat.{_-_, _≤_}
@@ -10,6 +11,7 @@ use Rattle.owamp.proofs.Reading.{count-next, count-done, arrived-at-mos
 use Rattle.owamp.proofs.judge.arrivals_among.Statement.{statement}
 use Rattle.owamp.proofs.judge.arrivals_among.Tie as tie
 
+-- n₀ and i₀ are n and i where the loop begins
 abbrev Inv-loop : tie.InvT-loop
 Inv-loop records count n₀ i₀ n i = (i ≤ recordCount records) × (n ≤ i) × (n ≡ length (passing isArrival (take i (recordsIn records))))
 
@@ -41,10 +43,8 @@ arrivals-among-spec =
     Inv-loop
     μ-loop
     loop-holds
-    (λ c κs. search needs)
-    (λ c κs. search needs)
+    (λ c κs. search needs) (λ c κs. search needs)
     add-n
-    (λ c. search needs)
-    (λ c. search needs)
+    (λ c. search needs) (λ c. search needs)
     loop-again
     returns)

@@ -1,8 +1,9 @@
--- `owamp::judge::judge_record` meets its contract: each test settles its case. Assumes nothing.
+-- `owamp::judge::judge_record` meets its contract: a time of 0 is a lost record, of which nothing is judged; else `outside` answers the test of
+-- `judgeNumber`. Assumes nothing.
 use borrow.Author.Needs.{needs}
 use borrow.Author.Tests.{eq-eqb, ne-eqb}
 use Rattle.owamp.specs.Judge.{judgeNumber}
-use Rattle.owamp.specs.Private.Reading.{judgeRecord}
+use Rattle.owamp.specs.Private.{judgeRecord}
 use Rattle.owamp.proofs.judge.judge_record.Statement.{statement}
 use Rattle.owamp.proofs.judge.judge_record.Tie as tie
 

@@ -1,4 +1,5 @@
--- `owamp::judge::judge_time` meets its contract: the test settles its case. Assumes nothing.
+-- `owamp::judge::judge_time` meets its contract: the test is that of `judgeTime`, since `seconds_of` gives the seconds that are written.
+-- Assumes nothing.
 use borrow.Author.Needs.{needs}
 use native.Mathlib.Omega.{arith}
 use Prim.Native.Nat.{_≤_, _<_}

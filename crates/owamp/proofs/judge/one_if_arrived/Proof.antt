@@ -1,4 +1,4 @@
--- `owamp::judge::one_if_arrived` meets its contract: the test settles its case. Assumes nothing.
+-- `owamp::judge::one_if_arrived` meets its contract: the test is whether the time is 0. Assumes nothing.
 use borrow.Author.Tests.{eq-eqb, ne-eqb}
 use Rattle.owamp.proofs.judge.one_if_arrived.Statement.{statement}
 use Rattle.owamp.proofs.judge.one_if_arrived.Tie as tie

@@ -1,4 +1,5 @@
--- `owamp::records::number_of` meets its contract: where the record stands. Assumes nothing.
+-- `owamp::records::number_of` meets its contract: the first four octets of record i are its sequence number (`number-stands`), which one more
+-- does not overflow. Assumes nothing.
 use borrow.Author.Needs.{needs}
 use native.Mathlib.Omega.{arith}
 use Prim.Native.Nat.{_+_, _*_, _^_, _<_}
@@ -6,6 +7,7 @@ use denote.Ref.{now}
 use mir.Syntax.{w8}
 use Rattle.octets.proofs.Below.{below-fits}
 use Rattle.octets.proofs.BigEndian.{value-part}
+use Rattle.owamp.specs.Record.{recordWidth}
 use Rattle.owamp.proofs.Reading.{number-stands}
 use Rattle.owamp.proofs.records.number_of.Statement.{statement}
 use Rattle.owamp.proofs.records.number_of.Tie as tie
@@ -13,7 +15,7 @@ use Rattle.owamp.proofs.records.number_of.Tie as tie
 add-result : tie.Need-add-result
 add-result c =
     let a = c .before .before .args in
-    let b : c .number-at .result < 256 ^ 4 = rw (c .number-at .ensures) (value-part 4 (25 * a .i + 0) 4 (now (a .records)) (below-fits w8 (now (a .records)) (c .before .shared-slice-known .given)) (omega arith)) in
+    let b : c .number-at .result < 256 ^ 4 = rw (c .number-at .ensures) (value-part 4 (recordWidth * a .i + 0) 4 (now (a .records)) (below-fits w8 (now (a .records)) (c .before .shared-slice-known .given)) (omega arith)) in
     omega arith
 
 returns : tie.Need-returns

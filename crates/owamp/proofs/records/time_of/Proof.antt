@@ -1,4 +1,4 @@
--- `owamp::records::time_of` meets its contract: where the record stands. Assumes nothing.
+-- `owamp::records::time_of` meets its contract: the eight octets from place 16 of record i on are its receive time (`time-stands`). Assumes nothing.
 use borrow.Author.Needs.{needs}
 use denote.Ref.{now}
 use Rattle.owamp.proofs.Reading.{time-stands}

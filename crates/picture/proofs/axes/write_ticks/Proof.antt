@@ -1,4 +1,4 @@
--- `picture::axes::write_ticks` is safe and ends. Invariant: none. Measure: the ticks that are left.
+-- `picture::axes::write_ticks` is safe and ends. Invariant: none. Measure: the ticks that are left, end less counter.
 use borrow.Author.Needs.{needs}
 use Prim.Native.Nat.{_-_}
 use Rattle.picture.proofs.axes.write_ticks.Statement.{statement}

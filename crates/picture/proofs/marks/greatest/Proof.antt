@@ -1,4 +1,5 @@
--- `picture::marks::greatest` is safe and ends. Invariant: the end is the length of the list. Measure: its places that are left.
+-- `picture::marks::greatest` is safe and ends. Invariant: i-end is the length of the list, so that place i is there. Measure: its places
+-- that are left.
 use borrow.Author.Needs.{needs}
 use Prim.Native.Nat.{_-_}
 use mathlib.Core.Path.{_≡_}

@@ -1,4 +1,4 @@
--- `picture::marks::write_joins` is safe and ends. Invariant: none. Measure: the arrivals that are left.
+-- `picture::marks::write_joins` is safe and ends. Invariant: none. Measure: the arrivals that are left, i-end less i.
 use borrow.Author.Needs.{needs}
 use Prim.Native.Nat.{_-_}
 use Rattle.picture.proofs.marks.write_joins.Statement.{statement}

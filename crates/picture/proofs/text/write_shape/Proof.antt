@@ -1,5 +1,5 @@
--- `picture::text::write_shape` is safe and ends. Invariant: the end is the length of the shape, and the text has 64 octets.
--- Measure: the octets of the shape that are left.
+-- `picture::text::write_shape` is safe and ends. Invariant: i-end is the length of the shape, so that octet i is there, and the text has 64
+-- octets. Measure: the octets of the shape that are left.
 use borrow.Author.Needs.{needs}
 use Prim.Native.Nat.{_-_}
 use mathlib.Core.Path.{_≡_}

@@ -1,12 +1,12 @@
--- `receiver::advance::advance_within` meets its contract: what is decided is the step's answer, and what is written makes its
--- state. Assumes nothing.
-use Prim.Native.Nat.{ℕ}
+-- `receiver::advance::advance_within` meets its contract: what is decided is the step's answer, and what is written makes its state. With
+-- a refusal nothing is written (`step-refused`); else what is noted says which callees write, and a law of StatesWritten says that what
+-- they ensure is the step's state (`step-noted`). They may be called since an arrival that is not refused finds a fit state, whose numbers
+-- are small. Assumes nothing.
 use mathlib.Core.Bool.{true}
 use native.Mathlib.Omega.{arith}
 use borrow.Author.Needs.{needs}
 use Rattle.receiver.specs.declared.Receiver.{Receiver}
-use Rattle.receiver.specs.Private.Parts.{whole}
-use Rattle.receiver.specs.Private.Decision.{Unrefused, NoOverflow}
+use Rattle.receiver.specs.Private.{whole, Unrefused}
 use Rattle.receiver.proofs.StepCases.{said-accepted, step-refused, step-noted}
 use Rattle.receiver.proofs.StatesWritten.{duplicate-written, in-order-written, jump-written, late-written}
 use Rattle.receiver.proofs.advance.advance_within.Statement.{statement}
@@ -15,19 +15,6 @@ use Rattle.receiver.proofs.advance.advance_within.Tie as tie
 -- the receiver of the parts at entry
 abbrev stateAt : tie.Start → Receiver
 stateAt c = whole (c .args .s) (c .args .marks .now) (c .args .positions .now) (c .args .numbers .now) (c .args .times .now)
-
--- fit numbers are small
-small-stream : {r : Receiver} {number : ℕ} → Unrefused r number → NoOverflow (r .stream)
-small-stream a =
-    let f = a .stream in
-    record {
-      arrived-high = omega (arith, f .arrived-high, f .sent-high);
-      inorder-high = omega (arith, f .inorder-high, f .arrived-high, f .sent-high);
-      current-high = omega (arith, f .current-high, f .inorder-high, f .arrived-high, f .sent-high);
-      closed-high = omega (arith, f .closed-high, f .arrived-high, f .sent-high);
-      squares-high = f .squares-high;
-      kept-high = a .places .kept-high;
-    }
 
 -- an arrival that is not refused
 accepted : (c : tie.Else1) → Unrefused (stateAt (c .before .before .before .before .before .before .before)) (c .before .before .before .before .before .before .before .args .number)
@@ -47,7 +34,7 @@ after-duplicate-requires c κs =
 after-in-order-requires : tie.Need-after-in-order-requires
 after-in-order-requires c κs =
     let a = accepted (c .before .before .before .before) in
-    (small-stream a, omega (arith, a .number-high, a .stream .sent-high))
+    (a .stream, omega (arith, a .number-high, a .stream .sent-high))
 
 mark-requires : tie.Need-mark-requires
 mark-requires c κs =
@@ -81,7 +68,7 @@ mark-requires-2 c κs =
 after-reordered-requires : tie.Need-after-reordered-requires
 after-reordered-requires c κs =
     let a = accepted (c .before .before .before) in
-    (small-stream a, omega (arith, a .number-high, a .stream .sent-high))
+    (a .stream, omega (arith, a .number-high, a .stream .sent-high))
 
 returns-2 : tie.Need-returns-2
 returns-2 c =

@@ -1,4 +1,5 @@
--- `receiver::decide::decide` meets its contract: each return is a case of the definition, in its order. Assumes nothing.
+-- `receiver::decide::decide` meets its contract: each return is a case of the definition, in its order. Past the first test there is no
+-- refusal, so the number lies in 1 to K and the state is fit, which `is_marked` and `late_outcome` ask for. Assumes nothing.
 use mathlib.Core.Path.{_≡_, sym, _∙_}
 use mathlib.Core.List.{[]}
 use native.Mathlib.Omega.{arith}
@@ -6,8 +7,7 @@ use borrow.Author.Needs.{needs}
 use Rattle.receiver.specs.declared.Receiver.{Receiver}
 use Rattle.receiver.specs.Step.{stepRefusal}
 use Rattle.receiver.specs.Fit.{fit}
-use Rattle.receiver.specs.Private.Parts.{whole}
-use Rattle.receiver.specs.Private.Decision.{Unrefused}
+use Rattle.receiver.specs.Private.{whole, Unrefused}
 use Rattle.receiver.proofs.StepCases.{accepted-facts, outcome-refused, outcome-duplicate, outcome-in-order, outcome-late}
 use Rattle.receiver.proofs.decide.decide.Statement.{statement}
 use Rattle.receiver.proofs.decide.decide.Tie as tie
@@ -19,18 +19,18 @@ stateAt c = whole (c .args .s) (c .args .marks .now) (c .args .positions .now) (
 -- past the first test there is no refusal
 no-refusal : (c : tie.Else1) → stepRefusal (stateAt (c .before .before)) (c .before .before .args .number) (c .before .before .args .time) ≡ 0
 unfolding stepRefusal fit
-no-refusal c = sym (c .before .refusal-of .ensures) ∙ c .if1 .left
+no-refusal c = sym (c .before .step-refusal .ensures) ∙ c .if1 .left
 
 -- so what an accepted arrival has holds, whatever the marks
 accepted : (c : tie.Else1) →
     Unrefused (whole (c .before .before .args .s) [] (c .before .before .args .positions .now) (c .before .before .args .numbers .now) (c .before .before .args .times .now)) (c .before .before .args .number)
-accepted c = accepted-facts _ _ _ (sym (c .before .refusal-of .ensures) ∙ c .if1 .left)
+accepted c = accepted-facts _ _ _ (sym (c .before .step-refusal .ensures) ∙ c .if1 .left)
 
 returns : tie.Need-returns
 unfolding stepRefusal fit
 returns c =
     let s = c .before .before in
-    outcome-refused (stateAt s) (s .args .number) (s .args .time) _ (c .if1 .taken) (c .before .refusal-of .ensures)
+    outcome-refused (stateAt s) (s .args .number) (s .args .time) _ (c .if1 .taken) (c .before .step-refusal .ensures)
 
 is-marked-requires : tie.Need-is-marked-requires
 is-marked-requires c κs =
@@ -48,14 +48,14 @@ returns-3 c =
     outcome-in-order (stateAt s) (s .args .number) (s .args .time) (no-refusal (c .before .before .before .before .before))
     (sym (c .before .before .before .before .is-marked .ensures) ∙ c .before .before .before .if2 .left) (c .before .if3 .taken)
 
-late-requires : tie.Need-late-requires
-late-requires c κs = accepted (c .before .before .before .before)
+late-outcome-requires : tie.Need-late-outcome-requires
+late-outcome-requires c κs = accepted (c .before .before .before .before)
 
 returns-4 : tie.Need-returns-4
 returns-4 c =
     let s = c .before .before .before .before .before .before .before in
     outcome-late (stateAt s) (s .args .number) (s .args .time) (no-refusal (c .before .before .before .before .before)) _
-    (sym (c .before .before .before .before .is-marked .ensures) ∙ c .before .before .before .if2 .left) (c .before .if3 .left) (c .late .ensures)
+    (sym (c .before .before .before .before .is-marked .ensures) ∙ c .before .before .before .if2 .left) (c .before .if3 .left) (c .late-outcome .ensures)
 
 pub decide-spec : {M : Type 1} → statement M
 decide-spec =
@@ -66,5 +66,5 @@ decide-spec =
     is-marked-requires
     returns-2
     returns-3
-    late-requires
+    late-outcome-requires
     returns-4)

@@ -1,14 +1,15 @@
--- `receiver::fit::all_within` meets its contract. The loop's invariant: the flag says whether each value so far passes. The
--- measure is the number of values left. Assumes nothing.
+-- `receiver::fit::all_within` meets its contract. The loop's invariant: the flag says whether each value so far passes. A turn carries it
+-- on to one value more (`pass-more`). The measure is the number of values left. Assumes nothing.
 use Prim.Native.Nat.{_-_, _≤_}
 use mathlib.Core.Path.{_≡_}
 use borrow.Author.Needs.{needs}
 use Rattle.rfc4737.specs.Refusals.{within}
-use Rattle.receiver.specs.Private.Decision.{firstPass}
+use Rattle.receiver.specs.Private.{firstPass}
 use Rattle.receiver.proofs.FitTests.{pass-none, pass-more, pass-done}
 use Rattle.receiver.proofs.fit.all_within.Statement.{statement}
 use Rattle.receiver.proofs.fit.all_within.Tie as tie
 
+-- fit₀ and i₀ are `fit` and `i` where the loop begins, fit and i are they at its head
 abbrev Inv-loop : tie.InvT-loop
 Inv-loop places count most fit₀ i₀ fit i = (i ≤ count) × (fit ≡ firstPass (within 1 most) places i)
 
@@ -31,11 +32,7 @@ all-within-spec =
     Inv-loop
     μ-loop
     loop-holds
-    (λ c. search needs)
-    (λ c. search needs)
-    (λ c κs. search needs)
-    (λ c κs. search needs)
-    (λ c. search needs)
+    (λ c. search needs) (λ c. search needs) (λ c κs. search needs) (λ c κs. search needs) (λ c. search needs)
     (λ c. search needs)
     loop-again
     returns)

@@ -1,16 +1,17 @@
--- `receiver::fit::none_after` meets its contract. The loop's invariant: the flag says whether each value so far passes. The
--- measure is the number of values left. Assumes nothing.
-use Prim.Native.Nat.{_-_, _≤_}
+-- `receiver::fit::none_after` meets its contract. The loop's invariant: the flag says whether each value so far passes. A turn carries it
+-- on to one value more (`pass-more`). The measure is the number of values left. Assumes nothing.
+use Prim.Native.Nat.{ℕ, _-_, _≤_}
+use lib.Dec.{leb}
 use mathlib.Core.Path.{_≡_, refl}
 use borrow.Author.Needs.{needs}
-use Rattle.receiver.specs.Private.Decision.{notAfter}
-use Rattle.receiver.specs.Private.Decision.{firstPass}
+use Rattle.receiver.specs.Private.{firstPass}
 use Rattle.receiver.proofs.FitTests.{pass-none, pass-more, pass-done}
 use Rattle.receiver.proofs.fit.none_after.Statement.{statement}
 use Rattle.receiver.proofs.fit.none_after.Tie as tie
 
+-- fit₀ and i₀ are `fit` and `i` where the loop begins, fit and i are they at its head
 abbrev Inv-loop : tie.InvT-loop
-Inv-loop times count greatest fit₀ i₀ fit i = (i ≤ count) × (fit ≡ firstPass (notAfter greatest) times i)
+Inv-loop times count greatest fit₀ i₀ fit i = (i ≤ count) × (fit ≡ firstPass (λ (t : ℕ). leb t greatest) times i)
 
 abbrev μ-loop : tie.MeasureT-loop
 μ-loop times count greatest fit₀ i₀ fit i = count - i
@@ -31,10 +32,6 @@ none-after-spec =
     Inv-loop
     μ-loop
     loop-holds
-    (λ c. search needs)
-    (λ c. search needs)
-    (λ c κs. search needs)
-    (λ c. search needs)
-    (λ c. search needs)
+    (λ c. search needs) (λ c. search needs) (λ c κs. search needs) (λ c. search needs) (λ c. search needs)
     loop-again
     returns)

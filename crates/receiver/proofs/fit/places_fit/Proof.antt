@@ -33,11 +33,9 @@ places-fit-spec =
     (λ c. search needs)
     returns
     returns-2
-    (λ c. search needs)
-    (λ c κs. search needs)
+    (λ c. search needs) (λ c κs. search needs)
     returns-3
-    (λ c. search needs)
-    (λ c κs. search needs)
+    (λ c. search needs) (λ c κs. search needs)
     returns-4
     (λ c κs. search needs)
     returns-5)

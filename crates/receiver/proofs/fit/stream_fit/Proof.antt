@@ -1,4 +1,5 @@
--- `receiver::fit::stream_fit` meets its contract: a return of false shows a condition that fails. Assumes nothing.
+-- `receiver::fit::stream_fit` meets its contract: a return of false shows a condition that fails, and at the last return all hold.
+-- Assumes nothing.
 use mathlib.Core.Path.{sym}
 use native.Mathlib.Omega.{arith}
 use borrow.Author.Needs.{needs}

@@ -1,5 +1,5 @@
--- `receiver::kept::place_above` meets its contract. The loop's invariant: no place passed holds a greater number. The
--- measure is the number of places left. Assumes nothing.
+-- `receiver::kept::place_above` meets its contract. The loop's invariant: no place passed holds a greater number. It returns at a place
+-- that does, or past the last. The measure is the number of places left. Assumes nothing.
 use Prim.Native.Nat.{ℕ, _-_, _≤_, _<_}
 use mathlib.Core.Bool.{false}
 use mathlib.Core.Path.{_≡_}
@@ -12,6 +12,7 @@ use lib.ListN.{getD}
 use Rattle.receiver.proofs.kept.place_above.Statement.{statement}
 use Rattle.receiver.proofs.kept.place_above.Tie as tie
 
+-- i₀ is `i` where the loop begins, i is it at its head
 abbrev Inv-loop : tie.InvT-loop
 Inv-loop numbers kept number count i₀ i = (i ≤ count) × ((k : ℕ) → k < i → ltb number (getD numbers k 0) ≡ false)
 
@@ -39,11 +40,8 @@ place-above-spec =
     Inv-loop
     μ-loop
     loop-holds
-    (λ c. search needs)
-    (λ c. search needs)
-    (λ c κs. search needs)
+    (λ c. search needs) (λ c. search needs) (λ c κs. search needs)
     returns
-    (λ c. search needs)
-    (λ c. search needs)
+    (λ c. search needs) (λ c. search needs)
     loop-again
     returns-2)

@@ -1,18 +1,20 @@
--- `receiver::kept::put_last` meets its contract. The loop's invariant: of each array the places passed hold what stood after each,
--- and the others what they held. The measure is the number of places left. Assumes nothing.
+-- `receiver::kept::put_last` meets its contract. The loop's invariant: of each array the places passed hold what stood after each, and the
+-- others what they held. A turn moves one place more (`shifted-next`), and after the loop the new value at `last` makes it pushed
+-- (`pushed-last`). The measure is the number of places left. Assumes nothing.
 use Prim.Native.Nat.{_+_, _-_, _≤_, _<_}
 use mathlib.Core.Path.{_≡_, refl}
 use native.Mathlib.Numerals.{add-one}
 use native.Mathlib.Omega.{arith}
 use borrow.Author.Needs.{needs}
-use Rattle.receiver.specs.Limits.{window}
-use Rattle.receiver.proofs.Shift.{moved, moved-next, pushed-last}
+use Rattle.receiver.specs.Limits.{windowPlaces}
+use Rattle.receiver.proofs.Shift.{shifted, shifted-next, pushed-last}
 use Rattle.receiver.proofs.kept.put_last.Statement.{statement}
 use Rattle.receiver.proofs.kept.put_last.Tie as tie
 
+-- positions₀, numbers₀, times₀ and i₀ are the arrays and `i` where the loop begins, positions, numbers, times and i are they at its head
 abbrev Inv-loop : tie.InvT-loop
 Inv-loop positions₀ numbers₀ times₀ last position number time i₀ positions numbers times i =
-    (i ≤ last) × ((positions ≡ moved i positions₀) × ((numbers ≡ moved i numbers₀) × (times ≡ moved i times₀)))
+    (i ≤ last) × ((positions ≡ shifted i positions₀) × ((numbers ≡ shifted i numbers₀) × (times ≡ shifted i times₀)))
 
 abbrev μ-loop : tie.MeasureT-loop
 μ-loop positions₀ numbers₀ times₀ last position number time i₀ positions numbers times i = last - i
@@ -26,14 +28,14 @@ loop-again c =
     let a = s .args in
     let full = s .pre .1 in
     let inv = c .before .before .before .before .loop .inv .1 in
-    let few : a .last < window = s .pre .0 in
+    let few : a .last < windowPlaces = s .pre .0 in
     let more : c .before .before .before .before .loop .i < a .last = c .before .before .before .loop-test .taken in (
       search needs,
       (
-        moved-next (a .positions .now) (a .last) (omega (arith, full .0)) _ _ more (inv .0),
+        shifted-next (a .positions .now) (a .last) (omega (arith, full .0)) _ _ more (inv .0),
         (
-          moved-next (a .numbers .now) (a .last) (omega (arith, full .1 .0)) _ _ more (inv .1 .0),
-          moved-next (a .times .now) (a .last) (omega (arith, full .1 .1)) _ _ more (inv .1 .1),
+          shifted-next (a .numbers .now) (a .last) (omega (arith, full .1 .0)) _ _ more (inv .1 .0),
+          shifted-next (a .times .now) (a .last) (omega (arith, full .1 .1)) _ _ more (inv .1 .1),
         ),
       ),
     )
@@ -44,7 +46,7 @@ returns c =
     let a = s .args in
     let full = s .pre .1 in
     let inv = c .before .loop .inv in
-    let few : a .last < window = s .pre .0 in
+    let few : a .last < windowPlaces = s .pre .0 in
     let all : c .before .loop .i ≡ a .last = omega arith in
     let n = a .last + 1 in (
       pushed-last (a .positions .now) (a .last) (omega (arith, full .0)) n (add-one (a .last)) _ _ all (inv .1 .0) _,
@@ -61,28 +63,11 @@ put-last-spec =
     Inv-loop
     μ-loop
     loop-holds
-    (λ c. search needs)
-    (λ c. search needs)
-    (λ c. search needs)
-    (λ c. search needs)
-    (λ c. search needs)
-    (λ c. search needs)
-    (λ c. search needs)
-    (λ c. search needs)
-    (λ c. search needs)
-    (λ c. search needs)
-    (λ c. search needs)
-    (λ c. search needs)
-    (λ c. search needs)
-    (λ c. search needs)
-    (λ c. search needs)
-    (λ c. search needs)
-    (λ c. search needs)
+    (λ c. search needs) (λ c. search needs) (λ c. search needs) (λ c. search needs) (λ c. search needs)
+    (λ c. search needs) (λ c. search needs) (λ c. search needs) (λ c. search needs) (λ c. search needs)
+    (λ c. search needs) (λ c. search needs) (λ c. search needs) (λ c. search needs) (λ c. search needs)
+    (λ c. search needs) (λ c. search needs)
     loop-again
-    (λ c. search needs)
-    (λ c. search needs)
-    (λ c. search needs)
-    (λ c. search needs)
-    (λ c. search needs)
+    (λ c. search needs) (λ c. search needs) (λ c. search needs) (λ c. search needs) (λ c. search needs)
     (λ c. search needs)
     returns)

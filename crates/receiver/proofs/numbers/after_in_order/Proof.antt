@@ -1,4 +1,5 @@
--- `receiver::numbers::after_in_order` meets its contract, field by field. Assumes nothing.
+-- `receiver::numbers::after_in_order` meets its contract, field by field, by what the callees ensure. How many jumps are kept and the
+-- dropped number do not depend on positions and times (`kept-counted`, `dropped-known`). Assumes nothing.
 use Rattle.receiver.specs.Step.{inOrderStream}
 use Rattle.receiver.proofs.StatesWritten.{kept-counted, dropped-known}
 use borrow.Author.Needs.{needs}
@@ -14,11 +15,6 @@ pub after-in-order-spec : {M : Type 1} → statement M
 after-in-order-spec =
     tie.close
     (tie.spec
-    (λ c κs. search needs)
-    (λ c. search needs)
-    (λ c. search needs)
-    (λ c κs. search needs)
-    (λ c κs. search needs)
-    (λ c κs. search needs)
-    (λ c κs. search needs)
+    (λ c κs. search needs) (λ c. search needs) (λ c. search needs) (λ c κs. search needs) (λ c κs. search needs)
+    (λ c κs. search needs) (λ c κs. search needs)
     returns)

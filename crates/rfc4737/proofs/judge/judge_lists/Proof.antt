@@ -1,5 +1,6 @@
 -- `rfc4737::judge::judge_lists` meets its contract. The loop's invariant: judging all arrivals is judging what is left of them from the
--- reference. The measure is the number of arrivals left. Assumes nothing.
+-- reference. A turn returns the refusal of the arrival at i (`judge-stop`) or goes on past it (`judge-next`), and at the end nothing is
+-- left to refuse (`judge-done`). The measure is the number of arrivals left. Assumes nothing.
 use borrow.Author.Needs.{needs}
 use Prim.Native.Nat.{ℕ, _+_, _-_, _≤_, _<_}
 use native.Mathlib.Omega.{arith}
@@ -17,6 +18,7 @@ use Rattle.rfc4737.proofs.judge.judge_lists.Tie as tie
 abbrev none : Arrival
 none = record { number = 0; time = 0 }
 
+-- reference₀ and i₀ are `reference` and `i` where the loop begins, reference and i are they at its head
 abbrev Inv-loop : tie.InvT-loop
 Inv-loop k numbers times reference₀ i₀ reference i =
     (i ≤ length numbers) × (judge k 0 (arrivalsFrom numbers times) ≡ judge k reference (drop i (arrivalsFrom numbers times)))
@@ -74,15 +76,10 @@ judge-lists-spec =
     Inv-loop
     μ-loop
     loop-holds
-    (λ c. search needs)
-    (λ c. search needs)
-    (λ c. search needs)
-    (λ c. search needs)
+    (λ c. search needs) (λ c. search needs) (λ c. search needs) (λ c. search needs)
     cast-judge-one
     (λ c κs. search needs)
     returns
-    (λ c κs. search needs)
-    (λ c. search needs)
-    (λ c. search needs)
+    (λ c κs. search needs) (λ c. search needs) (λ c. search needs)
     loop-again
     returns-2)

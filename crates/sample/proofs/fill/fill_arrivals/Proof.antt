@@ -1,5 +1,6 @@
--- `sample::fill::fill_arrivals` meets its contract. The loop's invariant: each list holds its first i values, then what it held. The
--- measure is the number of arrivals left. Assumes nothing.
+-- `sample::fill::fill_arrivals` meets its contract. The loop's invariant: each list holds the values of the first i arrivals, then what it
+-- held. A turn stores those of the arrival that is read at i, which is the one that stands there (`value-found`, `fill-next`). The measure is
+-- the number of arrivals left. Assumes nothing.
 use borrow.Author.Needs.{needs}
 use Prim.Native.Nat.{ℕ, _+_, _*_, _-_, _≤_}
 use native.Mathlib.Omega.{arith}
@@ -22,6 +23,7 @@ number a = a .number
 abbrev time : Arrival → ℕ
 time a = a .time
 
+-- numbers₀, times₀ and i₀ are the values where the loop begins, numbers, times and i those at its head
 abbrev Inv-loop : tie.InvT-loop
 Inv-loop file at count numbers₀ times₀ i₀ numbers times i =
     (i ≤ count) × (numbers ≡ take i (valuesFrom number count at file) ++ drop i numbers₀) × (times ≡ take i (valuesFrom time count at file) ++ drop i times₀)
@@ -97,19 +99,12 @@ fill-arrivals-spec =
     Inv-loop
     μ-loop
     loop-holds
-    (λ c. search needs)
-    (λ c. search needs)
-    (λ c. search needs)
-    (λ c. search needs)
-    (λ c. search needs)
-    (λ c. search needs)
-    (λ c κs. search needs)
-    (λ c. search needs)
+    (λ c. search needs) (λ c. search needs) (λ c. search needs) (λ c. search needs) (λ c. search needs)
+    (λ c. search needs) (λ c κs. search needs) (λ c. search needs)
     slice-write-numbers
     (λ c. search needs)
     slice-write-times
-    (λ c. search needs)
-    (λ c. search needs)
+    (λ c. search needs) (λ c. search needs)
     loop-again
     same-length
     same-length-2

@@ -1,5 +1,6 @@
--- `sample::fill::fill_sizes` meets its contract. The loop's invariant: the list holds the first i sizes, then what it held. The measure is
--- the number of sizes left. Assumes nothing.
+-- `sample::fill::fill_sizes` meets its contract. The loop's invariant: the list holds the first i sizes, then what it held. A turn stores the
+-- size that is read at i, which is the one that stands there (`size-taken`, `fill-next`); two octets fit 16 bits. The measure is the number of
+-- sizes left. Assumes nothing.
 use borrow.Author.Needs.{needs}
 use Prim.Native.Nat.{ℕ, _+_, _*_, _^_, _-_, _≤_, _<_}
 use native.Mathlib.Omega.{arith}
@@ -12,7 +13,7 @@ use Rattle.octets.specs.BigEndian.{beValue}
 use Rattle.octets.proofs.Below.{below-fits}
 use Rattle.octets.proofs.Memory.{fill-length, fill-next, fill-done}
 use Rattle.sample.specs.Format.{sizeWidth, itemsIn}
-use Rattle.sample.proofs.Items.{items-length, taken-fits, size-found}
+use Rattle.sample.proofs.Items.{items-length, taken-fits, size-taken}
 use Rattle.sample.proofs.fill.fill_sizes.Statement.{statement}
 use Rattle.sample.proofs.fill.fill_sizes.Tie as tie
 
@@ -20,6 +21,7 @@ use Rattle.sample.proofs.fill.fill_sizes.Tie as tie
 abbrev sizesFrom : List ℕ → ℕ → ℕ → List ℕ
 sizesFrom file at count = itemsIn sizeWidth beValue count (drop at file)
 
+-- sizes₀ and i₀ are the values where the loop begins, sizes and i those at its head
 abbrev Inv-loop : tie.InvT-loop
 Inv-loop file at count sizes₀ i₀ sizes i =
     (i ≤ count) × (sizes ≡ take i (sizesFrom file at count) ++ drop i sizes₀)
@@ -62,7 +64,7 @@ loop-again c =
     let q : l .loop .i < length (now (a .sizes)) = omega arith in (
       search needs,
       fill-next (sizesFrom (now (a .file)) (a .at) (a .count)) (now (a .sizes)) (l .loop .i) 0 p q (l .loop .inv .1)
-          (size-found (a .count) (a .at) (now (a .file)) (l .loop .i) (c .number-at .result) (c .before .before .loop-test .taken) (c .number-at .ensures)),
+          (size-taken (a .count) (a .at) (now (a .file)) (l .loop .i) (c .number-at .result) (c .before .before .loop-test .taken) (c .number-at .ensures)),
     )
 
 same-length : tie.Need-same-length Inv-loop μ-loop
@@ -82,18 +84,12 @@ fill-sizes-spec =
     Inv-loop
     μ-loop
     loop-holds
-    (λ c. search needs)
-    (λ c. search needs)
-    (λ c. search needs)
-    (λ c. search needs)
-    (λ c. search needs)
-    (λ c. search needs)
-    (λ c κs. search needs)
+    (λ c. search needs) (λ c. search needs) (λ c. search needs) (λ c. search needs) (λ c. search needs)
+    (λ c. search needs) (λ c κs. search needs)
     cast-sizes
     (λ c. search needs)
     slice-write-sizes
-    (λ c. search needs)
-    (λ c. search needs)
+    (λ c. search needs) (λ c. search needs)
     loop-again
     same-length
     returns)

@@ -1,5 +1,6 @@
 -- `sample::judge::judge_file` meets its contract. The loop's invariant: judging all arrivals is judging what is left of them from the
--- reference. The measure is the number of arrivals left. Assumes nothing.
+-- reference. The arrival read at i is the first of these (`found`): refused, its refusal is that of all (`judge-stop`); else the rest is judged
+-- from the next reference (`judge-next`). The measure is the number of arrivals left. Assumes nothing.
 use borrow.Author.Needs.{needs}
 use Prim.Native.Nat.{ℕ, _+_, _*_, _-_, _≤_, _<_}
 use native.Mathlib.Omega.{arith}
@@ -18,19 +19,20 @@ use Rattle.sample.proofs.judge.judge_file.Statement.{statement}
 use Rattle.sample.proofs.judge.judge_file.Tie as tie
 
 -- the arrivals, so many, which stand from a place on
-abbrev arrivalsFrom : List ℕ → ℕ → ℕ → List Arrival
-arrivalsFrom file at count = itemsIn arrivalWidth arrivalIn count (drop at file)
+abbrev standing : List ℕ → ℕ → ℕ → List Arrival
+standing file at count = itemsIn arrivalWidth arrivalIn count (drop at file)
 
+-- reference₀ and i₀ are the values where the loop begins, reference and i those at its head
 abbrev Inv-loop : tie.InvT-loop
 Inv-loop file at sent count reference₀ i₀ reference i =
-    (i ≤ count) × (judge sent 0 (arrivalsFrom file at count) ≡ judge sent reference (drop i (arrivalsFrom file at count)))
+    (i ≤ count) × (judge sent 0 (standing file at count) ≡ judge sent reference (drop i (standing file at count)))
 
 abbrev μ-loop : tie.MeasureT-loop
 μ-loop file at sent count reference₀ i₀ reference i =
     count - i
 
 -- in a turn there is an arrival at i
-turn : (c : tie.In-loop Inv-loop μ-loop) → c .before .loop .i < length (arrivalsFrom (now (c .before .before .before .args .file)) (c .before .before .before .args .at) (c .before .before .before .args .count))
+turn : (c : tie.In-loop Inv-loop μ-loop) → c .before .loop .i < length (standing (now (c .before .before .before .args .file)) (c .before .before .before .args .at) (c .before .before .before .args .count))
 turn c =
     let a = c .before .before .before .args in
     let e = items-length arrivalWidth arrivalIn (a .count) (drop (a .at) (now (a .file))) in
@@ -39,7 +41,7 @@ turn c =
 -- it is the one that was read
 found : (c : tie.After-arrival-of Inv-loop μ-loop)
     → c .arrival-of .result
-    ≡ getD (arrivalsFrom (now (c .before .before .before .before .before .args .file)) (c .before .before .before .before .before .args .at) (c .before .before .before .before .before .args .count)) (c .before .before .before .loop .i) noArrival
+    ≡ getD (standing (now (c .before .before .before .before .before .args .file)) (c .before .before .before .before .before .args .at) (c .before .before .before .before .before .args .count)) (c .before .before .before .loop .i) noArrival
 found c =
     let a = c .before .before .before .before .before .args in
     arrival-taken (a .at + arrivalWidth * c .before .before .before .loop .i) (now (a .file)) (c .arrival-of .ensures) ∙ sym (items-stand arrivalWidth arrivalIn (a .count) (a .at) (now (a .file)) (c .before .before .before .loop .i) noArrival (c .before .before .loop-test .taken))
@@ -52,7 +54,7 @@ returns : tie.Need-returns Inv-loop μ-loop
 returns c =
     let l = c .before .before .before .before .before .before in
     let a = l .before .before .args in
-    judge-stop (a .sent) (arrivalsFrom (now (a .file)) (a .at) (a .count)) (l .loop .reference) (l .loop .i) noArrival
+    judge-stop (a .sent) (standing (now (a .file)) (a .at) (a .count)) (l .loop .reference) (l .loop .i) noArrival
     (c .before .before .before .arrival-of .result) (turn (c .before .before .before .before .before)) (found (c .before .before .before)) (l .loop .inv .1)
     (c .before .judge-one .result) (c .before .judge-one .ensures) (c .if1 .taken)
 
@@ -61,17 +63,17 @@ loop-again c =
     let l = c .before .before .before .before .before .before .before in
     let a = l .before .before .args in (
       search needs,
-      judge-next (a .sent) (arrivalsFrom (now (a .file)) (a .at) (a .count)) (l .loop .reference) (l .loop .i) noArrival
+      judge-next (a .sent) (standing (now (a .file)) (a .at) (a .count)) (l .loop .reference) (l .loop .i) noArrival
           (c .before .before .before .before .arrival-of .result) (turn (c .before .before .before .before .before .before)) (found (c .before .before .before .before)) (l .loop .inv .1)
           (c .before .before .judge-one .result) (c .before .before .judge-one .ensures) (c .before .if1 .left)
-          ∙ ap (λ (r : ℕ). judge (a .sent) r (drop (l .loop .i + 1) (arrivalsFrom (now (a .file)) (a .at) (a .count)))) (sym (c .next-reference .ensures)),
+          ∙ ap (λ (r : ℕ). judge (a .sent) r (drop (l .loop .i + 1) (standing (now (a .file)) (a .at) (a .count)))) (sym (c .next-reference .ensures)),
     )
 
 returns-2 : tie.Need-returns-2 Inv-loop μ-loop
 returns-2 c =
     let a = c .before .before .before .args in
     let e = items-length arrivalWidth arrivalIn (a .count) (drop (a .at) (now (a .file))) in
-    judge-done (a .sent) (arrivalsFrom (now (a .file)) (a .at) (a .count)) (c .before .loop .reference) (c .before .loop .i) (omega arith) (c .before .loop .inv .1)
+    judge-done (a .sent) (standing (now (a .file)) (a .at) (a .count)) (c .before .loop .reference) (c .before .loop .i) (omega arith) (c .before .loop .inv .1)
 
 pub judge-file-spec : {M : Type 1} → statement M
 judge-file-spec =
@@ -80,18 +82,9 @@ judge-file-spec =
     Inv-loop
     μ-loop
     loop-holds
-    (λ c. search needs)
-    (λ c. search needs)
-    (λ c. search needs)
-    (λ c. search needs)
-    (λ c. search needs)
-    (λ c. search needs)
-    (λ c κs. search needs)
-    (λ c. search needs)
-    (λ c κs. search needs)
+    (λ c. search needs) (λ c. search needs) (λ c. search needs) (λ c. search needs) (λ c. search needs)
+    (λ c. search needs) (λ c κs. search needs) (λ c. search needs) (λ c κs. search needs)
     returns
-    (λ c κs. search needs)
-    (λ c. search needs)
-    (λ c. search needs)
+    (λ c κs. search needs) (λ c. search needs) (λ c. search needs)
     loop-again
     returns-2)

@@ -1,5 +1,5 @@
 -- `sample::judge::some_unshown` meets its contract. The loop's invariant: of all octets one cannot be shown exactly if one of those left
--- cannot. The measure is the number of octets left. Assumes nothing.
+-- cannot. The octet at i settles it or is passed (`unshown-stop`, `unshown-next`). The measure is the number of octets left. Assumes nothing.
 use borrow.Author.Needs.{needs}
 use Prim.Native.Nat.{ℕ, _-_, _≤_}
 use native.Mathlib.Omega.{arith}
@@ -13,6 +13,7 @@ use Rattle.sample.proofs.Shown.{unshown-stop, unshown-next, unshown-don
 use Rattle.sample.proofs.judge.some_unshown.Statement.{statement}
 use Rattle.sample.proofs.judge.some_unshown.Tie as tie
 
+-- i₀ is i where the loop begins
 abbrev Inv-loop : tie.InvT-loop
 Inv-loop octets i₀ i = (i ≤ length octets) × (someUnshown octets ≡ someUnshown (drop i octets))
 
@@ -58,7 +59,6 @@ some-unshown-spec =
     cast-outside
     (λ c κs. search needs)
     returns
-    (λ c. search needs)
-    (λ c. search needs)
+    (λ c. search needs) (λ c. search needs)
     loop-again
     returns-2)

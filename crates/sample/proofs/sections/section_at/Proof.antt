@@ -1,5 +1,6 @@
--- `sample::sections::section_at` meets its contract: at each `return` the readings that led there say which refusal is the first.
--- Assumes nothing.
+-- `sample::sections::section_at` meets its contract: the answer of `count_at` says whether the count is there (`counted`), `outside` judges it,
+-- and the answer of `place_in` says whether the items are all there; these are the tests of the section in their order, and each return is one
+-- of its four cases. The end fits 64 bits, since count and width are small (`items`). Assumes nothing.
 use Prim.Native.Nat.{ℕ, _*_, _^_, _≤_, _<_}
 use native.Mathlib.Omega.{arith}
 use mathlib.Core.Bool.{false}
@@ -13,7 +14,7 @@ use Rattle.rfc4737.specs.Refusals.{outside}
 use Rattle.sample.specs.Format.{arrivalWidth, itemsAt, endOf}
 use Rattle.sample.specs.Decode.{countAt}
 use Rattle.sample.specs.declared.sections.Section.the-variants.{Whole}
-use Rattle.sample.proofs.Readings.{count-ended, count-valued, place-ended, place-valued, count-fits, section-fits, section-ended, section-judged, section-short, section-whole}
+use Rattle.sample.proofs.Readings.{read-ended, read-valued, count-fits, section-fits, section-ended, section-judged, section-short, section-whole}
 use borrow.Author.Needs.{needs}
 use Rattle.sample.proofs.sections.section_at.Statement.{statement}
 use Rattle.sample.proofs.sections.section_at.Tie as tie
@@ -23,7 +24,7 @@ counted : (c : tie.After-known-told) → (ltb (length (now (c .before .before .b
     × (c .before .count .given .0 .0 ≡ countAt (c .before .before .before .before .before .args .at) (now (c .before .before .before .before .before .args .file)))
 counted c =
     let a = c .before .before .before .before .before .args in
-    count-valued (a .at) (now (a .file)) (sym (c .before .before .before .count-at .ensures) ∙ c .before .count .given .1)
+    read-valued _ _ (now (a .file)) (sym (c .before .before .before .count-at .ensures) ∙ c .before .count .given .1)
 
 -- its items have no more octets than so many arrivals as a count can count
 items : (c : tie.After-known-told) → c .before .before .before .before .before .args .width * c .before .count .given .0 .0 ≤ arrivalWidth * 65535
@@ -40,7 +41,7 @@ returns : tie.Need-returns
 returns c =
     let a = c .before .before .before .before .args in
     section-ended (a .at) (a .width) (a .least) (a .most) (a .refusal) (now (a .file))
-    (count-ended (a .at) (now (a .file)) (sym (c .before .before .count-at .ensures) ∙ c .enum-told .given .1))
+    (read-ended _ _ (now (a .file)) (sym (c .before .before .count-at .ensures) ∙ c .enum-told .given .1))
 
 returns-2 : tie.Need-returns-2
 returns-2 c =
@@ -61,14 +62,14 @@ returns-3 c =
     let e = c .before .before .before .end-of .ensures ∙ ap (endOf (a .at) (a .width)) (k .1) in
     section-short (a .at) (a .width) (a .least) (a .most) (a .refusal) (now (a .file)) (k .0)
     (sym (ap (outside (a .least) (a .most)) (k .1)) ∙ sym (c .before .before .before .before .before .outside .ensures) ∙ c .before .before .before .before .if1 .left)
-    (sym (ap (ltb (length (now (a .file)))) e) ∙ place-ended _ (now (a .file)) (sym (c .before .before .place-in .ensures) ∙ c .enum-told2 .given .1))
+    (sym (ap (ltb (length (now (a .file)))) e) ∙ read-ended _ _ (now (a .file)) (sym (c .before .before .place-in .ensures) ∙ c .enum-told2 .given .1))
 
 returns-4 : tie.Need-returns-4
 returns-4 c =
     let a = c .before .before .before .before .before .before .before .before .before .before .before .before .args in
     let k = counted (c .before .before .before .before .before .before .before) in
     let e = c .before .before .before .before .end-of .ensures ∙ ap (endOf (a .at) (a .width)) (k .1) in
-    let p = place-valued _ (now (a .file)) (sym (c .before .before .before .place-in .ensures) ∙ c .before .end .given .1) in
+    let p = read-valued _ _ (now (a .file)) (sym (c .before .before .before .place-in .ensures) ∙ c .before .end .given .1) in
     ap₂ (λ (m n : ℕ). Whole m n) (k .1) (p .1 ∙ e)
     ∙ section-whole (a .at) (a .width) (a .least) (a .most) (a .refusal) (now (a .file)) (k .0)
     (sym (ap (outside (a .least) (a .most)) (k .1)) ∙ sym (c .before .before .before .before .before .before .outside .ensures) ∙ c .before .before .before .before .before .if1 .left)
@@ -78,15 +79,12 @@ pub section-at-spec : {M : Type 1} → statement M
 section-at-spec =
     tie.close
     (tie.spec
-    (λ c κs. search needs)
-    (λ c. search needs)
+    (λ c κs. search needs) (λ c. search needs)
     enum-told
     returns
     (λ c κs. search needs)
     returns-2
     end-of-requires
-    (λ c κs. search needs)
-    (λ c. search needs)
-    (λ c. search needs)
+    (λ c κs. search needs) (λ c. search needs) (λ c. search needs)
     returns-3
     returns-4)

@@ -1,5 +1,6 @@
 -- `sample::sections::write_arrivals` meets its contract. The loop's invariant: after the count stand the octets of the first i arrivals, all
--- else is as where the loop begins. The measure is the number of arrivals left. Assumes nothing.
+-- else is as where the loop begins. A turn lends an arrival's octets and puts number and time into them (`arrival-put`, `write-next`); at the
+-- end count and items are the section (`section-done`). The measure is the number of arrivals left. Assumes nothing.
 use borrow.Author.Needs.{needs}
 use Prim.Native.Nat.{ℕ, _+_, _*_, _-_, _≤_}
 use native.Mathlib.Omega.{arith}
@@ -18,6 +19,7 @@ use Rattle.sample.proofs.Writing.{write-start, write-length, write-next
 use Rattle.sample.proofs.sections.write_arrivals.Statement.{statement}
 use Rattle.sample.proofs.sections.write_arrivals.Tie as tie
 
+-- out₀ and i₀ are the values where the loop begins, so out₀ has the count; out and i are those at its head
 abbrev Inv-loop : tie.InvT-loop
 Inv-loop numbers times out₀ at i₀ out i =
     (i ≤ length numbers) × (out ≡ splice (itemsAt at) (itemOctets arrivalOctets (take i (arrivalsFrom numbers times))) out₀)
@@ -98,21 +100,12 @@ write-arrivals-spec =
     μ-loop
     (λ c κs. search needs)
     loop-holds
-    (λ c. search needs)
-    (λ c. search needs)
-    (λ c. search needs)
-    (λ c. search needs)
-    (λ c. search needs)
+    (λ c. search needs) (λ c. search needs) (λ c. search needs) (λ c. search needs) (λ c. search needs)
     (λ c. search needs)
     part-arrival-end
-    (λ c. search needs)
-    (λ c. search needs)
+    (λ c. search needs) (λ c. search needs)
     cast-put-number
-    (λ c κs. search needs)
-    (λ c. search needs)
-    (λ c. search needs)
-    (λ c κs. search needs)
-    (λ c. search needs)
+    (λ c κs. search needs) (λ c. search needs) (λ c. search needs) (λ c κs. search needs) (λ c. search needs)
     (λ c. search needs)
     loop-again
     same-length

@@ -1,4 +1,5 @@
--- `sample::sections::write_label` meets its contract: the count, and the label after it, are one write of both. Assumes nothing.
+-- `sample::sections::write_label` meets its contract: there is room for the count and for the label after it, so both puts write, and the two
+-- side by side are the section (`section-done`). Assumes nothing.
 use borrow.Author.Needs.{needs}
 use mathlib.Core.Path.{_∙_}
 use native.Mathlib.Omega.{arith}

@@ -1,5 +1,6 @@
--- `sample::sections::write_sizes` meets its contract. The loop's invariant: after the count stand the octets of the first i sizes, all else
--- is as where the loop begins. The measure is the number of sizes left. Assumes nothing.
+-- `sample::sections::write_sizes` meets its contract. The loop's invariant: after the count stand the octets of the first i sizes, all else is
+-- as where the loop begins. A turn lends a size's octets and puts it into them (`write-next`); at the end count and items are the section
+-- (`section-done`). The measure is the number of sizes left. Assumes nothing.
 use borrow.Author.Needs.{needs}
 use Prim.Native.Nat.{_+_, _*_, _-_, _≤_}
 use native.Mathlib.Omega.{arith}
@@ -13,6 +14,7 @@ use Rattle.sample.proofs.Writing.{write-start, write-length, write-next
 use Rattle.sample.proofs.sections.write_sizes.Statement.{statement}
 use Rattle.sample.proofs.sections.write_sizes.Tie as tie
 
+-- out₀ and i₀ are the values where the loop begins, so out₀ has the count; out and i are those at its head
 abbrev Inv-loop : tie.InvT-loop
 Inv-loop sizes out₀ at i₀ out i =
     (i ≤ length sizes) × (out ≡ splice (itemsAt at) (itemOctets sizeOctets (take i sizes)) out₀)
@@ -79,19 +81,12 @@ write-sizes-spec =
     μ-loop
     (λ c κs. search needs)
     loop-holds
-    (λ c. search needs)
-    (λ c. search needs)
-    (λ c. search needs)
-    (λ c. search needs)
-    (λ c. search needs)
+    (λ c. search needs) (λ c. search needs) (λ c. search needs) (λ c. search needs) (λ c. search needs)
     (λ c. search needs)
     part-size-end
-    (λ c. search needs)
-    (λ c. search needs)
+    (λ c. search needs) (λ c. search needs)
     cast-put-number
-    (λ c κs. search needs)
-    (λ c. search needs)
-    (λ c. search needs)
+    (λ c κs. search needs) (λ c. search needs) (λ c. search needs)
     loop-again
     same-length
     returns)

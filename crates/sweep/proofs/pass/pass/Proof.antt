@@ -1,30 +1,32 @@
--- `pass` meets its contract. The loop's invariant: the lists and the table are as after the first i records. The measure is the
--- records that are left. Assumes nothing.
+-- `sweep::pass::pass` meets its contract. The loop's invariant is `LentAfter`: the lists and the table are as after the first i records.
+-- `pass_record` makes it that of one more (`lent-next`), and after the last it is the contract (`lent-end`). The measure is the records
+-- that are left. Assumes nothing.
 use Prim.Native.Nat.{_-_}
 use native.Mathlib.Omega.{arith}
 use Rattle.sample.specs.Decode.{decode}
-use Rattle.sweep.specs.Swept.{lent}
-use Rattle.sweep.proofs.PassInvariant.{Till, till-start, till-room, till-positioned, till-next, till-end, table-length, flags-length, positions-length, extents-length, lates-length}
+use Rattle.sweep.specs.Calls.{lent}
+use Rattle.sweep.proofs.PassInvariant.{LentAfter, lent-start, lent-room, lent-positioned, lent-next, lent-end, flags-length, positions-length, extents-length, lates-length}
 use Rattle.sweep.proofs.pass.pass.Statement.{statement}
 use Rattle.sweep.proofs.pass.pass.Tie as tie
 
+-- table₀ to i₀ are the values where the loop begins, table to i those at its head
 abbrev Inv-loop : tie.InvT-loop
 Inv-loop file y table₀ flags₀ positions₀ extents₀ lates₀ state₀ i₀ table flags positions extents lates state i =
-    Till (decode file) y i (lent table₀ flags₀ positions₀ extents₀ lates₀) (lent table flags positions extents lates) state
+    LentAfter (decode file) y i (lent table₀ flags₀ positions₀ extents₀ lates₀) (lent table flags positions extents lates) state
 
 abbrev μ-loop : tie.MeasureT-loop
 μ-loop file y table₀ flags₀ positions₀ extents₀ lates₀ state₀ i₀ table flags positions extents lates state i =
     y .arrivals - i
 
 loop-holds : tie.Need-loop-holds Inv-loop μ-loop
-loop-holds c = till-start _ _ _ (c .before .before .before .before .before .before .pre)
+loop-holds c = lent-start _ _ _ (c .before .before .before .before .before .before .pre)
 
 pass-record-requires : tie.Need-pass-record-requires Inv-loop μ-loop
 pass-record-requires c κs =
     let t = c .before .before .before .before .before .if1 .taken in
     let l = c .before .before .before .before .before .before .before .loop .inv in
     let r = c .before .before .before .before .before .before .before .before .before .before .before .before .before .before .pre in
-    (record { file = r .file; inside = t }, l .held, till-room _ _ _ _ _ _ r l t, till-positioned _ _ _ _ _ _ r l t)
+    (record { file = r .file; inside = t }, l .held, lent-room _ _ _ _ _ _ r l t, lent-positioned _ _ _ _ _ _ r l t)
 
 add-i : tie.Need-add-i Inv-loop μ-loop
 add-i c =
@@ -38,10 +40,10 @@ loop-again : tie.Need-loop-again Inv-loop μ-loop
 loop-again c =
     let e = c .before .before .before .before .before .before .before .before .before .before .pass-record .ensures in
     let t = c .before .before .before .before .before .before .before .before .before .before .before .before .before .before .before .before in
-    till-next _ _ _ _ _ _ (t .before .before .before .before .before .before .before .before .before .pre) (t .before .before .loop .inv) (t .if1 .taken) _ _ (e .0) (e .1) (e .2)
+    lent-next _ _ _ _ _ _ (t .before .before .before .before .before .before .before .before .before .pre) (t .before .before .loop .inv) (t .if1 .taken) _ _ (e .0) (e .1) (e .2)
 
 same-length : tie.Need-same-length Inv-loop μ-loop
-same-length c = table-length _ _ _ _ _ _ (c .before .before .before .before .before .before .before .before .before .pre) (c .before .before .loop .inv)
+same-length c = c .before .before .loop .inv .filled .tableLength
 
 same-length-2 : tie.Need-same-length-2 Inv-loop μ-loop
 same-length-2 c = flags-length _ _ _ _ _ _ (c .before .before .before .before .before .before .before .before .before .pre) (c .before .before .loop .inv)
@@ -56,7 +58,7 @@ same-length-5 : tie.Need-same-length-5 Inv-loop μ-loop
 same-length-5 c = lates-length _ _ _ _ _ _ (c .before .before .before .before .before .before .before .before .before .pre) (c .before .before .loop .inv)
 
 returns : tie.Need-returns Inv-loop μ-loop
-returns c = till-end _ _ _ _ _ _ (c .before .before .before .before .before .before .before .before .before .pre) (c .before .before .loop .inv) (c .if1 .left)
+returns c = lent-end _ _ _ _ _ _ (c .before .before .before .before .before .before .before .before .before .pre) (c .before .before .loop .inv) (c .if1 .left)
 
 pub pass-spec : {M : Type 1} → statement M
 pass-spec =

@@ -1,5 +1,9 @@
--- `pass_record` meets its contract: what it reads is the record and what stands at its packet; by that the record is a copy, in order,
--- or reordered before or after its discontinuity's time. Assumes nothing.
+-- `sweep::pass::pass_record` meets its contract: what it reads is the number of record i + 1 and the mark at its packet (`known`). A mark
+-- over 4,096 is a copy's; from NextExp on the record is in order; else it is reordered, with the record of its discontinuity as the mark,
+-- and before or after that one's time. In each case one law gives the figures (`figures-copy`, `figures-in-order`, `figures-late`) and one
+-- the table (`held-copy`, `held-in-order`, `held-late`).
+-- Here w is the place where the mark is read, l where its discontinuity is read, g where the figures are made and p where they are put.
+-- Assumes nothing.
 use borrow.Author.Needs.{needs}
 use native.Mathlib.Omega.{arith}
 use borrow.Author.Tests.{lt-ltb, le-ltb}
@@ -8,17 +12,17 @@ use denote.Ref.{now}
 use Rattle.rfc4737.specs.declared.Arrival.{Arrival}
 use Rattle.rfc4737.specs.Times.{elapsed}
 use Rattle.sample.specs.Decode.{decode}
-use Rattle.sweep.proofs.Records.{Known, few, jump-inside, jump-before, figures-copy, figures-in-order, figures-late, held-copy, held-late, held-in-order, rest-late, rest-in-order}
+use Rattle.sweep.proofs.Records.{KnownRecord, few, jump-inside, jump-before, figures-copy, figures-in-order, figures-late, held-copy, held-late, held-in-order, rest-late, rest-in-order}
 use Rattle.sweep.proofs.pass.pass_record.Statement.{statement}
 use Rattle.sweep.proofs.pass.pass_record.Tie as tie
 
 -- the start, from the place after the table is read
-abbrev start : tie.After-wide → tie.Start
+abbrev start : tie.After-index-of → tie.Start
 start c = c .before .before .before .before .before .before .before .before .before
 
 -- the number that is read, and what stands at its packet
-known : (c : tie.After-wide)
-    → Known (decode (now (start c .args .file))) (start c .args .y) (start c .args .i) (c .before .before .arrival-at .result .number) (c .wide .result) (start c .args .state)
+known : (c : tie.After-index-of)
+    → KnownRecord (decode (now (start c .args .file))) (start c .args .y) (start c .args .i) (c .before .before .arrival-at .result .number) (c .index-of .result) (start c .args .state)
 known c =
     let n = c .before .before .arrival-at .ensures in
     let h = start c .pre in
@@ -27,7 +31,7 @@ known c =
       is = ap (λ (a : Arrival). a .number) (n .0);
       low = n .1;
       high = n .2;
-      stands = c .wide .ensures ∙ h .1 .at _ (n .1) (n .2);
+      stands = c .index-of .ensures ∙ h .1 .at _ (n .1) (n .2);
       count = h .1 .count;
       next = h .1 .next;
     }
@@ -37,7 +41,7 @@ returns c =
     let w = c .before .before .before .before .before .before .before .before .before .before .before .before .before .before .before in
     let copied = c .before .before .before .before .before .before .before .before .before .before .before .before .before .before .if1 .taken in
     let e = c .before .before .before .before .before .before .before .before .before .before .before .before .before .figures .ensures ∙ figures-copy _ _ _ _ _ _ (known w) copied in
-    (held-copy _ _ _ _ _ _ (known w) _ (start w .pre .1) copied, refl, rw e at (c .before .before .before .before .before .before .before .before .put .ensures))
+    (held-copy _ _ _ _ _ _ (known w) _ (start w .pre .1) copied, refl, rw e at (c .before .before .before .before .before .before .before .before .put-figures .ensures))
 
 add-count : tie.Need-add-count
 add-count c = omega (arith, few _ _ _ _ _ _ (known (c .before .before)))
@@ -52,9 +56,9 @@ returns-2 c =
     let t = start w .pre .1 in
     let new = c .before .before .before .before .before .before .before .before .before .before .before .before .before .before .before .before .before .before .before .before .if1 .left in
     let ahead = c .before .before .before .before .before .before .before .before .before .before .before .before .before .before .before .before .before .before .if2 .taken in
-    let f = c .before .before .before .before .before .before .before .before .before .before .before .before .before .before .before .before .skip .ensures in
+    let f = c .before .before .before .before .before .before .before .before .before .before .before .before .before .before .before .before .note-skipped .ensures in
     let e = c .before .before .before .before .before .before .before .before .before .before .before .before .before .figures2 .ensures ∙ figures-in-order _ _ _ _ _ _ k new ahead in
-    (held-in-order _ _ _ _ _ _ k _ t new ahead _ f, rest-in-order _ _ _ _ _ _ k _ t _ f, rw e at (c .before .before .before .before .before .before .before .before .put2 .ensures))
+    (held-in-order _ _ _ _ _ _ k _ t ahead _ f new, rest-in-order _ _ _ _ _ _ k _ t ahead _ f, rw e at (c .before .before .before .before .before .before .before .before .put-figures2 .ensures))
 
 sub-jump : tie.Need-sub-jump
 sub-jump c = jump-inside _ _ _ _ _ _ (known (c .before .before .before)) (c .before .before .if1 .left) (c .if2 .left) .0
@@ -62,7 +66,7 @@ sub-jump c = jump-inside _ _ _ _ _ _ (known (c .before .before .before)) (c .bef
 slice-read-extent : tie.Need-slice-read-extent
 slice-read-extent c =
     let w = c .before .before .before .before in
-    omega (arith, jump-inside _ _ _ _ _ _ (known w) (c .before .before .before .if1 .left) (c .before .if2 .left), start w .pre .3 .room)
+    omega (arith, jump-inside _ _ _ _ _ _ (known w) (c .before .before .before .if1 .left) (c .before .if2 .left), start w .pre .2 .positions)
 
 sub-extent : tie.Need-sub-extent
 sub-extent c =
@@ -87,7 +91,7 @@ returns-3 c =
     let past = ap (λ (a : Arrival). a .time) (l .arrival-at2 .ensures .0) in
     let own = ap (λ (a : Arrival). a .time) (w .before .before .arrival-at .ensures .0) in
     let e = g .figures3 .ensures ∙ (rw (lt-ltb _ _ (g .before .if3 .taken)) at (figures-late _ _ _ _ _ _ (known w) _ (start w .pre .3) new late _ _ past own)) in
-    (held-late _ _ _ _ _ _ (known w) _ (start w .pre .1) new late, rest-late _ _ _ _ _ _ (known w) _ (start w .pre .1), rw e at (p .put3 .ensures))
+    (held-late _ _ _ _ _ _ (known w) _ (start w .pre .1) new late, rest-late _ _ _ _ _ _ (known w) _ (start w .pre .1), rw e at (p .put-figures3 .ensures))
 
 returns-4 : tie.Need-returns-4
 unfolding elapsed
@@ -101,63 +105,32 @@ returns-4 c =
     let past = ap (λ (a : Arrival). a .time) (l .arrival-at2 .ensures .0) in
     let own = ap (λ (a : Arrival). a .time) (w .before .before .arrival-at .ensures .0) in
     let e = g .figures4 .ensures ∙ (rw (le-ltb _ _ (g .before .if3 .left)) at (figures-late _ _ _ _ _ _ (known w) _ (start w .pre .3) new late _ _ past own)) in
-    (held-late _ _ _ _ _ _ (known w) _ (start w .pre .1) new late, rest-late _ _ _ _ _ _ (known w) _ (start w .pre .1), rw e at (p .put4 .ensures))
+    (held-late _ _ _ _ _ _ (known w) _ (start w .pre .1) new late, rest-late _ _ _ _ _ _ (known w) _ (start w .pre .1), rw e at (p .put-figures4 .ensures))
 
 pub pass-record-spec : {M : Type 1} → statement M
 pass-record-spec =
     tie.close
     (tie.spec
-    (λ c κs. search needs)
-    (λ c. search needs)
-    (λ c. search needs)
-    (λ c. search needs)
-    (λ c. search needs)
-    (λ c κs. search needs)
-    (λ c κs. search needs)
-    (λ c κs. search needs)
-    (λ c. search needs)
-    (λ c. search needs)
-    (λ c. search needs)
-    (λ c. search needs)
+    (λ c κs. search needs) (λ c. search needs) (λ c. search needs) (λ c. search needs) (λ c. search needs)
+    (λ c κs. search needs) (λ c κs. search needs) (λ c κs. search needs) (λ c. search needs) (λ c. search needs)
+    (λ c. search needs) (λ c. search needs)
     returns
     add-count
     (λ c. search needs)
     sub-from
-    (λ c. search needs)
-    (λ c. search needs)
-    (λ c κs. search needs)
-    (λ c. search needs)
-    (λ c. search needs)
-    (λ c κs. search needs)
-    (λ c κs. search needs)
-    (λ c. search needs)
-    (λ c. search needs)
-    (λ c. search needs)
-    (λ c. search needs)
-    (λ c. search needs)
-    (λ c. search needs)
+    (λ c. search needs) (λ c. search needs) (λ c κs. search needs) (λ c. search needs) (λ c. search needs)
+    (λ c κs. search needs) (λ c κs. search needs) (λ c. search needs) (λ c. search needs) (λ c. search needs)
+    (λ c. search needs) (λ c. search needs) (λ c. search needs)
     returns-2
-    (λ c. search needs)
-    (λ c. search needs)
+    (λ c. search needs) (λ c. search needs)
     sub-jump
     (λ c. search needs)
     slice-read-extent
     sub-extent
     arrival-at-requires-2
-    (λ c. search needs)
-    (λ c κs. search needs)
-    (λ c κs. search needs)
-    (λ c. search needs)
-    (λ c. search needs)
-    (λ c. search needs)
-    (λ c. search needs)
-    (λ c. search needs)
+    (λ c. search needs) (λ c κs. search needs) (λ c κs. search needs) (λ c. search needs) (λ c. search needs)
+    (λ c. search needs) (λ c. search needs) (λ c. search needs)
     returns-3
-    (λ c κs. search needs)
-    (λ c κs. search needs)
-    (λ c. search needs)
-    (λ c. search needs)
-    (λ c. search needs)
-    (λ c. search needs)
-    (λ c. search needs)
+    (λ c κs. search needs) (λ c κs. search needs) (λ c. search needs) (λ c. search needs) (λ c. search needs)
+    (λ c. search needs) (λ c. search needs)
     returns-4)

@@ -1,10 +1,12 @@
--- `textlog::reading::fraction_at` meets its contract: each `return` is a case of `fractionIn`. Assumes nothing.
+-- `textlog::reading::fraction_at` meets its contract: each `return` is a case of `fractionIn`, by its law of LinesAtPlaces.antt. At most three digits
+-- are below 1,000 (`small`), as `thousandths` asks; the line feed stands in the log, so one more than its place does not wrap (`within-log`).
+-- Assumes nothing.
 use native.Mathlib.Omega.{arith}
 use mathlib.Core.Path.{sym, _∙_}
 use borrow.Author.Needs.{needs}
 use denote.Ref.{now}
 use Rattle.octets.specs.Text.{lineFeed}
-use Rattle.textlog.proofs.Places.{onward, within-log, fraction-none, fraction-many, fraction-other, small, fraction-ends}
+use Rattle.textlog.proofs.LinesAtPlaces.{onward, within-log, fraction-none, fraction-many, fraction-other, small, fraction-ends}
 use Rattle.textlog.proofs.reading.fraction_at.Statement.{statement}
 use Rattle.textlog.proofs.reading.fraction_at.Tie as tie
 

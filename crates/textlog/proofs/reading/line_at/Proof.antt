@@ -1,10 +1,11 @@
--- `textlog::reading::line_at` meets its contract: each `return` is a case of `lineIn`. Assumes nothing.
+-- `textlog::reading::line_at` meets its contract: each `return` is a case of `lineIn`, by its law of LinesAtPlaces.antt. The semicolon stands in the
+-- log, so one more than its place does not wrap (`within-log`). Assumes nothing.
 use native.Mathlib.Omega.{arith}
 use mathlib.Core.Path.{sym, _∙_}
 use borrow.Author.Needs.{needs}
 use denote.Ref.{now}
 use Rattle.textlog.specs.Form.{semicolon}
-use Rattle.textlog.proofs.Places.{within-log, line-none, line-over, line-other, line-time}
+use Rattle.textlog.proofs.LinesAtPlaces.{within-log, line-none, line-over, line-other, line-time}
 use Rattle.textlog.proofs.reading.line_at.Statement.{statement}
 use Rattle.textlog.proofs.reading.line_at.Tie as tie
 
@@ -51,6 +52,5 @@ line-at-spec =
     (λ c κs. search needs)
     returns-3
     add-time-at
-    (λ c. search needs)
-    (λ c κs. search needs)
+    (λ c. search needs) (λ c κs. search needs)
     returns-4)

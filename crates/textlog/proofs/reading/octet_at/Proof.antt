@@ -1,4 +1,4 @@
--- `textlog::reading::octet_at` meets its contract: past the end the octet is the default, 0. Assumes nothing.
+-- `textlog::reading::octet_at` meets its contract: within the log the octet is read; past the end `getD` gives 0. Assumes nothing.
 use mathlib.Core.Path.{sym}
 use borrow.Author.Needs.{needs}
 use denote.Ref.{now}

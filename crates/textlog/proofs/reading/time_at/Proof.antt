@@ -1,12 +1,13 @@
--- `textlog::reading::time_at` meets its contract: each `return` is a case of `timeIn`. Assumes nothing.
+-- `textlog::reading::time_at` meets its contract: each `return` is a case of `timeIn`, by its law of LinesAtPlaces.antt. The line feed or the mark
+-- stands in the log, so one more than its place does not wrap (`within-log`, `mark-present`). Assumes nothing.
 use native.Mathlib.Omega.{arith}
 use mathlib.Core.Path.{sym, _∙_}
 use borrow.Author.Needs.{needs}
 use borrow.Author.Tests.{not-true, not-false}
 use denote.Ref.{now}
 use Rattle.octets.specs.Text.{lineFeed}
-use Rattle.textlog.proofs.Begun.{mark-present}
-use Rattle.textlog.proofs.Places.{within-log, time-none, time-ends, time-other, time-parted}
+use Rattle.textlog.proofs.LeadingDigits.{mark-present}
+use Rattle.textlog.proofs.LinesAtPlaces.{within-log, time-none, time-ends, time-other, time-parted}
 use Rattle.textlog.proofs.reading.time_at.Statement.{statement}
 use Rattle.textlog.proofs.reading.time_at.Tie as tie
 
@@ -36,14 +37,14 @@ returns-3 c =
     let r = c .before .before .before .before .before .number-at in
     let o = c .before .before .before .octet-at .ensures in
     time-other (now (a .log)) (a .at) (r .result) (r .ensures .0) (a .number) (c .before .before .before .before .if1 .left)
-    (λ h. c .before .before .if2 .left (o ∙ h)) (rw (← o) (sym (c .before .is-mark .ensures) ∙ not-true _ (c .if3 .taken)))
+    (λ h. c .before .before .if2 .left (o ∙ h)) (rw (← o) (sym (c .before .is-decimal-mark .ensures) ∙ not-true _ (c .if3 .taken)))
 
 add-fraction-at : tie.Need-add-fraction-at
 add-fraction-at c =
     let a = c .before .before .before .before .before .before .before .args in
     let r = c .before .before .before .before .before .number-at in
     let o = c .before .before .before .octet-at .ensures in
-    let b = mark-present (now (a .log)) (r .result .end) (rw (← o) (sym (c .before .is-mark .ensures) ∙ not-false _ (c .if3 .left))) in
+    let b = mark-present (now (a .log)) (r .result .end) (rw (← o) (sym (c .before .is-decimal-mark .ensures) ∙ not-false _ (c .if3 .left))) in
     omega arith
 
 returns-4 : tie.Need-returns-4
@@ -53,7 +54,7 @@ returns-4 c =
     let o = c .before .before .before .before .octet-at .ensures in
     time-parted (now (a .log)) (a .at) (r .result) (r .ensures .0) (a .number) (c .before .before .before .before .before .if1 .left)
     (λ h. c .before .before .before .if2 .left (o ∙ h))
-    (rw (← o) (sym (c .before .before .is-mark .ensures) ∙ not-false _ (c .before .if3 .left))) (c .fraction-at .ensures)
+    (rw (← o) (sym (c .before .before .is-decimal-mark .ensures) ∙ not-false _ (c .before .if3 .left))) (c .fraction-at .ensures)
 
 pub time-at-spec : {M : Type 1} → statement M
 time-at-spec =

@@ -1,9 +1,10 @@
--- `textlog::writing::line_length` meets its contract: the digits of the number and of the milliseconds, and six octets more. Assumes nothing.
+-- `textlog::writing::line_length` meets its contract: a line is the digits of the number and of the milliseconds, at most 20 each, and six
+-- octets more (`line-long`). Assumes nothing.
 use Prim.Native.Nat.{_/_, _≤_}
 use native.Mathlib.Omega.{arith}
 use borrow.Author.Needs.{needs}
 use Rattle.decimal.proofs.Laws.{at-most-20}
-use Rattle.textlog.proofs.Written.{line-long}
+use Rattle.textlog.proofs.WrittenLines.{line-long}
 use Rattle.textlog.proofs.writing.line_length.Statement.{statement}
 use Rattle.textlog.proofs.writing.line_length.Tie as tie
 

@@ -1,5 +1,5 @@
--- `textlog::writing::log_length` meets its contract. The loop's invariant: the sum is the length of the first i lines, of at most 46
--- octets each. The measure is the number of lines left. Assumes nothing.
+-- `textlog::writing::log_length` meets its contract. The loop's invariant: the sum is the length of the first i lines, and at most 46 * i,
+-- since a line has at most 46 octets. A turn is `long-next`. The measure is the number of lines left. Assumes nothing.
 use Prim.Native.Nat.{_-_, _*_, _≤_}
 use native.Mathlib.Omega.{arith}
 use mathlib.Core.Path.{_≡_, refl, ap, _∙_}
@@ -9,10 +9,11 @@ use denote.Ref.{now}
 use Rattle.rfc4737.specs.Judge.{arrivalsFrom}
 use Rattle.sample.specs.Format.{itemOctets}
 use Rattle.textlog.specs.Form.{logOf}
-use Rattle.textlog.proofs.Written.{long-next, log-all}
+use Rattle.textlog.proofs.WrittenLines.{long-next, log-all}
 use Rattle.textlog.proofs.writing.log_length.Statement.{statement}
 use Rattle.textlog.proofs.writing.log_length.Tie as tie
 
+-- total₀ and i₀ are total and i where the loop begins
 abbrev Inv-loop : tie.InvT-loop
 Inv-loop numbers times total₀ i₀ total i =
     (i ≤ length numbers) × (total ≡ length (logOf (take i (arrivalsFrom numbers times)))) × (total ≤ 46 * i)
@@ -49,13 +50,8 @@ log-length-spec =
     Inv-loop
     μ-loop
     loop-holds
-    (λ c. search needs)
-    (λ c. search needs)
-    (λ c. search needs)
-    (λ c. search needs)
-    (λ c κs. search needs)
+    (λ c. search needs) (λ c. search needs) (λ c. search needs) (λ c. search needs) (λ c κs. search needs)
     add-total
-    (λ c. search needs)
-    (λ c. search needs)
+    (λ c. search needs) (λ c. search needs)
     loop-again
     returns)

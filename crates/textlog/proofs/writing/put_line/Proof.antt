@@ -1,4 +1,5 @@
--- `textlog::writing::put_line` meets its contract: the line is put in four parts, one after the other. Assumes nothing.
+-- `textlog::writing::put_line` meets its contract: there is room for the line, so its four parts are put one behind the other, each where the
+-- one before ends, and are one put of the line (`put-parts`). Assumes nothing.
 use Prim.Native.Nat.{ℕ, _+_, _/_, _%_, _≤_}
 use native.Mathlib.Omega.{arith}
 use mathlib.Core.List.{List, [], _∷_, _++_}
@@ -10,7 +11,7 @@ use Rattle.decimal.specs.Decimal.{decimalOf}
 use Rattle.octets.specs.Memory.{put}
 use Rattle.octets.specs.Text.{lineFeed}
 use Rattle.textlog.specs.Form.{comma, threeDigits, lineOf}
-use Rattle.textlog.proofs.Written.{line-long, put-parts}
+use Rattle.textlog.proofs.WrittenLines.{line-long, put-parts}
 use Rattle.textlog.proofs.writing.put_line.Statement.{statement}
 use Rattle.textlog.proofs.writing.put_line.Tie as tie
 
@@ -64,16 +65,11 @@ put-line-spec =
     (tie.spec
     (λ c κs. search needs)
     add-first
-    (λ c. search needs)
-    (λ c κs. search needs)
+    (λ c. search needs) (λ c κs. search needs)
     add-second
     (λ c κs. search needs)
     add-third
-    (λ c κs. search needs)
-    (λ c κs. search needs)
-    (λ c κs. search needs)
-    (λ c. search needs)
-    (λ c κs. search needs)
+    (λ c κs. search needs) (λ c κs. search needs) (λ c κs. search needs) (λ c. search needs) (λ c κs. search needs)
     add-result
     (λ c. search needs)
     returns)

@@ -1,5 +1,6 @@
--- `textlog::writing::put_lines` meets its contract. The loop's invariant: memory holds the first i lines, then what it held, and `at` is
--- their length. The measure is the number of lines left. Assumes nothing.
+-- `textlog::writing::put_lines` meets its contract. The loop's invariant: memory holds the first i lines, then what it held, and `at` is their
+-- length. The next line ends within the log, for which there is room (`room`), and put behind them they are i + 1 lines (`put-over`,
+-- `log-next`). The measure is the number of lines left. Assumes nothing.
 use Prim.Native.Nat.{ℕ, _+_, _-_, _≤_}
 use native.Mathlib.Omega.{arith}
 use mathlib.Core.List.{List}
@@ -12,10 +13,11 @@ use Rattle.octets.proofs.Memory.{put-over, over-length}
 use Rattle.rfc4737.specs.Judge.{arrivalsFrom}
 use Rattle.sample.specs.Format.{itemOctets}
 use Rattle.textlog.specs.Form.{lineOf, logOf}
-use Rattle.textlog.proofs.Written.{log-part, log-next, long-next, log-all}
+use Rattle.textlog.proofs.WrittenLines.{log-part, log-next, long-next, log-all}
 use Rattle.textlog.proofs.writing.put_lines.Statement.{statement}
 use Rattle.textlog.proofs.writing.put_lines.Tie as tie
 
+-- out₀, at₀ and i₀ are the values where the loop begins, out, at and i those at its head
 abbrev Inv-loop : tie.InvT-loop
 Inv-loop numbers times out₀ at₀ i₀ out at i =
     (i ≤ length numbers)
@@ -92,13 +94,9 @@ put-lines-spec =
     Inv-loop
     μ-loop
     loop-holds
-    (λ c. search needs)
-    (λ c. search needs)
-    (λ c. search needs)
-    (λ c. search needs)
+    (λ c. search needs) (λ c. search needs) (λ c. search needs) (λ c. search needs)
     put-line-requires
-    (λ c. search needs)
-    (λ c. search needs)
+    (λ c. search needs) (λ c. search needs)
     loop-again
     same-length
     returns)

@@ -1,9 +1,10 @@
 -- `textlog_cases::long::lines_in_turn` is safe and ends. Invariant: i is at most 4,097, and the log has its length. Measure: the lines that
 -- are left.
 use borrow.Author.Needs.{needs}
-use Prim.Native.Nat.{_-_, _≤_}
+use Prim.Native.Nat.{_+_, _-_, _≤_}
 use mathlib.Core.Path.{_≡_}
 use lib.ListN.{length}
+use Rattle.rfc4737.specs.Judge.{arrivalsMost}
 use Rattle.textlog_cases.proofs.long.lines_in_turn.Statement.{statement}
 use Rattle.textlog_cases.proofs.long.lines_in_turn.Tie as tie
 
@@ -11,7 +12,7 @@ pub lines-in-turn-spec : {M : Type 1} → statement M
 lines-in-turn-spec =
     tie.close
     (tie.spec
-    (λ log₀ _ log i. (i ≤ 4097) × (length log ≡ length log₀))
-    (λ _ _ _ i. 4097 - i)
+    (λ log₀ _ log i. (i ≤ arrivalsMost + 1) × (length log ≡ length log₀))
+    (λ _ _ _ i. arrivalsMost + 1 - i)
     (search needs) (search needs) (search needs) (search needs) (search needs) (search needs) (search needs)
     (search needs) (search needs) (search needs) (search needs) (search needs) (search needs) (search needs))

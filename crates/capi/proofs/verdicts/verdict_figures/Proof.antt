@@ -1,0 +1,18 @@
+-- `capi::verdicts::verdict_figures` meets its contract: the listing agrees or has a wrong line, and in both the definition computes to
+-- these figures. Assumes nothing.
+use mathlib.Core.Path.{refl}
+use borrow.Author.Needs.{needs}
+use Rattle.capi.proofs.verdicts.verdict_figures.Statement.{statement}
+use Rattle.capi.proofs.verdicts.verdict_figures.Tie as tie
+
+enum-told : tie.Need-enum-told
+enum-told c = search needs
+
+returns : tie.Need-returns
+returns c = rw (c .enum-told .given .1) refl
+
+returns-2 : tie.Need-returns-2
+returns-2 c = rw (c .before .verdict .given .1) refl
+
+pub verdict-figures-spec : {M : Type 1} → statement M
+verdict-figures-spec = tie.close (tie.spec enum-told (λ c. search needs) returns returns-2)

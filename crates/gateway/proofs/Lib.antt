@@ -1,0 +1,2 @@
+-- The walk that the crate's functions share. Assumes `Given`.
+mod LentCall

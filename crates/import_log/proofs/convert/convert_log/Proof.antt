@@ -1,0 +1,24 @@
+-- `import_log::convert::convert_log` meets its contract: the lists have places for any log, so the answer of its import is the log's own, and they
+-- hold its arrivals where it is not refused. Assumes nothing.
+use borrow.Author.Needs.{needs}
+use Rattle.import_log.proofs.Sampled.{log-answer, log-holds}
+use Rattle.import_log.proofs.convert.convert_log.Statement.{statement}
+use Rattle.import_log.proofs.convert.convert_log.Tie as tie
+use Rattle.sample.proofs.RoundTrips.{arrivals-room}
+
+convert-lists-requires : tie.Need-convert-lists-requires
+convert-lists-requires c κs z = (_, log-holds _ _ _ _ _ _ _ (c .before .before .before .before .before .import .ensures .0) arrivals-room arrivals-room z)
+
+returns : tie.Need-returns
+returns c =
+    let f = c .before .before .before .before .before .before .before .before .import .ensures .0 in
+    rw (← log-answer _ _ _ _ _ _ _ f arrivals-room arrivals-room) (c .before .before .convert-lists .ensures _ (log-holds _ _ _ _ _ _ _ f arrivals-room arrivals-room))
+
+pub convert-log-spec : {M : Type 1} → statement M
+convert-log-spec =
+    tie.close
+    (tie.spec
+    (λ c. search needs) (λ c. search needs) (λ c κs. search needs) (λ c. search needs) (λ c. search needs)
+    convert-lists-requires
+    (λ c. search needs)
+    returns)

@@ -1,0 +1,72 @@
+-- How far a text agrees with the lines of a listing. Lines of which all agrees have their length in common with the text, so that a line more adds
+-- what it has in common with the rest of the text (`agreed-more`, by `common-after`). Where lines differ, less than all of them agrees, so that
+-- what stands after them adds nothing and the whole does not agree either (`agreed-stop`, by `common-part`). Last, what is answered: with a refusal
+-- nothing is compared (`agreed-refused`); without one the text is the listing exactly if all of the listing agrees and is as long as the text
+-- (`agreed-accepted`, by `same-common`).
+-- Here line is the one after lines, rest what stands after them, at the place after lines that agree, p how far a line or a listing agrees, d the
+-- decoded file, y its layout and own that the layout's refusal is the file's. Assumes nothing.
+use Prim.Native.Nat.{ℕ, zero, suc, _+_, _<_}
+use mathlib.Core.Path.{_≡_, refl, sym, ap, _∙_}
+use mathlib.Core.Bool.{Bool, true, false, _&&_}
+use mathlib.Core.List.{List, _++_}
+use native.Mathlib.Omega.{arith}
+use lib.Dec.{eqb}
+use lib.ListN.{length, drop, length-append}
+use borrow.Author.Tests.{eqb-true, eqb-false, ne-eqb}
+use Rattle.sample.specs.declared.Layout.{Layout}
+use Rattle.sample.specs.Decode.{Decoded, decodedRefusal}
+use Rattle.metrics.specs.Agreement.{common, agreementUnless, sampleAgreement}
+use Rattle.metrics.specs.Report.{sampleText}
+use Rattle.metrics.specs.Private.Sample.{FileLayout}
+use Rattle.metrics.specs.Private.Taken.{Agreed}
+use Rattle.metrics.specs.declared.SampleAgreement.{SampleAgreement}
+use Rattle.metrics.specs.declared.parts.Part.{Part}
+use Rattle.metrics.proofs.Common.{eqb-same, common-le, common-part, common-after, same-common}
+
+-- ---- lines
+
+-- lines that agree, and one more
+pub agreed-more : (lines line text : List ℕ) (at : ℕ) (p : Part) → Agreed lines text (record { octets = at; whole = true }) → Agreed line (drop at text) p
+    → Agreed (lines ++ line) text (record { octets = at + p .octets; whole = p .whole })
+agreed-more lines line text at p a b =
+    let e : common lines text ≡ length lines = eqb-true _ _ (sym (a .whole)) in
+    let n : at ≡ length lines = a .octets ∙ e in
+    let after : common (lines ++ line) text ≡ at + common line (drop at text) = rw n (common-after lines line text e) in
+    let long : length (lines ++ line) ≡ at + length line = rw n (length-append lines line) in
+    let same = eqb-same (common line (drop at text)) (length line) (at + common line (drop at text)) (at + length line) (λ q. omega arith) (λ q. omega arith) in
+    record {
+      octets = rw (b .octets) (sym after);
+      whole = b .whole ∙ sym (rw (after, long) same);
+    }
+
+-- where lines differ, what stands after them is not looked at
+pub agreed-stop : (lines rest text : List ℕ) (p : Part) → Agreed lines text p → p .whole ≡ false → Agreed (lines ++ rest) text p
+agreed-stop lines rest text p a w =
+    let e : common lines text ≡ length lines → ⊥ = eqb-false _ _ (sym (a .whole) ∙ w) in
+    let less : common lines text < length lines = omega (arith, e, common-le lines text) in
+    let q = common-part lines rest text less in
+    record { octets = a .octets ∙ sym q; whole = w ∙ sym (ne-eqb (common (lines ++ rest) text) (length (lines ++ rest)) (λ r. omega (arith, r, q, less, length-append lines rest))) }
+
+-- ---- the call
+
+module _ (d : Decoded) (y : Layout) (h : FileLayout d y) (text : List ℕ) where
+  -- the refusal that is found
+  own : y .refusal ≡ decodedRefusal d
+  own = ap (λ (y : Layout). y .refusal) (h .laid)
+
+  -- with one the text is not looked at
+  pub agreed-refused : (y .refusal ≡ 0 → ⊥) → record { refusal = y .refusal; octets = 0; same = false } ≡ sampleAgreement d text
+  unfolding sampleAgreement
+  agreed-refused n = rw own (go (decodedRefusal d) (λ e. n (own ∙ e)))
+    where
+      go : (r : ℕ) → (r ≡ 0 → ⊥) → _≡_ {A = SampleAgreement} (record { refusal = r; octets = 0; same = false }) (agreementUnless r (sampleText d) text)
+      go zero n = absurd (n refl)
+      go (suc r) n = refl
+
+  -- without one it is compared
+  pub agreed-accepted : y .refusal ≡ 0 → (p : Part) → Agreed (sampleText d) text p → (same : Bool) → same ≡ (p .whole && eqb (p .octets) (length text))
+      → record { refusal = 0; octets = p .octets; same = same } ≡ sampleAgreement d text
+  unfolding sampleAgreement
+  agreed-accepted n p a same e =
+      let z : decodedRefusal d ≡ 0 = sym own ∙ n in
+      rw (z, e, a .octets, a .whole, same-common (sampleText d) text)

@@ -1,0 +1,60 @@
+-- `metrics::figures::tally_after` meets its contract: the answer has the class that is given (`ClassOf`). A duplicate and a packet in order
+-- leave the tally; of a reordered packet one is added at the place of its extent, which is one of the tally's (`place-lt`). Assumes nothing.
+use Prim.Native.Nat.{_+_, _-_}
+use native.Mathlib.Omega.{arith}
+use Rattle.rfc4737.specs.Tally.{oneMoreAt, tallyAfter}
+use Rattle.rfc4737.proofs.Folds.{place-lt}
+use borrow.Author.Needs.{needs}
+use Rattle.metrics.proofs.figures.tally_after.Statement.{statement}
+use Rattle.metrics.proofs.figures.tally_after.Tie as tie
+
+enum-told : tie.Need-enum-told
+enum-told c = search needs
+
+returns : tie.Need-returns
+unfolding tallyAfter
+returns c = λ a k. rw (k .is, c .enum-told .given .1)
+
+returns-2 : tie.Need-returns-2
+unfolding tallyAfter
+returns-2 c = λ a k. rw (k .is, c .enum-told2 .given .1)
+
+sub-tally-place : tie.Need-sub-tally-place
+sub-tally-place c = let p = rw (c .before .class .given .1) at (c .before .before .before .pre .3) in omega (arith, p)
+
+mul-t : tie.Need-mul-t
+mul-t c = omega (arith, c .tally-place .ensures, place-lt (c .before .before .before .before .args .count + 1 - c .before .before .class .given .0 .0))
+
+element-copy-out-t : tie.Need-element-copy-out-t
+element-copy-out-t c = omega (arith, c .tally-place .ensures, place-lt (c .before .before .before .before .args .count + 1 - c .before .before .class .given .0 .0))
+
+add-t : tie.Need-add-t
+add-t c = omega (arith, c .before .before .before .before .before .pre .1 (c .before .tally-place .result))
+
+mul-t-2 : tie.Need-mul-t-2
+mul-t-2 c = omega (arith, c .before .tally-place .ensures, place-lt (c .before .before .before .before .before .args .count + 1 - c .before .before .before .class .given .0 .0))
+
+element-write-t : tie.Need-element-write-t
+element-write-t c = omega (arith, c .before .tally-place .ensures, place-lt (c .before .before .before .before .before .args .count + 1 - c .before .before .before .class .given .0 .0))
+
+returns-3 : tie.Need-returns-3
+unfolding tallyAfter oneMoreAt
+returns-3 c = λ a k. rw (k .is, c .before .before .before .class .given .1, c .before .tally-place .ensures)
+
+pub tally-after-spec : {M : Type 1} → statement M
+tally-after-spec =
+    tie.close
+    (tie.spec
+    enum-told
+    returns
+    (λ c. search needs)
+    returns-2
+    (λ c. search needs) (λ c. search needs)
+    sub-tally-place
+    (λ c κs. search needs)
+    mul-t
+    element-copy-out-t
+    add-t
+    mul-t-2
+    element-write-t
+    returns-3)

@@ -1,7 +1,0 @@
--- The ranges that the code takes. Assumes nothing.
-use Prim.Native.Nat.{ℕ, _≤_}
-
--- a range of 1 to 10 bits
-pub record Narrow (r : ℕ) : Type 0 where
-  pub least : 2 ≤ r
-  pub most : r ≤ 1024
