@@ -72,6 +72,7 @@ test: $(EXAMPLES) $(SHARED) target/interface $(if $(shell command -v $(CXX)),tar
 	tests/command.sh
 	target/interface
 	CC='$(CC)' CXX='$(CXX)' tests/examples.sh
+	$(if $(shell command -v python3),tests/theorems.py,@echo 'skipped the table of theorems: python3 is not on the path')
 	$(if $(shell command -v cargo),$(MAKE) layout,@echo 'skipped the layouts in Rust: cargo is not on the path')
 
 # The table of sizes and offsets, by the header and by the declarations that the differential test calls with.

@@ -36,7 +36,6 @@ int main(void) {
     SIZE(log_import);
     FIELD(log_import, refusal);
     FIELD(log_import, arrivals);
-    FIELD(log_import, line);
     SIZE(records_import);
     FIELD(records_import, refusal);
     FIELD(records_import, arrivals);

@@ -170,14 +170,12 @@ uint32_t krakobran_refusal_of_lists(uint64_t sent, const uint32_t *numbers, size
 
 /* ---- text logs */
 
-/* What was imported: the number of arrivals, 0 with a refusal; and the line of the log that is refused, from 1, 0 where
- * no line is. */
+/* What was imported: the number of arrivals, 0 with a refusal. */
 typedef struct {
     uint32_t refusal;
     uint32_t arrivals;
-    uint32_t line;
 } krakobran_log_import;
-KRAKOBRAN_SIZE(krakobran_log_import, 12);
+KRAKOBRAN_SIZE(krakobran_log_import, 8);
 
 /* Imports the text log of K sent packets into lists of sequence numbers and arrival times in microseconds, from
  * their start. Each line is a number, a semicolon, milliseconds with at most three decimals after a comma or a
@@ -185,6 +183,10 @@ KRAKOBRAN_SIZE(krakobran_log_import, 12);
  * turn, each by 14, by 5 if it is line 4,097, by 6 and by 7; 8. */
 krakobran_log_import krakobran_import_text(const uint8_t *log, size_t octets, uint32_t sent, uint32_t *numbers,
                                          size_t number_places, uint64_t *times, size_t time_places);
+
+/* The number of the first line of the text log of K sent packets that is refused, from 1; 0 where no line is, as where K
+ * itself is refused. It costs what an import does, and needs no lists. */
+uint32_t krakobran_refused_line(const uint8_t *log, size_t octets, uint32_t sent);
 
 /* Writes the text log of arrivals of K sent packets from the start of out: three decimals after a comma. Refusals:
  * those of krakobran_refusal_of_lists; 8. */
@@ -333,7 +335,7 @@ KRAKOBRAN_SIZE(krakobran_sample_disorder, 8);
 krakobran_sample_disorder krakobran_disorder(const uint8_t *file, size_t octets);
 
 /* What is found of two samples: which is the worse one, 1 for the first and 2 for the second, and where its label
- * begins in it and its octets; 1, 0 and 0 with a refusal. */
+ * begins in it and its octets; all 0 with a refusal. */
 typedef struct {
     uint32_t refusal;
     uint32_t link;

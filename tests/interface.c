@@ -65,6 +65,8 @@ static void no_places(void) {
     passed("NULL: import of an empty log", krakobran_import_text(NULL, 0, 1, NULL, 0, NULL, 0).refusal == KRAKOBRAN_NONE);
     passed("NULL: import of a log, no room",
            krakobran_import_text(line, sizeof line - 1, 1, NULL, 0, NULL, 0).refusal == KRAKOBRAN_OUTPUT_SHORT);
+    passed("NULL: refused line of an empty log", krakobran_refused_line(NULL, 0, 1) == 0);
+    passed("refused line: the second", krakobran_refused_line((const uint8_t *)"1;1\nx\nx\n", 8, 1) == 2);
     passed("NULL: text log of no arrivals", krakobran_write_text(1, NULL, 0, NULL, 0, NULL, 0).refusal == KRAKOBRAN_NONE);
     passed("NULL: import of no records", krakobran_import_records(NULL, 0, 1, NULL, 0, NULL, 0).refusal == KRAKOBRAN_NONE);
     passed("NULL: records of no arrivals", krakobran_write_records(empty_file, 8, NULL, 0).refusal == KRAKOBRAN_NONE);
@@ -77,6 +79,9 @@ static void no_places(void) {
     passed("NULL: ratios", krakobran_ratios(NULL, 0).refusal == KRAKOBRAN_ENDS_EARLY);
     passed("NULL: disorder", krakobran_disorder(NULL, 0).refusal == KRAKOBRAN_ENDS_EARLY);
     passed("NULL: worse", krakobran_worse(NULL, 0, NULL, 0).refusal == KRAKOBRAN_ENDS_EARLY);
+    krakobran_worse_link worse = krakobran_worse(file, octets, NULL, 0);
+    passed("refused: worse, all else 0",
+           worse.refusal == KRAKOBRAN_ENDS_EARLY && worse.link == 0 && worse.start == 0 && worse.length == 0);
     passed("NULL: listing, no room", krakobran_listing(empty_file, 8, NULL, 0).refusal == KRAKOBRAN_OUTPUT_SHORT);
     passed("NULL: check of a listing", krakobran_check_listing(NULL, 0, NULL, 0).refusal == KRAKOBRAN_ENDS_EARLY);
     passed("NULL: check of an empty listing", krakobran_check_listing(empty_file, 8, NULL, 0).line == 1);
@@ -192,6 +197,7 @@ CALL(label, krakobran_label(file, octets).start - 2)
 CALL(write, krakobran_write(label, 64, sizes, MOST, numbers, MOST, times, MOST, out, sizeof out).refusal)
 CALL(refusal_of_lists, krakobran_refusal_of_lists(MOST, numbers, MOST, times, MOST))
 CALL(import_text, krakobran_import_text(line, sizeof line - 1, 1, positions, MOST, lates, MOST).refusal)
+CALL(refused_line, krakobran_refused_line(line, sizeof line - 1, 1))
 CALL(write_text, krakobran_write_text(MOST, numbers, MOST, times, MOST, out, sizeof out).refusal)
 CALL(import_records, krakobran_import_records(owamp, recorded, MOST, positions, MOST, lates, MOST).refusal)
 CALL(write_records, krakobran_write_records(file, octets, out, sizeof out).refusal)
@@ -227,8 +233,8 @@ static const struct {
     const char *name;
     void (*call)(void);
 } calls[] = {
-    NAMED(check), NAMED(read), NAMED(label), NAMED(write), NAMED(refusal_of_lists), NAMED(import_text), NAMED(write_text),
-    NAMED(import_records), NAMED(write_records), NAMED(answer), NAMED(counts), NAMED(tally), NAMED(gap), NAMED(n_reordered),
+    NAMED(check), NAMED(read), NAMED(label), NAMED(write), NAMED(refusal_of_lists), NAMED(import_text), NAMED(refused_line),
+    NAMED(write_text), NAMED(import_records), NAMED(write_records), NAMED(answer), NAMED(counts), NAMED(tally), NAMED(gap), NAMED(n_reordered),
     NAMED(degree), NAMED(ratios), NAMED(disorder), NAMED(worse), NAMED(listing), NAMED(check_listing), NAMED(sweep),
     NAMED(fragment_order), NAMED(full_numbers_8), NAMED(full_numbers_10), NAMED(fresh), NAMED(step), NAMED(step_lent), NAMED(step_8),
     NAMED(step_10), NAMED(meter_new), NAMED(meter_start), NAMED(meter_start_lent), NAMED(meter_step),

@@ -21,7 +21,7 @@ words() {
         9) echo 'record outside 1 to A, or n outside 1 to 100' ;;
         10) echo 'receiver state unfit, or a reordered packet with no greater kept jump' ;;
         11) echo 'receiver has accepted 4,096 arrivals' ;;
-        12) echo "the writer's lists of numbers and of times differ in length" ;;
+        12) echo "lists of arrivals that differ in length" ;;
         13) echo 'a label octet outside hexadecimal 20 to 7E' ;;
         14) echo "a line not of the form, or a value over the field's range" ;;
         15) echo 'a length that is no multiple of 25' ;;

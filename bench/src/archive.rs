@@ -497,7 +497,7 @@ pub fn layout() {
         "sample_disorder" Total: refusal total;
         "label_part" c::Part: start length;
         "write_answer" c::Written: refusal length;
-        "log_import" Imported: refusal arrivals line;
+        "log_import" Imported: refusal arrivals;
         "records_import" Records: refusal arrivals;
         "runs" c::Runs: closed squares current;
         "stream" c::Stream: sent arrived duplicates inorder next kept greatest runs dropped;

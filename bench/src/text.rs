@@ -1,4 +1,4 @@
-//! Text logs: the archive's two calls, a plain Rust implementation of the same papers beside them, logs to compare the two
+//! Text logs: the archive's three calls, a plain Rust implementation of the same papers beside them, logs to compare the two
 //! on, and what they cost.
 
 use std::hint::black_box;
@@ -24,7 +24,6 @@ const LINE_MALFORMED: u32 = 14;
 pub struct Imported {
     pub refusal: u32,
     pub arrivals: u32,
-    pub line: u32,
 }
 
 /// What a write answers.
@@ -43,6 +42,7 @@ extern "C" {
         log: *const u8, octets: usize, sent: u32, numbers: *mut u32, number_places: usize, times: *mut u64,
         time_places: usize,
     ) -> Imported;
+    fn krakobran_refused_line(log: *const u8, octets: usize, sent: u32) -> u32;
     fn krakobran_write_text(
         sent: u32, numbers: *const u32, number_count: usize, times: *const u64, time_count: usize, out: *mut u8,
         room: usize,
@@ -53,6 +53,10 @@ fn import_by_library(log: &[u8], sent: u32, numbers: &mut [u32], times: &mut [u6
     let (n, t) = (numbers.len(), times.len());
     // SAFETY: each pointer has as many places as the number after it says; so below.
     unsafe { krakobran_import_text(pointer(log), log.len(), sent, pointer_mut(numbers), n, pointer_mut(times), t) }
+}
+
+fn refused_line_by_library(log: &[u8], sent: u32) -> u32 {
+    unsafe { krakobran_refused_line(pointer(log), log.len(), sent) }
 }
 
 fn write_by_library(sent: u32, numbers: &[u32], times: &[u64], out: &mut [u8]) -> Written {
@@ -107,10 +111,11 @@ fn line(text: &[u8]) -> Option<(u32, u64, &[u8])> {
     Some((u32::try_from(number).ok()?, time, after))
 }
 
-pub fn import(log: &[u8], sent: u32, numbers: &mut [u32], times: &mut [u64]) -> Imported {
-    let refused = |refusal, line| Imported { refusal, arrivals: 0, line };
+/// How many lines a log has, none of them refused; else the refusal, and the number of the refused line, from 1, or 0 where K is
+/// refused.
+fn judge(log: &[u8], sent: u32) -> Result<usize, (u32, u32)> {
     if sent == 0 || sent as usize > MOST {
-        return refused(SENT_OUTSIDE, 0);
+        return Err((SENT_OUTSIDE, 0));
     }
     let mut rest = log;
     let mut count = 0;
@@ -118,23 +123,37 @@ pub fn import(log: &[u8], sent: u32, numbers: &mut [u32], times: &mut [u64]) -> 
     while !rest.is_empty() {
         let at = count as u32 + 1;
         let Some((number, time, after)) = line(rest) else {
-            return refused(LINE_MALFORMED, at);
+            return Err((LINE_MALFORMED, at));
         };
         if count == MOST {
-            return refused(MANY_ARRIVALS, at);
+            return Err((MANY_ARRIVALS, at));
         }
         if number == 0 || number > sent {
-            return refused(NUMBER_OUTSIDE, at);
+            return Err((NUMBER_OUTSIDE, at));
         }
         if greatest.saturating_sub(time) > MOST_BACK {
-            return refused(TIME_BACK, at);
+            return Err((TIME_BACK, at));
         }
         greatest = greatest.max(time);
         count += 1;
         rest = after;
     }
+    Ok(count)
+}
+
+/// The number of the first refused line, from 1; 0 where no line is.
+pub fn refused_line(log: &[u8], sent: u32) -> u32 {
+    judge(log, sent).err().map_or(0, |(_, line)| line)
+}
+
+pub fn import(log: &[u8], sent: u32, numbers: &mut [u32], times: &mut [u64]) -> Imported {
+    let refused = |refusal| Imported { refusal, arrivals: 0 };
+    let count = match judge(log, sent) {
+        Ok(count) => count,
+        Err((refusal, _)) => return refused(refusal),
+    };
     if numbers.len() < count || times.len() < count {
-        return refused(OUTPUT_SHORT, 0);
+        return refused(OUTPUT_SHORT);
     }
     let mut rest = log;
     for (number, time) in numbers[..count].iter_mut().zip(&mut times[..count]) {
@@ -143,7 +162,7 @@ pub fn import(log: &[u8], sent: u32, numbers: &mut [u32], times: &mut [u64]) -> 
         *time = t;
         rest = after;
     }
-    Imported { refusal: 0, arrivals: count as u32, line: 0 }
+    Imported { refusal: 0, arrivals: count as u32 }
 }
 
 /// Puts the digits of a number and gives back the place after them.
@@ -327,6 +346,11 @@ fn one(random: &mut Random, log: &[u8], sent: u32, seen: &mut Seen) -> Result<()
     seen.call("import", a.refusal);
     if (a, &left) != (b, &right) {
         return Err(format!("import\n left {a:?} {left:?}\nright {b:?} {right:?}\n"));
+    }
+    let (line, found) = (refused_line_by_library(log, sent), refused_line(log, sent));
+    seen.call("refused_line", 0);
+    if line != found {
+        return Err(format!("refused line\n left {line}\nright {found}\n"));
     }
     let most = if a.refusal == 0 { a.arrivals as usize } else { n.min(t) };
     let one_short = usize::from(random.once_in(20) && most > 0);

@@ -5,7 +5,7 @@ use crate::compare::Seen;
 use crate::generate::{sample_case, Random};
 use crate::reference::{check, counts};
 
-/// The refusal, the worse sample (1 or 2), and where its label begins in it and its octets.
+/// The refusal, the worse sample (1 or 2), and where its label begins in it and its octets; with a refusal all of these are 0.
 #[repr(C)]
 #[derive(Clone, Copy, PartialEq, Eq, Debug)]
 pub struct Worse {
@@ -41,7 +41,7 @@ fn ratio(file: &[u8]) -> (u64, u64) {
 
 fn by_reference(first: &[u8], second: &[u8]) -> Worse {
     let (one, other) = match (check(first), check(second)) {
-        (Err(refusal), _) | (_, Err(refusal)) => return Worse { refusal, link: 1, start: 0, length: 0 },
+        (Err(refusal), _) | (_, Err(refusal)) => return Worse { refusal, link: 0, start: 0, length: 0 },
         (Ok(one), Ok(other)) => (one, other),
     };
     let ((a, m), (b, n)) = (ratio(first), ratio(second));

@@ -13,7 +13,7 @@ pub const FIRST: u32 = 1;
 pub const SECOND: u32 = 2;
 
 // What is found of two samples: the refusal (0 for none), which is the worse one (1 or 2), and where its label begins in it and its
-// octets; with a refusal 1, 0 and 0.
+// octets; with a refusal all of these are 0.
 #[repr(C)]
 pub struct WorseLink {
     pub refusal: u32,
@@ -28,20 +28,18 @@ pub extern "C" fn krakobran_worse(first: &[u8], second: &[u8]) -> WorseLink
     ensures { λ r. ⌜ r ≡ worseLink (decode (now (first .entry))) (decode (now (second .entry))) ⌝ }
 {
     let found = compare(first, second);
-    if found.refusal != 0 {
-        return WorseLink {
-            refusal: found.refusal,
-            link: FIRST,
-            start: 0,
-            length: 0,
-        };
-    }
     let link = found.link;
     match link {
+        Link::Refused => WorseLink {
+            refusal: found.refusal,
+            link: 0,
+            start: 0,
+            length: 0,
+        },
         Link::First => {
             let part = label_part(first);
             WorseLink {
-                refusal: 0,
+                refusal: found.refusal,
                 link: FIRST,
                 start: part.start,
                 length: part.length,
@@ -50,7 +48,7 @@ pub extern "C" fn krakobran_worse(first: &[u8], second: &[u8]) -> WorseLink
         Link::Second => {
             let part = label_part(second);
             WorseLink {
-                refusal: 0,
+                refusal: found.refusal,
                 link: SECOND,
                 start: part.start,
                 length: part.length,

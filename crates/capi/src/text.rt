@@ -1,4 +1,6 @@
 // Text logs for C.
+ghost use mathlib.Core.Path.{_≡_};
+ghost use Rattle.textlog.specs.Decode.{judgeLog};
 ghost use Rattle.textlog.specs.Calls.{LogImportedFrom, LogWrittenTo};
 use sample::WriteAnswer;
 use textlog::LogImport;
@@ -14,6 +16,14 @@ pub extern "C" fn krakobran_import_text(
     ensures { λ r. ⌜ LogImportedFrom sent (now (log .entry)) (now (numbers .entry)) (now (times .entry)) r (now (numbers .exit)) (now (times .exit)) ⌝ }
 {
     textlog::import(log, sent, numbers, times)
+}
+
+// The number of the first line of the text log of K sent packets that is refused, from 1, or 0 where no line is.
+#[no_mangle]
+pub extern "C" fn krakobran_refused_line(log: &[u8], sent: u32) -> u32
+    ensures { λ r. ⌜ r ≡ judgeLog sent (now (log .entry)) .line ⌝ }
+{
+    textlog::refused_line(log, sent)
 }
 
 // Writes the text log of arrivals of K sent packets.

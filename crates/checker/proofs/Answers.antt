@@ -9,26 +9,22 @@ use native.Mathlib.Omega.{arith}
 use lib.ListN.{length}
 use Rattle.listing.specs.Room.{listingOctets}
 use Rattle.sample.specs.Decode.{Decoded, decodedRefusal}
-use Rattle.metrics.specs.Agreement.{common, sameText, agreementUnless, sampleAgreement}
+use Rattle.sample.specs.Output.{ifNone}
+use Rattle.metrics.specs.Agreement.{common, sameText, sampleAgreement}
 use Rattle.metrics.specs.Report.{sampleText}
 use Rattle.metrics.specs.declared.SampleAgreement.{SampleAgreement}
 use Rattle.metrics.proofs.Common.{common-le}
 use Rattle.checker.specs.declared.Verdict.{Verdict}
 use Rattle.checker.specs.declared.SampleVerdict.{SampleVerdict}
-use Rattle.checker.specs.Verdict.{verdictOn, verdictUnless, sampleVerdict}
+use Rattle.checker.specs.Verdict.{verdictOn, sampleVerdict}
 use Rattle.checker.specs.Private.{wrongAfter}
 use Rattle.checker.proofs.Lines.{by-prefix}
-
--- the refusal of an agreement
-agreement-refusal : (r : ℕ) (e t : List ℕ) → agreementUnless r e t .refusal ≡ r
-agreement-refusal zero e t = refl
-agreement-refusal (suc r) e t = refl
 
 module _ (d : Decoded) (listing : List ℕ) (found : SampleAgreement) (is : found ≡ sampleAgreement d listing) where
   -- it is the sample's
   own : found .refusal ≡ decodedRefusal d
   unfolding sampleAgreement
-  own = ap (λ (a : SampleAgreement). a .refusal) is ∙ agreement-refusal (decodedRefusal d) (sampleText d) listing
+  own = ap (λ (a : SampleAgreement). a .refusal) is
 
   -- with one, line 0
   pub checked-refused : (found .refusal ≡ 0 → ⊥) → record { refusal = found .refusal; verdict = Verdict.WrongLine 0 } ≡ sampleVerdict d listing
@@ -36,7 +32,7 @@ module _ (d : Decoded) (listing : List ℕ) (found : SampleAgreement) (is : foun
   checked-refused n = rw own (go (decodedRefusal d) (λ e. n (own ∙ e)))
     where
       go : (r : ℕ) → (r ≡ 0 → ⊥)
-          → _≡_ {A = SampleVerdict} (record { refusal = r; verdict = Verdict.WrongLine 0 }) (record { refusal = r; verdict = verdictUnless r (verdictOn (sampleText d) listing) })
+          → _≡_ {A = SampleVerdict} (record { refusal = r; verdict = Verdict.WrongLine 0 }) (record { refusal = r; verdict = ifNone r (verdictOn (sampleText d) listing) (Verdict.WrongLine 0) })
       go zero n = absurd (n refl)
       go (suc r) n = refl
 
@@ -44,7 +40,10 @@ module _ (d : Decoded) (listing : List ℕ) (found : SampleAgreement) (is : foun
     -- without one, what was compared
     compared : found ≡ record { refusal = 0; octets = common (sampleText d) listing; same = sameText (sampleText d) listing }
     unfolding sampleAgreement
-    compared = is ∙ ap (λ (r : ℕ). agreementUnless r (sampleText d) listing) (sym own ∙ z)
+    compared =
+        is
+        ∙ ap (λ (r : ℕ). record { refusal = r; octets = ifNone r (common (sampleText d) listing) 0; same = ifNone r (sameText (sampleText d) listing) false })
+        (sym own ∙ z)
 
     -- the octets that agree
     octets-are : found .octets ≡ common (sampleText d) listing

@@ -13,10 +13,11 @@ use lib.ListN.{length}
 use borrow.Author.Tests.{eqb-true, eq-eqb}
 use Rattle.listing.specs.Room.{listingOctets}
 use Rattle.sample.specs.Decode.{Decoded, decodedRefusal}
+use Rattle.sample.specs.Output.{ifNone}
 use Rattle.metrics.specs.Agreement.{common, sameText}
 use Rattle.metrics.specs.Report.{sampleText}
 use Rattle.checker.specs.declared.Verdict.{Verdict}
-use Rattle.checker.specs.Verdict.{verdictOn, verdictUnless, sampleVerdict}
+use Rattle.checker.specs.Verdict.{verdictOn, sampleVerdict}
 use Rattle.checker.specs.Claims.{AgreesExactly, StartDecides}
 use Rattle.checker.specs.Private.{wrongAfter}
 use Rattle.checker.proofs.Lines.{by-prefix, verdict-start}
@@ -66,7 +67,7 @@ pub agrees-exactly : (d : Decoded) → AgreesExactly d
 unfolding sampleVerdict
 agrees-exactly d = record { only = λ listing q. go listing (decodedRefusal d) q; always = λ z. rw z (verdict-self (sampleText d)) }
   where
-    go : (listing : List ℕ) (r : ℕ) → verdictUnless r (verdictOn (sampleText d) listing) ≡ Verdict.Agrees → (r ≡ 0) × (listing ≡ sampleText d)
+    go : (listing : List ℕ) (r : ℕ) → ifNone r (verdictOn (sampleText d) listing) (Verdict.WrongLine 0) ≡ Verdict.Agrees → (r ≡ 0) × (listing ≡ sampleText d)
     go listing zero q = (refl, verdict-only (sampleText d) listing q)
     go listing (suc r) q = absurd (true≢false (sym (ap isYes q)))
 

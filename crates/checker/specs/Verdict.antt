@@ -1,9 +1,10 @@
 -- The verdict on a listing: its lines against those that the sample must give. Assumes nothing.
-use Prim.Native.Nat.{ℕ, zero, suc, _+_}
+use Prim.Native.Nat.{ℕ, _+_}
 use mathlib.Core.Bool.{cond}
 use mathlib.Core.List.{List, [], _∷_}
 use Rattle.octets.specs.Text.{lines}
 use Rattle.sample.specs.Decode.{Decoded, decodedRefusal}
+use Rattle.sample.specs.Output.{ifNone}
 use Rattle.metrics.specs.Report.{sampleText}
 use Rattle.metrics.specs.Agreement.{sameText}
 use Rattle.checker.specs.declared.Verdict.{Verdict}
@@ -21,11 +22,10 @@ verdictOnLines n (e ∷ es) (l ∷ ls) = cond (sameText e l) (verdictOnLines (n 
 unfoldable pub verdictOn : List ℕ → List ℕ → Verdict
 verdictOn expected listing = verdictOnLines 1 (lines expected) (lines listing)
 
--- a verdict, or line 0 with a refusal
-abbrev pub verdictUnless : ℕ → Verdict → Verdict
-verdictUnless zero v = v
-verdictUnless (suc r) v = Verdict.WrongLine 0
-
--- the checker's answer: the sample's refusal, with which the listing is not looked at, and the verdict
+-- the checker's answer: the sample's refusal, with which the listing is not looked at, and the verdict, line 0 with a refusal
 unfoldable pub sampleVerdict : Decoded → List ℕ → SampleVerdict
-sampleVerdict d listing = record { refusal = decodedRefusal d; verdict = verdictUnless (decodedRefusal d) (verdictOn (sampleText d) listing) }
+sampleVerdict d listing =
+    record {
+      refusal = decodedRefusal d;
+      verdict = ifNone (decodedRefusal d) (verdictOn (sampleText d) listing) (Verdict.WrongLine 0);
+    }

@@ -1,8 +1,8 @@
 -- A number in decimal. `by-tens` is the induction over digits: a number below ten, and a longer one from the number of its tens, n / 10. Digits do
--- not depend on the bound of steps (`same-steps`), so `decimalOf` is one digit below ten (`one-digit`), else the digits of the tens and then the
+-- not depend on the bound (`same-places`), so `decimalOf` is one digit below ten (`one-digit`), else the digits of the tens and then the
 -- last one (`more-digits`). By this induction the digits read back as n (`reads-back`) and there is always one. How many there are goes by powers of
 -- ten: each division by ten takes one off, so below 10 ^ k there are at most k, and from 10 ^ k on more than k (`at-most`, `at-least`, `exactly`).
--- Here n is a number, k a count of digits, f, g and steps bounds, os octets and o one. Assumes nothing.
+-- Here n is a number, t its tens, o its last digit or an octet, k a count of digits, f and g are bounds, os octets. Assumes nothing.
 use mathlib.Core.Path.{_≡_, refl, ap}
 use mathlib.Core.List.{List, [], _∷_, _++_, foldl-append}
 use Prim.Native.Nat.{ℕ, zero, suc, _+_, _-_, _*_, _/_, _%_, _^_, _≤_, _<_}
@@ -10,7 +10,7 @@ use native.Mathlib.Nat.{add-zero, div-one, div-div-eq-div-mul, pow-succ', one-le
 use native.Mathlib.Decide.{decLe}
 use native.Mathlib.Omega.{arith}
 use lib.ListN.{length, length-append}
-use Rattle.decimal.specs.Decimal.{significant, decimalOf, decimalValue}
+use Rattle.decimal.specs.Decimal.{digitsOf, decimalOf, decimalValue}
 
 -- one order or the other
 split {ℓ} : {X : Type ℓ} (a b : ℕ) → (a ≤ b → X) → (b < a → X) → X
@@ -24,44 +24,36 @@ by-tens P one more n = go n n (omega arith)
     go zero m h = one m (omega arith)
     go (suc steps) m h = split 10 m (λ k. more m k (go steps (m / 10) (omega arith))) (one m)
 
--- any bound that suffices gives the same digits
-same-steps : (f g n : ℕ) → n ≤ f → n ≤ g → significant f n ≡ significant g n
-unfolding significant
-same-steps zero zero n hf hg = refl
-same-steps zero (suc g) zero hf hg = refl
-same-steps zero (suc g) (suc n) hf hg = absurd (omega arith)
-same-steps (suc f) zero zero hf hg = refl
-same-steps (suc f) zero (suc n) hf hg = absurd (omega arith)
-same-steps (suc f) (suc g) zero hf hg = refl
-same-steps (suc f) (suc g) (suc n) hf hg =
-    ap (λ (l : List ℕ). l ++ ((48 + suc n % 10) ∷ [])) (same-steps f g (suc n / 10) (omega arith) (omega arith))
+-- any bound above the tens gives the same digits
+same-places : (f g t o : ℕ) → t < f → t < g → digitsOf f t o ≡ digitsOf g t o
+unfolding digitsOf
+same-places zero g t o hf hg = absurd (omega arith)
+same-places (suc f) zero t o hf hg = absurd (omega arith)
+same-places (suc f) (suc g) zero o hf hg = refl
+same-places (suc f) (suc g) (suc t) o hf hg =
+    ap (λ (l : List ℕ). l ++ ((48 + o) ∷ [])) (same-places f g (suc t / 10) (suc t % 10) (omega arith) (omega arith))
 
--- 0 has no significant digit
-none : (f : ℕ) → significant f 0 ≡ []
-unfolding significant
-none zero = refl
-none (suc f) = refl
-
--- a number above 0 has the digits of its decimal form
-some : (f n : ℕ) → 0 < n → n ≤ f → significant f n ≡ decimalOf n
-unfolding significant decimalOf
-some zero n p h = absurd (omega arith)
-some (suc f) zero p h = absurd (omega arith)
-some (suc f) (suc n) p h =
-    ap (λ (l : List ℕ). l ++ ((48 + suc n % 10) ∷ [])) (same-steps f (suc n) (suc n / 10) (omega arith) (omega arith))
+-- one digit taken off
+one-place : (n t o : ℕ) → suc t ≤ n → digitsOf (suc n) (suc t) o ≡ digitsOf (suc (suc t)) (suc t / 10) (suc t % 10) ++ ((48 + o) ∷ [])
+unfolding digitsOf
+one-place n t o h = ap (λ (l : List ℕ). l ++ ((48 + o) ∷ [])) (same-places n (suc (suc t)) (suc t / 10) (suc t % 10) (omega arith) (omega arith))
 
 -- a number below ten is its one digit
 pub one-digit : (n : ℕ) → n < 10 → decimalOf n ≡ (48 + n) ∷ []
-unfolding decimalOf
+unfolding decimalOf digitsOf
 one-digit n h =
     let tens : n / 10 ≡ 0 = omega arith in
     let last : n % 10 ≡ n = omega arith in
-    rw (tens, last, none n)
+    rw (tens, last)
 
 -- another number is the number of its tens in decimal, and then its last digit
 pub more-digits : (n : ℕ) → 10 ≤ n → decimalOf n ≡ decimalOf (n / 10) ++ ((48 + n % 10) ∷ [])
 unfolding decimalOf
-more-digits n h = ap (λ (l : List ℕ). l ++ ((48 + n % 10) ∷ [])) (some n (n / 10) (omega arith) (omega arith))
+more-digits n h = go (n / 10) refl
+  where
+    go : (t : ℕ) → n / 10 ≡ t → digitsOf (suc n) t (n % 10) ≡ digitsOf (suc t) (t / 10) (t % 10) ++ ((48 + n % 10) ∷ [])
+    go zero e = absurd (omega arith)
+    go (suc t) e = one-place n t (n % 10) (omega arith)
 
 -- digits and one more read as ten times the number and the last digit
 pub value-more : (os : List ℕ) (o : ℕ) → decimalValue (os ++ (o ∷ [])) ≡ decimalValue os * 10 + (o - 48)

@@ -2,15 +2,16 @@
 use Prim.Native.Nat.{ℕ, zero, suc, _+_, _-_, _*_, _/_, _%_}
 use mathlib.Core.List.{List, [], _∷_, _++_, foldl}
 
--- the digits of a number, the most significant first, with no leading zero, so none for 0; the first argument bounds the steps
-unfoldable pub significant : ℕ → ℕ → List ℕ
-significant zero n = []
-significant (suc steps) zero = []
-significant (suc steps) (suc n) = significant steps (suc n / 10) ++ ((48 + suc n % 10) ∷ [])
+-- a number by its tens and its last digit: with no tens it is that digit, else the tens in decimal and then that digit; `places` bounds
+-- the recursion, `0` is 48
+unfoldable pub digitsOf : (places tens last : ℕ) → List ℕ
+digitsOf zero tens last = []
+digitsOf (suc places) zero last = (48 + last) ∷ []
+digitsOf (suc places) (suc tens) last = digitsOf places (suc tens / 10) (suc tens % 10) ++ ((48 + last) ∷ [])
 
--- a number in decimal: its last digit, which always stands, after the digits of the number of its tens; `0` is 48, `9` is 57
+-- a number in decimal
 unfoldable pub decimalOf : ℕ → List ℕ
-decimalOf n = significant n (n / 10) ++ ((48 + n % 10) ∷ [])
+decimalOf n = digitsOf (suc n) (n / 10) (n % 10)
 
 -- the number that ASCII digits read as
 unfoldable pub decimalValue : List ℕ → ℕ

@@ -52,13 +52,13 @@ module _ {A : Type 0} (p : A → Bool) where
   count-none [] h = refl
   count-none (a ∷ l) h = rw (count-cons a l, h .0, count-none l (h .1))
 
-count-map : {A B : Type 0} (p : B → Bool) (f : A → B) (l : List A) → count p (map f l) ≡ count (λ (a : A). p (f a)) l
+pub count-map : {A B : Type 0} (p : B → Bool) (f : A → B) (l : List A) → count p (map f l) ≡ count (λ (a : A). p (f a)) l
 unfolding count
 count-map p f [] = refl
 count-map {A} p f (a ∷ l) = omega (arith, count-cons p (f a) (map f l), count-cons (λ (a : A). p (f a)) a l, count-map p f l)
 
 -- how many numbers are less than s, and how many greater
-abbrev lower : ℕ → List Arrival → ℕ
+abbrev pub lower : ℕ → List Arrival → ℕ
 lower s l = count (λ (b : Arrival). ltb (b .number) s) l
 
 abbrev higher : ℕ → List Arrival → ℕ
@@ -67,7 +67,7 @@ higher s l = count (λ (b : Arrival). ltb s (b .number)) l
 -- ---- pairs in the wrong order
 
 -- an arrival more at the front, and at the end
-wrong-cons : (a : Arrival) (l : List Arrival) → wrongPairs (a ∷ l) ≡ lower (a .number) l + wrongPairs l
+pub wrong-cons : (a : Arrival) (l : List Arrival) → wrongPairs (a ∷ l) ≡ lower (a .number) l + wrongPairs l
 unfolding wrongPairs pairs
 wrong-cons a l = count-append isWrong (map (λ (b : Arrival). (a, b)) l) (pairs l) ∙ ap (λ (n : ℕ). n + count isWrong (pairs l)) (count-map isWrong (λ (b : Arrival). (a, b)) l)
 

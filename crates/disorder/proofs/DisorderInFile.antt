@@ -28,7 +28,7 @@ use Rattle.sample.specs.declared.Layout.{Layout}
 use Rattle.sample.specs.Decode.{Decoded, sampleOf}
 use Rattle.metrics.specs.Sample.{sizeOf, sampleArrivals}
 use Rattle.sample.specs.Places.{noArrival}
-use Rattle.metrics.specs.Private.Sample.{arrivalAt, before, FileLayout, HasRecord}
+use Rattle.metrics.specs.Records.{arrivalAt, before, FileLayout, HasRecord}
 use Rattle.disorder.specs.Sample.{disorderOf, SumsOffsets}
 use Rattle.disorder.specs.Private.{PairTree}
 use Rattle.disorder.specs.declared.pairs.Pairs.{Pairs}

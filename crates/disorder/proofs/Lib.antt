@@ -1,3 +1,4 @@
 -- Laws of disorder, and of a file. Assumes nothing.
 pub mod Disorder
 mod DisorderInFile
+mod Moved

@@ -4,7 +4,7 @@
 ghost use mathlib.Core.Path.{_≡_};
 ghost use Rattle.sample.specs.Decode.{decode};
 ghost use Rattle.disorder.specs.Disorder.{OffsetsCountPairs, PairsAreLeast};
-ghost use Rattle.disorder.specs.Sample.{sampleDisorder, SumsOffsets};
+ghost use Rattle.disorder.specs.Sample.{sampleDisorder, SumsOffsets, DisorderMoved};
 
 mod pairs;
 
@@ -24,6 +24,7 @@ pub fn total(file: &[u8]) -> SampleDisorder
     ensures sums { λ _. ⌜ SumsOffsets (decode (now (file .entry))) ⌝ }
     ensures offsets { λ _. ⌜ OffsetsCountPairs ⌝ }
     ensures least { λ _. ⌜ PairsAreLeast ⌝ }
+    ensures moved { λ _. ⌜ DisorderMoved (now (file .entry)) ⌝ }
 {
     let y = sample::check(file);
     SampleDisorder {

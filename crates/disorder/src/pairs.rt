@@ -6,7 +6,7 @@ ghost use Prim.Native.Nat.{_≤_};
 ghost use Rattle.rfc4737.specs.declared.Arrival.{Arrival};
 ghost use Rattle.rfc4737.specs.Judge.{sentMost};
 ghost use Rattle.sample.specs.Decode.{decode};
-ghost use Rattle.metrics.specs.Private.Sample.{FileLayout};
+ghost use Rattle.metrics.specs.Records.{FileLayout};
 ghost use Rattle.disorder.specs.Sample.{disorderOf};
 ghost use Rattle.disorder.specs.Private.{PairTree, FewPairs};
 use rfc4737::judge::SENT_MOST;

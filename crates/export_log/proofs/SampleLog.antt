@@ -15,10 +15,10 @@ use Rattle.octets.proofs.Memory.{over-first}
 use Rattle.rfc4737.specs.Judge.{sentMost, arrivalsMost, numbersOf, timesOf, arrivalsFrom, refusalOfLists}
 use Rattle.rfc4737.proofs.Due.{first-none}
 use Rattle.rfc4737.proofs.Pairs.{arrivals-back}
-use Rattle.sample.specs.Calls.{decodeInto, sampleRefusal, ReadFrom}
+use Rattle.sample.specs.Calls.{decodeInto, ReadFrom, unlessShort}
 use Rattle.sample.specs.Output.{Output}
 use Rattle.sample.specs.Decode.{Decoded, accepted, fileRefusal, sampleIn, decode, sampleOf, decodedRefusal, layoutOf}
-use Rattle.sample.specs.Judge.{judgeLabel, judgeOctets}
+use Rattle.sample.specs.Judge.{judgeLabel, judgeOctets, sampleRefusal}
 use Rattle.sample.specs.declared.Layout.{Layout}
 use Rattle.sample.specs.declared.WriteAnswer.{WriteAnswer}
 use Rattle.sample.proofs.Accepted.{found-sample, accepted-fit, accepted-limits}
@@ -32,7 +32,7 @@ use Rattle.export_log.specs.SampleLog.{LoggedTo}
 
 -- a refused file is refused alike, whatever the lists
 refused-alike : (a b c : ℕ) (file : List ℕ) (r : ℕ) → fileRefusal file ≡ suc r → decodeInto a b c file ≡ decode file
-unfolding decodeInto decode
+unfolding decodeInto unlessShort decode
 refused-alike a b c file r e = rw e
 
 -- lists of 4,096 places are long enough for every sample

@@ -12,7 +12,7 @@ use lib.ListN.{length}
 use Rattle.octets.specs.Memory.{over}
 use Rattle.rfc4737.specs.Refusals.{inCase, sentOutside, manyArrivals, listsDiffer, outputShort}
 use Rattle.rfc4737.specs.Judge.{judgeSent, judgeArrivals, sentMost, arrivalsMost}
-use Rattle.sample.specs.Output.{unlessRefused}
+use Rattle.sample.specs.Output.{ifNone}
 use Rattle.rfc4737.proofs.Due.{each-none, case-none, limit-none, neither}
 use Rattle.fragments.specs.Pieces.{piecesOf}
 use Rattle.fragments.specs.Judge.{judgePieces}
@@ -62,6 +62,6 @@ accepted k ns ts ls ms os f u e =
     }
 
 -- with a refusal lent memory stays
-pub refused-over : (r : ℕ) (xs old : List ℕ) → (r ≡ 0 → ⊥) → old ≡ over (unlessRefused r xs) old
+pub refused-over : (r : ℕ) (xs old : List ℕ) → (r ≡ 0 → ⊥) → old ≡ ifNone r (over xs old) old
 refused-over zero xs old n = absurd (n refl)
 refused-over (suc r) xs old n = refl

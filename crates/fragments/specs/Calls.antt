@@ -8,7 +8,7 @@ use lib.ListN.{length}
 use Rattle.octets.specs.Memory.{over}
 use Rattle.rfc4737.specs.Refusals.{inCase, firstOf, listsDiffer, outputShort}
 use Rattle.rfc4737.specs.Judge.{judgeSent, judgeArrivals}
-use Rattle.sample.specs.Output.{unlessRefused}
+use Rattle.sample.specs.Output.{ifNone}
 use Rattle.fragments.specs.Pieces.{piecesOf}
 use Rattle.fragments.specs.Order.{flags}
 use Rattle.fragments.specs.Usable.{usable}
@@ -32,5 +32,5 @@ orderRefusal k numbers times lengths mores offsets flagRoom usableRoom =
 -- the answer, and the two lent lists after it: the values from their start, all else as it was
 pub record OrderedTo (k : ℕ) (numbers times lengths mores offsets flagged used : List ℕ) (answer : ℕ) (flagged′ used′ : List ℕ) : Type 0 where
   pub refusal : answer ≡ orderRefusal k numbers times lengths mores offsets (length flagged) (length used)
-  pub filledFlags : flagged′ ≡ over (unlessRefused answer (flags (piecesOf numbers times lengths mores offsets))) flagged
-  pub filledUsable : used′ ≡ over (unlessRefused answer (usable (piecesOf numbers times lengths mores offsets))) used
+  pub filledFlags : flagged′ ≡ ifNone answer (over (flags (piecesOf numbers times lengths mores offsets)) flagged) flagged
+  pub filledUsable : used′ ≡ ifNone answer (over (usable (piecesOf numbers times lengths mores offsets)) used) used

@@ -1,4 +1,4 @@
--- The sample file of a log or of records. Lists of 4,096 places are long enough, so the answer of an import is the input's own (`log-answer`,
+-- The sample file of a log or of records. Lists of 4,096 places are long enough, so the refusal of an import is the input's own (`log-refusal`,
 -- `records-refusal`); where nothing is refused it has been accepted, K is in its range, and the first places hold its arrivals, since they were
 -- written over the start (`log-holds`, `records-hold`). What is answered: the input's refusal (`convert-refused`), or that of the sample's
 -- writer, which with no label and K sizes of one size refuses nothing of its own where nothing of K and the lists is, and writes the file of
@@ -11,27 +11,25 @@ use mathlib.Core.Path.{_≡_, refl, sym, ap, _∙_, subst}
 use mathlib.Core.List.{List, [], _∷_}
 use lib.ListN.{length, take, replicate, length-map, length-replicate}
 use Rattle.octets.specs.Memory.{over}
-use Rattle.octets.specs.Text.{lines}
 use Rattle.octets.proofs.Memory.{over-first}
 use Rattle.rfc4737.specs.declared.Arrival.{Arrival}
 use Rattle.rfc4737.specs.Judge.{arrivalsMost, numbersOf, timesOf, arrivalsFrom, refusalOfLists}
 use Rattle.rfc4737.specs.Refusals.{outside}
 use Rattle.rfc4737.proofs.Pairs.{arrivals-back}
 use Rattle.sample.specs.Format.{Sample, fileOf}
-use Rattle.sample.specs.Judge.{someUnshown}
-use Rattle.sample.specs.Calls.{sampleRefusal, WrittenTo}
-use Rattle.sample.specs.Output.{unlessRefused, Output}
+use Rattle.sample.specs.Judge.{someUnshown, sampleRefusal}
+use Rattle.sample.specs.Calls.{WrittenTo}
+use Rattle.sample.specs.Output.{Output, ifNone}
 use Rattle.sample.proofs.Output.{output-refused}
 use Rattle.sample.specs.declared.WriteAnswer.{WriteAnswer}
 use Rattle.textlog.specs.Decode.{logArrivals, judgeLog}
 use Rattle.textlog.specs.Calls.{arrivalsUnless, LogImportedFrom}
 use Rattle.textlog.specs.RoundTrip.{sampleWith}
 use Rattle.textlog.specs.declared.LogImport.{LogImport}
-use Rattle.textlog.proofs.Filling.{lines-length}
 use Rattle.textlog.proofs.Accepted.{accepted-log, accepted-lists}
 use Rattle.textlog.proofs.Answers.{import-room}
 use Rattle.owamp.specs.Judge.{recordsRefusal}
-use Rattle.owamp.specs.Calls.{importedArrivals, importRefusal, RecordsImportedFrom}
+use Rattle.owamp.specs.Calls.{importedArrivals, RecordsImportedFrom}
 use Rattle.owamp.specs.declared.RecordsImport.{RecordsImport}
 use Rattle.owamp.proofs.Accepted.{accepted-lists as records-accepted}
 use Rattle.owamp.proofs.Answers.{none-refused, import-room as records-room}
@@ -47,18 +45,17 @@ take-equal (suc k) (suc n) size h = ap (λ (l : List ℕ). size ∷ l) (take-equ
 
 module _ (k : ℕ) (log numbers times : List ℕ) (y : LogImport) (numbers′ times′ : List ℕ)
     (f : LogImportedFrom k log numbers times y numbers′ times′) (n : arrivalsMost ≤ length numbers) (t : arrivalsMost ≤ length times) where
-  -- where there are places for 4,096 arrivals, the answer is the log's own
-  pub log-answer : y ≡ judgeLog k log
-  log-answer = f .answered ∙ import-room k (length numbers) (length times) log n t
+  -- where there are places for 4,096 arrivals, the refusal is the log's own
+  pub log-refusal : y .refusal ≡ judgeLog k log .refusal
+  log-refusal = f .refusal ∙ import-room k (length numbers) (length times) log n t
 
   -- and where nothing is refused, the first places hold its arrivals
   pub log-holds : y .refusal ≡ 0 → Holds k (y .arrivals) numbers′ times′ (logArrivals log)
   log-holds z =
-      let none : judgeLog k log .refusal ≡ 0 = ap (λ (x : LogImport). x .refusal) (sym log-answer) ∙ z in
-      let a = accepted-log k log none in
-      let many : y .arrivals ≡ length (logArrivals log) = ap (λ (x : LogImport). x .arrivals) (log-answer ∙ a .answer) ∙ sym (lines-length (lines log)) in
+      let none : judgeLog k log .refusal ≡ 0 = sym log-refusal ∙ z in
+      let many : y .arrivals ≡ length (logArrivals log) = f .arrivals ∙ ap (λ (r : ℕ). length (arrivalsUnless r (logArrivals log))) z in
       record {
-        sent = a .most;
+        sent = accepted-log k log none .most;
         inNumbers =
             over-first (numbersOf (logArrivals log)) numbers (many ∙ sym (length-map (logArrivals log) _))
             (f .filledNumbers ∙ ap (λ (r : ℕ). over (numbersOf (arrivalsUnless r (logArrivals log))) numbers) z);
@@ -78,16 +75,15 @@ module _ (k : ℕ) (os numbers times : List ℕ) (y : RecordsImport) (numbers′
   pub records-hold : y .refusal ≡ 0 → Holds k (y .arrivals) numbers′ times′ (importedArrivals os)
   records-hold z =
       let none : recordsRefusal k os ≡ 0 = sym records-refusal ∙ z in
-      let into : importRefusal k (length numbers) (length times) os ≡ 0 = sym (f .refusal) ∙ z in
-      let many : y .arrivals ≡ length (importedArrivals os) = f .arrivals ∙ ap (λ (r : ℕ). length (unlessRefused r (numbersOf (importedArrivals os)))) into ∙ length-map (importedArrivals os) _ in
+      let many : y .arrivals ≡ length (importedArrivals os) = f .arrivals ∙ ap (λ (r : ℕ). ifNone r (length (importedArrivals os)) 0) z in
       record {
         sent = none-refused k os none .most;
         inNumbers =
             over-first (numbersOf (importedArrivals os)) numbers (many ∙ sym (length-map (importedArrivals os) _))
-            (f .filledNumbers ∙ ap (λ (r : ℕ). over (unlessRefused r (numbersOf (importedArrivals os))) numbers) into);
+            (f .filledNumbers ∙ ap (λ (r : ℕ). ifNone r (over (numbersOf (importedArrivals os)) numbers) numbers) z);
         inTimes =
             over-first (timesOf (importedArrivals os)) times (many ∙ sym (length-map (importedArrivals os) _))
-            (f .filledTimes ∙ ap (λ (r : ℕ). over (unlessRefused r (timesOf (importedArrivals os))) times) into);
+            (f .filledTimes ∙ ap (λ (r : ℕ). ifNone r (over (timesOf (importedArrivals os)) times) times) z);
         judged = records-accepted k os none .lists;
       }
 
@@ -99,16 +95,16 @@ unfolding sampleRefusal outside someUnshown
 label-none sizes numbers times e = rw e
 
 -- the input is refused
-pub convert-refused : (refusal line : ℕ) (s : Sample) (out : List ℕ) → (refusal ≡ 0 → ⊥)
-    → ConvertedTo refusal line s out (record { refusal = refusal; line = line; length = 0 }) out
-convert-refused refusal line s out z = record { output = output-refused refusal (fileOf s) out refusal refl z; atLine = refl }
+pub convert-refused : (refusal : ℕ) (s : Sample) (out : List ℕ) → (refusal ≡ 0 → ⊥)
+    → ConvertedTo refusal s out (record { refusal = refusal; length = 0 }) out
+convert-refused refusal s out z = output-refused refusal (fileOf s) out refusal refl z
 
 -- its sample is written, or there is no room
-pub convert-written : (k size refusal line : ℕ) (l : List Arrival) (out : List ℕ) (written : WriteAnswer) (out′ : List ℕ) {sizes numbers times : List ℕ}
+pub convert-written : (k size refusal : ℕ) (l : List Arrival) (out : List ℕ) (written : WriteAnswer) (out′ : List ℕ) {sizes numbers times : List ℕ}
     → refusal ≡ 0 → refusalOfLists k (numbersOf l) (timesOf l) ≡ 0
     → sizes ≡ replicate k size → numbers ≡ numbersOf l → times ≡ timesOf l → WrittenTo [] sizes numbers times out written out′
-    → ConvertedTo refusal line (sampleWith k size l) out (record { refusal = written .refusal; line = line; length = written .length }) out′
-convert-written k size refusal line l out written out′ z j es en et w =
+    → ConvertedTo refusal (sampleWith k size l) out written out′
+convert-written k size refusal l out written out′ z j es en et w =
     let own = (λ i. sampleRefusal [] (es i) (en i) (et i)) ∙ label-none (replicate k size) (numbersOf l) (timesOf l) (rw (length-replicate k size) j) ∙ sym z in
     let file = (λ i. fileOf (record { label = []; sizes = es i; arrivals = arrivalsFrom (en i) (et i) })) ∙ ap (λ (x : List Arrival). fileOf (sampleWith k size x)) (arrivals-back l) in
-    record { output = subst (λ (p : ℕ × List ℕ). Output (p .0) (p .1) out written out′) (λ i. (own i, file i)) w; atLine = refl }
+    subst (λ (p : ℕ × List ℕ). Output (p .0) (p .1) out written out′) (λ i. (own i, file i)) w

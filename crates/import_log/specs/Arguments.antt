@@ -1,12 +1,9 @@
--- The arguments: a number in decimal, and the word `records`. Assumes nothing.
+-- The arguments that are numbers in decimal. Assumes nothing.
 use Prim.Native.Nat.{ℕ, _-_, _^_}
-use mathlib.Core.Bool.{Bool, cond, _&&_}
+use mathlib.Core.Bool.{cond}
 use mathlib.Core.List.{List}
 use lib.Dec.{ltb, eqb}
 use lib.ListN.{length}
-use Rattle.octets.specs.BigEndian.{beValue}
-use Rattle.octets.specs.Memory.{part}
-use Rattle.octets.specs.Text.{ascii}
 use Rattle.decimal.specs.Reading.{numberAt}
 use Rattle.decimal.specs.declared.reading.Number.{Number}
 use Rattle.import_log.specs.declared.arguments.Argument.{Argument}
@@ -22,11 +19,3 @@ argumentOf octets number =
 -- what a word gives
 abbrev pub argumentIn : List ℕ → Argument
 argumentIn word = argumentOf (length word) (numberAt 0 word)
-
--- the word `records`
-abbrev pub recordsWord : List ℕ
-recordsWord = ascii "records"
-
--- whether a word is `records`: it has as many octets, and they have its value
-unfoldable pub isRecords : List ℕ → Bool
-isRecords word = eqb (length word) (length recordsWord) && eqb (beValue (part 0 (length recordsWord) word)) (beValue recordsWord)

@@ -7,7 +7,7 @@ use Rattle.rfc4737.specs.declared.Arrival.{Arrival}
 use Rattle.rfc4737.specs.Judge.{sentMost, numbersOf, timesOf, refusalOfLists}
 use Rattle.sample.specs.Format.{Sample, fileOf}
 use Rattle.sample.specs.Output.{Output}
-use Rattle.import_log.specs.declared.convert.Conversion.{Conversion}
+use Rattle.sample.specs.declared.WriteAnswer.{WriteAnswer}
 
 -- so many first places of two lists hold arrivals of which, with K, nothing is refused
 pub record Holds (k arrivals : ℕ) (numbers times : List ℕ) (l : List Arrival) : Type 0 where
@@ -16,8 +16,6 @@ pub record Holds (k arrivals : ℕ) (numbers times : List ℕ) (l : List Arrival
   pub inTimes : (arrivals ≤ length times) × (take arrivals times ≡ timesOf l)
   pub judged : refusalOfLists k (numbersOf l) (timesOf l) ≡ 0
 
--- the answer, and the lent octets after it: those of the sample's file; of the input its own refusal, the line that is refused or 0, and
--- the sample
-pub record ConvertedTo (refusal line : ℕ) (s : Sample) (out : List ℕ) (answer : Conversion) (out′ : List ℕ) : Type 0 where
-  pub output : Output refusal (fileOf s) out (record { refusal = answer .refusal; length = answer .length }) out′
-  pub atLine : answer .line ≡ line
+-- the answer, and the lent octets after it: those of the sample's file, or of the input its own refusal
+abbrev pub ConvertedTo : (refusal : ℕ) → Sample → (out : List ℕ) → WriteAnswer → (out′ : List ℕ) → Type 0
+ConvertedTo refusal s out answer out′ = Output refusal (fileOf s) out answer out′

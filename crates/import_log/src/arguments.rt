@@ -1,15 +1,12 @@
 // The arguments of the program: numbers in decimal, and the word `records`.
+ghost use mathlib.Core.Bool.{true};
+ghost use mathlib.Core.Logic.{_↔_};
 ghost use mathlib.Core.Path.{_≡_};
-ghost use Rattle.import_log.specs.Arguments.{argumentIn, isRecords};
+ghost use Rattle.octets.specs.Text.{ascii};
+ghost use Rattle.import_log.specs.Arguments.{argumentIn};
 
 // The greatest number that an argument may be.
 const MOST: u64 = 4_294_967_295;
-
-// How many octets the word `records` has.
-const RECORDS_OCTETS: usize = 7;
-
-// Their value as a big-endian number.
-const RECORDS_VALUE: u64 = 32199625090950259;
 
 // What an argument gives: its number, or that it is none, or too great.
 pub(crate) enum Argument {
@@ -35,12 +32,26 @@ pub(crate) fn argument_in(word: &[u8]) -> Argument
     Argument::Given(value as u32)
 }
 
-// Whether a word is `records`.
-pub(crate) fn is_records(word: &[u8]) -> bool
-    ensures { λ r. ⌜ r ≡ isRecords (now (word .entry)) ⌝ }
+// Whether two words are the same, octet for octet.
+fn same_octets(a: &[u8], b: &[u8]) -> bool
+    ensures { λ r. ⌜ (r ≡ true) ↔ (now (a .entry) ≡ now (b .entry)) ⌝ }
 {
-    if word.len() != RECORDS_OCTETS {
+    if a.len() != b.len() {
         return false;
     }
-    octets::number_at(word, 0, RECORDS_OCTETS) == RECORDS_VALUE
+    let mut i = 0;
+    while i < a.len() {
+        if a[i] != b[i] {
+            return false;
+        }
+        i += 1;
+    }
+    true
+}
+
+// Whether a word is `records`.
+pub(crate) fn is_records(word: &[u8]) -> bool
+    ensures { λ r. ⌜ (r ≡ true) ↔ (now (word .entry) ≡ ascii "records") ⌝ }
+{
+    same_octets(word, b"records")
 }

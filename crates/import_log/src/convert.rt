@@ -8,18 +8,11 @@ ghost use Rattle.owamp.specs.Judge.{recordsRefusal};
 ghost use Rattle.owamp.specs.Calls.{importedArrivals};
 ghost use Rattle.import_log.specs.Convert.{Holds, ConvertedTo};
 use rfc4737::judge::ARRIVALS_MOST;
+use sample::WriteAnswer;
 use textlog::LogImport;
 
 // The places of each list: as many as a sample may have packets, and arrivals.
 const PLACES: usize = ARRIVALS_MOST as usize;
-
-// What was made: the refusal (0 for none), the line of the log that is refused, or 0 where no line is, and the octets of
-// the file, 0 with a refusal.
-pub(crate) struct Conversion {
-    pub(crate) refusal: u32,
-    pub(crate) line: u32,
-    pub(crate) length: u32,
-}
 
 // Writes the sample file of arrivals that stand in the first places of two lists from the start of `out`, unless their import was
 // refused.
@@ -30,31 +23,25 @@ fn convert_lists(
     numbers: &[u32],
     times: &[u64],
     out: &mut [u8],
-) -> Conversion
+) -> WriteAnswer
     requires { ⌜ (found .refusal ≡ 0 → (l : List Arrival) × Holds k (found .arrivals) (now numbers) (now times) l) ⌝ }
-    ensures { λ r. ⌜ ((l : List Arrival) → (found .refusal ≡ 0 → Holds k (found .arrivals) (now (numbers .entry)) (now (times .entry)) l) → ConvertedTo (found .refusal) (found .line) (sampleWith k size l) (now (out .entry)) r (now (out .exit))) ⌝ }
+    ensures { λ r. ⌜ ((l : List Arrival) → (found .refusal ≡ 0 → Holds k (found .arrivals) (now (numbers .entry)) (now (times .entry)) l) → ConvertedTo (found .refusal) (sampleWith k size l) (now (out .entry)) r (now (out .exit))) ⌝ }
 {
     if found.refusal != 0 {
-        return Conversion {
+        return WriteAnswer {
             refusal: found.refusal,
-            line: found.line,
             length: 0,
         };
     }
     let sizes = [size; PLACES];
     let sent = k as usize;
     let n = found.arrivals as usize;
-    let written = sample::write(b"", &sizes[..sent], &numbers[..n], &times[..n], out);
-    Conversion {
-        refusal: written.refusal,
-        line: found.line,
-        length: written.length,
-    }
+    sample::write(b"", &sizes[..sent], &numbers[..n], &times[..n], out)
 }
 
 // Writes the sample file of a log from the start of `out`. With a refusal `out` stays as it was.
-pub(crate) fn convert_log(log: &[u8], k: u32, size: u16, out: &mut [u8]) -> Conversion
-    ensures { λ r. ⌜ ConvertedTo (judgeLog k (now (log .entry)) .refusal) (judgeLog k (now (log .entry)) .line) (sampleWith k size (logArrivals (now (log .entry)))) (now (out .entry)) r (now (out .exit)) ⌝ }
+pub(crate) fn convert_log(log: &[u8], k: u32, size: u16, out: &mut [u8]) -> WriteAnswer
+    ensures { λ r. ⌜ ConvertedTo (judgeLog k (now (log .entry)) .refusal) (sampleWith k size (logArrivals (now (log .entry)))) (now (out .entry)) r (now (out .exit)) ⌝ }
 {
     let mut numbers = [0u32; PLACES];
     let mut times = [0u64; PLACES];
@@ -63,8 +50,8 @@ pub(crate) fn convert_log(log: &[u8], k: u32, size: u16, out: &mut [u8]) -> Conv
 }
 
 // The same of OWAMP records.
-pub(crate) fn convert_records(records: &[u8], k: u32, size: u16, out: &mut [u8]) -> Conversion
-    ensures { λ r. ⌜ ConvertedTo (recordsRefusal k (now (records .entry))) 0 (sampleWith k size (importedArrivals (now (records .entry)))) (now (out .entry)) r (now (out .exit)) ⌝ }
+pub(crate) fn convert_records(records: &[u8], k: u32, size: u16, out: &mut [u8]) -> WriteAnswer
+    ensures { λ r. ⌜ ConvertedTo (recordsRefusal k (now (records .entry))) (sampleWith k size (importedArrivals (now (records .entry)))) (now (out .entry)) r (now (out .exit)) ⌝ }
 {
     let mut numbers = [0u32; PLACES];
     let mut times = [0u64; PLACES];
@@ -72,7 +59,6 @@ pub(crate) fn convert_records(records: &[u8], k: u32, size: u16, out: &mut [u8])
     let found = LogImport {
         refusal: taken.refusal,
         arrivals: taken.arrivals,
-        line: 0,
     };
     convert_lists(found, k, size, &numbers, &times, out)
 }

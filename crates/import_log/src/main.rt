@@ -8,11 +8,11 @@ mod convert;
 use arguments::Argument;
 use arguments::argument_in;
 use arguments::is_records;
-use convert::Conversion;
 use convert::convert_log;
 use convert::convert_records;
 use libc::STDIN_FILENO;
 use libc::STDOUT_FILENO;
+use sample::WriteAnswer;
 
 // The most octets of the input: 64 for each of 4,096 lines, or some 10,000 records.
 const MOST_OCTETS: usize = 262_144;
@@ -44,11 +44,19 @@ fn write_first(out: &[u8], n: usize) {
 }
 
 // Makes the sample file of a log, or of records.
-fn convert_input(records: bool, input: &[u8], k: u32, size: u16, out: &mut [u8]) -> Conversion {
+fn convert_input(records: bool, input: &[u8], k: u32, size: u16, out: &mut [u8]) -> WriteAnswer {
     if records {
         return convert_records(input, k, size, out);
     }
     convert_log(input, k, size, out)
+}
+
+// The line of the input that is refused, or 0 where none is, or where the input has no lines.
+fn refused_line(records: bool, input: &[u8], k: u32) -> u32 {
+    if records {
+        return 0;
+    }
+    textlog::refused_line(input, k)
 }
 
 // Writes the sample file of the input, or the refusal.
@@ -56,7 +64,7 @@ fn write_sample(records: bool, input: &[u8], k: u32, size: u16) {
     let mut out = [0u8; sample::LONGEST];
     let converted = convert_input(records, input, k, size, &mut out);
     if converted.refusal != 0 {
-        write_refusal(converted.refusal, converted.line);
+        write_refusal(converted.refusal, refused_line(records, input, k));
         return;
     }
     write_first(&out, converted.length as usize);

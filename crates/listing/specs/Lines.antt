@@ -2,9 +2,11 @@
 use Prim.Native.Nat.{ℕ, _+_}
 use mathlib.Core.Bool.{cond}
 use mathlib.Core.List.{List, [], _∷_, _++_}
+use mathlib.Core.Path.{_≡_}
 use lib.Dec.{ltb}
 use lib.ListN.{length}
 use Rattle.octets.specs.Text.{lineFeed}
+use Rattle.octets.specs.Memory.{put}
 use Rattle.decimal.specs.Decimal.{decimalOf}
 use Rattle.rfc4737.specs.declared.Arrival.{Arrival}
 use Rattle.rfc4737.specs.declared.Answer.{Answer}
@@ -67,6 +69,10 @@ endLine c =
 -- the one line of a refused input
 unfoldable pub refusedLine : ℕ → List ℕ
 refusedLine n = line (refusedWord ∷ number n ∷ [])
+
+-- a line put into `old` from a place on, where there is room for all of it; r is its length, whether it is put or not
+abbrev pub LinePut : ℕ → List ℕ → List ℕ → ℕ → List ℕ → Type 0
+LinePut at text old r new = (r ≡ length text) × (new ≡ put at text old)
 
 -- ---- the listing
 

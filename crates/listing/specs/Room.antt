@@ -1,6 +1,11 @@
--- How many octets suffice for a listing. Assumes nothing.
+-- How many octets suffice for a line and for a listing. Assumes nothing.
 use Prim.Native.Nat.{ℕ, _*_}
 use Rattle.rfc4737.specs.Judge.{arrivalsMost}
+
+-- the most octets of a line, whatever its figures: `late`, six numbers of 32 bits and a time of 64 bits, with an octet after each of
+-- these eight, and a minus
+abbrev pub lineMost : ℕ
+lineMost = 93
 
 -- the octets that suffice for any listing: 64 for each of 4,096 records. The longest line of a record has 61; what is left
 -- holds the first line, of at most 24, and the last, of at most 38.

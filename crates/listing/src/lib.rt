@@ -1,14 +1,12 @@
 // The lines of the report, written into lent memory. A public function writes its line whole, or nothing where
 // there is no room for all of it, and answers how long the line is. Inside, a part of a line is written where
 // room is known, and the answer is the place after it, which has the name of the field that goes there.
-ghost use mathlib.Core.Path.{_≡_};
 ghost use mathlib.Core.List.{[], _∷_, _++_};
 ghost use Prim.Native.Nat.{_+_, _≤_, _<_};
 ghost use lib.ListN.{length};
-ghost use Rattle.octets.specs.Memory.{put};
 ghost use Rattle.decimal.specs.Decimal.{decimalOf};
 ghost use Rattle.rfc4737.specs.declared.Answer.the-variants.{Duplicate, InOrder, Reordered};
-ghost use Rattle.listing.specs.Lines.{number, sign, lateTime, line, answerFields, headerLine, recordLine, endLine, refusedLine};
+ghost use Rattle.listing.specs.Lines.{number, sign, lateTime, line, answerFields, headerLine, recordLine, endLine, refusedLine, LinePut};
 ghost use Rattle.listing.specs.Private.Written.{PartWritten, pair, four};
 use rfc4737::Answer;
 use rfc4737::Counts;
@@ -166,7 +164,7 @@ fn write_header(out: &mut [u8], at: usize, k: u32, a: u32) -> usize
 
 // The first line: K and the number of arrivals.
 pub fn put_header(out: &mut [u8], at: usize, k: u32, a: u32) -> usize
-    ensures { λ r. ⌜ (r ≡ length (headerLine k a)) × (now (out .exit) ≡ put at (headerLine k a) (now (out .entry))) ⌝ }
+    ensures { λ r. ⌜ LinePut at (headerLine k a) (now (out .entry)) r (now (out .exit)) ⌝ }
 {
     let mut text = [0u8; LINE];
     let n = write_header(&mut text, 0, k, a);
@@ -231,7 +229,7 @@ fn write_record(out: &mut [u8], at: usize, record: u32, number: u32, answer: Ans
 
 // A record's line: the record, its number and its answer.
 pub fn put_record(out: &mut [u8], at: usize, record: u32, number: u32, answer: Answer) -> usize
-    ensures { λ r. ⌜ (r ≡ length (recordLine «record» number answer)) × (now (out .exit) ≡ put at (recordLine «record» number answer) (now (out .entry))) ⌝ }
+    ensures { λ r. ⌜ LinePut at (recordLine «record» number answer) (now (out .entry)) r (now (out .exit)) ⌝ }
 {
     if octets::has_room(out.len(), at, LINE) {
         return write_record(out, at, record, number, answer) - at;
@@ -259,7 +257,7 @@ fn write_end(out: &mut [u8], at: usize, c: Counts) -> usize
 
 // The last line: L, reordered, duplicates, closed runs, sum of squares, open run.
 pub fn put_end(out: &mut [u8], at: usize, c: Counts) -> usize
-    ensures { λ r. ⌜ (r ≡ length (endLine c)) × (now (out .exit) ≡ put at (endLine c) (now (out .entry))) ⌝ }
+    ensures { λ r. ⌜ LinePut at (endLine c) (now (out .entry)) r (now (out .exit)) ⌝ }
 {
     let mut text = [0u8; LINE];
     let n = write_end(&mut text, 0, c);
@@ -278,7 +276,7 @@ fn write_refused(out: &mut [u8], at: usize, n: u32) -> usize
 
 // The one line of a refused input.
 pub fn put_refused(out: &mut [u8], at: usize, refusal: u32) -> usize
-    ensures { λ r. ⌜ (r ≡ length (refusedLine refusal)) × (now (out .exit) ≡ put at (refusedLine refusal) (now (out .entry))) ⌝ }
+    ensures { λ r. ⌜ LinePut at (refusedLine refusal) (now (out .entry)) r (now (out .exit)) ⌝ }
 {
     let mut text = [0u8; LINE];
     let n = write_refused(&mut text, 0, refusal);

@@ -22,7 +22,7 @@ use Rattle.receiver.specs.declared.Receiver.{Receiver}
 use Rattle.receiver.specs.declared.StepAnswer.{StepAnswer}
 use Rattle.receiver.specs.Limits.{windowPlaces}
 use Rattle.receiver.specs.Fit.{every, fit}
-use Rattle.receiver.specs.Kept.{placesFrom, Held, heldOf, keptOf, withJump}
+use Rattle.receiver.specs.Kept.{placesFrom, Held, heldOf, keptOf, keptWith, withJump}
 use Rattle.receiver.proofs.Window.{lastNumber}
 use Rattle.receiver.specs.Step.{freshStream, madeFor, stepWith}
 use Rattle.receiver.specs.Account.{accountWith, jumpIn, outcomeIn}
@@ -37,7 +37,7 @@ use Rattle.meter.specs.declared.StreamState.{StreamState}
 use Rattle.meter.specs.declared.Meter.{Meter}
 use Rattle.meter.specs.Streams.{Side, one, two, other, mostKept, freeBeside, takesPlace, streamOf, receiverOf, streamIn, withStream, withReceiver, keptIn, free}
 use Rattle.meter.specs.Step.{newMeter, fitOnMeter, meterFit, stepOn}
-use Rattle.meter.specs.Account.{Part, freshPart, keptWith, Account, freeIn, withPart}
+use Rattle.meter.specs.Account.{Part, freshPart, Account, freeIn, withPart}
 use Rattle.meter.proofs.PlacesFacing.{own-back, heldTurned, other-old, other-new, turned-frame}
 use Rattle.meter.proofs.KeptJumps.{KeptOf, kept-arrival}
 
@@ -179,7 +179,7 @@ module _ (account : Account) (m : Meter) (g : Carries account m) where
         record {
           sent = h .sent;
           accepted = accountWith (h .sent) (h .accepted) a;
-          window = foldl (keptWith (freeIn account)) (h .window) (jumpIn (h .sent) (h .accepted) a);
+          window = foldl (keptWith room) (h .window) (jumpIn (h .sent) (h .accepted) a);
         }
 
     -- the step on a stream

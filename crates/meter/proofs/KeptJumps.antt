@@ -6,7 +6,7 @@
 -- beside is how many the neighbour keeps, p the new jump, and t says whether it takes a place. Assumes nothing.
 use Prim.Native.Nat.{ℕ, suc, _+_, _-_, _≤_, _<_}
 use mathlib.Core.Path.{_≡_, refl, sym, ap, _∙_}
-use mathlib.Core.Bool.{Bool, true, false, cond, _&&_}
+use mathlib.Core.Bool.{Bool, true, false, _&&_}
 use mathlib.Core.List.{List, [], _∷_, _++_, foldl, append-nil, append-assoc}
 use native.Mathlib.Omega.{arith}
 use lib.Dec.{ltb}
@@ -15,13 +15,12 @@ use borrow.Author.Tests.{ltb-true, ltb-false}
 use Rattle.rfc4737.specs.declared.Arrival.{Arrival}
 use Rattle.rfc4737.specs.Order.{FirstArrival}
 use Rattle.receiver.specs.Limits.{windowPlaces}
-use Rattle.receiver.specs.Kept.{placeAt, Held, withJump}
+use Rattle.receiver.specs.Kept.{placeAt, Held, keptWith, withJump}
 use Rattle.receiver.specs.Account.{jumpIn}
 use Rattle.receiver.proofs.Agrees.{jump-cases}
 use Rattle.receiver.proofs.Fits.{and-true}
-use Rattle.receiver.proofs.HeldJumps.{Holds, holds-count, holds-appended, holds-shifted, jump-frame}
+use Rattle.receiver.proofs.HeldJumps.{Holds, holds-appended, holds-shifted, jump-frame}
 use Rattle.meter.specs.Streams.{mostKept, freeBeside, takesPlace}
-use Rattle.meter.specs.Account.{keptWith}
 
 -- a test of two parts that fails
 and-false : (a b : Bool) → a && b ≡ false → (a ≡ true → b ≡ false)
@@ -59,8 +58,8 @@ pub record KeptOf (ds ws : List FirstArrival) (j : Held) (beside : ℕ) (new : L
 -- as the rule for the shared places keeps them
 abbrev pub AfterJumps : List FirstArrival → List FirstArrival → Held → ℕ → List FirstArrival → Type 0
 AfterJumps ds ws j beside new =
-    KeptOf ds ws j beside new (foldl (keptWith (freeBeside (length ws) beside)) ws new)
-    (foldl (withJump (takesPlace (length ws) (freeBeside (length ws) beside))) j new)
+    let room : Bool = takesPlace (length ws) (freeBeside (length ws) beside) in
+    KeptOf ds ws j beside new (foldl (keptWith room) ws new) (foldl (withJump room) j new)
 
 module _ (ds ws : List FirstArrival) (j : Held) (beside : ℕ)
     (h : Holds ds ws j)
@@ -83,12 +82,11 @@ module _ (ds ws : List FirstArrival) (j : Held) (beside : ℕ)
       }
 
   kept-one : (p : FirstArrival) (t : Bool) → takesPlace (length ws) (freeBeside (length ws) beside) ≡ t
-      → KeptOf ds ws j beside (p ∷ []) (cond t ws (drop 1 ws) ++ (p ∷ [])) (withJump t j p)
-  unfolding withJump
+      → KeptOf ds ws j beside (p ∷ []) (keptWith t ws p) (withJump t j p)
+  unfolding keptWith
   kept-one p true e =
       let q = takes (length ws) beside e in
       let l : length (ws ++ (p ∷ [])) ≡ length ws + 1 = length-append ws (p ∷ []) in
-      let c : j .kept ≡ length ws = holds-count ds ws j h in
       let a : length ws < mostKept = q .0 in
       let b : length ws + beside < windowPlaces = q .1 in
       record {
@@ -99,7 +97,7 @@ module _ (ds ws : List FirstArrival) (j : Held) (beside : ℕ)
         together = omega arith;
         least = λ n. let m : 16 ≤ length ws = least n in omega arith;
         not-empty = λ n. omega arith;
-        frame = λ k n. jump-frame true j p (h .long) (λ z. absurd (let y : _≡_ {A = ℕ} 0 1 = cc in omega arith)) k (omega arith);
+        frame = jump-frame true ds ws j p h;
       }
   kept-one p false e = go ws refl
     where
@@ -111,7 +109,6 @@ module _ (ds ws : List FirstArrival) (j : Held) (beside : ℕ)
       go (o ∷ vs) v =
           let n : 16 ≤ length ws = takes-none (length ws) beside low e in
           let z : length ws ≡ suc (length vs) = ap length v in
-          let c : j .kept ≡ length ws = holds-count ds ws j h in
           let l : length (vs ++ (p ∷ [])) ≡ length vs + 1 = length-append vs (p ∷ []) in
           let k : Holds ds (o ∷ vs) j = rw v at h in
           let r : length (drop 1 ws ++ (p ∷ [])) ≡ length vs + 1 = ap (λ (us : List FirstArrival). length (drop 1 us ++ (p ∷ []))) v ∙ l in
@@ -125,12 +122,11 @@ module _ (ds ws : List FirstArrival) (j : Held) (beside : ℕ)
             together = omega arith;
             least = λ m. omega arith;
             not-empty = λ m. omega arith;
-            frame = λ i m. jump-frame false j p (h .long) (λ _. (omega arith, omega arith)) i (omega arith);
+            frame = jump-frame false ds ws j p h;
           }
 
   -- under the jump that an arrival is, if it is one
   pub kept-arrival : (k : ℕ) (account : List Arrival) (a : Arrival) → AfterJumps ds ws j beside (jumpIn k account a)
-  unfolding keptWith
   kept-arrival k account a =
       jump-cases (AfterJumps ds ws j beside) kept-none
       (λ p. kept-one p (takesPlace (length ws) (freeBeside (length ws) beside)) refl) k account a

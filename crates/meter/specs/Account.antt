@@ -3,14 +3,15 @@
 -- Refusals, answers and the account of the arrivals are the receiver's. Assumes nothing.
 use Prim.Native.Nat.{ℕ}
 use mathlib.Core.Bool.{cond}
-use mathlib.Core.List.{List, [], _∷_, _++_, foldl}
-use lib.ListN.{length, drop}
+use mathlib.Core.List.{List, [], foldl}
+use lib.ListN.{length}
 use Rattle.rfc4737.specs.declared.Arrival.{Arrival}
 use Rattle.rfc4737.specs.Order.{FirstArrival}
 use Rattle.rfc4737.specs.Refusals.{outside, noStream}
 use Rattle.rfc4737.specs.Judge.{sentMost, judgeSent}
 use Rattle.receiver.specs.declared.Outcome.{Outcome}
 use Rattle.receiver.specs.Outcomes.{refusedOutcome}
+use Rattle.receiver.specs.Kept.{keptWith}
 use Rattle.receiver.specs.Account.{accountWith, jumpIn, outcomeIn}
 use Rattle.meter.specs.Streams.{Side, one, two, sideOf, onStream, freeBeside, takesPlace}
 
@@ -41,17 +42,14 @@ pub record Part : Type 0 where
 abbrev pub freshPart : ℕ → Part
 freshPart k = record { sent = k; accepted = []; window = [] }
 
--- the jumps kept under a new one: it takes a free place, or the oldest kept one is dropped for it
-unfoldable pub keptWith : ℕ → List FirstArrival → FirstArrival → List FirstArrival
-keptWith free kept p = cond (takesPlace (length kept) free) kept (drop 1 kept) ++ (p ∷ [])
-
--- a stream's part after a call on it, where so many places are free; refused, it stays
+-- a stream's part after a call on it, where so many places are free: a new jump takes a free place, or the oldest kept one is dropped
+-- for it; refused, the part stays
 unfoldable pub partAfter : ℕ → Part → Call → Part
 partAfter free h (arrives n a) =
     record {
       sent = h .sent;
       accepted = accountWith (h .sent) (h .accepted) a;
-      window = foldl (keptWith free) (h .window) (jumpIn (h .sent) (h .accepted) a);
+      window = foldl (keptWith (takesPlace (length (h .window)) free)) (h .window) (jumpIn (h .sent) (h .accepted) a);
     }
 partAfter free h (starts n k) = cond (outside 1 sentMost k) h (freshPart k)
 

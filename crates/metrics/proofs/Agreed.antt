@@ -15,9 +15,10 @@ use lib.ListN.{length, drop, length-append}
 use borrow.Author.Tests.{eqb-true, eqb-false, ne-eqb}
 use Rattle.sample.specs.declared.Layout.{Layout}
 use Rattle.sample.specs.Decode.{Decoded, decodedRefusal}
-use Rattle.metrics.specs.Agreement.{common, agreementUnless, sampleAgreement}
+use Rattle.sample.specs.Output.{ifNone}
+use Rattle.metrics.specs.Agreement.{common, sameText, sampleAgreement}
 use Rattle.metrics.specs.Report.{sampleText}
-use Rattle.metrics.specs.Private.Sample.{FileLayout}
+use Rattle.metrics.specs.Records.{FileLayout}
 use Rattle.metrics.specs.Private.Taken.{Agreed}
 use Rattle.metrics.specs.declared.SampleAgreement.{SampleAgreement}
 use Rattle.metrics.specs.declared.parts.Part.{Part}
@@ -59,7 +60,8 @@ module _ (d : Decoded) (y : Layout) (h : FileLayout d y) (text : List ℕ) where
   unfolding sampleAgreement
   agreed-refused n = rw own (go (decodedRefusal d) (λ e. n (own ∙ e)))
     where
-      go : (r : ℕ) → (r ≡ 0 → ⊥) → _≡_ {A = SampleAgreement} (record { refusal = r; octets = 0; same = false }) (agreementUnless r (sampleText d) text)
+      go : (r : ℕ) → (r ≡ 0 → ⊥)
+          → _≡_ {A = SampleAgreement} (record { refusal = r; octets = 0; same = false }) (record { refusal = r; octets = ifNone r (common (sampleText d) text) 0; same = ifNone r (sameText (sampleText d) text) false })
       go zero n = absurd (n refl)
       go (suc r) n = refl
 

@@ -35,7 +35,7 @@ use Rattle.sample.specs.declared.Layout.{Layout}
 use Rattle.sample.specs.Decode.{Decoded}
 use Rattle.metrics.specs.Sample.{sizeOf, sampleArrivals}
 use Rattle.sample.specs.Places.{noArrival}
-use Rattle.metrics.specs.Private.Sample.{arrivalAt, before, answerAt, FileLayout, HasRecord}
+use Rattle.metrics.specs.Records.{arrivalAt, before, answerAt, FileLayout, HasRecord}
 use Rattle.metrics.specs.Private.Tables.{NumberTable, Packets, RecordTable, EngineTables, classBy, answerBy, ClassOf, IfLate}
 use Rattle.metrics.specs.declared.classes.Class.{Class}
 use Rattle.metrics.specs.declared.tables.State.{State}

@@ -31,7 +31,7 @@ use Rattle.rfc4737.specs.Judge.{sentMost}
 use Rattle.sample.specs.declared.Layout.{Layout}
 use Rattle.sample.specs.Decode.{Decoded}
 use Rattle.metrics.specs.Sample.{sizeOf}
-use Rattle.metrics.specs.Private.Sample.{arrivalAt, before, answerAt, answersTo, HasRecord, numberPlaces}
+use Rattle.metrics.specs.Records.{arrivalAt, before, answerAt, answersTo, HasRecord, numberPlaces}
 use Rattle.metrics.specs.Private.Tables.{answerBy, ClassOf}
 use Rattle.metrics.specs.Private.Steps.{kindBy}
 use Rattle.metrics.specs.declared.classes.Class.{Class}

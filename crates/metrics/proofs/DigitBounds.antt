@@ -1,8 +1,9 @@
 -- The figures of a sample have no more digits than a listing has room for. Of an answer (`answers-within`): positions, extents, largest n
 -- and records are at most 4,096, as there are no more arrivals, and a jump is at most the packet's number; a byte offset is at most 65,535
 -- for each first arrival, since a size has two octets; a late time after the discontinuity is at most the arrival's own time, which has
--- eight octets, and one before it at most 1,000, since an accepted file has no time over 1,000 below an earlier one. Of counts
--- (`counts-within`): each is at most the number of answers, and the squares of runs are together at most the square of 4,096.
+-- eight octets, and one before it at most 1,000, since an accepted file has no time over 1,000 below an earlier one. The call's answer is
+-- one of these or, refused, that of no packet (`answer-bounded`). Of counts (`counts-within`): each is at most the number of answers, and
+-- the squares of runs are together at most the square of 4,096.
 -- Here earlier are the arrivals before a, t is an arrival's time, fs are first arrivals, s is a packet's number, file the octets, w the
 -- sample that they decode to, y its layout and i the records before. Assumes nothing.
 use mathlib.Core.Path.{_≡_, refl}
@@ -11,8 +12,9 @@ use mathlib.Core.List.{List}
 use mathlib.Core.Option.{Option, none, some}
 use Prim.Native.Nat.{ℕ, _+_, _-_, _^_, _≤_, _<_}
 use native.Mathlib.Omega.{arith}
-use lib.Dec.{ltb}
+use lib.Dec.{ltb, eqb}
 use lib.ListN.{length}
+use borrow.Author.Tests.{eqb-true, eqb-false}
 use Rattle.octets.specs.Below.{Octets}
 use Rattle.rfc4737.specs.declared.Arrival.{Arrival}
 use Rattle.rfc4737.specs.declared.Answer.{Answer}
@@ -22,22 +24,27 @@ use Rattle.rfc4737.specs.Order.{FirstArrival, isInOrder, jumpSize}
 use Rattle.rfc4737.specs.Times.{backMost, elapsed}
 use Rattle.rfc4737.specs.Extent.{extentFrom, lateFrom, sizeIn, discontinuity}
 use Rattle.rfc4737.specs.Answer.{inOrderAnswer, reorderedAnswer, firstAnswer, answerTo}
+use Rattle.rfc4737.specs.Reordered.{sizeMost, FiguresBounded}
 use Rattle.rfc4737.specs.Runs.{counts}
 use Rattle.rfc4737.proofs.Lists.{All, all-take}
 use Rattle.rfc4737.proofs.Arrivals.{length-firsts}
 use Rattle.rfc4737.proofs.Jumps.{discontinuity-until}
 use Rattle.rfc4737.proofs.Packets.{all-firsts}
+use Rattle.rfc4737.proofs.Reordered.{figures-bounded}
 use Rattle.rfc4737.proofs.Folds.{offset-le, largest-le, in-order-or-reordered, duplicate-or-first, closed-reordered, current-le, squares-le}
 use Rattle.rfc4737.specs.Judge.{sentMost, arrivalsMost}
 use Rattle.listing.specs.Private.DigitBounds.{TimeWithin, AnswerWithin, CountsWithin}
 use Rattle.sample.specs.Decode.{Decoded, refused, accepted, decode}
 use Rattle.sample.specs.declared.Layout.{Layout}
 use Rattle.sample.proofs.Accepted.{size-fits, time-fits, times-within}
-use Rattle.metrics.specs.Sample.{sizeOf, sampleArrivals}
+use Rattle.metrics.specs.Sample.{sizeOf, sampleArrivals, answersOf}
 use Rattle.sample.specs.Places.{noArrival}
-use Rattle.metrics.specs.Private.Sample.{arrivalAt, before, answerAt, HasRecord}
+use Rattle.metrics.specs.Private.Sample.{FileLayout}
+use Rattle.metrics.specs.Figures.{atRecord, recordRefusal, recordAnswer}
+use Rattle.metrics.specs.Records.{arrivalAt, before, answerAt, HasRecord}
 use Rattle.metrics.proofs.Records.{record-some}
-use Rattle.metrics.proofs.TablesFollow.{inside-laid, before-length}
+use Rattle.metrics.proofs.TablesFollow.{inside-laid, before-length, arrivals-laid}
+use Rattle.metrics.proofs.RecordsAsked.{answer-refused, record-inside, answer-known}
 
 -- the extent is at most the position
 extent-le : (i : ℕ) (d : Option FirstArrival) → extentFrom i d ≤ i
@@ -60,7 +67,7 @@ late-within t high fs back s = go (discontinuity fs s) (discontinuity-until (t +
     go none h = omega arith
     go (some p) h = test p (h p refl) (ltb t (p .time))
 
-module _ (size : ℕ → ℕ) (small : (s : ℕ) → size s ≤ 65535) (earlier : List Arrival) (few : length earlier < arrivalsMost) (a : Arrival) (number : a .number ≤ sentMost)
+module _ (size : ℕ → ℕ) (small : (s : ℕ) → size s ≤ sizeMost) (earlier : List Arrival) (few : length earlier < arrivalsMost) (a : Arrival) (number : a .number ≤ sentMost)
     (time : a .time < 2 ^ 64) (back : All (λ (b : Arrival). b .time ≤ a .time + backMost) earlier) where
   -- the answer for an arrival after fewer than 4,096
   answer-within : AnswerWithin (answerTo size earlier a)
@@ -74,7 +81,7 @@ module _ (size : ℕ → ℕ) (small : (s : ℕ) → size s ≤ 65535) (earlier 
       go false new true = (omega (arith, length-firsts earlier), omega arith)
       go false new false =
           let n = length-firsts earlier in
-          let o = offset-le size 65535 small (firsts earlier) (a .number) in
+          let o = offset-le size sizeMost small (firsts earlier) (a .number) in
           record {
             position = omega arith;
             extent = omega (arith, extent-le (length (firsts earlier) + 1) (discontinuity (firsts earlier) (a .number)));
@@ -84,11 +91,11 @@ module _ (size : ℕ → ℕ) (small : (s : ℕ) → size s ≤ 65535) (earlier 
           }
 
 -- every payload size of a file fits two octets
-pub size-most : (file : List ℕ) → Octets file → (s : ℕ) → sizeOf (decode file) s ≤ 65535
+pub size-most : (file : List ℕ) → Octets file → (s : ℕ) → sizeOf (decode file) s ≤ sizeMost
 unfolding sizeIn
 size-most file o s = go (decode file) refl
   where
-    go : (d : Decoded) → decode file ≡ d → sizeOf d s ≤ 65535
+    go : (d : Decoded) → decode file ≡ d → sizeOf d s ≤ sizeMost
     go (refused r) e = omega arith
     go (accepted w) e = omega (arith, size-fits file w e o (s - 1))
 
@@ -119,6 +126,25 @@ answers-within file y i o h =
     (omega (arith, h .file .numbers i (h .inside), h .file .sentFew))
     (time-most file o i)
     (back-most file y o i h)
+
+-- the figures of a reordered packet that `answer` gives of a file of octets are bounded
+pub answer-bounded : (file : List ℕ) (y : Layout) → FileLayout (decode file) y → Octets file → (asked : ℕ)
+    → FiguresBounded (recordAnswer (decode file) asked .answer)
+unfolding recordAnswer
+answer-bounded file y h o asked = go (eqb (recordRefusal (decode file) asked) 0) refl
+  where
+    d : Decoded
+    d = decode file
+
+    go : (t : Bool) → eqb (recordRefusal d asked) 0 ≡ t → FiguresBounded (atRecord (Answer.InOrder (record { position = 0; jump = 0 })) (answersOf d) asked)
+    go false e = rw (answer-refused d asked (Answer.InOrder (record { position = 0; jump = 0 })) (eqb-false _ 0 e)) tt
+    go true e =
+        let z : recordRefusal d asked ≡ 0 = eqb-true _ 0 e in
+        let r = record-inside d asked z in
+        let k : HasRecord d y (asked - 1) = record { file = h; inside = omega (arith, r, arrivals-laid d y h) } in
+        rw (answer-known d asked z (Answer.InOrder (record { position = 0; jump = 0 })))
+        (figures-bounded (sizeOf d) (size-most file o) (before d (asked - 1)) (arrivalAt d (asked - 1))
+        (omega (arith, before-length d y (asked - 1) k, k .inside, h .few)) (h .numbers (asked - 1) (k .inside) .0))
 
 -- the counts of at most 4,096 answers
 pub counts-within : (l : List Answer) → length l ≤ arrivalsMost → CountsWithin (counts l)

@@ -19,7 +19,7 @@ use Rattle.rfc4737.specs.Judge.{sentMost}
 use Rattle.sample.specs.declared.Layout.{Layout}
 use Rattle.sample.specs.Decode.{Decoded}
 use Rattle.metrics.specs.Sample.{sizeOf}
-use Rattle.metrics.specs.Private.Sample.{arrivalAt, before, HasRecord, numberPlaces}
+use Rattle.metrics.specs.Records.{arrivalAt, before, HasRecord, numberPlaces}
 use Rattle.metrics.specs.Private.Tables.{NumberTable, EngineTables, Links, LinkTable, NotedRecord, classBy, IfLate}
 use Rattle.metrics.specs.Private.Engine.{SizeTree, FillInput, EngineState}
 use Rattle.metrics.specs.declared.engine.Engine.{Engine}

@@ -23,7 +23,7 @@ use Rattle.rfc4737.proofs.Jumps.{nextAfter-above}
 use Rattle.rfc4737.specs.Judge.{sentMost}
 use Rattle.sample.specs.Decode.{Decoded}
 use Rattle.sample.specs.Places.{noArrival}
-use Rattle.metrics.specs.Private.Sample.{before, numberPlaces}
+use Rattle.metrics.specs.Records.{before, numberPlaces}
 use Rattle.metrics.specs.Private.Tables.{Filled, NumberTable, Above, Links, LinkTable}
 use Rattle.metrics.proofs.Records.{has-at}
 use Rattle.metrics.proofs.Reordered.{above-back, above-join}

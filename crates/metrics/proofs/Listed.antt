@@ -23,7 +23,7 @@ use Rattle.rfc4737.proofs.Folds.{length-answers}
 use Rattle.sample.specs.Decode.{Decoded, decode, sampleOf}
 use Rattle.sample.specs.declared.Layout.{Layout}
 use Rattle.metrics.specs.Sample.{sampleArrivals, answersOf, sizeOf}
-use Rattle.metrics.specs.Private.Sample.{arrivalAt, before, answerAt, answersTo, FileLayout, HasRecord}
+use Rattle.metrics.specs.Records.{arrivalAt, before, answerAt, answersTo, FileLayout, HasRecord}
 use Rattle.metrics.specs.Private.Taken.{linesTo}
 use Rattle.metrics.specs.Report.{sampleText}
 use Rattle.metrics.proofs.TablesFollow.{arrivals-laid, before-more, before-length}

@@ -24,7 +24,6 @@ use Rattle.rfc4737.proofs.Moved.{answers-moved}
 use Rattle.listing.specs.Lines.{recordLine, recordLinesFrom, recordLines, listingOf}
 use Rattle.sample.specs.Format.{Sample}
 use Rattle.sample.specs.Decode.{Decoded, accepted}
-use Rattle.sample.specs.Output.{Output}
 use Rattle.sample.specs.Moved.{movedSample}
 use Rattle.sample.proofs.Moved.{moved-accepted, sample-twice}
 use Rattle.metrics.specs.Sample.{answersOf}
@@ -74,8 +73,8 @@ module _ (c : ℕ) where
         let a = answers-same in
         let n = records-same in
         record {
+          refusal = refl;
           text = text-same;
-          listing = λ old r new h. subst (λ (t : List ℕ). Output 0 t old r new) text-same h;
           answer = λ asked i.
               record {
                 refusal = firstOf (inCase (outside 1 (n i) asked) askedOutside ∷ []);

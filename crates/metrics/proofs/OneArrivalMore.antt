@@ -30,7 +30,7 @@ use Rattle.rfc4737.specs.Judge.{sentMost}
 use Rattle.sample.specs.declared.Layout.{Layout}
 use Rattle.sample.specs.Decode.{Decoded}
 use Rattle.metrics.specs.Sample.{sizeOf, sampleArrivals, answersOf}
-use Rattle.metrics.specs.Private.Sample.{arrivalAt, before, answerAt, answersTo, FileLayout, HasRecord, numberPlaces}
+use Rattle.metrics.specs.Records.{arrivalAt, before, answerAt, answersTo, FileLayout, HasRecord, numberPlaces}
 use Rattle.metrics.specs.Private.Tables.{EngineTables, ClassOf, IfLate}
 use Rattle.metrics.specs.Private.Steps.{DiscoverersAt, known}
 use Rattle.metrics.specs.declared.classes.Class.{Class}

@@ -24,7 +24,7 @@ use Rattle.sample.specs.declared.Layout.{Layout}
 use Rattle.sample.specs.Decode.{Decoded}
 use Rattle.metrics.specs.Report.{sampleText}
 use Rattle.metrics.specs.Sample.{answersOf}
-use Rattle.metrics.specs.Private.Sample.{arrivalAt, answerAt, answersTo, FileLayout, HasRecord}
+use Rattle.metrics.specs.Records.{arrivalAt, answerAt, answersTo, FileLayout, HasRecord}
 use Rattle.metrics.specs.Private.Taken.{Agreed, LineRoom, Taken, linesTo, PassedTo, PassEnded}
 use Rattle.metrics.specs.declared.parts.Part.{Part}
 use Rattle.metrics.specs.declared.pass.PassResult.{PassResult}

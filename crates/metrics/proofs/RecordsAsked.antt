@@ -34,7 +34,7 @@ use Rattle.sample.specs.declared.Layout.{Layout}
 use Rattle.sample.specs.Decode.{Decoded, refused, accepted, decodedRefusal}
 use Rattle.metrics.specs.Sample.{sizeOf, sampleArrivals, answersOf}
 use Rattle.sample.specs.Places.{noArrival}
-use Rattle.metrics.specs.Private.Sample.{arrivalAt, before, answerAt, FileLayout, HasRecord}
+use Rattle.metrics.specs.Records.{arrivalAt, before, answerAt, FileLayout, HasRecord}
 use Rattle.metrics.specs.Figures.{atRecord, askedRefusal, recordRefusal, degreeAnswers, recordAnswer, recordGap, degreeCounts, degreeMost}
 use Rattle.metrics.specs.Private.Steps.{known}
 use Rattle.metrics.specs.declared.RecordAnswer.{RecordAnswer}
@@ -110,7 +110,7 @@ answer-at d other i h = each-after-at (answerTo (sizeOf d)) noArrival other [] (
 
 module _ (d : Decoded) (asked : ℕ) where
   -- a refused call has no answer and no gap
-  answer-refused : (other : Answer) → (recordRefusal d asked ≡ 0 → ⊥) → atRecord other (answersOf d) asked ≡ other
+  pub answer-refused : (other : Answer) → (recordRefusal d asked ≡ 0 → ⊥) → atRecord other (answersOf d) asked ≡ other
   answer-refused other h =
       at-outside other (answersOf d) asked (λ low high. asked-outside d asked h low (omega (arith, length-answers (sizeOf d) (sampleArrivals d))))
 
@@ -278,5 +278,5 @@ module _ (d : Decoded) (y : Layout) (h : FileLayout d y) (asked r : ℕ) (e : r 
       place-few = omega (arith, position-le d y (asked - 1) inside p at, arrived-le d y (asked - 1) inside)
 
       -- and the gap of that position
-      pub gap-placed : (g : Gap) → (p ≤ arrived (answersOf d) → g ≡ gapOf (answersOf d) (some p)) → gap-with r g ≡ recordGap d asked
-      gap-placed g k = gap-answered d asked r e z g (k (position-le d y (asked - 1) inside p at) ∙ ap (gapOf (answersOf d)) (sym at))
+      pub gap-placed : (g : Gap) → g ≡ gapOf (answersOf d) (some p) → gap-with r g ≡ recordGap d asked
+      gap-placed g k = gap-answered d asked r e z g (k ∙ ap (gapOf (answersOf d)) (sym at))

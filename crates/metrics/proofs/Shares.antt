@@ -28,7 +28,7 @@ use Rattle.rfc4737.proofs.Folds.{answers-more, length-answers, arrived-more, an
 use Rattle.rfc4737.specs.Judge.{sentMost, arrivalsMost}
 use Rattle.sample.specs.Decode.{Decoded}
 use Rattle.metrics.specs.Sample.{sizeOf}
-use Rattle.metrics.specs.Private.Sample.{before, numberPlaces}
+use Rattle.metrics.specs.Records.{before, numberPlaces}
 use Rattle.metrics.specs.Private.Tables.{NumberTable}
 use Rattle.metrics.specs.Private.Steps.{reachedBy, sharesOf, ShareTables}
 use Rattle.metrics.specs.declared.figures.Shares.{Shares}

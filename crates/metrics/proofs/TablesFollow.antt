@@ -29,7 +29,7 @@ use Rattle.sample.specs.declared.Layout.{Layout}
 use Rattle.sample.specs.Decode.{Decoded}
 use Rattle.metrics.specs.Sample.{sampleArrivals}
 use Rattle.sample.specs.Places.{noArrival}
-use Rattle.metrics.specs.Private.Sample.{arrivalAt, before, FileLayout, HasRecord}
+use Rattle.metrics.specs.Records.{arrivalAt, before, FileLayout, HasRecord}
 use Rattle.metrics.specs.Private.Tables.{Filled, NumberTable, RecordTable, EngineTables}
 use Rattle.metrics.specs.declared.tables.State.{State}
 use Rattle.metrics.proofs.Records.{record-none, record-some}

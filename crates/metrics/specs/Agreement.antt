@@ -1,9 +1,10 @@
 -- How far a text is the listing that a sample must give. Assumes nothing.
-use Prim.Native.Nat.{ℕ, zero, suc, _+_}
+use Prim.Native.Nat.{ℕ, _+_}
 use mathlib.Core.Bool.{Bool, true, false, cond, _&&_}
 use mathlib.Core.List.{List, [], _∷_}
 use lib.Dec.{eqb}
 use Rattle.sample.specs.Decode.{Decoded, decodedRefusal}
+use Rattle.sample.specs.Output.{ifNone}
 use Rattle.metrics.specs.Report.{sampleText}
 use Rattle.metrics.specs.declared.SampleAgreement.{SampleAgreement}
 
@@ -20,11 +21,11 @@ sameText [] (y ∷ t) = false
 sameText (x ∷ e) [] = false
 sameText (x ∷ e) (y ∷ t) = eqb x y && sameText e t
 
--- what is said of a text against the one that must be given: with a refusal it is not looked at
-abbrev pub agreementUnless : ℕ → List ℕ → List ℕ → SampleAgreement
-agreementUnless zero expected text = record { refusal = 0; octets = common expected text; same = sameText expected text }
-agreementUnless (suc r) expected text = record { refusal = suc r; octets = 0; same = false }
-
--- a text against the listing of a sample
+-- a text against the listing of a sample; with a refusal it is not looked at
 unfoldable pub sampleAgreement : Decoded → List ℕ → SampleAgreement
-sampleAgreement d text = agreementUnless (decodedRefusal d) (sampleText d) text
+sampleAgreement d text =
+    record {
+      refusal = decodedRefusal d;
+      octets = ifNone (decodedRefusal d) (common (sampleText d) text) 0;
+      same = ifNone (decodedRefusal d) (sameText (sampleText d) text) false;
+    }

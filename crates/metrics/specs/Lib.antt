@@ -1,5 +1,6 @@
--- What each call answers (Figures and Report, over Sample). Assumes nothing.
+-- What each call answers (Figures, Report and Agreement, over Sample), and that moving the clock changes nothing (Moved). Assumes nothing.
 pub mod Sample
+pub mod Records
 pub mod Figures
 pub mod Report
 pub mod Agreement

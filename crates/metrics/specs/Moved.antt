@@ -6,17 +6,16 @@ use mathlib.Core.Path.{_≡_}
 use Rattle.octets.specs.Below.{Below}
 use Rattle.rfc4737.specs.Judge.{timesOf}
 use Rattle.sample.specs.Format.{Sample, fileOf}
-use Rattle.sample.specs.Decode.{Decoded, decode, accepted}
+use Rattle.sample.specs.Decode.{Decoded, decode, accepted, decodedRefusal}
 use Rattle.sample.specs.Moved.{movedSample, MovedAccepted, SampleMovedTwice}
 use Rattle.metrics.specs.Figures.{recordAnswer, recordGap, sampleCounts, sampleTally, degreeCounts, sampleDegree, sampleRatios}
-use Rattle.metrics.specs.Report.{sampleText, ListedTo}
-use Rattle.sample.specs.declared.WriteAnswer.{WriteAnswer}
+use Rattle.metrics.specs.Report.{sampleText}
 
 -- every call answers of one decoded file as of another
 pub record SameFigures (d e : Decoded) : Type 0 where
-  -- `listing`: its octets, and what it answers and leaves in any lent memory
+  -- `listing`, into any lent memory, and `agreement`, of any text: both answer by the refusal and the listing's octets alone
+  pub refusal : decodedRefusal d ≡ decodedRefusal e
   pub text : sampleText d ≡ sampleText e
-  pub listing : (old : List ℕ) (r : WriteAnswer) (new : List ℕ) → ListedTo d old r new → ListedTo e old r new
   -- `answer` and `gap`, of any record
   pub answer : (asked : ℕ) → recordAnswer d asked ≡ recordAnswer e asked
   pub gap : (asked : ℕ) → recordGap d asked ≡ recordGap e asked

@@ -1,5 +1,4 @@
 -- What private functions say to each other: no public contract reaches these definitions. Assumes nothing.
-pub mod Sample
 pub mod Tables
 pub mod Steps
 pub mod Engine

@@ -4,7 +4,7 @@ ghost use mathlib.Core.List.{[], _∷_};
 ghost use Prim.Native.Nat.{_≤_};
 ghost use Rattle.rfc4737.specs.Refusals.{outside, inCase, firstOf, askedOutside};
 ghost use Rattle.sample.specs.Decode.{decode};
-ghost use Rattle.metrics.specs.Private.Sample.{FileLayout, HasRecord, before, answerAt};
+ghost use Rattle.metrics.specs.Records.{FileLayout, HasRecord, before, answerAt};
 ghost use Rattle.metrics.specs.Private.Tables.{EngineTables};
 ghost use Rattle.metrics.specs.Figures.{recordAnswer};
 use crate::RecordAnswer;

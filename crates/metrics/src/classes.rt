@@ -7,7 +7,7 @@ ghost use Rattle.rfc4737.specs.Extent.{byteOffset, largestN};
 ghost use Rattle.rfc4737.specs.Judge.{sentMost};
 ghost use Rattle.sample.specs.Decode.{decode};
 ghost use Rattle.metrics.specs.Sample.{sizeOf};
-ghost use Rattle.metrics.specs.Private.Sample.{HasRecord, arrivalAt, before, answerAt};
+ghost use Rattle.metrics.specs.Records.{HasRecord, arrivalAt, before, answerAt};
 ghost use Rattle.metrics.specs.declared.classes.Class.{Class};
 ghost use Rattle.metrics.specs.Private.Tables.{NumberTable, RecordTable, classBy, ClassOf, IfLate};
 use crate::input;

@@ -4,7 +4,7 @@ ghost use mathlib.Core.Bool.{_&&_};
 ghost use lib.Dec.{eqb};
 ghost use Rattle.sample.specs.Decode.{decode};
 ghost use Rattle.metrics.specs.Private.Taken.{Agreed};
-ghost use Rattle.metrics.specs.Private.Sample.{FileLayout};
+ghost use Rattle.metrics.specs.Records.{FileLayout};
 ghost use Rattle.metrics.specs.Report.{sampleText};
 use crate::parts::Part;
 use crate::pass::take_all;

@@ -4,7 +4,7 @@
 ghost use mathlib.Core.Path.{_≡_};
 ghost use Prim.Native.Nat.{_+_};
 ghost use Rattle.sample.specs.Decode.{decode};
-ghost use Rattle.metrics.specs.Private.Sample.{HasRecord, arrivalAt, answerAt};
+ghost use Rattle.metrics.specs.Records.{HasRecord, arrivalAt, answerAt};
 ghost use Rattle.metrics.specs.Private.Tables.{ClassOf};
 ghost use Rattle.metrics.specs.Private.Engine.{EngineState};
 use crate::classes::Class;

@@ -12,7 +12,7 @@ ghost use Rattle.rfc4737.specs.Judge.{sentMost, arrivalsMost};
 ghost use Rattle.listing.specs.Private.DigitBounds.{CountsWithin};
 ghost use Rattle.sample.specs.Decode.{decode};
 ghost use Rattle.metrics.specs.Sample.{sizeOf, sampleArrivals, answersOf};
-ghost use Rattle.metrics.specs.Private.Sample.{FileLayout, numberPlaces};
+ghost use Rattle.metrics.specs.Records.{FileLayout, numberPlaces};
 ghost use Rattle.metrics.specs.Private.Tables.{Links, ClassOf, IfLate};
 ghost use Rattle.metrics.specs.Private.Steps.{kindBy, reachedBy, sharesOf, ShareTables};
 use crate::TALLY_MOST;

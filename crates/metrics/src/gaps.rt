@@ -6,11 +6,10 @@ ghost use Prim.Native.Nat.{ℕ, _-_, _≤_};
 ghost use lib.ListN.{length, replicate};
 ghost use Rattle.rfc4737.specs.declared.Answer.{Answer};
 ghost use Rattle.rfc4737.specs.Gaps.{positionOf, gapOf};
-ghost use Rattle.rfc4737.specs.Runs.{arrived};
 ghost use Rattle.rfc4737.specs.Judge.{sentMost};
 ghost use Rattle.sample.specs.Decode.{decode};
 ghost use Rattle.metrics.specs.Sample.{answersOf};
-ghost use Rattle.metrics.specs.Private.Sample.{FileLayout, answerAt, numberPlaces};
+ghost use Rattle.metrics.specs.Records.{FileLayout, answerAt, numberPlaces};
 ghost use Rattle.metrics.specs.Figures.{recordGap};
 ghost use Rattle.metrics.specs.Private.Tables.{ClassOf, IfLate};
 ghost use Rattle.metrics.specs.Private.Steps.{known, DiscoverersAt, lastTo};
@@ -110,7 +109,7 @@ fn last_to(found: &[u16; PLACES], p: u32) -> u32
 // The gap of position p: there is one if the discontinuity before it was discovered earlier.
 fn gap_at(found: &[u16; PLACES], p: u32) -> Gap
     requires { ⌜ (1 ≤ p) × (p ≤ sentMost) ⌝ }
-    ensures { λ r. ⌜ ((l : List Answer) → DiscoverersAt l (now (found .entry)) → p ≤ arrived l → r ≡ gapOf l (some p)) ⌝ }
+    ensures { λ r. ⌜ ((l : List Answer) → DiscoverersAt l (now (found .entry)) → r ≡ gapOf l (some p)) ⌝ }
 {
     let place = p as usize;
     if found[place] == 0 {

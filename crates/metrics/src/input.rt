@@ -4,7 +4,7 @@ ghost use Prim.Native.Nat.{_≤_};
 ghost use Rattle.rfc4737.specs.Judge.{sentMost};
 ghost use Rattle.sample.specs.Decode.{decode};
 ghost use Rattle.metrics.specs.Sample.{sizeOf};
-ghost use Rattle.metrics.specs.Private.Sample.{arrivalAt, FileLayout, HasRecord};
+ghost use Rattle.metrics.specs.Records.{arrivalAt, FileLayout, HasRecord};
 use rfc4737::Arrival;
 use sample::Layout;
 

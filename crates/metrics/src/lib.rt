@@ -7,6 +7,7 @@ ghost use mathlib.Core.Path.{_≡_};
 ghost use Prim.Native.Nat.{_≤_};
 ghost use lib.ListN.{length};
 ghost use Rattle.rfc4737.specs.Cases.{CasesHold};
+ghost use Rattle.rfc4737.specs.Reordered.{ReorderedHaveDiscontinuity, OffsetsBounded, FiguresBounded};
 ghost use Rattle.sample.specs.Decode.{decode};
 ghost use Rattle.metrics.specs.Figures.{recordAnswer, recordGap, sampleCounts, sampleTally, degreeCounts, sampleDegree, sampleRatios};
 ghost use Rattle.listing.specs.Example.{ExampleHolds};
@@ -114,6 +115,9 @@ pub struct SampleAgreement {
 pub fn answer(file: &[u8], asked: u32) -> RecordAnswer
     ensures { λ r. ⌜ r ≡ recordAnswer (decode (now (file .entry))) asked ⌝ }
     ensures cases { λ _. ⌜ CasesHold ⌝ }
+    ensures bounds { λ r. ⌜ FiguresBounded (r .answer) ⌝ }
+    ensures discontinuity { λ _. ⌜ ReorderedHaveDiscontinuity ⌝ }
+    ensures offsets { λ _. ⌜ OffsetsBounded ⌝ }
 {
     let y = layout(file);
     answer_of(file, y, asked)

@@ -1,7 +1,7 @@
 // One pass over a sample, in which each line of its listing is taken: put into lent memory, or compared with a text. The
 // first line that differs ends the pass.
 ghost use Rattle.sample.specs.Decode.{decode};
-ghost use Rattle.metrics.specs.Private.Sample.{FileLayout};
+ghost use Rattle.metrics.specs.Records.{FileLayout};
 ghost use Rattle.metrics.specs.Private.Taken.{LineRoom, Taken, PassedTo, PassEnded};
 ghost use Rattle.metrics.specs.Report.{sampleText};
 use crate::engine::advance;

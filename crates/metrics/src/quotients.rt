@@ -1,7 +1,7 @@
 // Ratios of counts: both made f64 and divided once, undefined over 0.
 ghost use mathlib.Core.Path.{_≡_};
-ghost use Rattle.rfc4737.specs.Ratios.{quotient, ratioOf};
-ghost use Rattle.metrics.specs.Private.Steps.{ratiosBy};
+ghost use Rattle.rfc4737.specs.Ratios.{quotient};
+ghost use Rattle.metrics.specs.Private.Steps.{ratioBy, ratiosBy};
 use rfc4737::Ratio;
 use rfc4737::RatioFigures;
 use rfc4737::Ratios;
@@ -15,7 +15,7 @@ fn quotient(part: u32, whole: u32) -> f64
 
 // The ratio of two counts.
 pub(crate) fn ratio_of(part: u32, whole: u32) -> Ratio
-    ensures { λ r. ⌜ r ≡ ratioOf part whole ⌝ }
+    ensures { λ r. ⌜ r ≡ ratioBy part whole ⌝ }
 {
     if whole == 0 {
         return Ratio::Undefined;

@@ -1,11 +1,13 @@
 // The listing of a sample, in lent memory.
 ghost use mathlib.Core.Path.{_≡_};
+ghost use mathlib.Core.List.{[], _∷_};
 ghost use Prim.Native.Nat.{_≤_};
+ghost use lib.Dec.{ltb};
 ghost use lib.ListN.{length};
 ghost use Rattle.octets.specs.Memory.{over};
+ghost use Rattle.rfc4737.specs.Refusals.{inCase, firstOf, outputShort};
 ghost use Rattle.sample.specs.Decode.{decode, decodedRefusal};
-ghost use Rattle.sample.specs.Output.{outputRefusal};
-ghost use Rattle.metrics.specs.Private.Sample.{FileLayout};
+ghost use Rattle.metrics.specs.Records.{FileLayout};
 ghost use Rattle.metrics.specs.Report.{sampleText};
 use crate::pass::take_all;
 use rfc4737::refusal::NONE;
@@ -27,7 +29,8 @@ pub(crate) fn write_listing(file: &[u8], y: Layout, out: &mut [u8]) -> u32
 // else all are, with no memory to stand in.
 pub(crate) fn listing_refusal(file: &[u8], y: Layout, room: usize) -> u32
     requires { ⌜ FileLayout (decode (now file)) y ⌝ }
-    ensures { λ r. ⌜ r ≡ outputRefusal (decodedRefusal (decode (now (file .entry)))) (sampleText (decode (now (file .entry)))) room ⌝ }
+    ensures { λ r. ⌜ r ≡ firstOf (decodedRefusal (decode (now (file .entry)))
+        ∷ inCase (ltb room (length (sampleText (decode (now (file .entry)))))) outputShort ∷ []) ⌝ }
 {
     if y.refusal != NONE {
         return y.refusal;

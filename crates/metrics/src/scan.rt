@@ -8,7 +8,7 @@ ghost use Rattle.rfc4737.specs.Extent.{byteOffset, largestN};
 ghost use Rattle.rfc4737.specs.Judge.{sentMost};
 ghost use Rattle.sample.specs.Decode.{decode};
 ghost use Rattle.metrics.specs.Sample.{sizeOf};
-ghost use Rattle.metrics.specs.Private.Sample.{FileLayout};
+ghost use Rattle.metrics.specs.Records.{FileLayout};
 ghost use Rattle.metrics.specs.Private.Tables.{NumberTable, Packets, Links};
 use crate::input;
 use crate::tables::FIRSTS;

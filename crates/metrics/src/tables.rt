@@ -5,7 +5,7 @@
 ghost use mathlib.Core.Path.{_≡_};
 ghost use Prim.Native.Nat.{_≤_};
 ghost use lib.ListN.{length};
-ghost use Rattle.metrics.specs.Private.Sample.{numberPlaces};
+ghost use Rattle.metrics.specs.Records.{numberPlaces};
 ghost use Rattle.metrics.specs.Private.Tables.{Filled, NextRecord, NotedRecord};
 use rfc4737::judge::SENT_MOST;
 

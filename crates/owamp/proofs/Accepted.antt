@@ -18,8 +18,7 @@ use Rattle.rfc4737.proofs.Lists.{snoc-ind, All, all-left, all-right}
 use Rattle.rfc4737.proofs.Due.{not-outside}
 use Rattle.rfc4737.proofs.Pairs.{arrivals-back}
 use Rattle.rfc4737.proofs.Judged.{fit-lists}
-use Rattle.sample.specs.Judge.{judgeLabel, judgeOctets}
-use Rattle.sample.specs.Calls.{sampleRefusal}
+use Rattle.sample.specs.Judge.{judgeLabel, judgeOctets, sampleRefusal}
 use Rattle.owamp.specs.Record.{recordsArrivals}
 use Rattle.owamp.specs.Order.{NotBefore, NotBack, insert, inTimeOrder}
 use Rattle.owamp.specs.Clock.{microseconds, smallest, since, fromSmallest}

@@ -16,7 +16,7 @@ use Rattle.octets.specs.Memory.{over}
 use Rattle.rfc4737.specs.declared.Arrival.{Arrival}
 use Rattle.rfc4737.specs.Refusals.{inCase, firstOf, sentOutside, manyArrivals, outputShort}
 use Rattle.rfc4737.specs.Judge.{numbersOf, timesOf, judgeSent, judgeArrivals, sentMost, arrivalsMost}
-use Rattle.sample.specs.Output.{unlessRefused}
+use Rattle.sample.specs.Output.{ifNone}
 use Rattle.owamp.specs.Record.{recordsArrivals}
 use Rattle.owamp.specs.Order.{inTimeOrder}
 use Rattle.owamp.specs.Clock.{fromSmallest}
@@ -52,16 +52,11 @@ none-refused k os e =
 module _ (k : ℕ) (os numbers times : List ℕ) where
   -- what is answered and left in the lists, by the refusal
   answered : {r : ℕ} (n : ℕ) {numbers′ times′ : List ℕ} → importRefusal k (length numbers) (length times) os ≡ r
-      → n ≡ length (unlessRefused r (numbersOf (importedArrivals os)))
-      → numbers′ ≡ over (unlessRefused r (numbersOf (importedArrivals os))) numbers
-      → times′ ≡ over (unlessRefused r (timesOf (importedArrivals os))) times
+      → n ≡ ifNone r (length (importedArrivals os)) 0
+      → numbers′ ≡ ifNone r (over (numbersOf (importedArrivals os)) numbers) numbers
+      → times′ ≡ ifNone r (over (timesOf (importedArrivals os)) times) times
       → RecordsImportedFrom k os numbers times (record { refusal = r; arrivals = n }) numbers′ times′
-  answered n e f g h = record {
-    refusal = sym e;
-    arrivals = f ∙ ap (λ (x : ℕ). length (unlessRefused x (numbersOf (importedArrivals os)))) (sym e);
-    filledNumbers = g ∙ ap (λ (x : ℕ). over (unlessRefused x (numbersOf (importedArrivals os))) numbers) (sym e);
-    filledTimes = h ∙ ap (λ (x : ℕ). over (unlessRefused x (timesOf (importedArrivals os))) times) (sym e);
-  }
+  answered n e f g h = record { refusal = sym e; arrivals = f; filledNumbers = g; filledTimes = h }
 
   -- the records or K are refused
   pub import-refused : (r : ℕ) → r ≡ recordsRefusal k os → (r ≡ 0 → ⊥) → RecordsImportedFrom k os numbers times (record { refusal = r; arrivals = 0 }) numbers times
@@ -93,7 +88,7 @@ module _ (k : ℕ) (os numbers times : List ℕ) where
       let l : List Arrival = inTimeOrder (recordsArrivals os) in
       let a : length (recordsArrivals os) ≤ length numbers = omega arith in
       let b : length (recordsArrivals os) ≤ length times = omega arith in
-      let m : length (numbersOf (fromSmallest l)) ≡ length (recordsArrivals os) = length-map (fromSmallest l) (λ (x : Arrival). x .number) ∙ smallest-length l ∙ order-length (recordsArrivals os) in
+      let m : length (fromSmallest l) ≡ length (recordsArrivals os) = smallest-length l ∙ order-length (recordsArrivals os) in
       answered n (simp (e, le-ltb _ _ a, le-ltb _ _ b)) (c ∙ sym m) (f ∙ ap (λ (x : List ℕ). over x numbers) (smallest-numbers l)) t
 
 -- where there are places for 4,096 arrivals, the refusal is that of K and the records

@@ -19,7 +19,7 @@ use Rattle.rfc4737.specs.declared.Arrival.{Arrival}
 use Rattle.rfc4737.specs.Refusals.{firstOf}
 use Rattle.rfc4737.specs.Judge.{numbersOf}
 use Rattle.sample.specs.Decode.{decode, sampleOf, decodedRefusal, layoutOf, accepted}
-use Rattle.sample.specs.Output.{unlessRefused}
+use Rattle.sample.specs.Output.{ifNone}
 use Rattle.owamp.specs.Record.{recordWidth, recordsArrivals}
 use Rattle.owamp.specs.Clock.{writtenSeconds, writtenFraction}
 use Rattle.owamp.specs.Judge.{judgeNumber, judgeNumbers, judgeSeconds}
@@ -123,8 +123,9 @@ read-again file o out out′ numbers times numbers′ times′ written read w z 
     let c : length (recordsArrivals rs) ≡ length l = ap length (arrivals-read k l (m .sentFits) j (p₂ .0)) ∙ length-map l stamped in
     let b : importRefusal k (length numbers) (length times) rs ≡ 0 = simp (a .0, c, le-ltb _ _ hn, le-ltb _ _ ht) in
     let x : read .refusal ≡ 0 = g .refusal ∙ b in
-    let f′ : unlessRefused (importRefusal k (length numbers) (length times) rs) (numbersOf (importedArrivals rs)) ≡ numbersOf l = ap (λ (x : ℕ). unlessRefused x (numbersOf (importedArrivals rs))) b ∙ a .1 in
-    let y : read .arrivals ≡ length l = g .arrivals ∙ ap length f′ ∙ length-map l (λ (x : Arrival). x .number) in (
+    let n : length (importedArrivals rs) ≡ length l =
+    sym (length-map (importedArrivals rs) (λ (x : Arrival). x .number)) ∙ ap length (a .1) ∙ length-map l (λ (x : Arrival). x .number) in
+    let y : read .arrivals ≡ length l = g .arrivals ∙ ap (λ (r : ℕ). ifNone r (length (importedArrivals rs)) 0) x ∙ n in (
       (λ v. record { refusal = x v; arrivals = y v }),
-      g .filledNumbers ∙ ap (λ (x : List ℕ). over x numbers) f′,
+      g .filledNumbers ∙ ap (λ (r : ℕ). ifNone r (over (numbersOf (importedArrivals rs)) numbers) numbers) x ∙ ap (λ (x : List ℕ). over x numbers) (a .1),
     )

@@ -11,7 +11,7 @@ use Rattle.rfc4737.specs.Judge.{numbersOf, timesOf}
 use Rattle.rfc4737.specs.Refusals.{inCase, firstOf, outputShort}
 use Rattle.sample.specs.Format.{itemOctets}
 use Rattle.sample.specs.Decode.{decode, sampleOf, decodedRefusal}
-use Rattle.sample.specs.Output.{unlessRefused, Output}
+use Rattle.sample.specs.Output.{ifNone, Output}
 use Rattle.sample.specs.declared.WriteAnswer.{WriteAnswer}
 use Rattle.owamp.specs.Record.{sequenceNumber, sendError, receiveError, sendTime, receiveSeconds, receiveFraction, ttl, fieldOctets, recordsArrivals}
 use Rattle.owamp.specs.Order.{inTimeOrder}
@@ -33,20 +33,13 @@ importRefusal k numbers times os =
     ∷ inCase (ltb numbers (length (recordsArrivals os)) || ltb times (length (recordsArrivals os))) outputShort
     ∷ [])
 
--- the numbers that are filled in where lists have so many places, or none with a refusal
-abbrev pub numbersInto : (k numbers times : ℕ) (os : List ℕ) → List ℕ
-numbersInto k numbers times os = unlessRefused (importRefusal k numbers times os) (numbersOf (importedArrivals os))
-
--- the times
-abbrev pub timesInto : (k numbers times : ℕ) (os : List ℕ) → List ℕ
-timesInto k numbers times os = unlessRefused (importRefusal k numbers times os) (timesOf (importedArrivals os))
-
--- the importer's answer, and the two lists after it: the arrivals' values from their start, all else as it was
+-- the importer's answer, and the two lists after it: the arrivals' values from their start, all else as it was; with a refusal 0, and
+-- the lists as they were
 pub record RecordsImportedFrom (k : ℕ) (os numbers times : List ℕ) (answer : RecordsImport) (numbers′ times′ : List ℕ) : Type 0 where
   pub refusal : answer .refusal ≡ importRefusal k (length numbers) (length times) os
-  pub arrivals : answer .arrivals ≡ length (numbersInto k (length numbers) (length times) os)
-  pub filledNumbers : numbers′ ≡ over (numbersInto k (length numbers) (length times) os) numbers
-  pub filledTimes : times′ ≡ over (timesInto k (length numbers) (length times) os) times
+  pub arrivals : answer .arrivals ≡ ifNone (answer .refusal) (length (importedArrivals os)) 0
+  pub filledNumbers : numbers′ ≡ ifNone (answer .refusal) (over (numbersOf (importedArrivals os)) numbers) numbers
+  pub filledTimes : times′ ≡ ifNone (answer .refusal) (over (timesOf (importedArrivals os)) times) times
 
 -- ---- the writer
 

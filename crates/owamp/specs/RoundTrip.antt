@@ -7,9 +7,8 @@ use lib.ListN.{length, take}
 use Rattle.octets.specs.Memory.{over}
 use Rattle.rfc4737.specs.Judge.{numbersOf, timesOf, refusalOfLists}
 use Rattle.rfc4737.specs.Refusals.{firstOf}
-use Rattle.sample.specs.Judge.{judgeLabel, judgeOctets}
+use Rattle.sample.specs.Judge.{judgeLabel, judgeOctets, sampleRefusal}
 use Rattle.sample.specs.Decode.{decode, sampleOf}
-use Rattle.sample.specs.Calls.{sampleRefusal}
 use Rattle.sample.specs.declared.WriteAnswer.{WriteAnswer}
 use Rattle.owamp.specs.Order.{NotBack}
 use Rattle.owamp.specs.Judge.{recordsRefusal}

@@ -38,9 +38,9 @@ use Rattle.receiver.specs.declared.ReceiverAnswer.the-variants.{Duplicat
 use Rattle.receiver.specs.declared.Outcome.{Outcome}
 use Rattle.receiver.specs.Limits.{windowPlaces}
 use Rattle.receiver.specs.Marks.{markAt, withMark}
-use Rattle.receiver.specs.Outcomes.{acceptedOutcome}
+use Rattle.receiver.specs.Outcomes.{acceptedOutcome, latenessFrom}
 use Rattle.receiver.specs.Kept.{Held, withJump, heldAfter}
-use Rattle.receiver.specs.Step.{stepRefusal, latenessFrom, reorderedOutcome, firstOutcome, lookedAt, outcomeOf, duplicateStream, inOrderStream, reorderedStream, inOrderState, reorderedState, notedState, stepWith}
+use Rattle.receiver.specs.Step.{stepRefusal, reorderedOutcome, firstOutcome, lookedAt, outcomeOf, duplicateStream, inOrderStream, reorderedStream, inOrderState, reorderedState, notedState, stepWith}
 use Rattle.receiver.specs.Account.{standsIn, accountRefusal, accountWith, jumpIn, answerIn, answersIn, isIn, inWindow, beyondFigures, inForm, outcomeIn}
 use Rattle.receiver.proofs.Window.{lastNumber}
 use Rattle.receiver.proofs.HeldJumps.{Holds}
@@ -158,18 +158,19 @@ pub search-window : (account : List Arrival) (ds ws : List FirstArrival) (a : Ar
 unfolding inWindow isIn
 search-window account ds ws a s = rw (s .is)
 
--- what the rule says of a reordered packet, over kept jumps and the last dropped number
-module _ (k : ℕ) (account : List Arrival) (a : Arrival) (ds ws : List FirstArrival) (sp : Split account ds ws) where
+-- what the rule says of a reordered packet, over a stream that has the account's L and the last dropped number
+module _ (k : ℕ) (account : List Arrival) (a : Arrival) (ds ws : List FirstArrival) (sp : Split account ds ws)
+    (s : Stream) (first : s .arrived ≡ length (firsts account)) (last : s .dropped ≡ lastNumber ds) where
   -- exact or not, d being the oldest kept jump of a greater number
   said-late : (d : FirstArrival) (t : Bool) → ltb (a .number) (lastNumber ds) ≡ not t
-      → reorderedOutcome ws (lastNumber ds) (length (firsts account) + 1) (a .number) (a .time) (some d) ≡ acceptedOutcome (lateForm ws account a t (some d))
+      → reorderedOutcome s ws a (some d) ≡ acceptedOutcome (lateForm ws account a t (some d))
   unfolding reorderedOutcome lateForm latenessFrom beyondFigures
-  said-late d true e = rw e
-  said-late d false e = rw e
+  said-late d true e = rw (first, last, e)
+  said-late d false e = rw (first, last, e)
 
   -- it is what the account says
   late-agrees : OfPackets k a → has (a .number) account ≡ false → a .number < nextExp (firsts account)
-      → reorderedOutcome ws (lastNumber ds) (length (firsts account) + 1) (a .number) (a .time) (firstAbove (a .number) ws)
+      → reorderedOutcome s ws a (firstAbove (a .number) ws)
       ≡ acceptedOutcome (inForm ws account a (answerIn account a))
   unfolding lateForm
   late-agrees n e g = go (ltb (a .number) (lastNumber ds)) refl
@@ -182,14 +183,14 @@ module _ (k : ℕ) (account : List Arrival) (a : Arrival) (ds ws : List FirstArr
 
       said : (d : FirstArrival) (t : Bool) → ltb (a .number) (lastNumber ds) ≡ not t → firstAbove (a .number) ws ≡ some d
           → lateForm ws account a t (some d) ≡ inForm ws account a (answerIn account a)
-          → reorderedOutcome ws (lastNumber ds) (length (firsts account) + 1) (a .number) (a .time) (firstAbove (a .number) ws)
+          → reorderedOutcome s ws a (firstAbove (a .number) ws)
           ≡ acceptedOutcome (inForm ws account a (answerIn account a))
       said d t l f q =
-          ap (reorderedOutcome ws (lastNumber ds) (length (firsts account) + 1) (a .number) (a .time)) f
+          ap (reorderedOutcome s ws a) f
           ∙ said-late d t l ∙ ap acceptedOutcome q
 
       go : (t : Bool) → ltb (a .number) (lastNumber ds) ≡ t
-          → reorderedOutcome ws (lastNumber ds) (length (firsts account) + 1) (a .number) (a .time) (firstAbove (a .number) ws)
+          → reorderedOutcome s ws a (firstAbove (a .number) ws)
           ≡ acceptedOutcome (inForm ws account a (answerIn account a))
       go true t =
           let d = search .dropped (ltb-true _ _ t) in
@@ -309,7 +310,7 @@ module _ (k : ℕ) (low : 1 ≤ k) (high : k ≤ sentMost) (account : List Arriv
           → firstOutcome before (a .number) (a .time) ≡ acceptedOutcome noted
       order true t e = rw t (sym (ap (λ (b : Answer). acceptedOutcome (inForm ws account a b)) (answer-in-order account a e (leb-true _ _ t))))
       order false t e =
-          rw (t, o .kept, o .dropped) (late-agrees k account a ds ws sp (n .numbered) e (leb-false _ _ t))
+          rw (t, o .kept) (late-agrees k account a ds ws sp (before .stream) refl (o .dropped) (n .numbered) e (leb-false _ _ t))
 
       go : (t : Bool) → has (a .number) account ≡ t → lookedAt before (a .number) (a .time) ≡ acceptedOutcome noted
       go true e =

@@ -34,10 +34,10 @@ use Rattle.receiver.specs.declared.Receiver.{Receiver}
 use Rattle.receiver.specs.declared.Outcome.{Outcome}
 use Rattle.receiver.specs.declared.StepAnswer.{StepAnswer}
 use Rattle.receiver.specs.Limits.{windowPlaces}
-use Rattle.receiver.specs.Outcomes.{refusedOutcome, acceptedOutcome}
-use Rattle.receiver.specs.Kept.{Held, hasRoom, withJump}
+use Rattle.receiver.specs.Outcomes.{refusedOutcome, acceptedOutcome, latenessFrom}
+use Rattle.receiver.specs.Kept.{Held, withJump}
 use Rattle.receiver.specs.Step.{freshStream, madeFor, freshOf}
-use Rattle.receiver.specs.Account.{accountRefusal, accountWith, accountOf, jumpIn, answerIn, answersIn, windowIn, inWindow, beyondFigures, inForm, outcomeIn, accountOutcomes}
+use Rattle.receiver.specs.Account.{accountRefusal, accountWith, accountOf, jumpIn, answerIn, answersIn, windowIn, inWindow, beyondFigures, inForm, outcomeIn, accountOutcome, accountOutcomes}
 use Rattle.receiver.specs.Demand3.{fedTo, stateAfter, outcomeAfter, receiverOutcomes, Answered, Demand3}
 use Rattle.receiver.proofs.Window.{lastNumber}
 use Rattle.receiver.proofs.Accepted.{AccountLimits, accepted-arrival, account-limits}
@@ -118,7 +118,7 @@ module _ (account : List Arrival) (a : Arrival) (d : ReorderedFigures) (q : answ
   -- beyond the window its true extent is above the figure
   late-above : (ds ws : List FirstArrival) → Split account ds ws → 1 ≤ a .number → inWindow ws account (a .number) ≡ false
       → beyondFigures ws account a .extent < d .extent
-  unfolding beyondFigures extentFrom
+  unfolding beyondFigures latenessFrom extentFrom
   late-above ds ws sp low w = go (ltb (a .number) (lastNumber ds)) refl
     where
       search : WindowSearch account ds ws (a .number)
@@ -174,9 +174,9 @@ window-few account = simp length-drop (omega arith)
 
 -- what is held under one arrival more
 held-with : (k : ℕ) (account : List Arrival) (a : Arrival)
-    → foldl (withJump (hasRoom windowPlaces (heldIn account))) (heldIn account) (jumpIn k account a) ≡ heldIn (accountWith k account a)
+    → foldl (withJump (ltb (heldIn account .kept) windowPlaces)) (heldIn account) (jumpIn k account a) ≡ heldIn (accountWith k account a)
 held-with k account a =
-    jump-cases (λ (l : List FirstArrival). foldl (withJump (hasRoom windowPlaces (heldIn account))) (heldIn account) l ≡ heldFrom (jumps (firsts account) ++ l))
+    jump-cases (λ (l : List FirstArrival). foldl (withJump (ltb (heldIn account .kept) windowPlaces)) (heldIn account) l ≡ heldFrom (jumps (firsts account) ++ l))
     (rw append-nil) (λ p. sym (held-more (jumps (firsts account)) p)) k account a
     ∙ sym (ap heldFrom (jumps-with k account a))
 
@@ -188,7 +188,7 @@ module _ (k : ℕ) (low : 1 ≤ k) (high : k ≤ sentMost) where
   unfolding stateOf stateWith
   step-of account a h =
       step-agrees k low high account a h (droppedIn account) (windowIn account) (split-window account)
-      (heldIn account) (holds-window account) (window-few account) (hasRoom windowPlaces (heldIn account))
+      (heldIn account) (holds-window account) (window-few account) (ltb (heldIn account .kept) windowPlaces)
       ∙ ap (λ (h : Held). record { outcome = outcomeIn (windowIn account) k account a; state = stateWith k (accountWith k account a) h })
       (held-with k account a)
 
@@ -216,7 +216,7 @@ module _ (k : ℕ) (low : 1 ≤ k) (high : k ≤ sentMost) where
   next-after fed = ap (λ (r : Receiver). r .stream .next) (state-after fed)
 
   -- and each arrival is answered as the account says
-  outcome-after : (earlier : List Arrival) (a : Arrival) → outcomeAfter k earlier a ≡ outcomeIn (windowIn (accountOf k earlier)) k (accountOf k earlier) a
+  outcome-after : (earlier : List Arrival) (a : Arrival) → outcomeAfter k earlier a ≡ accountOutcome k earlier a
   unfolding outcomeAfter
   outcome-after earlier a =
       ap (λ (r : Receiver). fedTo r a .outcome) (state-after earlier)
@@ -234,7 +234,7 @@ module _ (k : ℕ) (low : 1 ≤ k) (high : k ≤ sentMost) where
       let accepted-eq = accepted-count account in
       let first-eq = arrived-in account in
       record {
-        outcomes = each-same (outcomeAfter k) (λ earlier a. outcomeIn (windowIn (accountOf k earlier)) k (accountOf k earlier) a) outcome-after fed;
+        outcomes = each-same (outcomeAfter k) (accountOutcome k) outcome-after fed;
         fit =
             count-each (λ (s : Outcome). eqb (s .refusal) stateUnfit) (outcomeAfter k)
             (λ earlier a. rw outcome-after (outcome-fit (windowIn (accountOf k earlier)) k (accountOf k earlier) a)) fed;

@@ -21,10 +21,10 @@ use Rattle.rfc4737.specs.Moved.{movedOne, moved}
 use Rattle.rfc4737.specs.Judge.{judgeOne}
 use Rattle.rfc4737.proofs.Lists.{fold-map, drop-map, each-map}
 use Rattle.rfc4737.proofs.Moved.{early-greatest, firsts-moved, movedPlace, jumps-moved, discontinuity-moved, extent-moved, late-moved, answer-moved}
-use Rattle.receiver.specs.declared.Outcome.{Outcome}
 use Rattle.receiver.specs.Limits.{windowPlaces}
+use Rattle.receiver.specs.Outcomes.{latenessFrom}
 use Rattle.receiver.specs.Step.{freshOf}
-use Rattle.receiver.specs.Account.{accountRefusal, accountWith, accountOf, answerIn, windowIn, standsIn, isIn, inWindow, beyondFigures, inForm, outcomeIn, accountOutcomes}
+use Rattle.receiver.specs.Account.{accountRefusal, accountWith, accountOf, answerIn, windowIn, standsIn, isIn, inWindow, beyondFigures, inForm, outcomeIn, accountOutcome, accountOutcomes}
 use Rattle.receiver.specs.Moved.{MovedAnswers}
 use Rattle.receiver.proofs.Demand3.{demand3-fresh}
 
@@ -99,7 +99,7 @@ module _ (c : ℕ) where
 
     -- the figures beyond the window
     beyond-moved : beyondFigures (movedPlaces kept) (moved c account) (movedOne c a) ≡ beyondFigures kept account a
-    unfolding beyondFigures
+    unfolding beyondFigures latenessFrom
     beyond-moved =
         rw (firsts-moved c account, length-map (firsts account) (movedOne c), head-moved kept, extent-moved c (length (firsts account) + 1) (head? kept), late-moved c (a .time) (head? kept))
 
@@ -119,12 +119,9 @@ module _ (c : ℕ) where
   -- of each arrival fed
   outcomes-moved : (k : ℕ) (fed : List Arrival) → accountOutcomes k (moved c fed) ≡ accountOutcomes k fed
   unfolding accountOutcomes
-  outcomes-moved k fed = each-map (movedOne c) said said same fed
+  outcomes-moved k fed = each-map (movedOne c) (accountOutcome k) (accountOutcome k) same fed
     where
-      said : List Arrival → Arrival → Outcome
-      said earlier a = outcomeIn (windowIn (accountOf k earlier)) k (accountOf k earlier) a
-
-      same : (earlier : List Arrival) (a : Arrival) → said (moved c earlier) (movedOne c a) ≡ said earlier a
+      same : (earlier : List Arrival) (a : Arrival) → accountOutcome k (moved c earlier) (movedOne c a) ≡ accountOutcome k earlier a
       same earlier a =
           ap (λ (account : List Arrival). outcomeIn (windowIn account) k account (movedOne c a)) (account-moved k earlier)
           ∙ ap (λ (kept : List FirstArrival). outcomeIn kept k (moved c (accountOf k earlier)) (movedOne c a)) (window-moved (accountOf k earlier))

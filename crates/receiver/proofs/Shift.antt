@@ -10,7 +10,7 @@ use native.Mathlib.Numerals.{add-one}
 use native.Mathlib.Omega.{arith}
 use lib.ListN.{length, take, drop, getD, set, length-drop}
 use lib.Seq.{take-nil, take-suc, drop-cons, length-take-le, set-at, getD-append-add, getD-drop, append-snoc}
-use Rattle.receiver.specs.Kept.{pushed}
+use Rattle.receiver.specs.Private.{pushed}
 
 -- the first i places hold what stood after each
 abbrev pub shifted : ℕ → List ℕ → List ℕ

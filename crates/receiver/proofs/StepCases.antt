@@ -1,11 +1,11 @@
 -- What is said of an arrival, case by case, and the step that it makes: in each case the tests of the definition are known, so that it
 -- computes. Where no refusal is due, each of those in the list is not, so the state is fit and the number lies in 1 to K
 -- (`accepted-facts`); and then a kept place is one of the 64, with a position of at most the packet's (`after-place`).
--- Here r is the state, h what it holds of the jumps, o what is said of the arrival, p the oldest kept jump of a greater number, q the
+-- Here r is the state, s its numbers, h what it holds of the jumps, a the arrival, o what is said of it, p the oldest kept jump of a greater number, q the
 -- oldest kept one, l the extent and late time from a jump. Assumes nothing.
 use Prim.Native.Nat.{ℕ, zero, suc, _+_, _-_, _<_, _≤_}
 use mathlib.Core.Bool.{Bool, true, false, not}
-use mathlib.Core.List.{[], _∷_, head?}
+use mathlib.Core.List.{List, [], _∷_, head?}
 use mathlib.Core.Option.{none, some}
 use mathlib.Core.Path.{_≡_, refl, sym, ap, _∙_}
 use native.Mathlib.Omega.{arith}
@@ -19,39 +19,45 @@ use Rattle.rfc4737.specs.Refusals.{inCase, stateUnfit, stateFull}
 use Rattle.rfc4737.specs.Judge.{arrivalsMost, judgeOne}
 use Rattle.rfc4737.proofs.Due.{first-none, case-none}
 use Rattle.rfc4737.proofs.Judged.{one-split}
+use Rattle.receiver.specs.declared.Stream.{Stream}
+use Rattle.receiver.specs.declared.Places.{Places}
 use Rattle.receiver.specs.declared.Receiver.{Receiver}
 use Rattle.receiver.specs.declared.Lateness.{Lateness}
 use Rattle.receiver.specs.declared.ReceiverAnswer.the-variants.{Duplicate, InOrder, Exact, Beyond}
 use Rattle.receiver.specs.declared.Outcome.{Outcome}
 use Rattle.receiver.specs.declared.StepAnswer.{StepAnswer}
 use Rattle.receiver.specs.Limits.{windowPlaces}
-use Rattle.receiver.specs.Outcomes.{refusedOutcome, acceptedOutcome}
+use Rattle.receiver.specs.Outcomes.{refusedOutcome, acceptedOutcome, latenessFrom}
 use Rattle.receiver.specs.Marks.{markAt}
 use Rattle.receiver.specs.Kept.{placeAt, placesFrom, Held, heldOf, keptOf}
 use Rattle.receiver.specs.Fit.{fit, jumpFit}
-use Rattle.receiver.specs.Step.{stepRefusal, latenessFrom, reorderedOutcome, lateOutcome, firstOutcome, lookedAt, outcomeOf, notedState, stepWith}
+use Rattle.receiver.specs.Step.{stepRefusal, reorderedOutcome, lateOutcome, firstOutcome, lookedAt, outcomeOf, notedState, stepWith}
 use Rattle.receiver.specs.Private.{Unrefused}
 use Rattle.receiver.proofs.Fits.{and-true, stream-facts, places-facts, jump-facts}
 use Rattle.receiver.proofs.Search.{all-at}
 
 -- ---- a reordered packet
 
-module _ (h : Held) (position number time : ℕ) where
+module _ (s : Stream) (places : Places) (a : Arrival) where
+  -- the kept jumps
+  abbrev kept : List FirstArrival
+  kept = keptOf (heldOf s places)
+
   -- with no greater kept jump
-  pub late-none : firstAbove number (keptOf h) ≡ none → refusedOutcome stateUnfit ≡ lateOutcome h position number time
+  pub late-none : firstAbove (a .number) kept ≡ none → refusedOutcome stateUnfit ≡ lateOutcome s places a
   unfolding reorderedOutcome
   late-none e = rw e
 
   -- beyond the window
-  pub late-beyond : (p q : FirstArrival) (l : Lateness) → firstAbove number (keptOf h) ≡ some p → number < h .dropped
-      → head? (keptOf h) ≡ some q → l ≡ latenessFrom position time (some q)
-      → acceptedOutcome (Beyond l) ≡ lateOutcome h position number time
+  pub late-beyond : (p q : FirstArrival) (l : Lateness) → firstAbove (a .number) kept ≡ some p → a .number < s .dropped
+      → head? kept ≡ some q → l ≡ latenessFrom (s .arrived + 1) (a .time) (some q)
+      → acceptedOutcome (Beyond l) ≡ lateOutcome s places a
   unfolding reorderedOutcome
   late-beyond p q l e d o k = simp (e, lt-ltb _ _ d, o, k)
 
   -- within it
-  pub late-exact : (p : FirstArrival) (l : Lateness) → firstAbove number (keptOf h) ≡ some p → h .dropped ≤ number
-      → l ≡ latenessFrom position time (some p) → acceptedOutcome (Exact l) ≡ lateOutcome h position number time
+  pub late-exact : (p : FirstArrival) (l : Lateness) → firstAbove (a .number) kept ≡ some p → s .dropped ≤ a .number
+      → l ≡ latenessFrom (s .arrived + 1) (a .time) (some p) → acceptedOutcome (Exact l) ≡ lateOutcome s places a
   unfolding reorderedOutcome
   late-exact p l e d k = simp (e, le-ltb _ _ d, k)
 
@@ -112,7 +118,7 @@ module _ (r : Receiver) (number time : ℕ) where
     outcome-in-order m h = simp (go, m, le-leb _ _ h)
 
     pub outcome-late : (o : Outcome) → markAt (r .marks) number ≡ false → number < r .stream .next
-        → o ≡ lateOutcome (heldOf (r .stream) (r .places)) (r .stream .arrived + 1) number time → o ≡ outcomeOf r number time
+        → o ≡ lateOutcome (r .stream) (r .places) (record { number = number; time = time }) → o ≡ outcomeOf r number time
     unfolding outcomeOf lookedAt firstOutcome
     outcome-late o m h e = e ∙ simp (go, m, lt-leb _ _ h)
 

@@ -12,7 +12,7 @@ use Rattle.rfc4737.specs.declared.Answer.{Answer}
 use Rattle.rfc4737.specs.declared.Answer.the-variants as answer
 use Rattle.rfc4737.specs.Arrivals.{has, firsts, each}
 use Rattle.rfc4737.specs.Order.{FirstArrival, jumpAfter, jumps}
-use Rattle.rfc4737.specs.Extent.{discontinuity, extentFrom, lateFrom}
+use Rattle.rfc4737.specs.Extent.{discontinuity}
 use Rattle.rfc4737.specs.Answer.{answerTo, answers}
 use Rattle.rfc4737.specs.Times.{greatestTime}
 use Rattle.rfc4737.specs.Refusals.{inCase, firstOf, stateFull}
@@ -22,7 +22,7 @@ use Rattle.receiver.specs.declared.ReceiverAnswer.{ReceiverAnswer}
 use Rattle.receiver.specs.declared.ReceiverAnswer.the-variants.{Duplicate, InOrder, Exact, Beyond}
 use Rattle.receiver.specs.declared.Outcome.{Outcome}
 use Rattle.receiver.specs.Limits.{windowPlaces}
-use Rattle.receiver.specs.Outcomes.{refusedOutcome, acceptedOutcome}
+use Rattle.receiver.specs.Outcomes.{refusedOutcome, acceptedOutcome, latenessFrom}
 
 -- the refusal of an arrival, 0 for none: 11 if the account has 4,096; else 6 in its case; else 7 in its case, judged against
 -- the greatest time of the account, 0 at first
@@ -76,11 +76,7 @@ trueFigures d = record { extent = d .extent; late = d .late }
 -- the figures beyond a window: L, this arrival counted, less the position of the window's oldest jump, and the time from
 -- that jump's arrival to this one, after or before it
 unfoldable pub beyondFigures : List FirstArrival → List Arrival → Arrival → Lateness
-beyondFigures kept account a =
-    record {
-      extent = extentFrom (length (firsts account) + 1) (head? kept);
-      late = lateFrom (a .time) (head? kept);
-    }
+beyondFigures kept account a = latenessFrom (length (firsts account) + 1) (a .time) (head? kept)
 
 -- an answer in the receiver's forms and with their fields only. A reordered packet is exact exactly if its discontinuity is
 -- in the window, which is given; otherwise it is beyond it
@@ -96,7 +92,12 @@ outcomeIn kept k account a =
     cond (eqb (accountRefusal k account a) 0) (acceptedOutcome (inForm kept account a (answerIn account a)))
     (refusedOutcome (accountRefusal k account a))
 
--- what the account says of each arrival fed, after those fed before it
+-- what the account says of an arrival, after those fed before it
+abbrev pub accountOutcome : ℕ → List Arrival → Arrival → Outcome
+accountOutcome k earlier a =
+    let account = accountOf k earlier in
+    outcomeIn (windowIn account) k account a
+
+-- of each arrival fed
 unfoldable pub accountOutcomes : ℕ → List Arrival → List Outcome
-accountOutcomes k fed =
-    each (λ (earlier : List Arrival) (a : Arrival). outcomeIn (windowIn (accountOf k earlier)) k (accountOf k earlier) a) fed
+accountOutcomes k fed = each (accountOutcome k) fed

@@ -1,9 +1,10 @@
 -- The kept jumps: those that stand in the places, and what is held of them under a new one. Assumes nothing.
-use Prim.Native.Nat.{ℕ, zero, suc, _+_}
+use Prim.Native.Nat.{ℕ, zero, suc}
 use mathlib.Core.Bool.{Bool, cond}
-use mathlib.Core.List.{List, [], _∷_, _++_}
-use lib.Dec.{eqb, ltb}
-use lib.ListN.{getD, set, take, drop}
+use mathlib.Core.List.{List, [], _∷_, _++_, map}
+use lib.Dec.{eqb}
+use lib.ListN.{length, getD, drop}
+use Rattle.octets.specs.Memory.{over}
 use Rattle.rfc4737.specs.Order.{FirstArrival}
 use Rattle.receiver.specs.declared.Stream.{Stream}
 use Rattle.receiver.specs.declared.Places.{Places}
@@ -36,28 +37,29 @@ heldOf s places = record { kept = s .kept; dropped = s .dropped; places = places
 unfoldable pub keptOf : Held → List FirstArrival
 keptOf h = placesFrom (h .places) 0 (h .kept)
 
--- values under a new one: it stands after the n kept ones; where there is no room for it, these move one place
-unfoldable pub pushed : Bool → ℕ → List ℕ → ℕ → List ℕ
-pushed room n l v = cond room (set l n v) (drop 1 (take n l) ++ (v ∷ drop n l))
+-- the jumps kept under a new one p: it goes after the kept ones; where there is no room for it, the oldest is dropped
+unfoldable pub keptWith : Bool → List FirstArrival → FirstArrival → List FirstArrival
+keptWith room kept p = cond room kept (drop 1 kept) ++ (p ∷ [])
 
--- what is held under a new jump p: it goes after the kept ones; where there is no room for it, the oldest is dropped and the
--- others move one place. The other places are not written
-unfoldable pub withJump : Bool → Held → FirstArrival → Held
-withJump room h p =
+-- the places with these jumps in them, from the first place on; the places after them are not written
+unfoldable pub laid : List FirstArrival → Places → Places
+laid kept places =
     record {
-      kept = cond room (h .kept + 1) (h .kept);
-      dropped = cond room (h .dropped) (getD (h .places .numbers) 0 0);
-      places =
-          record {
-            positions = pushed room (h .kept) (h .places .positions) (p .position);
-            numbers = pushed room (h .kept) (h .places .numbers) (p .number);
-            times = pushed room (h .kept) (h .places .times) (p .time);
-          };
+      positions = over (map (λ (p : FirstArrival). p .position) kept) (places .positions);
+      numbers = over (map (λ (p : FirstArrival). p .number) kept) (places .numbers);
+      times = over (map (λ (p : FirstArrival). p .time) kept) (places .times);
     }
 
--- where at most so many jumps are kept, there is room for a new one while fewer are
-abbrev pub hasRoom : ℕ → Held → Bool
-hasRoom most h = ltb (h .kept) most
+-- what is held under a new jump p: the jumps kept then, laid in the places, and, where there is no room for p, the number of the
+-- oldest one, which is dropped
+unfoldable pub withJump : Bool → Held → FirstArrival → Held
+withJump room h p =
+    let kept = keptWith room (keptOf h) p in
+    record {
+      kept = length kept;
+      dropped = cond room (h .dropped) (placeAt (h .places) 0 .number);
+      places = laid kept (h .places);
+    }
 
 -- what is held after an in-order arrival p with a jump size: it is a jump if this is not 0
 unfoldable pub heldAfter : Bool → Held → ℕ → FirstArrival → Held

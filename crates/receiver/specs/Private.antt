@@ -1,11 +1,11 @@
 -- What private functions say to each other, which no public contract reaches: a fit state as facts, a receiver in parts, and what the
 -- functions of a step know and find. Assumes nothing.
 use Prim.Native.Nat.{ℕ, zero, suc, _+_, _<_, _≤_}
-use mathlib.Core.Bool.{Bool, true, false, _&&_}
-use mathlib.Core.List.{List, map}
+use mathlib.Core.Bool.{Bool, true, false, cond, _&&_}
+use mathlib.Core.List.{List, _∷_, _++_, map}
 use mathlib.Core.Path.{_≡_}
 use lib.Dec.{ltb}
-use lib.ListN.{length, getD}
+use lib.ListN.{length, getD, set, take, drop}
 use Rattle.rfc4737.specs.Order.{FirstArrival}
 use Rattle.rfc4737.specs.Judge.{sentMost, arrivalsMost}
 use Rattle.rfc4737.specs.Runs.{squaresMost}
@@ -86,3 +86,7 @@ pub record FirstAbove (numbers : List ℕ) (kept s place : ℕ) : Type 0 where
 unfoldable pub firstPass : (ℕ → Bool) → List ℕ → ℕ → Bool
 firstPass t l zero = true
 firstPass t l (suc n) = firstPass t l n && t (getD l n 0)
+
+-- values of n kept jumps under a new one: it stands after them; where there is no room for it, these move one place
+unfoldable pub pushed : Bool → ℕ → List ℕ → ℕ → List ℕ
+pushed room n l v = cond room (set l n v) (drop 1 (take n l) ++ (v ∷ drop n l))

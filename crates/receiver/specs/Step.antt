@@ -6,24 +6,25 @@ use mathlib.Core.List.{List, [], _∷_, head?}
 use mathlib.Core.Option.{Option, none, some}
 use lib.Dec.{leb, ltb, eqb}
 use lib.ListN.{replicate}
+use Rattle.rfc4737.specs.declared.Arrival.{Arrival}
 use Rattle.rfc4737.specs.Order.{FirstArrival, nextAfter}
-use Rattle.rfc4737.specs.Extent.{firstAbove, extentFrom, lateFrom}
+use Rattle.rfc4737.specs.Extent.{firstAbove}
 use Rattle.rfc4737.specs.Runs.{lengthened, ended}
 use Rattle.rfc4737.specs.Times.{nextReference}
 use Rattle.rfc4737.specs.Refusals.{outside, inCase, firstOf, stateUnfit, stateFull}
 use Rattle.rfc4737.specs.Judge.{sentMost, arrivalsMost, judgeSent, judgeOne}
 use Rattle.receiver.specs.declared.Stream.{Stream}
+use Rattle.receiver.specs.declared.Places.{Places}
 use Rattle.receiver.specs.declared.Receiver.{Receiver}
-use Rattle.receiver.specs.declared.Lateness.{Lateness}
 use Rattle.receiver.specs.declared.ReceiverAnswer.{ReceiverAnswer}
 use Rattle.receiver.specs.declared.ReceiverAnswer.the-variants.{Duplicate, InOrder, Exact, Beyond}
 use Rattle.receiver.specs.declared.Outcome.{Outcome}
 use Rattle.receiver.specs.declared.StepAnswer.{StepAnswer}
 use Rattle.receiver.specs.declared.FreshAnswer.{FreshAnswer}
 use Rattle.receiver.specs.Limits.{windowPlaces}
-use Rattle.receiver.specs.Outcomes.{refusedOutcome, acceptedOutcome}
+use Rattle.receiver.specs.Outcomes.{refusedOutcome, acceptedOutcome, latenessFrom}
 use Rattle.receiver.specs.Marks.{markWords, markAt, withMark}
-use Rattle.receiver.specs.Kept.{Held, heldOf, keptOf, hasRoom, heldAfter}
+use Rattle.receiver.specs.Kept.{Held, heldOf, keptOf, heldAfter}
 use Rattle.receiver.specs.Fit.{fit}
 
 -- fresh, a stream has the K it is made for, NextExp 1 and all else 0
@@ -65,29 +66,27 @@ stepRefusal r number time =
     ∷ judgeOne (r .stream .sent) (r .stream .greatest) (record { number = number; time = time })
     ∷ [])
 
--- extent and late time of the packet that arrives at a position and a time, from a jump
-unfoldable pub latenessFrom : ℕ → ℕ → Option FirstArrival → Lateness
-latenessFrom position time d = record { extent = extentFrom position d; late = lateFrom time d }
-
--- what is said of a reordered packet that arrives at a position and a time, over the kept jumps and the number of the last
--- one dropped, d being the oldest kept jump of a greater number. With none it is refused. It is beyond the window if its
--- number is below the dropped one, and the oldest kept jump gives the figures; if not, d gives the exact figures
-unfoldable pub reorderedOutcome : List FirstArrival → ℕ → ℕ → ℕ → ℕ → Option FirstArrival → Outcome
-reorderedOutcome kept dropped position number time none = refusedOutcome stateUnfit
-reorderedOutcome kept dropped position number time (some d) =
+-- what is said of an arrival a that is a reordered packet, over the stream's numbers and its kept jumps, d being the oldest kept
+-- jump of a greater number. With none it is refused. It is beyond the window if its number is below the last dropped one, and the
+-- oldest kept jump gives the figures; if not, d gives the exact figures
+unfoldable pub reorderedOutcome : Stream → List FirstArrival → Arrival → Option FirstArrival → Outcome
+reorderedOutcome s kept a none = refusedOutcome stateUnfit
+reorderedOutcome s kept a (some d) =
     acceptedOutcome
-    (cond (ltb number dropped) (Beyond (latenessFrom position time (head? kept))) (Exact (latenessFrom position time (some d))))
+    (cond (ltb (a .number) (s .dropped)) (Beyond (latenessFrom (s .arrived + 1) (a .time) (head? kept)))
+    (Exact (latenessFrom (s .arrived + 1) (a .time) (some d))))
 
--- what is said of a reordered packet over what is held of the jumps
-abbrev pub lateOutcome : Held → ℕ → ℕ → ℕ → Outcome
-lateOutcome h position number time =
-    reorderedOutcome (keptOf h) (h .dropped) position number time (firstAbove number (keptOf h))
+-- the same over the jumps kept in some places
+abbrev pub lateOutcome : Stream → Places → Arrival → Outcome
+lateOutcome s places a =
+    let kept = keptOf (heldOf s places) in
+    reorderedOutcome s kept a (firstAbove (a .number) kept)
 
 -- what is said of a first arrival: in order, with the jump size, if its number is at least NextExp, else reordered
 unfoldable pub firstOutcome : Receiver → ℕ → ℕ → Outcome
 firstOutcome r number time =
     cond (leb (r .stream .next) number) (acceptedOutcome (InOrder (number - r .stream .next)))
-    (lateOutcome (heldOf (r .stream) (r .places)) (r .stream .arrived + 1) number time)
+    (lateOutcome (r .stream) (r .places) (record { number = number; time = time }))
 
 -- an arrival that meets no refusal so far: a duplicate if the packet is marked, else a first arrival
 unfoldable pub lookedAt : Receiver → ℕ → ℕ → Outcome
@@ -178,10 +177,10 @@ stepWith room r number time =
     let o = outcomeOf r number time in
     record { outcome = o; state = cond (eqb (o .refusal) 0) (notedState room r number time (o .noted)) r }
 
--- the step of a receiver that keeps at most so many jumps: at least 1, and at most 64
-abbrev pub stepWithin : ℕ → Receiver → ℕ → ℕ → StepAnswer
-stepWithin most r number time = stepWith (hasRoom (max 1 (min most windowPlaces)) (heldOf (r .stream) (r .places))) r number time
-
--- the receiver's step, for every state and arrival: it keeps at most 64 jumps
+-- the receiver's step, for every state and arrival: there is room for a new jump while fewer than 64 are kept
 abbrev pub stepOf : Receiver → ℕ → ℕ → StepAnswer
-stepOf r number time = stepWithin windowPlaces r number time
+stepOf r number time = stepWith (ltb (r .stream .kept) windowPlaces) r number time
+
+-- the same where at most so many are kept: at least 1, and at most 64
+abbrev pub stepWithin : ℕ → Receiver → ℕ → ℕ → StepAnswer
+stepWithin most r number time = stepWith (ltb (r .stream .kept) (max 1 (min most windowPlaces))) r number time

@@ -1,5 +1,5 @@
--- The window cases: K = 130, even numbers from 2 on, then one late packet; record r arrives at 10 times r. Each case has what
--- is said of the late packet, by the receiver and over the account, and its answer over the account, with the true figures.
+-- The window cases: K = 130, every size 100, even numbers from 2 on, then one late packet; record r arrives at 10 times r. Each case
+-- has what is said of the late packet, by the receiver and over the account, and its answer over the account, with the true figures.
 -- Assumes nothing.
 use Prim.Native.Nat.{ℕ, zero, suc, _+_, _*_}
 use mathlib.Core.Path.{_≡_}
@@ -8,11 +8,12 @@ use Rattle.rfc4737.specs.declared.Arrival.{Arrival}
 use Rattle.rfc4737.specs.declared.Answer.{Answer}
 use Rattle.rfc4737.specs.declared.Answer.the-variants as answer
 use Rattle.rfc4737.specs.declared.LateTime.the-variants.{After}
+use Rattle.rfc4737.specs.Answer.{answerTo}
 use Rattle.receiver.specs.declared.ReceiverAnswer.{ReceiverAnswer}
 use Rattle.receiver.specs.declared.ReceiverAnswer.the-variants.{Exact, Beyond}
 use Rattle.receiver.specs.declared.Outcome.{Outcome}
 use Rattle.receiver.specs.Outcomes.{acceptedOutcome}
-use Rattle.receiver.specs.Account.{accountOf, answerIn, windowIn, outcomeIn}
+use Rattle.receiver.specs.Account.{accountOf, accountOutcome}
 use Rattle.receiver.specs.Demand3.{outcomeAfter}
 
 -- record r of a packet
@@ -44,8 +45,8 @@ computed c =
     let a = recordOfPacket (c .evens + 1) (c .late) in
     record {
       receiver = outcomeAfter 130 earlier a;
-      account = outcomeIn (windowIn (accountOf 130 earlier)) 130 (accountOf 130 earlier) a;
-      answer = answerIn (accountOf 130 earlier) a;
+      account = accountOutcome 130 earlier a;
+      answer = answerTo (λ (number : ℕ). 100) (accountOf 130 earlier) a;
     }
 
 -- what is to come of it
@@ -64,7 +65,7 @@ case1 =
       evens = 64;
       late = 1;
       noted = Exact (record { extent = 64; late = After 640 });
-      truth = answer.Reordered (record { position = 65; extent = 64; late = After 640; offset = 0; largest = 64 });
+      truth = answer.Reordered (record { position = 65; extent = 64; late = After 640; offset = 6400; largest = 64 });
     }
 
 -- 2, 4, .. 130, then 1: beyond the window, 64, where the true extent is 65
@@ -74,7 +75,7 @@ case2 =
       evens = 65;
       late = 1;
       noted = Beyond (record { extent = 64; late = After 640 });
-      truth = answer.Reordered (record { position = 66; extent = 65; late = After 650; offset = 0; largest = 65 });
+      truth = answer.Reordered (record { position = 66; extent = 65; late = After 650; offset = 6500; largest = 65 });
     }
 
 -- 2, 4, .. 130, then 3: exact extent 64
@@ -84,7 +85,7 @@ case3 =
       evens = 65;
       late = 3;
       noted = Exact (record { extent = 64; late = After 640 });
-      truth = answer.Reordered (record { position = 66; extent = 64; late = After 640; offset = 0; largest = 64 });
+      truth = answer.Reordered (record { position = 66; extent = 64; late = After 640; offset = 6400; largest = 64 });
     }
 
 -- the table

@@ -18,8 +18,8 @@ ghost use mathlib.Core.List.{[]};
 ghost use mathlib.Core.Option.{some};
 ghost use Prim.Native.Nat.{ℕ, _+_, _<_, _≤_};
 ghost use lib.ListN.{getD};
-ghost use Rattle.receiver.specs.Step.{stepRefusal, latenessFrom, lateOutcome, outcomeOf};
-ghost use Rattle.receiver.specs.Kept.{heldOf};
+ghost use Rattle.receiver.specs.Step.{stepRefusal, lateOutcome, outcomeOf};
+ghost use Rattle.receiver.specs.Outcomes.{latenessFrom};
 ghost use Rattle.receiver.specs.Limits.{windowPlaces};
 ghost use Rattle.receiver.specs.Private.{placesOf, whole, Unrefused};
 
@@ -73,7 +73,7 @@ fn late_outcome<'a>(
     time: u64,
 ) -> Outcome
     requires { ⌜ Unrefused (whole s [] (now positions) (now numbers) (now times)) number ⌝ }
-    ensures { λ r. ⌜ r ≡ lateOutcome (heldOf s (placesOf (now (positions .entry)) (now (numbers .entry)) (now (times .entry)))) (s .arrived + 1) number time ⌝ }
+    ensures { λ r. ⌜ r ≡ lateOutcome s (placesOf (now (positions .entry)) (now (numbers .entry)) (now (times .entry))) (record { number = number; time = time }) ⌝ }
 {
     let place = place_above(numbers, s.kept, number);
     if s.kept as usize <= place {

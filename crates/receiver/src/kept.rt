@@ -7,8 +7,7 @@ ghost use Prim.Native.Nat.{_+_, _≤_, _<_};
 ghost use lib.Dec.{eqb, ltb};
 ghost use lib.ListN.{getD};
 ghost use Rattle.receiver.specs.Limits.{windowPlaces};
-ghost use Rattle.receiver.specs.Kept.{pushed};
-ghost use Rattle.receiver.specs.Private.{Full, FirstAbove};
+ghost use Rattle.receiver.specs.Private.{Full, FirstAbove, pushed};
 
 // The last place.
 const LAST: usize = Receiver::WINDOW - 1;

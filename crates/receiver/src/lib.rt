@@ -22,6 +22,7 @@ ghost use mathlib.Core.Path.{_≡_};
 ghost use mathlib.Core.List.{List};
 ghost use Prim.Native.Nat.{min, max};
 ghost use Rattle.rfc4737.specs.declared.Arrival.{Arrival};
+ghost use Rattle.rfc4737.specs.Moved.{MovedTwice};
 ghost use Rattle.receiver.specs.Limits.{windowPlaces};
 ghost use Rattle.receiver.specs.Fit.{fit};
 ghost use Rattle.receiver.specs.Step.{madeFor, freshOf, stepWithin, stepOf};
@@ -111,6 +112,7 @@ impl Receiver {
         ensures demand3 { λ r. ⌜ ((fed : List Arrival) → Demand3 (r .state .stream .sent) fed) ⌝ }
         ensures windowcases { λ _. ⌜ WindowCasesHold ⌝ }
         ensures moved { λ r. ⌜ MovedAnswers (r .state .stream .sent) ⌝ }
+        ensures twice { λ _. ⌜ MovedTwice ⌝ }
     {
         if outside(1, SENT_MOST, k as u64) {
             return FreshAnswer {

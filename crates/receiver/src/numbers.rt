@@ -45,7 +45,7 @@ pub(crate) fn after_in_order(
     number: u32,
     time: u64,
 ) -> Stream
-    requires { ⌜ StreamFit s × (number ≤ sentMost) ⌝ }
+    requires { ⌜ StreamFit s × ((number ≤ sentMost) × (1 ≤ most)) ⌝ }
     ensures { λ r. ⌜ ((positions times : List ℕ) → r ≡ inOrderStream s (heldAfter (ltb (s .kept) most) (heldOf s (placesOf positions (now (numbers .entry)) times)) size (placedAt s number time)) number time) ⌝ }
 {
     let runs = lengthened(s.runs);

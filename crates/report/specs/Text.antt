@@ -1,11 +1,11 @@
 -- The text that the program prints of an input, and what stands in lent memory with it. Assumes nothing.
 use mathlib.Core.Path.{_≡_}
 use mathlib.Core.Bool.{cond}
-use mathlib.Core.List.{List, []}
+use mathlib.Core.List.{List}
 use Prim.Native.Nat.{ℕ}
-use lib.Dec.{ltb}
+use lib.Dec.{leb}
 use lib.ListN.{length}
-use Rattle.octets.specs.Memory.{over}
+use Rattle.octets.specs.Memory.{put}
 use Rattle.listing.specs.Lines.{refusedLine}
 use Rattle.metrics.specs.Report.{sampleText}
 use Rattle.sample.specs.Decode.{Decoded, refused, accepted}
@@ -15,11 +15,7 @@ unfoldable pub reportText : Decoded → List ℕ
 reportText (refused r) = refusedLine r
 reportText (accepted s) = sampleText (accepted s)
 
--- what is written of a text into so many octets: all, or nothing if it does not fit
-abbrev pub fitting : ℕ → List ℕ → List ℕ
-fitting room text = cond (ltb room (length text)) [] text
-
--- a text in lent memory: the answer is how many octets were written; they stand at the start, and those after them are as they were
+-- a text put at the start of lent memory: r octets were written, all of it where it fits, else none
 pub record PutWhole (text old : List ℕ) (r : ℕ) (new : List ℕ) : Type 0 where
-  pub answer : r ≡ length (fitting (length old) text)
-  pub memory : new ≡ over (fitting (length old) text) old
+  pub answer : r ≡ cond (leb (length text) (length old)) (length text) 0
+  pub memory : new ≡ put 0 text old

@@ -6,6 +6,7 @@ pub mod Times
 pub mod Jumps
 pub mod Skipped
 pub mod Packets
+pub mod Reordered
 pub mod Cases
 pub mod Due
 pub mod JudgedInTurn

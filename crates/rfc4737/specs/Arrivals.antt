@@ -16,7 +16,7 @@ has s (a ∷ l) = eqb (a .number) s || has s l
 unfoldable pub withArrival : List Arrival → Arrival → List Arrival
 withArrival fs a = cond (has (a .number) fs) fs (fs ++ (a ∷ []))
 
--- the first arrivals, in order of position; L is their number
+-- the first arrivals, in order of position
 unfoldable pub firsts : List Arrival → List Arrival
 firsts l = foldl withArrival [] l
 

@@ -1,7 +1,7 @@
--- The cases P1 to P9 of the scope, P10, which request 2 brings, and P11, which request 5 brings, as data: what is sent, what
--- arrives and the figures that must come of it, and the statement that the definitions give these figures. Unless a case says
--- otherwise, K is the greatest number that arrives, every size is 100, and record r arrives at 10 times r. The ratios stand as
--- f64 in the kit's form: `fin false m e` is m times 2 to the e. Assumes nothing.
+-- The cases P1 to P9 of the scope, with two that are added here, P10 for request 2 and P11 for request 5: what is sent, what arrives and
+-- the figures that must come of it; and the statement that the definitions give these figures. Unless a case says otherwise, K is the
+-- greatest number that arrives, every size is 100, and record r arrives at 10 times r. A ratio stands as the quotient of its two counts;
+-- a table below gives some quotients as f64. Assumes nothing.
 use Prim.Native.Nat.{ℕ, _+_, _-_, _*_}
 use mathlib.Core.Path.{_≡_}
 use mathlib.Core.Bool.{false, cond}
@@ -19,6 +19,8 @@ use Rattle.rfc4737.specs.declared.Gap.the-variants.{None, Positions}
 use Rattle.rfc4737.specs.declared.Ratios.{Ratios}
 use Rattle.rfc4737.specs.Arrivals.{each}
 use Rattle.rfc4737.specs.Extent.{sizeIn}
+use Rattle.rfc4737.specs.Judge.{arrivalsFrom}
+use Rattle.rfc4737.specs.Ratios.{quotient}
 use Rattle.rfc4737.specs.Answer as answer
 use Rattle.rfc4737.specs.Gaps as gap
 use Rattle.rfc4737.specs.Runs as run
@@ -62,12 +64,6 @@ unfoldable pub measured : Case → Figures
 measured c = caseFigures (answer.answers (sizeIn (replicate (c .sent) 100)) (c .arrivals))
 
 -- ---- how the table is written
-
--- numbers that arrive at the given times
-unfoldable pub timed : List ℕ → List ℕ → List Arrival
-timed [] ts = []
-timed (n ∷ ns) [] = []
-timed (n ∷ ns) (t ∷ ts) = record { number = n; time = t } ∷ timed ns ts
 
 -- numbers of which record r arrives at 10 times r
 unfoldable pub everyTen : List ℕ → List Arrival
@@ -113,12 +109,12 @@ known reordered degree1 degree3 = Ratios.Known (record { reordered = reordered; 
 
 -- ---- the table
 
--- P1: the report's sample. The ratio figures: 1 / 5, 1 / 5, 0 / 5
+-- P1: the report's sample
 unfoldable pub p1 : Case
 p1 =
     record {
       sent = 5;
-      arrivals = timed (1 ∷ 2 ∷ 4 ∷ 5 ∷ 3 ∷ []) (10 ∷ 20 ∷ 40 ∷ 50 ∷ 70 ∷ []);
+      arrivals = arrivalsFrom (1 ∷ 2 ∷ 4 ∷ 5 ∷ 3 ∷ []) (10 ∷ 20 ∷ 40 ∷ 50 ∷ 70 ∷ []);
       given =
           record {
             answers =
@@ -128,16 +124,16 @@ p1 =
             lengths = 4 ∷ [];
             tally = tallied ((2, 1) ∷ []);
             counts = totals 5 1 0 4 1 16 0;
-            ratios = known (fin false 3602879701896397 (negsuc 53)) (fin false 3602879701896397 (negsuc 53)) (fin false 0 (pos 0));
+            ratios = known (quotient 1 5) (quotient 1 5) (quotient 0 5);
           };
     }
 
--- P2 (RFC 4737, section 7.3). The ratio figures: 3 / 11, 1 / 11, 1 / 11
+-- P2 (RFC 4737, section 7.3)
 unfoldable pub p2 : Case
 p2 =
     record {
       sent = 11;
-      arrivals = timed (1 ∷ 2 ∷ 3 ∷ 7 ∷ 8 ∷ 9 ∷ 10 ∷ 4 ∷ 5 ∷ 6 ∷ 11 ∷ []) (68 ∷ 88 ∷ 108 ∷ 188 ∷ 208 ∷ 228 ∷ 248 ∷ 250 ∷ 252 ∷ 256 ∷ 268 ∷ []);
+      arrivals = arrivalsFrom (1 ∷ 2 ∷ 3 ∷ 7 ∷ 8 ∷ 9 ∷ 10 ∷ 4 ∷ 5 ∷ 6 ∷ 11 ∷ []) (68 ∷ 88 ∷ 108 ∷ 188 ∷ 208 ∷ 228 ∷ 248 ∷ 250 ∷ 252 ∷ 256 ∷ 268 ∷ []);
       given =
           record {
             answers =
@@ -149,11 +145,11 @@ p2 =
             lengths = 7 ∷ 0 ∷ 0 ∷ [];
             tally = tallied ((4, 1) ∷ (5, 1) ∷ (6, 1) ∷ []);
             counts = totals 11 3 0 8 3 49 1;
-            ratios = known (fin false 1228254443828317 (negsuc 51)) (fin false 3275345183542179 (negsuc 54)) (fin false 3275345183542179 (negsuc 54));
+            ratios = known (quotient 3 11) (quotient 1 11) (quotient 1 11);
           };
     }
 
--- P3 (RFC 4737, section 7.4). The ratio figures: 3 / 16, 2 / 16, 0 / 16
+-- P3 (RFC 4737, section 7.4)
 unfoldable pub p3 : Case
 p3 =
     record {
@@ -171,11 +167,11 @@ p3 =
             lengths = 5 ∷ 0 ∷ 5 ∷ [];
             tally = tallied ((2, 2) ∷ (3, 1) ∷ []);
             counts = totals 16 3 0 13 3 50 3;
-            ratios = known (fin false 3 (negsuc 3)) (fin false 1 (negsuc 2)) (fin false 0 (pos 0));
+            ratios = known (quotient 3 16) (quotient 2 16) (quotient 0 16);
           };
     }
 
--- P4: largest n falls to 0 while the extent grows. The ratio figures: 3 / 9, 1 / 9, 1 / 9
+-- P4: largest n falls to 0 while the extent grows
 unfoldable pub p4 : Case
 p4 =
     record {
@@ -191,11 +187,11 @@ p4 =
             lengths = 6 ∷ 0 ∷ 0 ∷ [];
             tally = tallied ((3, 1) ∷ (4, 1) ∷ (5, 1) ∷ []);
             counts = totals 9 3 0 6 3 36 0;
-            ratios = known (fin false 6004799503160661 (negsuc 53)) (fin false 2001599834386887 (negsuc 53)) (fin false 2001599834386887 (negsuc 53));
+            ratios = known (quotient 3 9) (quotient 1 9) (quotient 1 9);
           };
     }
 
--- P5: a jump of size 8. The ratio figures: 1 / 3, 1 / 3, 0 / 3
+-- P5: a jump of size 8
 unfoldable pub p5 : Case
 p5 =
     record {
@@ -210,11 +206,11 @@ p5 =
             lengths = 2 ∷ [];
             tally = tallied ((1, 1) ∷ []);
             counts = totals 3 1 0 2 1 4 0;
-            ratios = known (fin false 6004799503160661 (negsuc 53)) (fin false 6004799503160661 (negsuc 53)) (fin false 0 (pos 0));
+            ratios = known (quotient 1 3) (quotient 1 3) (quotient 0 3);
           };
     }
 
--- P6: a copy. The ratio figures: 0 / 3, 0 / 3, 0 / 3
+-- P6: a copy
 unfoldable pub p6 : Case
 p6 =
     record {
@@ -229,11 +225,11 @@ p6 =
             lengths = [];
             tally = tallied [];
             counts = totals 3 0 1 3 0 0 3;
-            ratios = known (fin false 0 (pos 0)) (fin false 0 (pos 0)) (fin false 0 (pos 0));
+            ratios = known (quotient 0 3) (quotient 0 3) (quotient 0 3);
           };
     }
 
--- P7: two discontinuities, the earlier one discovered last, so that the later one has no gap. The ratio figures: 2 / 5, 2 / 5, 1 / 5
+-- P7: two discontinuities, the earlier one discovered last, so that the later one has no gap
 unfoldable pub p7 : Case
 p7 =
     record {
@@ -248,11 +244,11 @@ p7 =
             lengths = 3 ∷ 0 ∷ [];
             tally = tallied ((1, 1) ∷ (3, 1) ∷ []);
             counts = totals 5 2 0 3 2 9 0;
-            ratios = known (fin false 3602879701896397 (negsuc 52)) (fin false 3602879701896397 (negsuc 52)) (fin false 3602879701896397 (negsuc 53));
+            ratios = known (quotient 2 5) (quotient 2 5) (quotient 1 5);
           };
     }
 
--- P8: no arrivals. The ratio figures: undefined
+-- P8: no arrivals
 unfoldable pub p8 : Case
 p8 =
     record {
@@ -271,7 +267,7 @@ p8 =
           };
     }
 
--- P9: the first arrival is a jump. The ratio figures: 0 / 1, 0 / 1, 0 / 1
+-- P9: the first arrival is a jump
 unfoldable pub p9 : Case
 p9 =
     record {
@@ -286,12 +282,12 @@ p9 =
             lengths = [];
             tally = tallied [];
             counts = totals 1 0 0 1 0 0 1;
-            ratios = known (fin false 0 (pos 0)) (fin false 0 (pos 0)) (fin false 0 (pos 0));
+            ratios = known (quotient 0 1) (quotient 0 1) (quotient 0 1);
           };
     }
 
--- P10 (request 2): discontinuities at 1, 3, 4, discovered at positions 2, 6, 5. The one at 3 has the gap 2; the one at 4 has none,
--- since its neighbour 3 is discovered later. The ratio figures: 3 / 6, 3 / 6, 1 / 6
+-- P10, added here for request 2: discontinuities at 1, 3, 4, discovered at positions 2, 6, 5. The one at 3 has the gap 2; the one at 4 has none,
+-- since its neighbour 3 is discovered later
 unfoldable pub p10 : Case
 p10 =
     record {
@@ -307,16 +303,16 @@ p10 =
             lengths = 1 ∷ 2 ∷ 0 ∷ [];
             tally = tallied ((1, 2) ∷ (3, 1) ∷ []);
             counts = totals 6 3 0 3 3 5 0;
-            ratios = known (fin false 1 (negsuc 0)) (fin false 1 (negsuc 0)) (fin false 6004799503160661 (negsuc 54));
+            ratios = known (quotient 3 6) (quotient 3 6) (quotient 1 6);
           };
     }
 
--- P11 (request 5): a clock that steps. Late times before by 1,000, after by 0, before by 1. The ratio figures: 3 / 6, 3 / 6, 0 / 6
+-- P11, added here for request 5: a clock that steps. Late times before by 1,000, after by 0, before by 1
 unfoldable pub p11 : Case
 p11 =
     record {
       sent = 6;
-      arrivals = timed (2 ∷ 1 ∷ 4 ∷ 3 ∷ 6 ∷ 5 ∷ []) (2000 ∷ 1000 ∷ 2000 ∷ 2000 ∷ 2000 ∷ 1999 ∷ []);
+      arrivals = arrivalsFrom (2 ∷ 1 ∷ 4 ∷ 3 ∷ 6 ∷ 5 ∷ []) (2000 ∷ 1000 ∷ 2000 ∷ 2000 ∷ 2000 ∷ 1999 ∷ []);
       given =
           record {
             answers =
@@ -327,13 +323,29 @@ p11 =
             lengths = 1 ∷ 1 ∷ 1 ∷ [];
             tally = tallied ((1, 3) ∷ []);
             counts = totals 6 3 0 3 3 3 0;
-            ratios = known (fin false 1 (negsuc 0)) (fin false 1 (negsuc 0)) (fin false 0 (pos 0));
+            ratios = known (quotient 3 6) (quotient 3 6) (quotient 0 6);
           };
     }
 
 unfoldable pub workedCases : List Case
 workedCases = p1 ∷ p2 ∷ p3 ∷ p4 ∷ p5 ∷ p6 ∷ p7 ∷ p8 ∷ p9 ∷ p10 ∷ p11 ∷ []
 
--- every case of the table has the figures given for it
-abbrev pub CasesHold : Type 0
-CasesHold = map measured workedCases ≡ map (λ (c : Case). c .given) workedCases
+-- ---- quotients
+
+-- two counts, and their quotient as f64: `fin false m (negsuc e)` is m over 2 to the e + 1, and m has at most 53 bits. So 1 / 5 is the nearest such
+-- number to it: 5 times its m is 2 ^ 54 + 1
+unfoldable pub quotientTable : List ((ℕ × ℕ) × Float)
+quotientTable =
+    ((0, 5), fin false 0 (pos 0))
+    ∷ ((3, 6), fin false 1 (negsuc 0))
+    ∷ ((3, 16), fin false 3 (negsuc 3))
+    ∷ ((1, 5), fin false 3602879701896397 (negsuc 53))
+    ∷ ((3, 5), fin false 5404319552844595 (negsuc 52))
+    ∷ ((1, 3), fin false 6004799503160661 (negsuc 53))
+    ∷ ((3, 11), fin false 1228254443828317 (negsuc 51))
+    ∷ []
+
+-- every case of the table has the figures given for it, and every quotient is the f64 given for it
+pub record CasesHold : Type 0 where
+  pub figures : map measured workedCases ≡ map (λ (c : Case). c .given) workedCases
+  pub quotients : map (λ (q : (ℕ × ℕ) × Float). quotient (q .0 .0) (q .0 .1)) quotientTable ≡ map (λ (q : (ℕ × ℕ) × Float). q .1) quotientTable

@@ -21,7 +21,7 @@ firstAbove s (p ∷ ps) = cond (ltb s (p .number)) (some p) (firstAbove s ps)
 unfoldable pub discontinuity : List Arrival → ℕ → Option FirstArrival
 discontinuity fs s = firstAbove s (placed fs)
 
--- the extent of a packet at position i: i - j
+-- the extent of a packet at position i: i - j. Every reordered packet has a j (`ReorderedHaveDiscontinuity`)
 unfoldable pub extentFrom : ℕ → Option FirstArrival → ℕ
 extentFrom i none = 0
 extentFrom i (some j) = i - j .position

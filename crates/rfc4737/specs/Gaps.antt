@@ -47,21 +47,22 @@ earlier none e = false
 earlier (some d) none = false
 earlier (some d) (some e) = ltb d e
 
--- the gap of a discontinuity at p, after its neighbour before in position: p less that position exactly if the neighbour was
--- discovered by an earlier reordered packet, else none; the first has none
-unfoldable pub gapAfter : List Answer → Option ℕ → ℕ → Gap
-gapAfter l none p = None
-gapAfter l (some q) p = cond (earlier (discoverer q l) (discoverer p l)) (Positions (p - q)) None
+-- the neighbour of a position: the nearest discontinuity before it, if there is one; positions begin at 1
+unfoldable pub neighbour : List Answer → ℕ → Option ℕ
+neighbour l zero = none
+neighbour l (suc zero) = none
+neighbour l (suc (suc q)) = cond (isSome (discoverer (suc q) l)) (some (suc q)) (neighbour l (suc q))
 
--- the gap of position p among discontinuities in order, of which the one before them is given: none if p is no discontinuity
-unfoldable pub gapAmong : List Answer → ℕ → Option ℕ → List ℕ → Gap
-gapAmong l p before [] = None
-gapAmong l p before (d ∷ ds) = cond (eqb d p) (gapAfter l before p) (gapAmong l p (some d) ds)
+-- the gap of position p over its neighbour: p less the neighbour exactly if that was discovered by an earlier reordered packet than p;
+-- so a position that is no discontinuity has none, and neither has the first discontinuity
+unfoldable pub gapOver : List Answer → ℕ → Option ℕ → Gap
+gapOver l p none = None
+gapOver l p (some q) = cond (earlier (discoverer q l) (discoverer p l)) (Positions (p - q)) None
 
 -- the gap of a record with this position, if it has one; a duplicate has no gap
 unfoldable pub gapOf : List Answer → Option ℕ → Gap
 gapOf l none = None
-gapOf l (some p) = gapAmong l p none (discontinuities l)
+gapOf l (some p) = gapOver l p (neighbour l p)
 
 -- the gap of every record of a sample
 unfoldable pub gaps : List Answer → List Gap

@@ -12,4 +12,5 @@ pub mod Ratios
 pub mod Cases
 pub mod Refusals
 pub mod Judge
+pub mod Reordered
 pub mod Moved

@@ -27,21 +27,17 @@ nReordered n l = count (isNReordered n) l
 unfoldable pub quotient : ℕ → ℕ → Float
 quotient part whole = div binary64 (ofInt binary64 (pos part)) (ofInt binary64 (pos whole))
 
--- a ratio of counts: undefined over 0
-unfoldable pub ratioOf : ℕ → ℕ → Ratio
-ratioOf part whole = cond (eqb whole 0) Ratio.Undefined (Ratio.Known (quotient part whole))
+-- the share of the packets whose answers pass a test: how many do, over L
+unfoldable pub share : (Answer → Bool) → List Answer → Float
+share p l = quotient (count p l) (arrived l)
 
--- the degree of n-reordering: the n-reordered packets over L
+-- the degree of n-reordering: the share of the n-reordered packets; undefined if L = 0
 unfoldable pub degree : ℕ → List Answer → Ratio
-degree n l = ratioOf (nReordered n l) (arrived l)
+degree n l = cond (eqb (arrived l) 0) Ratio.Undefined (Ratio.Known (share (isNReordered n) l))
 
--- the ratio figures of a sample: the reordered packets over L, and the degrees for n = 1 and n = 3; undefined if L = 0
+-- the ratio figures of a sample: the share of the reordered packets, and the degrees for n = 1 and n = 3; undefined if L = 0
 unfoldable pub ratios : List Answer → Ratios
 ratios l =
     cond (eqb (arrived l) 0) Ratios.Undefined
     (Ratios.Known
-    (record {
-      reordered = quotient (count isReordered l) (arrived l);
-      degree1 = quotient (nReordered 1 l) (arrived l);
-      degree3 = quotient (nReordered 3 l) (arrived l);
-    }))
+    (record { reordered = share isReordered l; degree1 = share (isNReordered 1) l; degree3 = share (isNReordered 3) l }))

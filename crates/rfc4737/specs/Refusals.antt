@@ -25,7 +25,7 @@ sentOutside = 4
 abbrev pub manyArrivals : ℕ
 manyArrivals = 5
 
--- 6: sequence number outside 1 to K
+-- 6: sequence number outside 1 to K; a short number over its width, or of which the number found is outside 1 to K
 abbrev pub numberOutside : ℕ
 numberOutside = 6
 
@@ -41,7 +41,7 @@ outputShort = 8
 abbrev pub askedOutside : ℕ
 askedOutside = 9
 
--- 10: receiver state unfit, or a reordered packet with no greater kept jump
+-- 10: state of a receiver or of a meter unfit, or a reordered packet with no greater kept jump
 abbrev pub stateUnfit : ℕ
 stateUnfit = 10
 
@@ -49,7 +49,7 @@ stateUnfit = 10
 abbrev pub stateFull : ℕ
 stateFull = 11
 
--- 12: the writer's lists of numbers and of times differ in length
+-- 12: lists of arrivals that differ in length: those of numbers and of times, or any two of the lists of fragments
 abbrev pub listsDiffer : ℕ
 listsDiffer = 12
 

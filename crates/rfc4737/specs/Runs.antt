@@ -8,7 +8,7 @@ use Rattle.rfc4737.specs.declared.Runs.{Runs}
 use Rattle.rfc4737.specs.declared.Counts.{Counts}
 use Rattle.rfc4737.specs.Arrivals.{count}
 
--- the greatest sum of squares: that of one run of all arrivals
+-- the limit of the sum of squares in a fit receiver state: 4,096 squared, over which no sum of 4,096 arrivals goes
 abbrev pub squaresMost : ℕ
 squaresMost = 16777216
 
@@ -27,7 +27,7 @@ isReordered (Duplicate d) = false
 isReordered (InOrder d) = false
 isReordered (Reordered d) = true
 
--- L: the number of first arrivals
+-- L: how many first arrivals there are, those answers that are no duplicates
 unfoldable pub arrived : List Answer → ℕ
 arrived l = count (λ (a : Answer). not (isDuplicate a)) l
 

@@ -4,25 +4,26 @@
 -- lent octets are too few, or three sections were written one after the other, which is one write of the file from the start (`write-filled`).
 -- Here y is what the check found, e that it is the file's layout, z that it has no refusal; n is a refusal; sizes′, numbers′, times′ and out′
 -- are what is lent after the call. Assumes nothing.
-use Prim.Native.Nat.{ℕ, zero, suc, _+_, _*_, _≤_, _<_, zero-le}
+use Prim.Native.Nat.{ℕ, _+_, _*_, _≤_, _<_, zero-le}
 use native.Mathlib.Omega.{arith}
 use mathlib.Core.Bool.{true, false, _||_}
-use mathlib.Core.Path.{_≡_, sym, ap, _∙_, subst}
-use mathlib.Core.List.{List, [], _∷_, _++_, append-assoc}
+use mathlib.Core.Path.{_≡_, sym, ap, ap₂, _∙_, subst}
+use mathlib.Core.List.{List, _++_, append-assoc}
 use borrow.Author.Tests.{ltb-false}
 use lib.Dec.{ltb}
 use lib.ListN.{length, drop, length-append}
 use Rattle.octets.specs.BigEndian.{beValue}
 use Rattle.octets.specs.Memory.{over, splice}
 use Rattle.octets.proofs.Memory.{splice-next, over-splice}
-use Rattle.rfc4737.specs.Refusals.{inCase, firstOf, outputShort}
+use Rattle.rfc4737.specs.Refusals.{outputShort}
 use Rattle.rfc4737.specs.Judge.{numbersOf, timesOf, arrivalsFrom}
 use Rattle.sample.specs.Format.{sizeWidth, arrivalWidth, itemsAt, sentStart, arrivedStart, lastEnd, section, sizeOctets, arrivalOctets, itemOctets, itemsIn, fileOf}
 use Rattle.sample.specs.Decode.{labelCount, sentAt, sentCount, arrivedAt, arrivalCount, arrivalIn, sampleIn, fileRefusal, Decoded, refused, accepted, decode, sampleOf, layoutOf}
 use Rattle.sample.specs.Places.{sizesAt, arrivalsAt}
-use Rattle.sample.specs.Calls.{listsShort, decodeInto, ReadFrom, sampleFrom, sampleRefusal, WrittenTo}
+use Rattle.sample.specs.Calls.{listsShort, decodeInto, ReadFrom, sampleFrom, WrittenTo, unlessShort}
+use Rattle.sample.specs.Judge.{sampleRefusal}
 use Rattle.sample.specs.declared.Layout.{Layout}
-use Rattle.rfc4737.proofs.Due.{first-due, neither}
+use Rattle.rfc4737.proofs.Due.{neither}
 use Rattle.rfc4737.proofs.Pairs.{arrivals-length}
 use Rattle.sample.proofs.Items.{size-long, octets-many}
 use Rattle.sample.proofs.Decoded.{refused-none, decided-refusal, decode-accepted, decode-refused, layout-accepted}
@@ -72,23 +73,29 @@ module _ (file sizes numbers times : List ℕ) where
         filledTimes = sym (ap (λ (d : Decoded). over (timesOf (sampleOf d .arrivals)) times) e);
       }
 
-  -- the first refusal that is due, 8 the last
-  into-refused : (n : ℕ) → 0 < n → firstOf (fileRefusal file ∷ inCase (listsShort (layoutOf (decode file)) (length sizes) (length numbers) (length times)) outputShort ∷ []) ≡ n
-      → decodeInto (length sizes) (length numbers) (length times) file ≡ refused n
-  unfolding decodeInto
-  into-refused zero h e = absurd (omega arith)
-  into-refused (suc n) h e = rw e
+  -- the file's own refusal
+  into-refused : (n : ℕ) → decode file ≡ refused n → decodeInto (length sizes) (length numbers) (length times) file ≡ refused n
+  unfolding decodeInto unlessShort
+  into-refused n e = rw e
+
+  -- none, and lists that are too short or not
+  into-short : decode file ≡ accepted (sampleIn file) → listsShort (layoutOf (decode file)) (length sizes) (length numbers) (length times) ≡ true
+      → decodeInto (length sizes) (length numbers) (length times) file ≡ refused outputShort
+  unfolding decodeInto unlessShort
+  into-short d s = ap₂ unlessShort s d
+
+  into-filled : decode file ≡ accepted (sampleIn file) → listsShort (layoutOf (decode file)) (length sizes) (length numbers) (length times) ≡ false
+      → decodeInto (length sizes) (length numbers) (length times) file ≡ accepted (sampleIn file)
+  unfolding decodeInto unlessShort
+  into-filled d s = ap₂ unlessShort s d
 
   module _ (y : Layout) (e : y ≡ layoutOf (decode file)) where
     -- the file is refused
     pub read-refused : 0 < y .refusal → ReadFrom file sizes numbers times y sizes numbers times
     read-refused h =
-        let r = found-refusal file y e in
-        let p : 0 < fileRefusal file = omega arith in
-        let s = inCase (listsShort (layoutOf (decode file)) (length sizes) (length numbers) (length times)) outputShort in
         let d = found-refused file y e h in
         subst (λ (x : Layout). ReadFrom file sizes numbers times x sizes numbers times) (sym (e ∙ ap layoutOf d))
-        (refused-read (y .refusal) (into-refused (y .refusal) h (first-due (fileRefusal file) (s ∷ []) p ∙ r)))
+        (refused-read (y .refusal) (into-refused (y .refusal) d))
 
     module _ (z : y .refusal ≡ 0) where
       -- a list is too short
@@ -96,8 +103,7 @@ module _ (file sizes numbers times : List ℕ) where
           → ReadFrom file sizes numbers times (layoutOf (refused outputShort)) sizes numbers times
       read-short t =
           let s : listsShort (layoutOf (decode file)) (length sizes) (length numbers) (length times) ≡ true = rw (← e) t in
-          let r : fileRefusal file ≡ 0 = found-refusal file y e ∙ z in
-          refused-read outputShort (into-refused outputShort (omega arith) (simp (r, s)))
+          refused-read outputShort (into-short (found-accepted file y e z) s)
 
       -- no list is too short
       pub room-found : listsShort y (length sizes) (length numbers) (length times) ≡ false → Room file sizes numbers times y
@@ -125,11 +131,10 @@ module _ (file sizes numbers times : List ℕ) where
           → numbers′ ≡ over (numbersOf (itemsIn arrivalWidth arrivalIn (y .arrivals) (drop (arrivalsAt y) file))) numbers
           → times′ ≡ over (timesOf (itemsIn arrivalWidth arrivalIn (y .arrivals) (drop (arrivalsAt y) file))) times
           → ReadFrom file sizes numbers times y sizes′ numbers′ times′
-      unfolding decodeInto sampleIn
+      unfolding sampleIn
       read-filled sizes′ numbers′ times′ t p q r =
           let s : listsShort (layoutOf (decode file)) (length sizes) (length numbers) (length times) ≡ false = rw (← e) t in
-          let n : fileRefusal file ≡ 0 = found-refusal file y e ∙ z in
-          let d : decodeInto (length sizes) (length numbers) (length times) file ≡ accepted (sampleIn file) = simp (n, s) in
+          let d = into-filled (found-accepted file y e z) s in
           let c = found-counts file y e z in
           let k = ap (λ (x : Layout). x .sent) c in
           let l = ap (λ (x : Layout). x .label) c in

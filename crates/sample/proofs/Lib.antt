@@ -10,5 +10,6 @@ pub mod RoundTrips
 pub mod Output
 pub mod Answers
 pub mod Accepted
+pub mod OfSample
 pub mod Longer
 pub mod Moved

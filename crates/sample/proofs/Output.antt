@@ -1,5 +1,5 @@
 -- What a call that writes answers, case by case: `own` is its own refusal, `os` the octets that it has to write, `out` the lent ones before it
--- and `out′` after it. Each case settles the first refusal, `own` before 8, and with it the octets, all or none (`by-refusal`). An answer
+-- and `out′` after it. Each case settles the first refusal, `own` before 8, and with it the octets, all or none. An answer
 -- without a refusal says that there was none of its own and that the octets stand at the start (`own-none`, `output-read`). r is a refusal, n
 -- the length that is answered, w that it is the call's answer. Assumes nothing.
 use Prim.Native.Nat.{ℕ, zero, suc, _≤_, _<_}
@@ -13,31 +13,31 @@ use Rattle.octets.specs.Memory.{over}
 use Rattle.octets.proofs.Memory.{over-read}
 use Rattle.rfc4737.specs.Refusals.{inCase, firstOf, outputShort}
 use Rattle.rfc4737.proofs.Due.{first-none, first-one, case-none}
-use Rattle.sample.specs.Output.{outputRefusal, unlessRefused, Output}
+use Rattle.sample.specs.Output.{ifNone, Output}
 use Rattle.sample.specs.declared.WriteAnswer.{WriteAnswer}
 
 -- ---- the refusal
 
 module _ (own : ℕ) (os : List ℕ) (room : ℕ) where
+  -- where there is room for so many octets
+  abbrev pub refusalInto : ℕ
+  refusalInto = firstOf (own ∷ inCase (ltb room (length os)) outputShort ∷ [])
+
   -- its own
-  pub refusal-own : (r : ℕ) → r ≡ own → (r ≡ 0 → ⊥) → r ≡ outputRefusal own os room
-  unfolding outputRefusal
+  pub refusal-own : (r : ℕ) → r ≡ own → (r ≡ 0 → ⊥) → r ≡ refusalInto
   refusal-own zero e z = absurd (z refl)
   refusal-own (suc r) e z = ap (λ (x : ℕ). firstOf (x ∷ inCase (ltb room (length os)) outputShort ∷ [])) e
 
   -- there is no room
-  pub refusal-short : own ≡ 0 → room < length os → outputShort ≡ outputRefusal own os room
-  unfolding outputRefusal
+  pub refusal-short : own ≡ 0 → room < length os → outputShort ≡ refusalInto
   refusal-short e h = sym (simp (e, lt-ltb room (length os) h))
 
   -- none
-  pub refusal-none : own ≡ 0 → length os ≤ room → 0 ≡ outputRefusal own os room
-  unfolding outputRefusal
+  pub refusal-none : own ≡ 0 → length os ≤ room → 0 ≡ refusalInto
   refusal-none e h = sym (simp (e, le-ltb room (length os) h))
 
   -- where there is none, it has none of its own, and the octets fit
-  pub none-refused : outputRefusal own os room ≡ 0 → (own ≡ 0) × (length os ≤ room)
-  unfolding outputRefusal
+  pub none-refused : refusalInto ≡ 0 → (own ≡ 0) × (length os ≤ room)
   none-refused e =
       let p = first-none own (inCase (ltb room (length os)) outputShort ∷ []) e in
       (p .0, ltb-false room (length os) (case-none (ltb room (length os)) outputShort (omega arith) (sym (first-one _) ∙ p .1)))
@@ -45,23 +45,17 @@ module _ (own : ℕ) (os : List ℕ) (room : ℕ) where
 -- ---- the answer
 
 module _ (own : ℕ) (os out : List ℕ) where
-  -- by its refusal
-  by-refusal : (r : ℕ) {n : ℕ} {out′ : List ℕ} → r ≡ outputRefusal own os (length out) → n ≡ length (unlessRefused r os) → out′ ≡ over (unlessRefused r os) out
-      → Output own os out (record { refusal = r; length = n }) out′
-  by-refusal r e m f =
-      record { refusal = e; octets = m ∙ ap (λ (x : ℕ). length (unlessRefused x os)) e; filled = f ∙ ap (λ (x : ℕ). over (unlessRefused x os) out) e }
-
   -- any refusal: nothing is written
-  pub nothing-written : (r : ℕ) → r ≡ outputRefusal own os (length out) → (r ≡ 0 → ⊥) → Output own os out (record { refusal = r; length = 0 }) out
+  pub nothing-written : (r : ℕ) → r ≡ refusalInto own os (length out) → (r ≡ 0 → ⊥) → Output own os out (record { refusal = r; length = 0 }) out
   nothing-written zero e z = absurd (z refl)
-  nothing-written (suc r) e z = by-refusal (suc r) e refl refl
+  nothing-written (suc r) e z = record { refusal = e; octets = refl; filled = refl }
 
   -- no refusal: all are written
-  pub whole-written : (r : ℕ) {n : ℕ} {out′ : List ℕ} → r ≡ outputRefusal own os (length out) → r ≡ 0 → n ≡ length os → (n ≤ length out → out′ ≡ over os out)
+  pub whole-written : (r : ℕ) {n : ℕ} {out′ : List ℕ} → r ≡ refusalInto own os (length out) → r ≡ 0 → n ≡ length os → (n ≤ length out → out′ ≡ over os out)
       → Output own os out (record { refusal = r; length = n }) out′
   whole-written zero e z m f =
       let h = none-refused own os (length out) (sym e) .1 in
-      by-refusal 0 e m (f (omega arith))
+      record { refusal = e; octets = m; filled = f (omega arith) }
   whole-written (suc r) e z m f = absurd (omega arith)
 
   -- its own
@@ -70,12 +64,12 @@ module _ (own : ℕ) (os out : List ℕ) where
 
   -- there is no room
   pub output-short : own ≡ 0 → length out < length os → Output own os out (record { refusal = outputShort; length = 0 }) out
-  output-short e h = by-refusal outputShort (refusal-short own os (length out) e h) refl refl
+  output-short e h = record { refusal = refusal-short own os (length out) e h; octets = refl; filled = refl }
 
   -- the octets are written
   pub output-written : {n : ℕ} {out′ : List ℕ} → own ≡ 0 → length os ≤ length out → n ≡ length os → out′ ≡ over os out
       → Output own os out (record { refusal = 0; length = n }) out′
-  output-written e h m f = by-refusal 0 (refusal-none own os (length out) e h) m f
+  output-written e h m f = record { refusal = refusal-none own os (length out) e h; octets = m; filled = f }
 
   module _ {answer : WriteAnswer} {out′ : List ℕ} (w : Output own os out answer out′) where
     -- where nothing was refused, nothing of its own was
@@ -85,14 +79,11 @@ module _ (own : ℕ) (os out : List ℕ) where
     -- and the octets stand at the start
     pub output-read : answer .refusal ≡ 0 → take (answer .length) out′ ≡ os
     output-read z =
-        let o = ap (λ (r : ℕ). unlessRefused r os) (sym (w .refusal) ∙ z) in
-        ap₂ take (w .octets ∙ ap length o) (w .filled ∙ ap (λ (l : List ℕ). over l out) o) ∙ over-read os out
+        ap₂ take (w .octets ∙ ap (λ (r : ℕ). ifNone r (length os) 0) z) (w .filled ∙ ap (λ (r : ℕ). ifNone r (over os out) out) z) ∙ over-read os out
 
     -- where nothing of its own is refused and there is room, they are written
     pub output-whole : own ≡ 0 → length os ≤ length out → (answer ≡ record { refusal = 0; length = length os }) × (out′ ≡ over os out)
     output-whole e h =
-        let r = sym (refusal-none own os (length out) e h) in
-        let o = ap (λ (x : ℕ). unlessRefused x os) r in
-        let p = w .refusal ∙ r in
-        let q = w .octets ∙ ap length o in
-        ((λ i. record { refusal = p i; length = q i }), w .filled ∙ ap (λ (l : List ℕ). over l out) o)
+        let p = w .refusal ∙ sym (refusal-none own os (length out) e h) in
+        let q = w .octets ∙ ap (λ (r : ℕ). ifNone r (length os) 0) p in
+        ((λ i. record { refusal = p i; length = q i }), w .filled ∙ ap (λ (r : ℕ). ifNone r (over os out) out) p)

@@ -4,28 +4,27 @@
 -- stands at the start (`output-read`); it decodes to their sample (`decode-file`), which the lists have room for (`into-room`).
 -- Here s is the sample; a, b and c are numbers of places; what is lent is sizes, numbers, times (in `read-again` sizes₀, numbers₀, times₀) and
 -- out before a call, and with ′ after it. Assumes nothing.
-use Prim.Native.Nat.{ℕ, _^_, _≤_}
+use Prim.Native.Nat.{ℕ, zero, suc, _^_, _≤_}
 use native.Mathlib.Omega.{arith}
-use mathlib.Core.Path.{_≡_, sym, ap, ap₂, _∙_, subst}
-use mathlib.Core.List.{List, [], _∷_}
+use mathlib.Core.Bool.{Bool, true, false}
+use mathlib.Core.Path.{_≡_, refl, sym, ap, ap₂, _∙_, subst}
+use mathlib.Core.List.{List}
 use borrow.Author.Tests.{le-ltb}
 use lib.ListN.{length, take, replicate, length-map, length-replicate}
 use Rattle.octets.specs.Below.{Below, Octets}
 use Rattle.octets.specs.Memory.{over}
 use Rattle.octets.proofs.Memory.{over-read}
 use Rattle.rfc4737.specs.declared.Arrival.{Arrival}
-use Rattle.rfc4737.specs.Refusals.{inCase, firstOf, outputShort}
 use Rattle.rfc4737.specs.Judge.{arrivalsMost, numbersOf, timesOf}
 use Rattle.sample.specs.Format.{Sample, fileOf}
 use Rattle.sample.specs.Judge.{sampleRefusal, FitSample}
-use Rattle.sample.specs.Decode.{fileRefusal, sampleIn, decided, decode, accepted, sampleOf, decodedRefusal, layoutOf}
-use Rattle.sample.specs.Calls.{listsShort, decodeInto, sampleFrom, WrittenTo}
+use Rattle.sample.specs.Decode.{fileRefusal, sampleIn, decode, accepted, sampleOf, decodedRefusal, layoutOf}
+use Rattle.sample.specs.Calls.{listsShort, unlessShort, decodeInto, sampleFrom, WrittenTo}
 use Rattle.sample.specs.RoundTrip.{WrittenAgain, ReadAgain}
 use Rattle.sample.specs.declared.Layout.{Layout}
 use Rattle.sample.specs.declared.WriteAnswer.{WriteAnswer}
-use Rattle.rfc4737.proofs.Due.{first-none}
 use Rattle.rfc4737.proofs.Pairs.{arrivals-length, numbers-back, times-back, arrivals-back}
-use Rattle.sample.proofs.Decoded.{refused-none, decided-refusal, decode-accepted, accepted-decode}
+use Rattle.sample.proofs.Decoded.{refused-none, decode-accepted, decode-refused}
 use Rattle.sample.proofs.Output.{own-none, output-read, output-whole}
 use Rattle.sample.proofs.Exact.{sample-fit, file-back, decode-file, label-fit, from-none}
 
@@ -33,11 +32,13 @@ use Rattle.sample.proofs.Exact.{sample-fit, file-back, decode-file, lab
 
 -- nothing is refused where lists are filled: nothing of the file is
 into-none : (a b c : ℕ) (file : List ℕ) → decodedRefusal (decodeInto a b c file) ≡ 0 → (fileRefusal file ≡ 0) × (decodeInto a b c file ≡ accepted (sampleIn file))
-unfolding decodeInto
-into-none a b c file e =
-    let r = firstOf (fileRefusal file ∷ inCase (listsShort (layoutOf (decode file)) a b c) outputShort ∷ []) in
-    let z : r ≡ 0 = sym (decided-refusal r (sampleIn file)) ∙ e in
-    (first-none (fileRefusal file) (inCase (listsShort (layoutOf (decode file)) a b c) outputShort ∷ []) z .0, ap (λ (n : ℕ). decided n (sampleIn file)) z)
+unfolding decodeInto unlessShort
+into-none a b c file e = go (fileRefusal file) refl (listsShort (layoutOf (decode file)) a b c) refl
+  where
+    go : (r : ℕ) → fileRefusal file ≡ r → (t : Bool) → listsShort (layoutOf (decode file)) a b c ≡ t → (fileRefusal file ≡ 0) × (decodeInto a b c file ≡ accepted (sampleIn file))
+    go zero q true p = absurd (omega (arith, e, ap decodedRefusal (ap₂ unlessShort p (decode-accepted file q))))
+    go zero q false p = (q, ap₂ unlessShort p (decode-accepted file q))
+    go (suc r) q t p = absurd (omega (arith, e, ap decodedRefusal (ap₂ unlessShort p (decode-refused file (suc r) (omega arith) q))))
 
 -- a list of as many places as there are arrivals at most
 pub arrivals-room : arrivalsMost ≤ length (replicate {A = ℕ} arrivalsMost 0)
@@ -46,10 +47,8 @@ arrivals-room = omega (arith, length-replicate {A = ℕ} arrivalsMost 0)
 -- the lists are long enough for a sample
 pub into-room : (a b c : ℕ) (file : List ℕ) (s : Sample) → decode file ≡ accepted s → length (s .sizes) ≤ a → length (s .arrivals) ≤ b → length (s .arrivals) ≤ c
     → decodeInto a b c file ≡ accepted s
-unfolding decodeInto listsShort
-into-room a b c file s e p q r =
-    let d = accepted-decode file s e in
-    rw (d .0, e, le-ltb a (length (s .sizes)) p, le-ltb b (length (s .arrivals)) q, le-ltb c (length (s .arrivals)) r) (ap accepted (d .1))
+unfolding decodeInto unlessShort listsShort
+into-room a b c file s e p q r = rw (e, le-ltb a (length (s .sizes)) p, le-ltb b (length (s .arrivals)) q, le-ltb c (length (s .arrivals)) r)
 
 -- ---- the writer
 

@@ -1,16 +1,16 @@
 -- What the calls answer, and what lent memory holds after them. Assumes nothing.
 use Prim.Native.Nat.{ℕ}
-use mathlib.Core.Bool.{Bool, _||_}
-use mathlib.Core.List.{List, [], _∷_}
+use mathlib.Core.Bool.{Bool, cond, _||_}
+use mathlib.Core.List.{List}
 use mathlib.Core.Path.{_≡_}
 use lib.Dec.{ltb}
 use lib.ListN.{length}
 use Rattle.octets.specs.Memory.{over}
-use Rattle.rfc4737.specs.Refusals.{inCase, firstOf, outputShort}
+use Rattle.rfc4737.specs.Refusals.{outputShort}
 use Rattle.rfc4737.specs.Judge.{numbersOf, timesOf, arrivalsFrom}
 use Rattle.sample.specs.Format.{Sample, itemsAt, fileOf}
-unfoldable pub use Rattle.sample.specs.Judge.{sampleRefusal}
-use Rattle.sample.specs.Decode.{Decoded, refused, accepted, fileRefusal, sampleIn, decided, decode, sampleOf, layoutOf}
+use Rattle.sample.specs.Judge.{sampleRefusal}
+use Rattle.sample.specs.Decode.{Decoded, refused, accepted, decode, sampleOf, layoutOf}
 use Rattle.sample.specs.Output.{Output}
 use Rattle.sample.specs.declared.Layout.{Layout}
 use Rattle.sample.specs.declared.WriteAnswer.{WriteAnswer}
@@ -28,17 +28,26 @@ labelPlace (accepted s) = itemsAt 0
 unfoldable pub listsShort : Layout → ℕ → ℕ → ℕ → Bool
 listsShort found sizes numbers times = ltb sizes (found .sent) || (ltb numbers (found .arrivals) || ltb times (found .arrivals))
 
--- what a file decodes to where lists of so many places are filled: 8 comes last
-unfoldable pub decodeInto : ℕ → ℕ → ℕ → List ℕ → Decoded
-decodeInto sizes numbers times file =
-    decided (firstOf (fileRefusal file ∷ inCase (listsShort (layoutOf (decode file)) sizes numbers times) outputShort ∷ [])) (sampleIn file)
+-- a decoded file where what is lent may be too short for its sample: 8 comes after the file's own refusals
+unfoldable pub unlessShort : (short : Bool) → Decoded → Decoded
+unlessShort short (refused r) = refused r
+unlessShort short (accepted s) = cond short (refused outputShort) (accepted s)
 
--- the reader's answer, and the three lists after it: the sample's values from their start, all else as it was
-pub record ReadFrom (file sizes numbers times : List ℕ) (answer : Layout) (sizes′ numbers′ times′ : List ℕ) : Type 0 where
-  pub layout : answer ≡ layoutOf (decodeInto (length sizes) (length numbers) (length times) file)
-  pub filledSizes : sizes′ ≡ over (sampleOf (decodeInto (length sizes) (length numbers) (length times) file) .sizes) sizes
-  pub filledNumbers : numbers′ ≡ over (numbersOf (sampleOf (decodeInto (length sizes) (length numbers) (length times) file) .arrivals)) numbers
-  pub filledTimes : times′ ≡ over (timesOf (sampleOf (decodeInto (length sizes) (length numbers) (length times) file) .arrivals)) times
+-- what a file decodes to where lists of so many places are filled
+unfoldable pub decodeInto : ℕ → ℕ → ℕ → List ℕ → Decoded
+decodeInto sizes numbers times file = unlessShort (listsShort (layoutOf (decode file)) sizes numbers times) (decode file)
+
+-- what is answered of a decoded file, and three lists after it: the sample's values from their start, all else as it was
+pub record ListsFilled (d : Decoded) (sizes numbers times : List ℕ) (answer : Layout) (sizes′ numbers′ times′ : List ℕ) : Type 0 where
+  pub layout : answer ≡ layoutOf d
+  pub filledSizes : sizes′ ≡ over (sampleOf d .sizes) sizes
+  pub filledNumbers : numbers′ ≡ over (numbersOf (sampleOf d .arrivals)) numbers
+  pub filledTimes : times′ ≡ over (timesOf (sampleOf d .arrivals)) times
+
+-- the reader's answer, and the three lists after it
+abbrev pub ReadFrom : (file sizes numbers times : List ℕ) → Layout → (sizes′ numbers′ times′ : List ℕ) → Type 0
+ReadFrom file sizes numbers times answer sizes′ numbers′ times′ =
+    ListsFilled (decodeInto (length sizes) (length numbers) (length times) file) sizes numbers times answer sizes′ numbers′ times′
 
 -- ---- the writer
 

@@ -1,10 +1,12 @@
 // The sample file: checked, read and written. Every public call takes all input there is.
 ghost use mathlib.Core.Path.{_≡_};
-ghost use Prim.Native.Nat.{_+_, _*_};
+ghost use Prim.Native.Nat.{ℕ, _+_, _*_};
+ghost use mathlib.Core.List.{List};
 ghost use Rattle.sample.specs.Format.{longest};
 ghost use Rattle.sample.specs.Decode.{arrivalIn, decode, refused, sampleOf, layoutOf};
-ghost use Rattle.sample.specs.Places.{sizesAt, arrivalsAt, sizeFound, arrivalFound};
-ghost use Rattle.sample.specs.Calls.{labelPlace, ReadFrom, WrittenTo, sampleRefusal, listsShort};
+ghost use Rattle.sample.specs.Places.{sizesAt, arrivalsAt, sizeFound, arrivalFound, SizeOfSample, ArrivalOfSample, ArrivalsFrom};
+ghost use Rattle.sample.specs.Calls.{labelPlace, ReadFrom, WrittenTo, listsShort};
+ghost use Rattle.sample.specs.Judge.{sampleRefusal};
 ghost use Rattle.sample.specs.Cases.{RefusalsInOrder};
 ghost use Rattle.sample.specs.RoundTrip.{ExactFile, Lengths, WrittenAgain, ReadAgain};
 
@@ -140,6 +142,7 @@ fn sizes_at(found: Layout) -> usize
 // Where the first arrival of an accepted file stands.
 pub fn arrivals_at(found: Layout) -> usize
     ensures { λ r. ⌜ r ≡ arrivalsAt found ⌝ }
+    ensures sample { λ r. ⌜ ((file : List ℕ) → ArrivalsFrom file found r) ⌝ }
 {
     let sent_at = end_of(0, OCTET_WIDTH, found.label as usize);
     end_of(sent_at, SIZE_WIDTH, found.sent as usize) + COUNT_WIDTH
@@ -226,6 +229,7 @@ pub fn write(
 // The payload size of packet j + 1 of an accepted file.
 pub fn payload_size(file: &[u8], found: Layout, j: u32) -> u16
     ensures { λ r. ⌜ r ≡ sizeFound (now (file .entry)) found j ⌝ }
+    ensures sample { λ r. ⌜ SizeOfSample (now (file .entry)) found j r ⌝ }
 {
     let at = sizes_at(found) + SIZE_WIDTH * (j as usize);
     octets::number_at(file, at, SIZE_WIDTH) as u16
@@ -244,6 +248,7 @@ pub fn arrival_of(twelve: &[u8]) -> Arrival
 // The arrival of record i + 1 of an accepted file; zeros where the file ends before its octets.
 pub fn arrival(file: &[u8], found: Layout, i: u32) -> Arrival
     ensures { λ r. ⌜ r ≡ arrivalFound (now (file .entry)) found i ⌝ }
+    ensures sample { λ r. ⌜ ArrivalOfSample (now (file .entry)) found i r ⌝ }
 {
     let start = arrivals_at(found) + ARRIVAL_WIDTH * (i as usize);
     let end = start + ARRIVAL_WIDTH;

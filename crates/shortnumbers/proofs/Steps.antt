@@ -9,7 +9,7 @@
 use Prim.Native.Nat.{ℕ, _+_, _≤_, _<_, max}
 use native.Mathlib.Omega.{arith}
 use mathlib.Core.Bool.{Bool, true, false, cond, _||_}
-use mathlib.Core.Path.{_≡_, refl, sym, ap, ap₂, _∙_, subst}
+use mathlib.Core.Path.{_≡_, refl, sym, ap, ap₂, _∙_}
 use mathlib.Core.List.{List, [], _∷_, _++_, foldl, append-nil, append-assoc, map-append}
 use borrow.Author.Tests.{ltb-true, ltb-false, leb-true, leb-false, eqb-true}
 use lib.Dec.{leb, ltb, eqb}
@@ -23,12 +23,12 @@ use Rattle.rfc4737.proofs.Arrivals.{fold-more, has-more, firsts-more, has-first
 use Rattle.rfc4737.proofs.Folds.{next-more}
 use Rattle.receiver.specs.declared.Receiver.{Receiver}
 use Rattle.receiver.specs.declared.Outcome.{Outcome}
+use Rattle.receiver.specs.declared.StepAnswer.{StepAnswer}
 use Rattle.receiver.specs.Fit.{fit}
 use Rattle.receiver.specs.Outcomes.{refusedOutcome}
 use Rattle.receiver.specs.Step.{stepRefusal, outcomeOf, stepWith, stepOf}
 use Rattle.receiver.specs.Account.{accountOf}
 use Rattle.receiver.specs.Demand3.{stateAfter, outcomeAfter, receiverOutcomes}
-use Rattle.receiver.specs.Private.{StreamFit}
 use Rattle.receiver.proofs.Fits.{stream-false}
 use Rattle.receiver.proofs.Demand3.{next-after, demand3}
 use Rattle.shortnumbers.specs.Number.{rangeOf, shortOf, Near, numberFound}
@@ -41,7 +41,7 @@ use Rattle.shortnumbers.proofs.InTurn.{turn-true}
 
 unfit : (s : Receiver) → sentMost + 1 < s .stream .next → fit s ≡ false
 unfolding fit
-unfit s h = rw (sym (stream-false (s .stream) (λ (f : StreamFit (s .stream)). omega (arith, f .next-high, f .sent-high))))
+unfit s h = rw (sym (stream-false (s .stream) (λ f. omega (arith, f .next-high, f .sent-high))))
 
 unfit-step : (s : Receiver) (n t : ℕ) → fit s ≡ false → stepOf s n t ≡ record { outcome = refusedOutcome stateUnfit; state = s }
 unfolding stepWith outcomeOf stepRefusal
@@ -111,72 +111,75 @@ next-greatest = snoc-ind (λ (l : List Arrival). nextExp (firsts l) ≡ greatest
 
 -- ---- a run
 
-module _ (r k : ℕ) where
-  -- the greatest by the receiver after arrivals fed
-  abbrev greatestFed : List Arrival → ℕ
-  greatestFed fed = greatestBy (stateAfter k fed)
+module _ (r k : ℕ) (low : 1 ≤ k) (high : k ≤ sentMost) where
+  -- NextExp less 1 is the greatest accepted
+  greatest-same : (fed : List Arrival) → greatestBy (stateAfter k fed) ≡ greatestAccepted k fed
+  greatest-same fed =
+      let e : stateAfter k fed .stream .next ≡ greatestAccepted k fed + 1 = next-after k low high fed ∙ next-greatest (accountOf k fed) in
+      omega arith
 
   -- after `done` by short numbers the state is that after `before`; so it is after one more
   abbrev next : List Arrival → Arrival → Arrival
-  next before a = withFound r (greatestFed before) a
+  next before a = withFound r (greatestAccepted k before) a
+
+  -- the step with a short number is the step with the number found
+  step-same : (done before : List Arrival) (a : Arrival) → shortStateAfter r k done ≡ stateAfter k before
+      → shortStep r (shortStateAfter r k done) (a .number) (a .time) ≡ stepOf (stateAfter k before) (next before a .number) (a .time)
+  unfolding shortStep
+  step-same done before a e =
+      ap (λ (s : Receiver). stepOf s (numberFound r (greatestBy s) (a .number)) (a .time)) e
+      ∙ ap (λ (g : ℕ). stepOf (stateAfter k before) (numberFound r g (a .number)) (a .time)) (greatest-same before)
 
   state-next : (done before : List Arrival) (a : Arrival) → shortStateAfter r k done ≡ stateAfter k before
       → shortStateAfter r k (done ++ (a ∷ [])) ≡ stateAfter k (before ++ (next before a ∷ []))
-  unfolding shortStateAfter stateAfter shortStep
+  unfolding shortStateAfter stateAfter
   state-next done before a e =
       fold-more _ _ done a
-      ∙ ap (λ (s : Receiver). shortStep r s (a .number) (a .time) .state) e
+      ∙ ap (λ (s : StepAnswer). s .state) (step-same done before a e)
       ∙ sym (fold-more _ _ before (next before a))
 
   -- what is said from there on
   outcomes-from : (done before shorts : List Arrival) → shortStateAfter r k done ≡ stateAfter k before
-      → eachAfter (shortOutcomeAfter r k) done shorts ≡ eachAfter (outcomeAfter k) before (inTurn greatestFed (withFound r) before shorts)
-  unfolding eachAfter inTurn shortOutcomeAfter outcomeAfter shortStep
+      → eachAfter (shortOutcomeAfter r k) done shorts ≡ eachAfter (outcomeAfter k) before (inTurn (greatestAccepted k) (withFound r) before shorts)
+  unfolding eachAfter inTurn shortOutcomeAfter outcomeAfter
   outcomes-from done before [] e = refl
   outcomes-from done before (a ∷ l) e =
       ap₂ (λ (o : Outcome) (os : List Outcome). o ∷ os)
-      (ap (λ (s : Receiver). shortStep r s (a .number) (a .time) .outcome) e)
+      (ap (λ (s : StepAnswer). s .outcome) (step-same done before a e))
       (outcomes-from (done ++ (a ∷ [])) (before ++ (next before a ∷ [])) l (state-next done before a e))
 
   -- and the state at the end
   state-from : (done before shorts : List Arrival) → shortStateAfter r k done ≡ stateAfter k before
-      → shortStateAfter r k (done ++ shorts) ≡ stateAfter k (before ++ inTurn greatestFed (withFound r) before shorts)
+      → shortStateAfter r k (done ++ shorts) ≡ stateAfter k (before ++ inTurn (greatestAccepted k) (withFound r) before shorts)
   unfolding inTurn
   state-from done before [] e = ap (shortStateAfter r k) (append-nil done) ∙ e ∙ ap (stateAfter k) (sym (append-nil before))
   state-from done before (a ∷ l) e =
       let n : Arrival = next before a in
       ap (shortStateAfter r k) (sym (append-assoc done (a ∷ []) l))
       ∙ state-from (done ++ (a ∷ [])) (before ++ (n ∷ [])) l (state-next done before a e)
-      ∙ ap (stateAfter k) (append-assoc before (n ∷ []) (inTurn greatestFed (withFound r) (before ++ (n ∷ [])) l))
+      ∙ ap (stateAfter k) (append-assoc before (n ∷ []) (inTurn (greatestAccepted k) (withFound r) (before ++ (n ∷ [])) l))
 
-  module _ (low : 1 ≤ k) (high : k ≤ sentMost) where
-    -- NextExp less 1 is the greatest accepted
-    greatest-same : (fed : List Arrival) → greatestAccepted k fed ≡ greatestFed fed
-    greatest-same fed =
-        let e : stateAfter k fed .stream .next ≡ greatestAccepted k fed + 1 = next-after k low high fed ∙ next-greatest (accountOf k fed) in
-        omega arith
+  demand3-reads : (shorts : List Arrival) → Demand3Reads r k shorts
+  unfolding shortOutcomes receiverOutcomes each shortStateAfter stateAfter
+  demand3-reads shorts =
+      record {
+        outcomes = outcomes-from [] [] shorts refl;
+        state = state-from [] [] shorts refl;
+        demand3 = demand3 k low high (arrivalsFound r k shorts);
+      }
 
-    demand3-reads : (shorts : List Arrival) → Demand3Reads r k shorts
-    unfolding shortOutcomes receiverOutcomes each shortStateAfter stateAfter
-    demand3-reads shorts =
-        record {
-          outcomes = outcomes-from [] [] shorts refl;
-          state = state-from [] [] shorts refl;
-          demand3 = demand3 k low high (arrivalsFound r k shorts);
-        }
-
-    receiver-true : Even r → TrueByReceiver r k
-    receiver-true range l keeps =
-        turn-true greatestFed (withFound r) (shortened r) (λ (g : ℕ) (a : Arrival). Near r g (a .number))
-        (λ g a near.
-        ap (λ (n : ℕ). record { number = n; time = a .time })
-        (sym (only r range g (shortOf r (a .number)) (a .number) (record { bits = refl; near = near }))))
-        l (record { keeps = λ earlier a later e. subst (λ (g : ℕ). Near r g (a .number)) (greatest-same earlier) (keeps .keeps earlier a later e) })
+receiver-true : (r k : ℕ) → Even r → TrueByReceiver r k
+receiver-true r k range l keeps =
+    turn-true (greatestAccepted k) (withFound r) (shortened r) (λ (g : ℕ) (a : Arrival). Near r g (a .number))
+    (λ g a near.
+    ap (λ (n : ℕ). record { number = n; time = a .time })
+    (sym (only r range g (shortOf r (a .number)) (a .number) (record { bits = refl; near = near }))))
+    l keeps
 
 pub every-step : EveryStep
 every-step w h =
     record {
       exact = exact (rangeOf w) (even-width w h);
-      finds = λ k low high. receiver-true (rangeOf w) k low high (even-width w h);
+      finds = λ k low high. receiver-true (rangeOf w) k (even-width w h);
       demand3 = λ k low high shorts. demand3-reads (rangeOf w) k low high shorts;
     }

@@ -10,8 +10,9 @@ use Rattle.rfc4737.specs.Judge.{refusalOfLists}
 use Rattle.rfc4737.specs.Refusals.{inCase, firstOf, outputShort}
 use Rattle.sample.specs.Format.{fileOf}
 use Rattle.sample.specs.Decode.{decode, accepted}
-use Rattle.sample.specs.Calls.{sampleFrom, sampleRefusal}
-use Rattle.sample.specs.Output.{unlessRefused}
+use Rattle.sample.specs.Calls.{sampleFrom}
+use Rattle.sample.specs.Judge.{sampleRefusal}
+use Rattle.sample.specs.Output.{ifNone}
 use Rattle.shortnumbers.specs.Number.{rangeOf, shortOf, Near, numberFound, ExactNumber}
 use Rattle.shortnumbers.specs.InTurn.{greatestOf, inTurn, EachKeeps}
 
@@ -30,7 +31,7 @@ fillRefusal r k room shorts times =
 -- the answer, and the lent list after it: the numbers found from its start, all else as it was
 pub record FilledTo (r k : ℕ) (shorts times numbers : List ℕ) (answer : ℕ) (numbers′ : List ℕ) : Type 0 where
   pub refusal : answer ≡ fillRefusal r k (length numbers) shorts times
-  pub filled : numbers′ ≡ over (unlessRefused answer (numbersFound r shorts)) numbers
+  pub filled : numbers′ ≡ ifNone answer (over (numbersFound r shorts) numbers) numbers
 
 -- ---- what is carried, over a range
 

@@ -23,10 +23,12 @@ pub record FullNumber (r g x n : ℕ) : Type 0 where
   pub bits : shortOf r n ≡ x
   pub near : Near r g n
 
--- the number found: from g less half the range go up to the first number with those low bits. It is 0, which is no packet's number,
--- where x is over its width or that number is below 0
+-- the number found: the greatest number below g + r / 2 with those low bits; 0, which is no packet's number, where x is over its width
+-- or there is none. ExactNumber says all that is to be believed of it
 unfoldable pub numberFound : (r g x : ℕ) → ℕ
-numberFound r g x = cond (ltb x r) (g + (x + (r / 2 + (r - g % r))) % r - r / 2) 0
+numberFound r g x =
+    let top = g + r / 2 - 1 in
+    cond (ltb x r) (top - (top + (r - x)) % r) 0
 
 -- the number found is the full number, and the only one, over a range
 pub record ExactNumber (r : ℕ) : Type 0 where

@@ -41,9 +41,13 @@ shortOutcomes r k fed = each (shortOutcomeAfter r k) fed
 abbrev pub withFound : (r g : ℕ) → Arrival → Arrival
 withFound r g a = record { number = numberFound r g (a .number); time = a .time }
 
--- the arrivals with the numbers found
+-- the greatest number of the account of arrivals fed, 0 for none
+abbrev pub greatestAccepted : ℕ → List Arrival → ℕ
+greatestAccepted k fed = greatestOf (numbersOf (accountOf k fed))
+
+-- the arrivals with the numbers found, each from the greatest number accepted before it; nothing that a receiver holds is asked
 abbrev pub arrivalsFound : (r k : ℕ) → List Arrival → List Arrival
-arrivalsFound r k shorts = inTurn (λ (fed : List Arrival). greatestBy (stateAfter k fed)) (withFound r) [] shorts
+arrivalsFound r k shorts = inTurn (greatestAccepted k) (withFound r) [] shorts
 
 -- demand 3 reads the numbers found: all that comes of the short numbers is what comes of them
 pub record Demand3Reads (r k : ℕ) (shorts : List Arrival) : Type 0 where
@@ -56,10 +60,6 @@ pub record Demand3Reads (r k : ℕ) (shorts : List Arrival) : Type 0 where
 -- an arrival with its short number
 abbrev pub shortened : ℕ → Arrival → Arrival
 shortened r a = record { number = shortOf r (a .number); time = a .time }
-
--- the greatest number of the account of arrivals fed, 0 for none
-abbrev pub greatestAccepted : ℕ → List Arrival → ℕ
-greatestAccepted k fed = greatestOf (numbersOf (accountOf k fed))
 
 -- true numbers that each keep the distance from the greatest true one accepted before them are the numbers found
 abbrev pub TrueByReceiver : (r k : ℕ) → Type 0

@@ -2,3 +2,4 @@
 pub mod Lowest
 pub mod PartlyAdded
 pub mod Summed
+pub mod Exact

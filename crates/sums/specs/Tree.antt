@@ -1,11 +1,11 @@
 -- A binary indexed tree: the place i holds the sum of the values at the numbers above `rest i` and up to i. Assumes nothing.
 use mathlib.Core.Path.{_≡_}
-use mathlib.Core.Bool.{cond}
-use mathlib.Core.List.{List}
+use mathlib.Core.Bool.{cond, _&&_}
+use mathlib.Core.List.{List, [], _∷_}
 use Prim.Native.Nat.{ℕ, zero, suc, _+_, _-_, _%_, _^_, _≤_, _<_}
 use lib.Bits.{bitAnd}
 use lib.Dec.{leb, ltb}
-use lib.ListN.{length, getD}
+use lib.ListN.{length, getD, replicate}
 
 -- a number without its lowest bit that is set
 unfoldable pub rest : ℕ → ℕ
@@ -26,10 +26,27 @@ partsTo zero tree i = 0
 partsTo (suc fuel) tree zero = 0
 partsTo (suc fuel) tree (suc i) = getD tree (suc i) 0 + partsTo fuel tree (rest (suc i))
 
--- the sum of the values at the numbers from 1 to a number; 0 where the tree has no place for it
+-- what stands there, wrapped; 0 where the tree has no place for the number. `ExactSum` says that it is a sum
 unfoldable pub sumTo : List ℕ → ℕ → ℕ
 sumTo tree number = cond (ltb number (length tree)) (partsTo number tree number % 2 ^ 32) 0
 
 -- a tree holds the sums of values of which f i is the sum over the numbers above i
 pub record Summed (f : ℕ → ℕ) (tree : List ℕ) : Type 0 where
   pub at : (i : ℕ) → 1 ≤ i → i < length tree → getD tree i 0 + f i ≡ f (rest i)
+
+-- ---- that the sum is one
+
+-- a tree has had these values added, each as its number and the value, the last one first: it was zeros before
+pub data Holds : List (ℕ × ℕ) → List ℕ → Type 0 where
+  nothing : (places : ℕ) → Holds [] (replicate places 0)
+  more : {a : ℕ × ℕ} {vs : List (ℕ × ℕ)} {old new : List ℕ} → Added (a .0) (a .1) old new → Holds vs old → Holds (a ∷ vs) new
+
+-- the sum of the values at the numbers from 1 to n
+unfoldable pub valuesTo : ℕ → List (ℕ × ℕ) → ℕ
+valuesTo n [] = 0
+valuesTo n (a ∷ vs) = cond (leb 1 (a .0) && leb (a .0) n) (a .1) 0 + valuesTo n vs
+
+-- of a tree of zeros to which values were added, and a number for which it has a place, this is the sum of the values at the numbers
+-- from 1 to that number, modulo 2^32
+abbrev pub ExactSum : (tree : List ℕ) (number sum : ℕ) → Type 0
+ExactSum tree number sum = (vs : List (ℕ × ℕ)) → Holds vs tree → number < length tree → sum ≡ valuesTo number vs % 2 ^ 32

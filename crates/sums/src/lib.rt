@@ -4,7 +4,7 @@
 // binary digits, and sums wrap at 2^32.
 ghost use mathlib.Core.Path.{_≡_};
 ghost use Prim.Native.Nat.{_≤_};
-ghost use Rattle.sums.specs.Tree.{rest, Added, sumTo};
+ghost use Rattle.sums.specs.Tree.{rest, Added, sumTo, ExactSum};
 use std::num::wrapping_add_u32;
 
 // The number i without its lowest bit that is set.
@@ -32,6 +32,7 @@ pub fn add(tree: &mut [u32], number: u32, value: u32)
 // The sum of the values at the numbers from 1 to a number; 0 where the tree has no place for it.
 pub fn sum_to(tree: &[u32], number: u32) -> u32
     ensures { λ r. ⌜ r ≡ sumTo (now (tree .entry)) number ⌝ }
+    ensures exact { λ r. ⌜ ExactSum (now (tree .entry)) number r ⌝ }
 {
     let mut i = number as usize;
     if tree.len() <= i {

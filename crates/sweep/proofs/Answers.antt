@@ -2,8 +2,9 @@
 -- decoded file is one refused, so that nothing is set and all stays. Else all lists have room (`wide`), and with the table cleared the pass
 -- can begin (`ready`). It leaves what lies behind the table's first numbers, so that the table, cleared again, is zeros over what it was
 -- (`table-after`); and the lists have the figures of all answers over what they were. So at a record asked for there stand in each list the
--- figures of the answer that `metrics::answer` gives (`at-list`), and both engines agree (`swept`).
--- Here d is the decoded file, y its layout, e that it is, old what is lent before, table the cleared table, new what is lent after the
+-- figures of the answer that `metrics::answer` gives (`at-list`), and the first places of each list are the figures of all answers, whose
+-- lines the report has (`first-list`): both engines agree (`swept`).
+-- Here d is the decoded file, y its layout, e that it is, own that it is accepted, old what is lent before, table the cleared table, new what is lent after the
 -- pass, f that it is filled, table′ the table cleared again, and after all that is lent then. Assumes nothing.
 use mathlib.Core.Path.{_≡_, refl, sym, ap, _∙_}
 use mathlib.Core.Bool.{Bool, true, false}
@@ -11,66 +12,77 @@ use mathlib.Core.List.{List, _++_, map}
 use Prim.Native.Nat.{ℕ, zero, suc, _≤_, _<_}
 use native.Mathlib.Omega.{arith}
 use lib.Dec.{ltb}
-use lib.ListN.{length, getD, drop, replicate, length-replicate, getD-replicate, length-map, List·getD-append, List·getD-map}
+use lib.ListN.{length, getD, take, drop, replicate, length-replicate, getD-replicate, length-map, List·getD-append, List·getD-map}
 use lib.Seq.{drop-at}
 use borrow.Author.Tests.{ltb-false}
 use Rattle.octets.specs.Memory.{over}
-use Rattle.octets.proofs.Memory.{over-length}
+use Rattle.octets.proofs.Memory.{over-length, over-first}
 use Rattle.rfc4737.specs.declared.Answer.{Answer}
 use Rattle.rfc4737.specs.Answer.{answers}
 use Rattle.rfc4737.proofs.Due.{neither}
 use Rattle.rfc4737.proofs.Folds.{length-answers}
 use Rattle.sample.specs.declared.Layout.{Layout}
-use Rattle.sample.specs.Decode.{Decoded, refused, accepted, sampleOf, decodedRefusal, layoutOf}
+use Rattle.sample.specs.Decode.{Decoded, refused, accepted, sampleOf, layoutOf}
+use Rattle.sample.specs.Calls.{unlessShort}
 use Rattle.metrics.specs.Sample.{sizeOf, sampleArrivals, answersOf}
-use Rattle.metrics.specs.Private.Sample.{FileLayout}
+use Rattle.metrics.specs.Records.{FileLayout}
 use Rattle.metrics.specs.Figures.{recordAnswer, atRecord}
 use Rattle.metrics.proofs.RecordsAsked.{asked-within}
 use Rattle.sweep.specs.Figures.{figuresOf}
-use Rattle.sweep.specs.Calls.{tablePlaces, Lent, lent, lentShort, lentShortFor, decodedInto, SweptTo, figuresAt, EnginesAgree}
+use Rattle.sweep.specs.Calls.{tablePlaces, Lent, lent, lentShort, lentShortFor, SweptTo, figuresAt, EnginesAgree, ReportAgrees}
 use Rattle.sweep.specs.Private.{Room, SweepReady, FilledWith}
 
--- with its own refusal
-pub swept-refused : (d : Decoded) (y : Layout) → y ≡ layoutOf d → (y .refusal ≡ 0 → ⊥) → (old : Lent) → SweptTo d old y old × EnginesAgree d y old
-unfolding decodedInto answers Rattle.rfc4737.specs.Arrivals.each Rattle.rfc4737.specs.Arrivals.eachAfter
-swept-refused (refused zero) y e n old = absurd (n (ap (λ (y : Layout). y .refusal) e))
-swept-refused (refused (suc r)) y e n old = (
-  record { layout = e; table = refl; flags = refl; positions = refl; extents = refl; lates = refl },
+-- with any refusal nothing is said of the lists
+agree-refused : (d : Decoded) (y : Layout) (new : Lent) → (y .refusal ≡ 0 → ⊥) → EnginesAgree d y new × ReportAgrees d y new
+agree-refused d y new n = (
   record { at = λ z i h. absurd (n z) },
+  record {
+    answers = answersOf d;
+    listed = refl;
+    every = length-answers (sizeOf d) (sampleArrivals d);
+    flags = λ z. absurd (n z);
+    positions = λ z. absurd (n z);
+    extents = λ z. absurd (n z);
+    lates = λ z. absurd (n z);
+  },
+)
+
+-- with its own refusal
+pub swept-refused : (d : Decoded) (y : Layout) → y ≡ layoutOf d → (y .refusal ≡ 0 → ⊥) → (old : Lent) → SweptTo d old y old × (EnginesAgree d y old × ReportAgrees d y old)
+unfolding unlessShort answers Rattle.rfc4737.specs.Arrivals.each Rattle.rfc4737.specs.Arrivals.eachAfter
+swept-refused (refused r) y e n old = (
+  record { layout = e; table = refl; flags = refl; positions = refl; extents = refl; lates = refl },
+  agree-refused (refused r) y old n,
 )
 swept-refused (accepted s) y e n old = absurd (n (ap (λ (y : Layout). y .refusal) e))
 
-module _ (d : Decoded) (y : Layout) (e : y ≡ layoutOf d) (none : y .refusal ≡ 0) (old : Lent) where
-  -- none of its own
-  own : decodedRefusal d ≡ 0
-  own = sym (ap (λ (y : Layout). y .refusal) e) ∙ none
-
+module _ (d : Decoded) (y : Layout) (e : y ≡ layoutOf d) (own : d ≡ accepted (sampleOf d)) (old : Lent) where
   -- too short by the counts of the layout
   short-is : (b : Bool) → b ≡ lentShort (y .arrivals) (length (old .table)) (length (old .flags)) (length (old .positions)) (length (old .extents)) (length (old .lates))
       → lentShortFor d old ≡ b
   short-is b h = sym (h ∙ rw e)
 
   into-short : true ≡ lentShort (y .arrivals) (length (old .table)) (length (old .flags)) (length (old .positions)) (length (old .extents)) (length (old .lates))
-      → decodedInto d old ≡ refused 8
-  unfolding decodedInto
-  into-short h = rw (own, short-is true h)
+      → unlessShort (lentShortFor d old) d ≡ refused 8
+  unfolding unlessShort
+  into-short h = ap (λ (b : Bool). unlessShort b d) (short-is true h) ∙ ap (unlessShort true) own
 
   -- by 8
   pub swept-short : true ≡ lentShort (y .arrivals) (length (old .table)) (length (old .flags)) (length (old .positions)) (length (old .extents)) (length (old .lates))
-      → (r : Layout) → r ≡ layoutOf (refused 8) → SweptTo d old r old × EnginesAgree d r old
+      → (r : Layout) → r ≡ layoutOf (refused 8) → SweptTo d old r old × (EnginesAgree d r old × ReportAgrees d r old)
   unfolding answers Rattle.rfc4737.specs.Arrivals.each Rattle.rfc4737.specs.Arrivals.eachAfter
   swept-short h r q =
       let k = into-short h in (
         record { layout = rw k q; table = rw k; flags = rw k; positions = rw k; extents = rw k; lates = rw k },
-        record { at = λ z i h. absurd (omega (arith, ap (λ (y : Layout). y .refusal) q)) },
+        agree-refused d r old (λ z. omega (arith, ap (λ (y : Layout). y .refusal) q)),
       )
 
   -- no list is short
   module _ (h : false ≡ lentShort (y .arrivals) (length (old .table)) (length (old .flags)) (length (old .positions)) (length (old .extents)) (length (old .lates))) where
     -- then the sample is swept
-    into : decodedInto d old ≡ accepted (sampleOf d)
-    unfolding decodedInto
-    into = rw (own, short-is false h)
+    into : unlessShort (lentShortFor d old) d ≡ accepted (sampleOf d)
+    unfolding unlessShort
+    into = ap (λ (b : Bool). unlessShort b d) (short-is false h) ∙ ap (unlessShort false) own
 
     -- there is room in the table and in each list
     pub wide : (tablePlaces ≤ length (old .table)) × Room (y .arrivals) (old .flags) (old .positions) (old .extents) (old .lates)
@@ -123,25 +135,41 @@ module _ (d : Decoded) (y : Layout) (e : y ≡ layoutOf d) (none : y .refusal �
             ∙ ap (λ (m : ℕ). getD (map g (answersOf d)) i m) (sym z)
             ∙ List·getD-map g (answersOf d) i (Answer.InOrder (record { position = 0; jump = 0 }))
 
+        -- the first places of a list
+        first-list : (g : Answer → ℕ) (l l′ : List ℕ) → l′ ≡ over (map g (answersOf d)) l → take (y .arrivals) l′ ≡ map g (answersOf d)
+        first-list g l l′ q =
+            let n : y .arrivals ≡ length (map g (answersOf d)) =
+            ap (λ (y : Layout). y .arrivals) e ∙ sym (length-map (answersOf d) g ∙ length-answers (sizeOf d) (sampleArrivals d)) in
+            over-first (map g (answersOf d)) l n q .1
+
+        -- so the lists have the figures of the answers whose lines are the report
+        reported : ReportAgrees d y after
+        reported =
+            record {
+              answers = answersOf d;
+              listed = refl;
+              every = length-answers (sizeOf d) (sampleArrivals d);
+              flags = λ z. first-list (λ (a : Answer). figuresOf a .flag) (old .flags) (new .flags) (f .flags);
+              positions = λ z. first-list (λ (a : Answer). figuresOf a .position) (old .positions) (new .positions) (f .positions);
+              extents = λ z. first-list (λ (a : Answer). figuresOf a .extent) (old .extents) (new .extents) (f .extents);
+              lates = λ z. first-list (λ (a : Answer). figuresOf a .late) (old .lates) (new .lates) (f .lates);
+            }
+
         -- after the pass
-        pub swept : SweptTo d old y after × EnginesAgree d y after
+        pub swept : SweptTo d old y after × (EnginesAgree d y after × ReportAgrees d y after)
         unfolding figuresOf
         swept = (
           record {
-            layout = rw into (e ∙ layout-is d own);
+            layout = rw into (e ∙ ap layoutOf own);
             table = rw into table-after;
             flags = rw into (f .flags);
             positions = rw into (f .positions);
             extents = rw into (f .extents);
             lates = rw into (f .lates);
           },
-          record { at = λ z asked h. at asked h },
+          (record { at = λ z asked h. at asked h }, reported),
         )
           where
-            layout-is : (d : Decoded) → decodedRefusal d ≡ 0 → layoutOf d ≡ layoutOf (accepted (sampleOf d))
-            layout-is (refused r) q = rw q
-            layout-is (accepted s) q = refl
-
             at : (asked : ℕ) → recordAnswer d asked .refusal ≡ 0 → figuresAt after asked ≡ figuresOf (recordAnswer d asked .answer)
             at i h =
                 let a = at-list (λ (a : Answer). figuresOf a .flag) refl (old .flags) (new .flags) (f .flags) i h in

@@ -3,3 +3,4 @@ pub mod Marks
 pub mod Records
 pub mod PassInvariant
 pub mod Answers
+pub mod Moved

@@ -19,7 +19,7 @@ use Rattle.sample.specs.declared.Layout.{Layout}
 use Rattle.sample.specs.Decode.{Decoded}
 use Rattle.metrics.specs.Sample.{sizeOf, sampleArrivals, answersOf}
 use Rattle.sample.specs.Places.{noArrival}
-use Rattle.metrics.specs.Private.Sample.{before, answerAt, answersTo, FileLayout}
+use Rattle.metrics.specs.Records.{before, answerAt, answersTo, FileLayout}
 use Rattle.metrics.proofs.TablesFollow.{arrivals-laid, before-count, inside-laid}
 use Rattle.sweep.specs.declared.table.State.{State}
 use Rattle.sweep.specs.Figures.{figuresOf, positionsOf}

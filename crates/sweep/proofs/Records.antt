@@ -31,7 +31,7 @@ use Rattle.sample.specs.declared.Layout.{Layout}
 use Rattle.sample.specs.Decode.{Decoded}
 use Rattle.metrics.specs.Sample.{sizeOf, sampleArrivals}
 use Rattle.sample.specs.Places.{noArrival}
-use Rattle.metrics.specs.Private.Sample.{arrivalAt, before, answerAt, answersTo, HasRecord}
+use Rattle.metrics.specs.Records.{arrivalAt, before, answerAt, answersTo, HasRecord}
 use Rattle.metrics.proofs.TablesFollow.{before-more, before-length}
 use Rattle.metrics.proofs.Records.{record-some, first-at}
 use Rattle.sweep.specs.declared.table.State.{State}

@@ -1,17 +1,26 @@
--- What the sweep answers, what the lent table and lists hold after it, and that both engines give the same. Assumes nothing.
+-- What the sweep answers, what the lent table and lists hold after it, that both engines give the same, and that moving the clock changes
+-- nothing. Assumes nothing.
 use mathlib.Core.Path.{_≡_}
 use mathlib.Core.Bool.{Bool, _||_}
-use mathlib.Core.List.{List, [], _∷_}
-use Prim.Native.Nat.{ℕ}
+use mathlib.Core.List.{List, []}
+use mathlib.Core.Logic.{_↔_}
+use Prim.Native.Nat.{ℕ, _^_}
 use lib.Dec.{ltb}
-use lib.ListN.{length, replicate}
+use lib.ListN.{length, take, replicate}
+use Rattle.octets.specs.Below.{Below}
 use Rattle.octets.specs.Memory.{over}
-use Rattle.rfc4737.specs.Judge.{sentMost}
-use Rattle.rfc4737.specs.Refusals.{inCase, firstOf, outputShort}
+use Rattle.rfc4737.specs.Judge.{sentMost, timesOf}
+use Rattle.rfc4737.specs.declared.Answer.{Answer}
+use Rattle.rfc4737.specs.Runs.{counts}
+use Rattle.listing.specs.Lines.{listingOf}
 use Rattle.sample.specs.declared.Layout.{Layout}
-use Rattle.sample.specs.Decode.{Decoded, refused, accepted, decided, sampleOf, decodedRefusal, layoutOf}
+use Rattle.sample.specs.Format.{Sample, fileOf}
+use Rattle.sample.specs.Decode.{Decoded, refused, accepted, decode, sampleOf, layoutOf}
+use Rattle.sample.specs.Calls.{unlessShort}
+use Rattle.sample.specs.Moved.{movedSample}
 use Rattle.metrics.specs.Sample.{sampleArrivals, answersOf}
 use Rattle.metrics.specs.Figures.{atRecord, recordAnswer}
+use Rattle.metrics.specs.Report.{sampleText}
 use Rattle.sweep.specs.declared.Figures.{Figures}
 use Rattle.sweep.specs.Figures.{figuresOf, flagsOf, positionsOf, extentsOf, latesOf}
 
@@ -46,24 +55,24 @@ lentShortFor d old =
 
 -- ---- the call
 
--- a decoded file where this is lent: 8 comes after the sample's own refusals
-unfoldable pub decodedInto : Decoded → Lent → Decoded
-decodedInto d old = decided (firstOf (decodedRefusal d ∷ inCase (lentShortFor d old) outputShort ∷ [])) (sampleOf d)
-
 -- what the table's first numbers are set to: zeros, or nothing is set with a refusal
 abbrev pub cleared : Decoded → List ℕ
 cleared (refused r) = []
 cleared (accepted s) = replicate tablePlaces 0
 
--- the call's answer, and what was lent after it: the table's first numbers are 0, the lists have the figures of every record from
--- their start, and all else is as it was
-pub record SweptTo (d : Decoded) (old : Lent) (answer : Layout) (new : Lent) : Type 0 where
-  pub layout : answer ≡ layoutOf (decodedInto d old)
-  pub table : new .table ≡ over (cleared (decodedInto d old)) (old .table)
-  pub flags : new .flags ≡ over (flagsOf (answersOf (decodedInto d old))) (old .flags)
-  pub positions : new .positions ≡ over (positionsOf (answersOf (decodedInto d old))) (old .positions)
-  pub extents : new .extents ≡ over (extentsOf (answersOf (decodedInto d old))) (old .extents)
-  pub lates : new .lates ≡ over (latesOf (answersOf (decodedInto d old))) (old .lates)
+-- what is answered of a decoded file, and what was lent after it: the table's first numbers are 0, the lists have the figures of every
+-- record from their start, and all else is as it was
+pub record Swept (d : Decoded) (old : Lent) (answer : Layout) (new : Lent) : Type 0 where
+  pub layout : answer ≡ layoutOf d
+  pub table : new .table ≡ over (cleared d) (old .table)
+  pub flags : new .flags ≡ over (flagsOf (answersOf d)) (old .flags)
+  pub positions : new .positions ≡ over (positionsOf (answersOf d)) (old .positions)
+  pub extents : new .extents ≡ over (extentsOf (answersOf d)) (old .extents)
+  pub lates : new .lates ≡ over (latesOf (answersOf d)) (old .lates)
+
+-- the call's answer, and what was lent after it: 8 comes after the sample's own refusals
+abbrev pub SweptTo : (d : Decoded) (old : Lent) (answer : Layout) (new : Lent) → Type 0
+SweptTo d old answer new = Swept (unlessShort (lentShortFor d old) d) old answer new
 
 -- ---- both engines
 
@@ -82,3 +91,22 @@ figuresAt l asked =
 pub record EnginesAgree (d : Decoded) (answer : Layout) (new : Lent) : Type 0 where
   pub at : answer .refusal ≡ 0 → (asked : ℕ) → recordAnswer d asked .refusal ≡ 0
       → figuresAt new asked ≡ figuresOf (recordAnswer d asked .answer)
+
+-- and what the report says: there are answers of which the report, that `metrics::listing` writes, has the lines, and of which after a
+-- sweep that is not refused the lists have the figures, record by record
+pub record ReportAgrees (d : Decoded) (answer : Layout) (new : Lent) : Type 0 where
+  pub answers : List Answer
+  pub listed : sampleText d ≡ listingOf (length (sampleOf d .sizes)) (sampleArrivals d) answers (counts answers)
+  pub every : length answers ≡ length (sampleArrivals d)
+  pub flags : answer .refusal ≡ 0 → take (answer .arrivals) (new .flags) ≡ flagsOf answers
+  pub positions : answer .refusal ≡ 0 → take (answer .arrivals) (new .positions) ≡ positionsOf answers
+  pub extents : answer .refusal ≡ 0 → take (answer .arrivals) (new .extents) ≡ extentsOf answers
+  pub lates : answer .refusal ≡ 0 → take (answer .arrivals) (new .lates) ≡ latesOf answers
+
+-- ---- moving the clock
+
+-- of the moved sample's file the sweep answers and leaves what it does of the file, where no time passes the field's range
+abbrev pub SweepMoved : List ℕ → Type 0
+SweepMoved file =
+    (s : Sample) (c : ℕ) → decode file ≡ accepted s → Below (2 ^ 64) (timesOf (movedSample c s .arrivals))
+    → (old new : Lent) (answer : Layout) → SweptTo (decode (fileOf (movedSample c s))) old answer new ↔ SweptTo (decode file) old answer new

@@ -15,7 +15,7 @@ use Rattle.rfc4737.specs.Order.{FirstArrival, nextExp}
 use Rattle.rfc4737.specs.Extent.{discontinuity}
 use Rattle.sample.specs.declared.Layout.{Layout}
 use Rattle.sample.specs.Decode.{Decoded}
-use Rattle.metrics.specs.Private.Sample.{FileLayout}
+use Rattle.metrics.specs.Records.{FileLayout}
 use Rattle.sweep.specs.declared.Figures.{Figures}
 use Rattle.sweep.specs.declared.table.State.{State}
 use Rattle.sweep.specs.Figures.{flagsOf, positionsOf, extentsOf, latesOf}

@@ -2,7 +2,7 @@
 // lists with the flag, position, extent and late time of every record. The whole is linear in arrivals and packets.
 ghost use mathlib.Core.Path.{_≡_};
 ghost use Rattle.sample.specs.Decode.{decode, refused, layoutOf};
-ghost use Rattle.sweep.specs.Calls.{lentShort, lent, SweptTo, EnginesAgree};
+ghost use Rattle.sweep.specs.Calls.{lentShort, lent, SweptTo, EnginesAgree, ReportAgrees, SweepMoved};
 
 mod pass;
 mod table;
@@ -77,6 +77,9 @@ pub fn sweep(
         (lent (now (table .exit)) (now (flags .exit)) (now (positions .exit)) (now (extents .exit)) (now (lates .exit))) ⌝ }
     ensures engines { λ r. ⌜ EnginesAgree (decode (now (file .entry))) r
         (lent (now (table .exit)) (now (flags .exit)) (now (positions .exit)) (now (extents .exit)) (now (lates .exit))) ⌝ }
+    ensures report { λ r. ⌜ ReportAgrees (decode (now (file .entry))) r
+        (lent (now (table .exit)) (now (flags .exit)) (now (positions .exit)) (now (extents .exit)) (now (lates .exit))) ⌝ }
+    ensures moved { λ _. ⌜ SweepMoved (now (file .entry)) ⌝ }
 {
     let y = sample::check(file);
     if y.refusal != NONE {

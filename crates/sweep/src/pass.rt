@@ -3,7 +3,7 @@ ghost use mathlib.Core.Path.{_≡_};
 ghost use Prim.Native.Nat.{_+_, _≤_};
 ghost use lib.ListN.{take, drop};
 ghost use Rattle.sample.specs.Decode.{decode};
-ghost use Rattle.metrics.specs.Private.Sample.{HasRecord, arrivalAt, before, answerAt, answersTo};
+ghost use Rattle.metrics.specs.Records.{HasRecord, arrivalAt, before, answerAt, answersTo};
 ghost use Rattle.metrics.specs.Sample.{answersOf};
 ghost use Rattle.sweep.specs.Figures.{figuresOf, positionsOf};
 ghost use Rattle.sweep.specs.Calls.{tablePlaces, lent};

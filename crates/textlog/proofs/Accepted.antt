@@ -24,17 +24,16 @@ use Rattle.rfc4737.proofs.Due.{first-none, first-next, first-one, case-none, no
 use Rattle.rfc4737.proofs.Judged.{fit-lists}
 use Rattle.rfc4737.proofs.Pairs.{arrivals-back}
 use Rattle.sample.specs.Format.{Sample, labelMost, fileOf}
-use Rattle.sample.specs.Judge.{judgeLabel, someUnshown, FitSample}
+use Rattle.sample.specs.Judge.{judgeLabel, someUnshown, sampleRefusal, FitSample}
 use Rattle.sample.specs.Decode.{decode, accepted}
-use Rattle.sample.specs.Calls.{sampleRefusal, WrittenTo}
-use Rattle.sample.specs.Output.{outputRefusal}
+use Rattle.sample.specs.Calls.{WrittenTo}
 use Rattle.sample.specs.declared.WriteAnswer.{WriteAnswer}
 use Rattle.sample.proofs.Exact.{decode-file}
-use Rattle.sample.proofs.Output.{output-read}
+use Rattle.sample.proofs.Output.{refusalInto, output-read}
 use Rattle.textlog.specs.Form.{Log, none, after}
 use Rattle.textlog.specs.Decode.{DecodedLine, malformed, arrived, decodeLine, arrivalOr0, arrivalsOfLines, logArrivals, judgeLine, judgeLines, judgeLog}
 use Rattle.textlog.specs.RoundTrip.{sampleWith, Writable, ImportedIsFit}
-use Rattle.textlog.specs.declared.LogImport.{LogImport}
+use Rattle.textlog.specs.declared.LogJudgement.{LogJudgement}
 use Rattle.textlog.proofs.Lines.{decoded}
 use Rattle.textlog.proofs.Judging.{unless-split, judge-first}
 use Rattle.textlog.proofs.Filling.{lines-length}
@@ -99,11 +98,11 @@ accepted-lines k count reference (l ∷ ls) h e =
         → AcceptedLines k (count + 1) (nextReference reference (arrivalOr0 d .time)) ls)
         → AcceptedLines k count reference (l ∷ ls)
     go malformed d f =
-        let z : _≡_ {A = ℕ} lineMalformed 0 = ap (λ (y : LogImport). y .refusal) (sym (judge-first k count reference l ls malformed d)) ∙ e in
+        let z : _≡_ {A = ℕ} lineMalformed 0 = ap (λ (y : LogJudgement). y .refusal) (sym (judge-first k count reference l ls malformed d)) ∙ e in
         absurd (omega arith)
     go (arrived a) d f =
         let y = judge-first k count reference l ls (arrived a) d in
-        let s = unless-split (judgeLine k count reference (arrived a)) (count + 1) (judgeLines k (count + 1) (nextReference reference (a .time)) ls) (ap (λ (y : LogImport). y .refusal) (sym y) ∙ e) in
+        let s = unless-split (judgeLine k count reference (arrived a)) (count + 1) (judgeLines k (count + 1) (nextReference reference (a .time)) ls) (ap (λ (y : LogJudgement). y .refusal) (sym y) ∙ e) in
         let p = first-none (inCase (leb arrivalsMost count) manyArrivals) (judgeOne k reference a ∷ []) (s .0) in
         let few : count < arrivalsMost = leb-false arrivalsMost count (case-none (leb arrivalsMost count) manyArrivals (omega arith) (p .0)) in
         one-line k count reference l ls a d (sym (first-one (judgeOne k reference a)) ∙ p .1) (y ∙ s .1) (f (omega arith) (s .2))
@@ -172,10 +171,9 @@ module _ (s : Sample) (fit : FitSample s) where
 
   -- 8 alone is due
   short-alone : (room : ℕ)
-      → outputRefusal (sampleRefusal (s .label) (s .sizes) (numbersOf (s .arrivals)) (timesOf (s .arrivals)))
+      → refusalInto (sampleRefusal (s .label) (s .sizes) (numbersOf (s .arrivals)) (timesOf (s .arrivals)))
       (fileOf (record { label = s .label; sizes = s .sizes; arrivals = arrivalsFrom (numbersOf (s .arrivals)) (timesOf (s .arrivals)) })) room
       ≡ inCase (ltb room (length (fileOf s))) outputShort
-  unfolding outputRefusal
   short-alone room = rw (fit .judged, same) (first-one _)
 
   fit-writable : Writable s

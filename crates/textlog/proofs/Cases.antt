@@ -1,7 +1,7 @@
 -- The tables of lines and logs, and the written log, by computation. Assumes nothing.
 use mathlib.Core.Path.{refl}
 use Rattle.octets.specs.Text.{lines}
-use Rattle.decimal.specs.Decimal.{significant, decimalOf, decimalValue}
+use Rattle.decimal.specs.Decimal.{digitsOf, decimalOf, decimalValue}
 use Rattle.decimal.specs.Reading.{digit, digitCount}
 use Rattle.rfc4737.specs.Judge.{judgeOne}
 use Rattle.rfc4737.specs.Refusals.{outside}
@@ -16,5 +16,5 @@ unfolding digit isDecimalMark digitCount inRange fractionIn timeIn lineIn decode
 read-as-given = record { decoded = refl; judged = refl }
 
 pub written-as-given : LinesWrittenAsGiven
-unfolding significant decimalOf lineOf itemOctets
+unfolding digitsOf decimalOf lineOf itemOctets
 written-as-given = record { written = refl }

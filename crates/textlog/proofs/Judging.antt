@@ -17,24 +17,24 @@ use Rattle.rfc4737.specs.Refusals.{manyArrivals, lineMalformed}
 use Rattle.rfc4737.specs.Times.{nextReference}
 use Rattle.rfc4737.proofs.Due.{first-one}
 use Rattle.textlog.specs.Decode.{lineIn, DecodedLine, malformed, arrived, decodeLine, arrivalOr0, judgeLine, unless, judgeLines}
-use Rattle.textlog.specs.declared.LogImport.{LogImport}
+use Rattle.textlog.specs.declared.LogJudgement.{LogJudgement}
 use Rattle.textlog.specs.declared.reading.Reading.the-variants.{Read, Malformed}
 use Rattle.textlog.proofs.Lines.{line-read, line-unread}
 
 -- ---- an answer, unless a refusal is due
 
 -- none is due
-unless-none : (r line : ℕ) (y : LogImport) → r ≡ 0 → unless r line y ≡ y
+unless-none : (r line : ℕ) (y : LogJudgement) → r ≡ 0 → unless r line y ≡ y
 unless-none zero line y e = refl
 unless-none (suc r) line y e = absurd (omega arith)
 
 -- one is
-unless-due : (r line : ℕ) (y : LogImport) → (r ≡ 0 → ⊥) → unless r line y ≡ record { refusal = r; arrivals = 0; line = line }
+unless-due : (r line : ℕ) (y : LogJudgement) → (r ≡ 0 → ⊥) → unless r line y ≡ record { refusal = r; arrivals = 0; line = line }
 unless-due zero line y e = absurd (e refl)
 unless-due (suc r) line y e = refl
 
 -- no refusal is answered: none was due before the answer, and the answer is none
-pub unless-split : (r line : ℕ) (y : LogImport) → unless r line y .refusal ≡ 0 → (r ≡ 0) × (unless r line y ≡ y) × (y .refusal ≡ 0)
+pub unless-split : (r line : ℕ) (y : LogJudgement) → unless r line y .refusal ≡ 0 → (r ≡ 0) × (unless r line y ≡ y) × (y .refusal ≡ 0)
 unless-split zero line y e = (refl, refl, e)
 unless-split (suc r) line y e = absurd (omega arith)
 

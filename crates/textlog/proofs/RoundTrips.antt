@@ -10,7 +10,6 @@ use native.Mathlib.Nat.{add-zero, zero-add}
 use native.Mathlib.Omega.{arith}
 use mathlib.Core.Path.{_≡_, refl, sym, ap, _∙_, subst}
 use mathlib.Core.List.{List, [], _∷_, _++_, append-assoc}
-use borrow.Author.Tests.{le-ltb}
 use lib.ListN.{length, take, length-map}
 use Rattle.octets.specs.Memory.{over}
 use Rattle.octets.specs.Below.{Below}
@@ -27,12 +26,13 @@ use Rattle.sample.specs.Format.{itemOctets}
 use Rattle.sample.proofs.Output.{own-none, output-read}
 use Rattle.textlog.specs.Form.{semicolon, comma, numberMost, Digits, one, more, byComma, thousandths, threeDigits, Time, parted, Line, line, Log, none, after, lineOf, logOf}
 use Rattle.textlog.specs.Decode.{DecodedLine, arrivalOr0, arrivalsOfLines, logArrivals, unless, judgeLines, judgeLog}
-use Rattle.textlog.specs.Calls.{logListsShort, shortLast, importAnswer, arrivalsUnless}
+use Rattle.textlog.specs.Calls.{importRefusal, arrivalsUnless}
 use Rattle.textlog.specs.RoundTrip.{ExactLog, LogReadAgain}
-use Rattle.textlog.specs.declared.LogImport.{LogImport}
+use Rattle.textlog.specs.declared.LogJudgement.{LogJudgement}
 use Rattle.textlog.proofs.Lines.{decodes, line-first}
 use Rattle.textlog.proofs.Judging.{judge-passed}
 use Rattle.textlog.proofs.Accepted.{accepted-log, accepted-lists}
+use Rattle.textlog.proofs.Answers.{import-fits}
 
 -- ---- a log of the form is read as its arrivals
 
@@ -82,7 +82,7 @@ exact-log k log l = (there, back)
     back h =
         let f = lists-fit k (numbersOf l) (timesOf l) (h .1) in
         let j : judge k 0 l ≡ 0 = ap (judge k 0) (sym (arrivals-back l)) ∙ f .judged in
-        (ap (λ (y : LogImport). y .refusal) (form-read k (h .0) j f), form-arrivals (h .0))
+        (ap (λ (y : LogJudgement). y .refusal) (form-read k (h .0) j f), form-arrivals (h .0))
 
 -- ---- a written log has the form
 
@@ -137,15 +137,6 @@ log-form k reference (a ∷ l) h j b =
 
 -- ---- what is written reads back
 
--- an accepted log, where the lists have room
-import-accepted : (k : ℕ) (log numbers times : List ℕ) (n : ℕ) → judgeLog k log ≡ record { refusal = 0; arrivals = n; line = 0 }
-    → n ≤ length numbers → n ≤ length times
-    → importAnswer k (length numbers) (length times) log ≡ record { refusal = 0; arrivals = n; line = 0 }
-unfolding importAnswer logListsShort
-import-accepted k log numbers times n e h m =
-    ap (λ (y : LogImport). shortLast (length numbers) (length times) (y .refusal) y) e
-    ∙ (rw (le-ltb (length numbers) n h, le-ltb (length times) n m))
-
 pub read-again : (k : ℕ) (numbers times : List ℕ) → Below (2 ^ 64) times → LogReadAgain k numbers times
 read-again k numbers times b out out′ numbers₀ times₀ numbers′ times′ written read w z rn rt r =
     let f = lists-fit k numbers times (own-none (refusalOfLists k numbers times) (logOf (arrivalsFrom numbers times)) out w z) in
@@ -154,16 +145,17 @@ read-again k numbers times b out out′ numbers₀ times₀ numbers′ times′ 
     let fn : ListsFit k (numbersOf (arrivalsFrom numbers times)) (timesOf (arrivalsFrom numbers times)) = rw (numbers-back numbers times (f .same), times-back numbers times (f .same)) f in
     let l = arrivals-length numbers times (f .same) in
     let j = form-read k g (f .judged) fn in
-    let y : read ≡ record { refusal = 0; arrivals = length numbers; line = 0 } =
-    r .answered
-    ∙ ap (importAnswer k (length numbers₀) (length times₀)) t
-    ∙ import-accepted k (logOf (arrivalsFrom numbers times)) numbers₀ times₀ (length (arrivalsFrom numbers times)) j (omega arith) (omega (arith, f .same))
-    ∙ ap (λ (n : ℕ). record { refusal = 0; arrivals = n; line = 0 }) l in
+    let m : length (logArrivals (logOf (arrivalsFrom numbers times))) ≡ length numbers = ap length (form-arrivals g) ∙ l in
+    let y : read .refusal ≡ 0 =
+    r .refusal
+    ∙ ap (importRefusal k (length numbers₀) (length times₀)) t
+    ∙ import-fits k (length numbers₀) (length times₀) (logOf (arrivalsFrom numbers times)) (ap (λ (x : LogJudgement). x .refusal) j) (omega arith) (omega (arith, f .same)) in
     let a : arrivalsUnless (read .refusal) (logArrivals (take (written .length) out′)) ≡ arrivalsFrom numbers times =
-    ap (λ (x : LogImport). arrivalsUnless (x .refusal) (logArrivals (take (written .length) out′))) y
+    ap (λ (x : ℕ). arrivalsUnless x (logArrivals (take (written .length) out′))) y
     ∙ ap logArrivals t
-    ∙ form-arrivals g in (
-      y,
+    ∙ form-arrivals g in
+    let n = r .arrivals ∙ ap length a ∙ l in (
+      (λ i. record { refusal = y i; arrivals = n i }),
       r .filledNumbers ∙ ap (λ (x : List Arrival). over (numbersOf x) numbers₀) a ∙ ap (λ (x : List ℕ). over x numbers₀) (numbers-back numbers times (f .same)),
       r .filledTimes ∙ ap (λ (x : List Arrival). over (timesOf x) times₀) a ∙ ap (λ (x : List ℕ). over x times₀) (times-back numbers times (f .same)),
     )

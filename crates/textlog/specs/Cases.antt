@@ -5,7 +5,7 @@ use mathlib.Core.Path.{_≡_}
 use Rattle.octets.specs.Text.{ascii}
 use Rattle.textlog.specs.Form.{logOf}
 use Rattle.textlog.specs.Decode.{DecodedLine, malformed, arrived, decodeLine, judgeLog}
-use Rattle.textlog.specs.declared.LogImport.{LogImport}
+use Rattle.textlog.specs.declared.LogJudgement.{LogJudgement}
 
 -- lines, each with what it decodes to
 abbrev pub lineTable : List (List ℕ × DecodedLine)
@@ -20,8 +20,8 @@ lineTable =
     ∷ (ascii "1;4", malformed)
     ∷ []
 
--- logs, each with its answer for K = 2
-abbrev pub logTable : List (List ℕ × LogImport)
+-- logs, each with what is found of it for K = 2
+abbrev pub logTable : List (List ℕ × LogJudgement)
 logTable =
     ([], record { refusal = 0; arrivals = 0; line = 0 })
     ∷ (ascii "1;1\n2;1,5\n", record { refusal = 0; arrivals = 2; line = 0 })
@@ -32,14 +32,15 @@ logTable =
     -- a time is held to the greatest of the lines before
     ∷ (ascii "1;2\n2;1,5\n1;1\n", record { refusal = 0; arrivals = 3; line = 0 })
     ∷ (ascii "1;2\n2;1,5\n1;0,999\n", record { refusal = 7; arrivals = 0; line = 3 })
-    -- an empty line
+    -- an empty line; the first of two refused lines decides
     ∷ (ascii "1;1\n\n", record { refusal = 14; arrivals = 0; line = 2 })
+    ∷ (ascii "3;1\n\n", record { refusal = 6; arrivals = 0; line = 1 })
     ∷ []
 
--- each line decodes, and each log is answered, as its table says
+-- each line decodes, and each log is judged, as its table says
 pub record LinesReadAsGiven : Type 0 where
   pub decoded : map (λ (c : List ℕ × DecodedLine). decodeLine (c .0)) lineTable ≡ map (λ (c : List ℕ × DecodedLine). c .1) lineTable
-  pub judged : map (λ (c : List ℕ × LogImport). judgeLog 2 (c .0)) logTable ≡ map (λ (c : List ℕ × LogImport). c .1) logTable
+  pub judged : map (λ (c : List ℕ × LogJudgement). judgeLog 2 (c .0)) logTable ≡ map (λ (c : List ℕ × LogJudgement). c .1) logTable
 
 -- packet 1 at 4,500 and packet 20 at 7 microseconds
 pub record LinesWrittenAsGiven : Type 0 where

@@ -1,4 +1,5 @@
--- What a text log decodes to, line by line, and what is refused. Assumes nothing.
+-- What a text log decodes to, line by line, and what is refused. Nobody need read the stages of a line: `ExactLine` (RoundTrip.antt) says that
+-- a line decodes exactly if it has the form, and to the arrival that the form says. Assumes nothing.
 use Prim.Native.Nat.{ℕ, zero, suc, _+_, _*_}
 use mathlib.Core.Bool.{Bool, cond, _||_}
 use mathlib.Core.List.{List, [], _∷_, map}
@@ -11,11 +12,11 @@ use Rattle.rfc4737.specs.Judge.{arrivalsMost, judgeOne, judgeSent}
 use Rattle.rfc4737.specs.Times.{nextReference}
 use Rattle.rfc4737.specs.Refusals.{outside, inCase, firstOf, manyArrivals, lineMalformed}
 use Rattle.textlog.specs.Form.{semicolon, comma, point, thousandths, numberMost, timeMost}
-use Rattle.textlog.specs.declared.LogImport.{LogImport}
+use Rattle.textlog.specs.declared.LogJudgement.{LogJudgement}
 use Rattle.textlog.specs.declared.reading.Reading.{Reading}
 use Rattle.textlog.specs.declared.reading.Reading.the-variants.{Read, Malformed}
 
--- ---- a line, read in stages from the place where a text t begins
+-- ---- a line, read in stages from where a text t begins; `at` and `end` are places in the log
 
 -- whether an octet is a comma or a point
 unfoldable pub isDecimalMark : ℕ → Bool
@@ -61,10 +62,10 @@ pub data DecodedLine : Type 0 where
   malformed : DecodedLine
   arrived : Arrival → DecodedLine
 
--- what is found, if it ends where a line of this length does
-abbrev pub readWhole : (length : ℕ) → Reading → DecodedLine
-readWhole length (Read number time end) = cond (eqb end length) (arrived (record { number = number; time = time })) malformed
-readWhole length Malformed = malformed
+-- what is read, if it ends where a line of so many octets does
+abbrev pub readWhole : (octets : ℕ) → Reading → DecodedLine
+readWhole octets (Read number time end) = cond (eqb end octets) (arrived (record { number = number; time = time })) malformed
+readWhole octets Malformed = malformed
 
 -- a line by itself
 unfoldable pub decodeLine : List ℕ → DecodedLine
@@ -93,18 +94,18 @@ judgeLine k count reference malformed = lineMalformed
 judgeLine k count reference (arrived a) =
     firstOf (inCase (leb arrivalsMost count) manyArrivals ∷ judgeOne k reference a ∷ [])
 
--- an answer, unless a refusal is due before it, at a line or, for 0, at none
-abbrev pub unless : (refusal line : ℕ) → LogImport → LogImport
+-- what is found, unless a refusal comes before it, at a line or, for 0, at none
+abbrev pub unless : (refusal line : ℕ) → LogJudgement → LogJudgement
 unless zero line y = y
 unless (suc r) line y = record { refusal = suc r; arrivals = 0; line = line }
 
 -- the lines in turn, with so many lines before them
-unfoldable pub judgeLines : (k count reference : ℕ) → List (List ℕ) → LogImport
+unfoldable pub judgeLines : (k count reference : ℕ) → List (List ℕ) → LogJudgement
 judgeLines k count reference [] = record { refusal = 0; arrivals = count; line = 0 }
 judgeLines k count reference (l ∷ ls) =
     unless (judgeLine k count reference (decodeLine l)) (count + 1)
     (judgeLines k (count + 1) (nextReference reference (arrivalOr0 (decodeLine l) .time)) ls)
 
--- a log: 4, then the lines in turn
-unfoldable pub judgeLog : ℕ → List ℕ → LogImport
+-- a log: 4, then the lines in turn: its refusal, the number of its arrivals, and the number of the first line that is refused, from 1
+unfoldable pub judgeLog : ℕ → List ℕ → LogJudgement
 judgeLog k log = unless (judgeSent k) 0 (judgeLines k 0 0 (lines log))

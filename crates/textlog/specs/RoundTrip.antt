@@ -57,6 +57,6 @@ LogReadAgain k numbers times =
     → length numbers ≤ length numbers₀
     → length times ≤ length times₀
     → LogImportedFrom k (take (written .length) out′) numbers₀ times₀ read numbers′ times′
-    → (read ≡ record { refusal = 0; arrivals = length numbers; line = 0 })
+    → (read ≡ record { refusal = 0; arrivals = length numbers })
     × (numbers′ ≡ over numbers numbers₀)
     × (times′ ≡ over times times₀)

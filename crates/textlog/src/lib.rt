@@ -28,20 +28,26 @@ use sample::WriteAnswer;
 use writing::log_length;
 use writing::put_lines;
 
-// What was imported: the refusal (0 for none), the number of arrivals, 0 with a refusal, and the line of the log that is
-// refused, from 1, or 0 where no line is.
+// What was imported: the refusal (0 for none), and the number of arrivals, 0 with a refusal.
 #[repr(C)]
 pub struct LogImport {
     pub refusal: u32,
     pub arrivals: u32,
-    pub line: u32,
 }
 
-// The answer that a refusal has, at a line or, for 0, at none.
-fn refused_import(refusal: u32, line: u32) -> LogImport
+// What is found of a log: the refusal (0 for none), the number of arrivals, 0 with a refusal, and the number of the refused line, from
+// 1, or 0 where no line is refused.
+pub(crate) struct LogJudgement {
+    pub(crate) refusal: u32,
+    pub(crate) arrivals: u32,
+    pub(crate) line: u32,
+}
+
+// A log that is refused, at a line or, for 0, at none.
+fn refused_at(refusal: u32, line: u32) -> LogJudgement
     ensures { λ r. ⌜ r ≡ record { refusal = refusal; arrivals = 0; line = line } ⌝ }
 {
-    LogImport {
+    LogJudgement {
         refusal,
         arrivals: 0,
         line,
@@ -49,7 +55,7 @@ fn refused_import(refusal: u32, line: u32) -> LogImport
 }
 
 // The lines of a log in turn.
-fn judge_lines(log: &[u8], k: u32) -> LogImport
+fn judge_lines(log: &[u8], k: u32) -> LogJudgement
     ensures { λ r. ⌜ r ≡ judgeLines k 0 0 (lines (now (log .entry))) ⌝ }
 {
     let mut reference: u64 = 0;
@@ -57,20 +63,20 @@ fn judge_lines(log: &[u8], k: u32) -> LogImport
     let mut count: u32 = 0;
     while at < log.len() {
         let Reading::Read(number, time, end) = line_at(log, at) else {
-            return refused_import(LINE_MALFORMED, count + 1);
+            return refused_at(LINE_MALFORMED, count + 1);
         };
         if ARRIVALS_MOST <= count as u64 {
-            return refused_import(MANY_ARRIVALS, count + 1);
+            return refused_at(MANY_ARRIVALS, count + 1);
         }
         let refusal = judge_one(k as u64, reference, number as u64, time);
         if refusal != 0 {
-            return refused_import(refusal, count + 1);
+            return refused_at(refusal, count + 1);
         }
         reference = next_reference(reference, time);
         at = end;
         count += 1;
     }
-    LogImport {
+    LogJudgement {
         refusal: 0,
         arrivals: count,
         line: 0,
@@ -78,11 +84,11 @@ fn judge_lines(log: &[u8], k: u32) -> LogImport
 }
 
 // A whole log: K, then the lines.
-fn judge_log(log: &[u8], k: u32) -> LogImport
+fn judge_log(log: &[u8], k: u32) -> LogJudgement
     ensures { λ r. ⌜ r ≡ judgeLog k (now (log .entry)) ⌝ }
 {
     if outside(1, SENT_MOST, k as u64) {
-        return refused_import(SENT_OUTSIDE, 0);
+        return refused_at(SENT_OUTSIDE, 0);
     }
     judge_lines(log, k)
 }
@@ -116,6 +122,16 @@ fn too_short(arrivals: u32, numbers: usize, times: usize) -> bool
     times < arrivals as usize
 }
 
+// The answer of an import that is refused.
+fn refused_import(refusal: u32) -> LogImport
+    ensures { λ r. ⌜ r ≡ record { refusal = refusal; arrivals = 0 } ⌝ }
+{
+    LogImport {
+        refusal,
+        arrivals: 0,
+    }
+}
+
 // Imports the log of K sent packets: fills the lists of numbers and times from their start. With a refusal they stay as
 // they were.
 pub fn import(log: &[u8], k: u32, numbers: &mut [u32], times: &mut [u64]) -> LogImport
@@ -126,13 +142,24 @@ pub fn import(log: &[u8], k: u32, numbers: &mut [u32], times: &mut [u64]) -> Log
 {
     let found = judge_log(log, k);
     if found.refusal != 0 {
-        return found;
+        return refused_import(found.refusal);
     }
     if too_short(found.arrivals, numbers.len(), times.len()) {
-        return refused_import(OUTPUT_SHORT, 0);
+        return refused_import(OUTPUT_SHORT);
     }
     fill_arrivals(log, numbers, times);
-    found
+    LogImport {
+        refusal: 0,
+        arrivals: found.arrivals,
+    }
+}
+
+// The number of the first line of a log that is refused, from 1, or 0 where no line is: none is where K itself is refused. Fills no
+// list, so 8 is not given.
+pub fn refused_line(log: &[u8], k: u32) -> u32
+    ensures { λ r. ⌜ r ≡ judgeLog k (now (log .entry)) .line ⌝ }
+{
+    judge_log(log, k).line
 }
 
 // Writes the log of arrivals of K sent packets from the start of `out`. With a refusal `out` stays as it was.

@@ -8,7 +8,6 @@ use cases::print::write_number;
 use cases::print::write_word;
 use cases::totals::sum_32;
 use cases::totals::sum_64;
-use textlog::LogImport;
 
 // What numbers are filled with.
 pub(crate) const NUMBER: u32 = 77;
@@ -19,17 +18,19 @@ pub(crate) const TIME: u64 = 99;
 // What octets are filled with.
 pub(crate) const OCTET: u8 = b'.';
 
-// Writes what an import answers.
-fn write_import(name: &[u8], got: LogImport) {
+// Imports a log, and writes the answer and the number of the refused line, if one is.
+fn write_import(name: &[u8], k: u32, log: &[u8], numbers: &mut [u32], times: &mut [u64]) {
+    let got = textlog::import(log, k, numbers, times);
+    let line = textlog::refused_line(log, k);
     write_answer(name, got.refusal, b": arrivals ", got.arrivals as u64);
-    if got.line != 0 {
-        write_number(b" at line ", got.line as u64);
+    if line != 0 {
+        write_number(b" at line ", line as u64);
     }
 }
 
 // Imports a log into two lists, and writes the answer and both lists.
 pub(crate) fn import_into(name: &[u8], k: u32, log: &[u8], numbers: &mut [u32], times: &mut [u64]) {
-    write_import(name, textlog::import(log, k, numbers, times));
+    write_import(name, k, log, numbers, times);
     write_32(b"; numbers", numbers);
     write_64(b"; times", times);
     write_word(b"\n");
@@ -65,7 +66,7 @@ pub(crate) fn import_and_sum(
     numbers: &mut [u32],
     times: &mut [u64],
 ) {
-    write_import(name, textlog::import(log, k, numbers, times));
+    write_import(name, k, log, numbers, times);
     sum_up_numbers(numbers);
     sum_up_times(times);
     write_word(b"\n");

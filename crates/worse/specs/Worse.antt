@@ -12,7 +12,7 @@ use Rattle.metrics.specs.Figures.{sampleCounts}
 use Rattle.worse.specs.declared.Comparison.{Comparison}
 use Rattle.worse.specs.declared.Fraction.{Fraction}
 use Rattle.worse.specs.declared.Link.{Link}
-use Rattle.worse.specs.declared.Link.the-variants.{First, Second}
+use Rattle.worse.specs.declared.Link.the-variants.{Refused, First, Second}
 
 -- ---- the ratios
 
@@ -34,33 +34,40 @@ ratioIn d = reorderedRatio (sampleCounts d .counts)
 unfoldable pub refusalOfBoth : Decoded → Decoded → ℕ
 refusalOfBoth a b = firstOf (decodedRefusal a ∷ decodedRefusal b ∷ [])
 
--- the sample with the greater reordered ratio; equal ratios give the first
+-- a link, unless there is a refusal
+abbrev pub linkUnless : ℕ → Link → Link
+linkUnless zero link = link
+linkUnless (suc r) link = Refused
+
+-- the sample with the greater reordered ratio, none with a refusal; equal ratios give the first
 unfoldable pub worseOf : Decoded → Decoded → Link
-worseOf a b = cond (greater (ratioIn b) (ratioIn a)) Second First
+worseOf a b = linkUnless (refusalOfBoth a b) (cond (greater (ratioIn b) (ratioIn a)) Second First)
+
+-- the refusal and the worse sample
+unfoldable pub comparisonOf : Decoded → Decoded → Comparison
+comparisonOf a b = record { refusal = refusalOfBoth a b; link = worseOf a b }
+
+-- ---- its label
 
 module _ {ℓ} {A : Type ℓ} where
-  -- what stands beside a refusal or, with none, beside the sample found
-  abbrev pub beside : A → A → A → ℕ → Link → A
-  beside none one other zero First = one
-  beside none one other zero Second = other
-  beside none one other (suc r) link = none
-
--- the refusal and the worse sample; with a refusal the first
-unfoldable pub comparisonOf : Decoded → Decoded → Comparison
-comparisonOf a b =
-    let r = refusalOfBoth a b in
-    record { refusal = r; link = beside First First Second r (worseOf a b) }
+  -- what a link chooses: `none` with a refusal, else what belongs to the first sample or to the second
+  abbrev pub chosen : A → A → A → Link → A
+  chosen none first second Refused = none
+  chosen none first second First = first
+  chosen none first second Second = second
 
 -- the label of the worse sample; with a refusal nothing
 unfoldable pub worseLabel : Decoded → Decoded → List ℕ
-worseLabel a b = beside [] (sampleOf a .label) (sampleOf b .label) (refusalOfBoth a b) (worseOf a b)
+worseLabel a b = chosen [] (sampleOf a .label) (sampleOf b .label) (worseOf a b)
 
--- where the label begins in the worse sample; with a refusal at the start
+-- where the label begins in the worse sample; with a refusal 0
 unfoldable pub worseStart : Decoded → Decoded → ℕ
-worseStart a b = beside 0 (labelPlace a) (labelPlace b) (refusalOfBoth a b) (worseOf a b)
+worseStart a b = chosen 0 (labelPlace a) (labelPlace b) (worseOf a b)
 
--- where the label stands, by where the two samples do: a part of the worse sample, after its label's count; with a refusal the
--- first sample's start
+-- a place in memory is a lent slice and an offset into it: the place n octets after the place p
+abbrev pub placeIn : ℕ × ℕ → ℕ → ℕ × ℕ
+placeIn p n = (p .0, n + p .1)
+
+-- where the label stands, the samples standing at p and q: after the label's count in the worse one; with a refusal at the first's start
 unfoldable pub worsePlace : Decoded → Decoded → ℕ × ℕ → ℕ × ℕ → ℕ × ℕ
-worsePlace a b p q =
-    beside p (p .0, labelPlace a + p .1) (q .0, labelPlace b + q .1) (refusalOfBoth a b) (worseOf a b)
+worsePlace a b p q = chosen p (placeIn p (labelPlace a)) (placeIn q (labelPlace b)) (worseOf a b)

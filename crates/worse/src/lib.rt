@@ -9,13 +9,14 @@ use metrics::counts;
 use rfc4737::Counts;
 use sample::label;
 
-// One of two samples.
+// One of two samples, or none, where one of them is refused.
 pub enum Link {
+    Refused,
     First,
     Second,
 }
 
-// What is found of two samples: the refusal (0 for none), and the worse one, the first with a refusal.
+// What is found of two samples: the refusal (0 for none), and the worse one, none with a refusal.
 pub struct Comparison {
     pub refusal: u32,
     pub link: Link,
@@ -49,7 +50,7 @@ fn greater(f: Fraction, g: Fraction) -> bool
     theirs < ours
 }
 
-// A refusal, and one of two samples.
+// A refusal, and the worse sample.
 fn found_with(refusal: u32, link: Link) -> Comparison
     ensures { λ r. ⌜ r ≡ record { refusal = refusal; link = link } ⌝ }
 {
@@ -62,11 +63,11 @@ pub fn compare(first: &[u8], second: &[u8]) -> Comparison
 {
     let one = counts(first);
     if one.refusal != 0 {
-        return found_with(one.refusal, Link::First);
+        return found_with(one.refusal, Link::Refused);
     }
     let other = counts(second);
     if other.refusal != 0 {
-        return found_with(other.refusal, Link::First);
+        return found_with(other.refusal, Link::Refused);
     }
     if greater(reordered_ratio(other.counts), reordered_ratio(one.counts)) {
         return found_with(0, Link::Second);
@@ -79,12 +80,9 @@ pub fn worse<'a>(first: &'a [u8], second: &'a [u8]) -> &'a [u8]
     ensures { λ r. ⌜ (now r ≡ worseLabel (decode (now (first .entry))) (decode (now (second .entry))))
         × (r .ptr ≡ worsePlace (decode (now (first .entry))) (decode (now (second .entry))) (first .entry .ptr) (second .entry .ptr)) ⌝ }
 {
-    let found = compare(first, second);
-    if found.refusal != 0 {
-        return &first[0..0];
-    }
-    let link = found.link;
+    let link = compare(first, second).link;
     match link {
+        Link::Refused => &first[0..0],
         Link::First => label(first),
         Link::Second => label(second),
     }

@@ -23,6 +23,7 @@ fn write_comparison<'a>(first: &'a [u8], second: &'a [u8]) {
     write_number(b": refusal ", found.refusal as u64);
     let link = found.link;
     match link {
+        Link::Refused => write_word(b", none ["),
         Link::First => write_word(b", first ["),
         Link::Second => write_word(b", second ["),
     }

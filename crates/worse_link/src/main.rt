@@ -30,12 +30,14 @@ fn write_ratio(name: &[u8], counts: Counts) {
     write_word(b"\n");
 }
 
-// Writes which sample is the worse one. Neither is where each of two comparisons, with the samples in either order, gives the
-// first.
+// Writes which of two accepted samples is the worse one. Neither is where each of two comparisons, with the samples in either order,
+// gives the first.
 fn write_link(link: Link, turned: Link) {
     match link {
+        Link::Refused => {}
         Link::Second => write_word(b"the second is worse"),
         Link::First => match turned {
+            Link::Refused => {}
             Link::Second => write_word(b"the first is worse"),
             Link::First => write_word(b"the ratios are equal, and the first is taken"),
         },

@@ -1,13 +1,14 @@
 -- `disorder::total` meets its contract: the check lays the file out, so that `disorder_of` can be asked; that the total is the sum of byte
--- offsets and the least number of exchanges are laws. Assumes nothing.
+-- offsets and the least number of exchanges, and that moving the clock does not change it, are laws. Assumes nothing.
 use denote.Ref.{now}
 use borrow.Author.Needs.{needs}
 use Rattle.sample.specs.Decode.{decode}
-use Rattle.metrics.specs.Private.Sample.{FileLayout}
+use Rattle.metrics.specs.Records.{FileLayout}
 use Rattle.metrics.proofs.FoundInFile.{laid}
 use Rattle.disorder.specs.Sample.{sampleDisorder}
 use Rattle.disorder.proofs.Disorder.{offsets-count-pairs, wrong-least}
 use Rattle.disorder.proofs.DisorderInFile.{sums-offsets}
+use Rattle.disorder.proofs.Moved.{disorder-moved}
 use Rattle.disorder.proofs.total.Statement.{statement}
 use Rattle.disorder.proofs.total.Tie as tie
 
@@ -22,7 +23,7 @@ returns : tie.Need-returns
 unfolding sampleDisorder
 returns c =
     let h = found (c .before) in
-    (rw (h .laid, c .disorder-of .ensures), (sums-offsets _ _ h, (offsets-count-pairs, wrong-least)))
+    (rw (h .laid, c .disorder-of .ensures), (sums-offsets _ _ h, (offsets-count-pairs, (wrong-least, disorder-moved _ (λ i. c .before .before .shared-slice-known .given i .fits)))))
 
 pub total-spec : {M : Type 1} → statement M
 total-spec = tie.close (tie.spec (λ c κs. search needs) disorder-of-requires returns)

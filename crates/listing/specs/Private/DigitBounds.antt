@@ -6,6 +6,8 @@ use Rattle.rfc4737.specs.declared.Counts.{Counts}
 use Rattle.rfc4737.specs.declared.LateTime.{LateTime}
 use Rattle.rfc4737.specs.declared.LateTime.the-variants.{After, Before}
 use Rattle.rfc4737.specs.declared.ReorderedFigures.{ReorderedFigures}
+use Rattle.rfc4737.specs.Reordered.{offsetMost}
+use Rattle.rfc4737.specs.Runs.{squaresMost}
 use Rattle.rfc4737.specs.Times.{backMost}
 
 -- at most four digits, as have K, A and every record, number, position, extent, jump size, largest n and count of a sample:
@@ -18,12 +20,12 @@ abbrev pub TimeWithin : LateTime → Type 0
 TimeWithin (After t) = t < 2 ^ 64
 TimeWithin (Before t) = t ≤ backMost
 
--- the figures of a reordered packet: the byte offset, which is at most 268,365,825, has at most nine digits
+-- the figures of a reordered packet: the byte offset, at most 268,365,825, has at most nine digits
 pub record LateWithin (f : ReorderedFigures) : Type 0 where
   pub position : FourDigits (f .position)
   pub extent : FourDigits (f .extent)
   pub late : TimeWithin (f .late)
-  pub offset : f .offset < 10 ^ 9
+  pub offset : f .offset ≤ offsetMost
   pub largest : FourDigits (f .largest)
 
 -- the figures of an answer
@@ -32,12 +34,12 @@ AnswerWithin (Duplicate f) = FourDigits (f .first)
 AnswerWithin (InOrder f) = FourDigits (f .position) × FourDigits (f .jump)
 AnswerWithin (Reordered f) = LateWithin f
 
--- the counts of a sample: the sum of squares, which is at most 16,777,216, has at most eight digits
+-- the counts of a sample: the sum of squares, at most 16,777,216, has at most eight digits
 pub record CountsWithin (c : Counts) : Type 0 where
   pub arrived : FourDigits (c .arrived)
   pub reordered : FourDigits (c .reordered)
   pub duplicates : FourDigits (c .duplicates)
   pub inorder : FourDigits (c .inorder)
   pub closed : FourDigits (c .runs .closed)
-  pub squares : c .runs .squares < 10 ^ 8
+  pub squares : c .runs .squares ≤ squaresMost
   pub current : FourDigits (c .runs .current)

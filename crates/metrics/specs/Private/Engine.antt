@@ -11,7 +11,7 @@ use Rattle.sums.specs.Tree.{Summed}
 use Rattle.sample.specs.declared.Layout.{Layout}
 use Rattle.sample.specs.Decode.{Decoded}
 use Rattle.metrics.specs.Sample.{sizeOf}
-use Rattle.metrics.specs.Private.Sample.{before, FileLayout}
+use Rattle.metrics.specs.Records.{before, FileLayout}
 use Rattle.metrics.specs.Private.Tables.{NumberTable, Packets, EngineTables, LinkTable}
 use Rattle.metrics.specs.declared.totals.Totals.{Totals}
 use Rattle.metrics.specs.declared.engine.Engine.{Engine}

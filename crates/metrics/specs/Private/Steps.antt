@@ -8,6 +8,7 @@ use lib.Dec.{eqb, leb}
 use lib.ListN.{length, getD}
 use Rattle.rfc4737.specs.declared.Arrival.{Arrival}
 use Rattle.rfc4737.specs.declared.Answer.{Answer}
+use Rattle.rfc4737.specs.declared.Ratio.{Ratio}
 use Rattle.rfc4737.specs.declared.Ratios.{Ratios}
 use Rattle.rfc4737.specs.Arrivals.{count, has, firsts}
 use Rattle.rfc4737.specs.Order.{nextExp}
@@ -16,7 +17,7 @@ use Rattle.rfc4737.specs.Runs.{isReordered, arrived}
 use Rattle.rfc4737.specs.Gaps.{discoverer}
 use Rattle.rfc4737.specs.Ratios.{quotient, nReordered}
 use Rattle.rfc4737.specs.Judge.{sentMost}
-use Rattle.metrics.specs.Private.Sample.{numberPlaces}
+use Rattle.metrics.specs.Records.{numberPlaces}
 use Rattle.metrics.specs.Private.Tables.{NumberTable, LinkTable}
 use Rattle.metrics.specs.declared.classes.Class.{Class}
 use Rattle.metrics.specs.declared.figures.Shares.{Shares}
@@ -52,6 +53,10 @@ pub record ShareTables (low high : ℕ) (size : ℕ → ℕ) (l : List Arrival) 
   pub numbered : NumberTable (firsts l) numbers (t .whole)
   pub linked : LinkTable 0 (firsts l) links
   pub arrived : (s : ℕ) → s ≤ sentMost → eqb (getD links s 0) 0 ≡ not (has s l)
+
+-- the ratio of a count over L
+unfoldable pub ratioBy : ℕ → ℕ → Ratio
+ratioBy part whole = cond (eqb whole 0) Ratio.Undefined (Ratio.Known (quotient part whole))
 
 -- the ratio figures of three counts over L
 unfoldable pub ratiosBy : ℕ → ℕ → ℕ → ℕ → Ratios

@@ -14,7 +14,7 @@ use Rattle.rfc4737.specs.Order.{FirstArrival, nextExp}
 use Rattle.rfc4737.specs.Extent.{discontinuity, largestN}
 use Rattle.rfc4737.specs.Judge.{sentMost, arrivalsMost}
 use Rattle.sample.specs.Places.{noArrival}
-use Rattle.metrics.specs.Private.Sample.{numberPlaces}
+use Rattle.metrics.specs.Records.{numberPlaces}
 use Rattle.metrics.specs.declared.classes.Class.{Class}
 use Rattle.metrics.specs.declared.tables.State.{State}
 

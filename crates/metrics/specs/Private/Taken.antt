@@ -8,12 +8,13 @@ use lib.ListN.{length, drop}
 use Rattle.octets.specs.Memory.{splice}
 use Rattle.rfc4737.specs.Runs.{counts}
 use Rattle.listing.specs.Lines.{headerLine, recordLines}
+use Rattle.listing.specs.Room.{lineMost}
 use Rattle.sample.specs.declared.Layout.{Layout}
 use Rattle.sample.specs.Decode.{Decoded}
 use Rattle.metrics.specs.Agreement.{common}
 use Rattle.metrics.specs.Report.{sampleText}
 use Rattle.metrics.specs.Sample.{answersOf}
-use Rattle.metrics.specs.Private.Sample.{before, answersTo}
+use Rattle.metrics.specs.Records.{before, answersTo}
 use Rattle.metrics.specs.declared.parts.Part.{Part}
 use Rattle.metrics.specs.declared.pass.PassResult.{PassResult}
 
@@ -24,7 +25,7 @@ pub record Agreed (lines text : List ℕ) (r : Part) : Type 0 where
 
 -- a line can be compared: memory has room for one, and the place is one of the text's
 pub record LineRoom (comparing : Bool) (text : List ℕ) (at : ℕ) (out : List ℕ) : Type 0 where
-  pub room : comparing ≡ true → 93 ≤ length out
+  pub room : comparing ≡ true → lineMost ≤ length out
   pub inside : comparing ≡ true → at ≤ length text
 
 -- lines were put into `old` from a place on, if they fit, or, comparing, held against a text from there on

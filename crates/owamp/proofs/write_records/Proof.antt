@@ -18,7 +18,7 @@ use Rattle.sample.specs.Decode.{decode, sampleOf}
 use Rattle.owamp.specs.Record.{recordWidth}
 use Rattle.owamp.specs.Calls.{recordOctets, recordsOf, arrivalsOfFile}
 use Rattle.sample.specs.Places.{noArrival}
-use Rattle.sample.proofs.Accepted.{found-sample, arrival-found, number-within}
+use Rattle.sample.proofs.Accepted.{found-sample, number-within}
 use Rattle.sample.proofs.Writing.{write-start, write-length, write-next, write-done}
 use Rattle.owamp.proofs.RoundTrips.{record-long}
 use Rattle.owamp.proofs.Writing.{found-many}
@@ -45,9 +45,7 @@ kept c =
 there : (c : tie.After-arrival Inv-loop μ-loop) → c .arrival .result ≡ getD (arrivalsOfFile (now (c .before .before .before .before .before .args .file))) (c .before .before .loop .i) noArrival
 there c =
     let a = c .before .before .before .before .before in
-    let f = now (a .args .file) in
-    c .arrival .ensures
-    ∙ arrival-found f (sampleOf (decode f)) (found-sample f (a .args .found) (a .pre .0 .0) (a .pre .0 .1)) (a .args .found) (a .pre .0 .0) (c .before .before .loop .i) noArrival (search needs)
+    c .arrival .ensures .1 (a .pre .0 .0) (search needs)
 
 loop-holds : tie.Need-loop-holds Inv-loop μ-loop
 loop-holds c =

@@ -1,4 +1,5 @@
--- `sample::payload_size` meets its contract: `number_at` reads the two octets at the size's place, and their value fits 16 bits. Assumes nothing.
+-- `sample::payload_size` meets its contract: `number_at` reads the two octets at the size's place, and their value fits 16 bits.
+-- By the file's own layout it is the sample's size (`size-of-sample`). Assumes nothing.
 use borrow.Author.Needs.{needs}
 use Prim.Native.Nat.{ℕ, _+_, _*_, _^_, _<_}
 use native.Mathlib.Omega.{arith}
@@ -11,6 +12,7 @@ use Rattle.octets.proofs.Below.{below-fits}
 use Rattle.sample.specs.Format.{sizeWidth}
 use Rattle.sample.specs.Places.{sizeFound}
 use Rattle.sample.proofs.Items.{part-fits}
+use Rattle.sample.proofs.OfSample.{size-of-sample}
 use Rattle.sample.proofs.payload_size.Statement.{statement}
 use Rattle.sample.proofs.payload_size.Tie as tie
 
@@ -25,7 +27,8 @@ returns : tie.Need-returns
 unfolding sizeFound
 returns c =
     let a = c .before .before .before .args in
-    c .number-at .ensures ∙ ap (λ (n : ℕ). beValue (part (n + sizeWidth * a .j) sizeWidth (now (a .file)))) (c .before .sizes-at .ensures)
+    let e = c .number-at .ensures ∙ ap (λ (n : ℕ). beValue (part (n + sizeWidth * a .j) sizeWidth (now (a .file)))) (c .before .sizes-at .ensures) in
+    (e, size-of-sample (now (a .file)) (a .found) (a .j) e)
 
 pub payload-size-spec : {M : Type 1} → statement M
 payload-size-spec =

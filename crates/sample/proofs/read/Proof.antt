@@ -57,7 +57,7 @@ fill-sizes-requires c κs =
 fill-arrivals-requires : tie.Need-fill-arrivals-requires
 fill-arrivals-requires c κs =
     let w = found (c .before .before .before .before .before .before .before .before .before .before) in
-    let p = c .before .before .arrivals-at .ensures in
+    let p = c .before .before .arrivals-at .ensures .0 in
     omega arith
 
 returns-3 : tie.Need-returns-3
@@ -70,7 +70,7 @@ returns-3 c =
     let s = c .before .before .before .before .before .before .before .before .before .before .before in
     let t = c .before .before .before .before in
     let m = s .before .before .before .sizes-at .ensures in
-    let n = t .before .before .before .arrivals-at .ensures in (
+    let n = t .before .before .before .arrivals-at .ensures .0 in (
       read-filled f (now (a .sizes)) (now (a .numbers)) (now (a .times)) y (q .check .ensures .0) (k .before .before .if1 .left)
           (s .fill-sizes .last .1 .1 .1 .0) (t .fill-arrivals .last .1 .1 .1 .0) (t .fill-arrivals .last .1 .1 .1 .1 .0)
           (sym (k .before .too-short .ensures) ∙ k .if2 .left)

@@ -3,7 +3,7 @@
 use borrow.Author.Needs.{needs}
 use mathlib.Core.Path.{sym, _∙_}
 use Rattle.rfc4737.proofs.Due.{first-one}
-use Rattle.sample.specs.Calls.{sampleRefusal}
+use Rattle.sample.specs.Judge.{sampleRefusal}
 use Rattle.sample.proofs.refusal_of_sample.Statement.{statement}
 use Rattle.sample.proofs.refusal_of_sample.Tie as tie
 

@@ -1,13 +1,14 @@
--- `shortnumbers::full_number` meets its contract: the sum is that of the definition, and nothing of it wraps, as the remainders are below
--- the range, which is at most 1,024. Assumes nothing.
+-- `shortnumbers::full_number` meets its contract: the way up finds the number of the definition (`up-found`), and nothing of the sum wraps,
+-- as the remainders are below the range, which is at most 1,024. Assumes nothing.
 use Prim.Native.Nat.{ℕ, _+_, _-_, _/_, _%_, _<_}
 use native.Mathlib.Nat.{mod-lt}
 use native.Mathlib.Omega.{arith}
-use mathlib.Core.Path.{refl, _∙_}
+use mathlib.Core.Path.{_∙_}
 use borrow.Author.Needs.{needs}
-use borrow.Author.Tests.{lt-ltb, le-ltb}
+use borrow.Author.Tests.{le-ltb}
 use Rattle.shortnumbers.specs.Number.{numberFound}
 use Rattle.shortnumbers.specs.Private.{Narrow}
+use Rattle.shortnumbers.proofs.Numbers.{Even, up-found}
 use Rattle.shortnumbers.proofs.full_number.Statement.{statement}
 use Rattle.shortnumbers.proofs.full_number.Tie as tie
 
@@ -30,12 +31,12 @@ add-up-3 c =
     omega (arith, p .0 .most, p .1)
 
 returns-2 : tie.Need-returns-2
-unfolding numberFound
 returns-2 c =
     let a = c .before .before .args in
     let p = c .before .before .pre in
     let u = below (a .range) (a .short + (a .range / 2 + (a .range - a .greatest % a .range))) (p .0) in
-    (c .less .ensures ∙ rw (lt-ltb _ _ (c .before .if1 .left)) refl, omega (arith, c .less .ensures, p .0 .most))
+    let r : Even (a .range) = record { least = p .0 .least; even = p .0 .even } in
+    (c .less .ensures ∙ up-found (a .range) r (a .greatest) (a .short) (c .before .if1 .left), omega (arith, c .less .ensures, p .0 .most))
 
 pub full-number-spec : {M : Type 1} → statement M
 full-number-spec =

@@ -2,14 +2,16 @@
 -- asked for. A turn takes the place i into the sum, and those after it are those of `rest i` (`parts-first`). The measure is i.
 -- Assumes nothing.
 use mathlib.Core.Path.{_≡_}
-use Prim.Native.Nat.{_+_, _%_, _^_, _<_}
+use mathlib.Core.List.{List}
+use Prim.Native.Nat.{ℕ, _+_, _%_, _^_, _<_}
 use native.Mathlib.Omega.{arith}
 use borrow.Author.Needs.{needs}
 use borrow.Author.Tests.{le-ltb, lt-ltb}
 use lib.ListN.{length}
-use Rattle.sums.specs.Tree.{rest, partsTo, sumTo}
+use Rattle.sums.specs.Tree.{rest, partsTo, sumTo, ExactSum}
 use Rattle.sums.proofs.Lowest.{rest-low}
 use Rattle.sums.proofs.Summed.{parts-first, parts-none}
+use Rattle.sums.proofs.Exact.{sum-exact}
 use Rattle.sums.proofs.sum_to.Statement.{statement}
 use Rattle.sums.proofs.sum_to.Tie as tie
 
@@ -21,9 +23,13 @@ Inv-loop tree number i₀ sum₀ i sum =
 abbrev μ-loop : tie.MeasureT-loop
 μ-loop tree number i₀ sum₀ i sum = i
 
+-- what is asked for, and that it is a sum
+summed : (tree : List ℕ) (number : ℕ) {sum : ℕ} → sum ≡ sumTo tree number → (sum ≡ sumTo tree number) × ExactSum tree number sum
+summed tree number e = (e, sum-exact tree number e)
+
 returns : tie.Need-returns Inv-loop μ-loop
 unfolding sumTo
-returns c = simp (le-ltb _ _ (c .if1 .taken))
+returns c = summed _ _ (simp (le-ltb _ _ (c .if1 .taken)))
 
 loop-holds : tie.Need-loop-holds Inv-loop μ-loop
 loop-holds c = (omega arith, omega arith, omega arith)
@@ -48,7 +54,7 @@ returns-2 c =
     let h = c .before .loop .inv in
     let zero : c .before .loop .i ≡ 0 = omega arith in
     let end = rw (zero, parts-none (c .before .before .before .before .args .tree .now)) at (h .2) in
-    simp (lt-ltb _ _ (c .before .before .if1 .left)) (omega (arith, end, h .1))
+    summed _ _ (simp (lt-ltb _ _ (c .before .before .if1 .left)) (omega (arith, end, h .1)))
 
 pub sum-to-spec : {M : Type 1} → statement M
 sum-to-spec =

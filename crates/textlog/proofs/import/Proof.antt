@@ -1,10 +1,14 @@
 -- `textlog::import` meets its contract: a refusal of `judge_log` is the answer; with none, a list too short is 8; else every line decodes and has its
--- places (`fillable`), and `fill_arrivals` fills both. Beside each answer stand the theorems that the contract carries (`carried`). Assumes nothing.
+-- places (`fillable`), and `fill_arrivals` fills both. Beside each answer stand the theorems that the contract carries (`carried`).
+-- j, n and f are places: after `judge_log`, where it refuses nothing, and where both lists have room. Assumes nothing.
 use Prim.Native.Nat.{ℕ}
-use mathlib.Core.Path.{sym, _∙_}
+use mathlib.Core.Bool.{false}
+use mathlib.Core.Path.{_≡_, sym, _∙_}
 use mathlib.Core.List.{List}
+use lib.ListN.{length}
 use borrow.Author.Needs.{needs}
 use denote.Ref.{now}
+use Rattle.textlog.specs.Calls.{logListsShort}
 use Rattle.textlog.specs.RoundTrip.{ExactLine, ExactLog, ImportedIsFit}
 use Rattle.textlog.specs.Cases.{LinesReadAsGiven}
 use Rattle.textlog.proofs.Lines.{exact-line}
@@ -19,38 +23,58 @@ use Rattle.textlog.proofs.import.Tie as tie
 carried : (k : ℕ) (log : List ℕ) → (ExactLine × ExactLog k log) × (ImportedIsFit k log × LinesReadAsGiven)
 carried k log = ((exact-line, exact-log k log), (fit-log k log, read-as-given))
 
+-- ---- places in the code, each by the one before it: after `judge_log`, where nothing is refused, where the lists have room
+
+abbrev start : tie.After-judge-log → tie.Start
+start j = j .before .before .before .before
+
+abbrev judged : tie.Else1 → tie.After-judge-log
+judged n = n .before .before
+
+abbrev accepted : tie.Else2 → tie.Else1
+accepted f = f .before .before
+
+-- the lists are long enough
+room : (f : tie.Else2)
+    → logListsShort (judged (accepted f) .judge-log .result .arrivals) (length (now (start (judged (accepted f)) .args .numbers))) (length (now (start (judged (accepted f)) .args .times)))
+    ≡ false
+room f = sym (f .before .too-short .ensures) ∙ f .if2 .left
+
+-- ---- the needs
+
 returns : tie.Need-returns
 returns c =
-    let a = c .before .before .before .before .before .before .args in
-    let j = c .before .before .judge-log in (
-      import-refused (a .k) (now (a .log)) (now (a .numbers)) (now (a .times)) (j .result) (j .ensures) (c .if1 .taken),
+    let j = c .before .before .before in
+    let a = start j .args in (
+      import-refused (a .k) (now (a .log)) (now (a .numbers)) (now (a .times)) (j .judge-log .result) (j .judge-log .ensures) (c .before .if1 .taken) (c .refused-import .ensures),
       carried (a .k) (now (a .log)),
     )
 
 returns-2 : tie.Need-returns-2
 returns-2 c =
-    let a = c .before .before .before .before .before .before .before .before .before .args in
-    let j = c .before .before .before .before .before .judge-log in
+    let n = c .before .before .before in
+    let j = judged n in
+    let a = start j .args in
     let short = sym (c .before .before .too-short .ensures) ∙ c .before .if2 .taken in (
-      import-short (a .k) (now (a .log)) (now (a .numbers)) (now (a .times)) (j .result) (j .ensures) (c .before .before .before .if1 .left) short (c .refused-import .ensures),
+      import-short (a .k) (now (a .log)) (now (a .numbers)) (now (a .times)) (j .judge-log .result) (j .judge-log .ensures) (n .if1 .left) short (c .refused-import2 .ensures),
       carried (a .k) (now (a .log)),
     )
 
 fill-arrivals-requires : tie.Need-fill-arrivals-requires
 fill-arrivals-requires c κs =
-    let a = c .before .before .before .before .before .before .before .before .before .before .args in
-    let j = c .before .before .before .before .before .before .judge-log in
-    let room = sym (c .before .before .before .too-short .ensures) ∙ c .before .before .if2 .left in
-    fillable (a .k) (now (a .log)) (now (a .numbers)) (now (a .times)) (j .result) (j .ensures) (c .before .before .before .before .if1 .left) room
+    let f = c .before .before in
+    let j = judged (accepted f) in
+    let a = start j .args in
+    fillable (a .k) (now (a .log)) (now (a .numbers)) (now (a .times)) (j .judge-log .result) (j .judge-log .ensures) (accepted f .if1 .left) (room f)
 
 returns-3 : tie.Need-returns-3
 returns-3 c =
-    let a = c .before .before .before .before .before .before .before .before .before .before .before .before .before .before .before .args in
-    let j = c .before .before .before .before .before .before .before .before .before .before .before .judge-log in
-    let none = c .before .before .before .before .before .before .before .before .before .if1 .left in
-    let room = sym (c .before .before .before .before .before .before .before .before .too-short .ensures) ∙ c .before .before .before .before .before .before .before .if2 .left in
-    let f = c .before .before .before .before .fill-arrivals .ensures in (
-      import-filled (a .k) (now (a .log)) (now (a .numbers)) (now (a .times)) (j .result) (j .ensures) none room (f .0) (f .1),
+    let filled = c .before .before .before .before in
+    let f = filled .before .before .before in
+    let j = judged (accepted f) in
+    let a = start j .args in
+    let e = filled .fill-arrivals .ensures in (
+      import-filled (a .k) (now (a .log)) (now (a .numbers)) (now (a .times)) (j .judge-log .result) (j .judge-log .ensures) (accepted f .if1 .left) (room f) (e .0) (e .1),
       carried (a .k) (now (a .log)),
     )
 
@@ -58,7 +82,7 @@ pub import-spec : {M : Type 1} → statement M
 import-spec =
     tie.close
     (tie.spec
-    (λ c κs. search needs)
+    (λ c κs. search needs) (λ c κs. search needs)
     returns
     (λ c κs. search needs) (λ c κs. search needs)
     returns-2

@@ -41,7 +41,7 @@ returns : tie.Need-returns Inv-loop μ-loop
 returns c =
     let a = c .before .before .before .before .before .before .before .args in
     let l = c .before .before .before .before .before .loop in
-    c .refused-import .ensures
+    c .refused-at .ensures
     ∙ judge-bad (a .k) (now (a .log)) (l .count) (l .reference) (l .at) (l .inv .1) (c .before .before .before .before .loop-test .taken)
     (sym (c .before .before .before .line-at .ensures) ∙ c .before .enum-told .given .1)
 
@@ -49,7 +49,7 @@ returns-2 : tie.Need-returns-2 Inv-loop μ-loop
 returns-2 c =
     let a = c .before .before .before .before .before .before .before .before .before .args in
     let l = c .before .before .before .before .before .before .before .loop in
-    c .refused-import2 .ensures
+    c .refused-at2 .ensures
     ∙ judge-many (a .k) (now (a .log)) (l .count) (l .reference) (l .at) (l .inv .1) _ _ _ (read (c .before .before)) (c .before .if1 .taken)
 
 returns-3 : tie.Need-returns-3 Inv-loop μ-loop
@@ -57,7 +57,7 @@ returns-3 c =
     let a = c .before .before .before .before .before .before .before .before .before .before .before .args in
     let l = c .before .before .before .before .before .before .before .before .before .loop in
     let j = c .before .before .judge-one in
-    c .refused-import3 .ensures
+    c .refused-at3 .ensures
     ∙ judge-stop (a .k) (now (a .log)) (l .count) (l .reference) (l .at) (l .inv .1) _ _ _ (read (c .before .before .before .before))
     (c .before .before .before .if1 .left) (j .result) (j .ensures) (c .before .if2 .taken)
 

@@ -8,7 +8,7 @@ use Rattle.textlog.proofs.judge_log.Tie as tie
 
 returns : tie.Need-returns
 unfolding judgeLog
-returns c = c .refused-import .ensures ∙ sym (simp (sym (c .before .before .outside .ensures) ∙ c .before .if1 .taken))
+returns c = c .refused-at .ensures ∙ sym (simp (sym (c .before .before .outside .ensures) ∙ c .before .if1 .taken))
 
 returns-2 : tie.Need-returns-2
 unfolding judgeLog

@@ -1,5 +1,6 @@
 -- `worse::compare` meets its contract: a sample's counts have its file's refusal (`counted`), the first's before the second's; with none,
--- `greater` of the two ratios is the test that the definition makes (`tested`). Assumes nothing.
+-- `greater` of the two ratios is the test that the definition makes (`tested`). f is the first file, a and b are both, decoded.
+-- Assumes nothing.
 use borrow.Author.Needs.{needs}
 use native.Mathlib.Omega.{arith}
 use Prim.Native.Nat.{ℕ, _<_}
@@ -7,11 +8,11 @@ use mathlib.Core.Path.{_≡_, sym, ap, ap₂, _∙_}
 use mathlib.Core.Bool.{Bool, true, false, cond}
 use mathlib.Core.List.{List}
 use denote.Ref.{now}
-use Rattle.sample.specs.Decode.{decode, decodedRefusal}
+use Rattle.sample.specs.Decode.{Decoded, decode, decodedRefusal}
 use Rattle.metrics.specs.declared.SampleCounts.{SampleCounts}
 use Rattle.metrics.specs.Figures.{sampleCounts}
 use Rattle.worse.specs.declared.Link.the-variants.{First, Second}
-use Rattle.worse.specs.Worse.{reorderedRatio, greater, ratioIn, worseOf, comparisonOf}
+use Rattle.worse.specs.Worse.{reorderedRatio, greater, ratioIn, refusalOfBoth, comparisonOf}
 use Rattle.worse.proofs.Compared.{first-refused, second-refusal, compared-refused, compared}
 use Rattle.worse.proofs.compare.Statement.{statement}
 use Rattle.worse.proofs.compare.Tie as tie
@@ -21,20 +22,43 @@ counted : (x : SampleCounts) (f : List ℕ) → x ≡ sampleCounts (decode f) �
 unfolding sampleCounts
 counted x f e = ap (λ (y : SampleCounts). y .refusal) e
 
+-- ---- places in the code, each by the one before it: where the first file is accepted (m), and where the second is (n); the files, decoded
+
+abbrev start : tie.Else1 → tie.Start
+start m = m .before .before .before .before .before
+
+abbrev first-accepted : tie.Else2 → tie.Else1
+first-accepted n = n .before .before .before
+
+abbrev one-at : tie.Else1 → Decoded
+one-at m = decode (now (start m .args .first))
+
+abbrev other-at : tie.Else1 → Decoded
+other-at m = decode (now (start m .args .second))
+
+-- the first file is accepted
+accepted-first : (m : tie.Else1) → decodedRefusal (one-at m) ≡ 0
+accepted-first m = sym (counted (m .before .before .counts .result) (now (start m .args .first)) (m .before .before .counts .ensures)) ∙ m .if1 .left
+
+-- both are
+accepted-both : (n : tie.Else2) → refusalOfBoth (one-at (first-accepted n)) (other-at (first-accepted n)) ≡ 0
+accepted-both n =
+    let m = first-accepted n in
+    let other = n .before .before .counts2 in
+    second-refusal (one-at m) (other-at m) (accepted-first m) 0 (sym (n .if2 .left) ∙ counted (other .result) (now (start m .args .second)) (other .ensures))
+
 -- neither file is refused: the test of the two ratios says which is the worse
 tested : (c : tie.After-greater) (t : Bool) → c .greater .result ≡ t
-    → record { refusal = 0; link = cond t Second First } ≡ comparisonOf (decode (now (c .before .before .before .before .before .before .before .before .before .before .before .args .first))) (decode (now (c .before .before .before .before .before .before .before .before .before .before .before .args .second)))
-unfolding ratioIn worseOf
+    → record { refusal = 0; link = cond t Second First } ≡ comparisonOf (one-at (first-accepted (c .before .before .before))) (other-at (first-accepted (c .before .before .before)))
+unfolding ratioIn
 tested c t h =
-    let f = now (c .before .before .before .before .before .before .before .before .before .before .before .args .first) in
-    let g = now (c .before .before .before .before .before .before .before .before .before .before .before .args .second) in
-    let one = c .before .before .before .before .before .before .before .before .counts in
-    let other = c .before .before .before .before .before .counts2 in
-    let y = sym (counted (one .result) f (one .ensures)) ∙ c .before .before .before .before .before .before .if1 .left in
-    let r = second-refusal (decode f) (decode g) y 0 (sym (c .before .before .before .if2 .left) ∙ counted (other .result) g (other .ensures)) in
-    let p = c .before .before .reordered-ratio .ensures ∙ ap (λ (x : SampleCounts). reorderedRatio (x .counts)) (other .ensures) in
-    let q = c .before .reordered-ratio2 .ensures ∙ ap (λ (x : SampleCounts). reorderedRatio (x .counts)) (one .ensures) in
-    compared (decode f) (decode g) r (cond t Second First) (ap (λ (x : Bool). cond x Second First) (sym (c .greater .ensures ∙ ap₂ greater p q) ∙ h))
+    let n = c .before .before .before in
+    let m = first-accepted n in
+    let p = c .before .before .reordered-ratio .ensures ∙ ap (λ (x : SampleCounts). reorderedRatio (x .counts)) (n .before .before .counts2 .ensures) in
+    let q = c .before .reordered-ratio2 .ensures ∙ ap (λ (x : SampleCounts). reorderedRatio (x .counts)) (m .before .before .counts .ensures) in
+    compared (one-at m) (other-at m) (accepted-both n) t (sym (c .greater .ensures ∙ ap₂ greater p q) ∙ h)
+
+-- ---- the needs
 
 returns : tie.Need-returns
 returns c =
@@ -47,14 +71,13 @@ returns c =
 
 returns-2 : tie.Need-returns-2
 returns-2 c =
-    let f = now (c .before .before .before .before .before .before .before .before .before .args .first) in
-    let g = now (c .before .before .before .before .before .before .before .before .before .args .second) in
-    let one = c .before .before .before .before .before .before .counts in
+    let m = c .before .before .before .before in
     let other = c .before .before .before .counts2 in
-    let z = sym (counted (one .result) f (one .ensures)) ∙ c .before .before .before .before .if1 .left in
-    let h : 0 < other .result .refusal = omega (arith, c .before .if2 .taken) in
     let r = other .result .refusal in
-    c .found-with2 .ensures ∙ compared-refused (decode f) (decode g) r (second-refusal (decode f) (decode g) z r (counted (other .result) g (other .ensures))) h
+    let h : 0 < r = omega (arith, c .before .if2 .taken) in
+    c .found-with2 .ensures
+    ∙ compared-refused (one-at m) (other-at m) r
+    (second-refusal (one-at m) (other-at m) (accepted-first m) r (counted (other .result) (now (start m .args .second)) (other .ensures))) h
 
 returns-3 : tie.Need-returns-3
 returns-3 c = c .found-with3 .ensures ∙ tested (c .before .before) true (c .before .if3 .taken)

@@ -11,7 +11,7 @@ use Rattle.rfc4737.specs.Judge.{sentMost}
 use Rattle.rfc4737.specs.Arrivals.{firsts}
 use Rattle.rfc4737.proofs.Arrivals.{length-firsts}
 use Rattle.sample.specs.Decode.{decode}
-use Rattle.metrics.specs.Private.Sample.{before, arrivalAt, HasRecord}
+use Rattle.metrics.specs.Records.{before, arrivalAt, HasRecord}
 use Rattle.metrics.proofs.TablesFollow.{before-length}
 use Rattle.metrics.proofs.FoundInFile.{arrival-known}
 use Rattle.disorder.specs.Private.{PairTree}
@@ -37,7 +37,7 @@ known : (c : tie.After-arrival Inv-loop μ-loop)
     × (1 ≤ c .arrival .result .number) × (c .arrival .result .number ≤ sentMost)
 known c =
     let h = here (c .before) in
-    let k = arrival-known _ _ (h .file) _ (h .inside) (c .arrival .ensures) in
+    let k = arrival-known _ _ (h .file) _ (h .inside) (c .arrival .ensures .1) in
     (ap (λ (a : Arrival). a .number) (k .0), k .1, k .2)
 
 loop-holds : tie.Need-loop-holds Inv-loop μ-loop

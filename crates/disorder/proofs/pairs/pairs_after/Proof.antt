@@ -15,7 +15,7 @@ add-t12 c = omega (arith, c .before .before .before .before .before .before .bef
 sub-t13 : tie.Need-sub-t13
 sub-t13 c =
     let k = c .before .before .before .before .before .before .before .before .before .before .pre .2 in
-    omega (arith, c .before .before .before .before .before .before .sum-to .ensures, lower-sum _ _ _ (k .paired) (k .few) (c .before .before .before .before .before .before .before .before .before .before .args .number) (c .before .before .before .before .before .before .before .before .before .before .pre .1))
+    omega (arith, c .before .before .before .before .before .before .sum-to .ensures .0, lower-sum _ _ _ (k .paired) (k .few) (c .before .before .before .before .before .before .before .before .before .before .args .number) (c .before .before .before .before .before .before .before .before .before .before .pre .1))
 
 add-t14 : tie.Need-add-t14
 add-t14 c = let k = c .before .before .before .before .before .before .before .before .before .before .before .pre .2 in omega (arith, k .few, k .paired .small)
@@ -24,7 +24,7 @@ returns-2 : tie.Need-returns-2
 returns-2 c =
     let p = c .before .before .before .before .before .before .before .before .before .before .before .pre in
     λ fs a e h.
-    rw (c .before .before .before .before .before .before .before .before .before .if1 .left, c .before .before .before .before .before .before .before .sum-to .ensures, ← e)
+    rw (c .before .before .before .before .before .before .before .before .before .if1 .left, c .before .before .before .before .before .before .before .sum-to .ensures .0, ← e)
     (paired-more fs a _ _ _ (rw (← e) at (p .0)) (rw (← e) at (p .1)) (p .2 .few) h (rw (← e) at (c .before .before .before .before .before .add .ensures)))
 
 pub pairs-after-spec : {M : Type 1} → statement M

@@ -11,7 +11,7 @@ use Rattle.import_log.proofs.convert.convert_lists.Statement.{statement
 use Rattle.import_log.proofs.convert.convert_lists.Tie as tie
 
 returns : tie.Need-returns
-returns c l h = convert-refused _ _ _ _ (c .if1 .taken)
+returns c l h = convert-refused _ _ _ (c .if1 .taken)
 
 array-share-prefix-sizes : tie.Need-array-share-prefix-sizes
 array-share-prefix-sizes c = c .before .before .before .before .before .before .before .pre (c .before .before .if1 .left) .1 .sent
@@ -32,7 +32,7 @@ returns-2 c l h =
     let start = c .before .before .before .before .before .before .before .before .before .before .before .before .before .before in
     let z = c .before .before .before .before .before .before .before .before .before .if1 .left in
     let g = h z in
-    convert-written _ _ _ _ l _ (c .before .before .write .result) _ z (g .judged) (take-equal (start .args .k) sentMost (start .args .size) (g .sent))
+    convert-written _ _ _ l _ (c .before .before .write .result) _ z (g .judged) (take-equal (start .args .k) sentMost (start .args .size) (g .sent))
     (g .inNumbers .1) (g .inTimes .1) (c .before .before .write .ensures .0)
 
 pub convert-lists-spec : {M : Type 1} → statement M

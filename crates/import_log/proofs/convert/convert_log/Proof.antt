@@ -1,7 +1,7 @@
--- `import_log::convert::convert_log` meets its contract: the lists have places for any log, so the answer of its import is the log's own, and they
--- hold its arrivals where it is not refused. Assumes nothing.
+-- `import_log::convert::convert_log` meets its contract: the lists have places for any log, so the refusal of its import is the log's own, and they
+-- hold its arrivals where there is none. Assumes nothing.
 use borrow.Author.Needs.{needs}
-use Rattle.import_log.proofs.Sampled.{log-answer, log-holds}
+use Rattle.import_log.proofs.Sampled.{log-refusal, log-holds}
 use Rattle.import_log.proofs.convert.convert_log.Statement.{statement}
 use Rattle.import_log.proofs.convert.convert_log.Tie as tie
 use Rattle.sample.proofs.RoundTrips.{arrivals-room}
@@ -12,7 +12,7 @@ convert-lists-requires c κs z = (_, log-holds _ _ _ _ _ _ _ (c .before .before 
 returns : tie.Need-returns
 returns c =
     let f = c .before .before .before .before .before .before .before .before .import .ensures .0 in
-    rw (← log-answer _ _ _ _ _ _ _ f arrivals-room arrivals-room) (c .before .before .convert-lists .ensures _ (log-holds _ _ _ _ _ _ _ f arrivals-room arrivals-room))
+    rw (← log-refusal _ _ _ _ _ _ _ f arrivals-room arrivals-room) (c .before .before .convert-lists .ensures _ (log-holds _ _ _ _ _ _ _ f arrivals-room arrivals-room))
 
 pub convert-log-spec : {M : Type 1} → statement M
 convert-log-spec =

@@ -13,7 +13,7 @@ use Rattle.rfc4737.specs.Extent.{byteOffset, largestN}
 use Rattle.rfc4737.specs.Judge.{sentMost}
 use Rattle.sample.specs.Decode.{decode}
 use Rattle.metrics.specs.Sample.{sizeOf}
-use Rattle.metrics.specs.Private.Sample.{arrivalAt, before, answerAt}
+use Rattle.metrics.specs.Records.{arrivalAt, before, answerAt}
 use Rattle.metrics.specs.Private.Tables.{Packets, ClassOf}
 use Rattle.metrics.specs.declared.classes.Class.{Class}
 use Rattle.metrics.proofs.AnswersByClass.{told, packets, late-place, late-alone}

@@ -4,7 +4,7 @@ use mathlib.Core.Path.{_≡_}
 use Prim.Native.Nat.{_≤_, _-_}
 use native.Mathlib.Omega.{arith}
 use Rattle.sample.specs.Decode.{decode}
-use Rattle.metrics.specs.Private.Sample.{before, HasRecord}
+use Rattle.metrics.specs.Records.{before, HasRecord}
 use Rattle.metrics.specs.Private.Tables.{EngineTables}
 use borrow.Author.Needs.{needs}
 use denote.Ref.{now}

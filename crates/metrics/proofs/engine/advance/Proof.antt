@@ -9,7 +9,7 @@ use Rattle.rfc4737.specs.Extent.{byteOffset, largestN}
 use Rattle.rfc4737.specs.Judge.{sentMost}
 use Rattle.sample.specs.Decode.{decode}
 use Rattle.metrics.specs.Sample.{sizeOf}
-use Rattle.metrics.specs.Private.Sample.{arrivalAt, before}
+use Rattle.metrics.specs.Records.{arrivalAt, before}
 use Rattle.metrics.proofs.TablesFollow.{number-few}
 use Rattle.metrics.proofs.AnswersByClass.{told, new-told, late-both}
 use Rattle.metrics.proofs.NotingArrivals.{noting}

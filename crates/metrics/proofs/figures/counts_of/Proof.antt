@@ -8,7 +8,7 @@ use denote.Ref.{now}
 use Rattle.rfc4737.specs.Runs.{counts}
 use Rattle.rfc4737.specs.Judge.{arrivalsMost}
 use Rattle.sample.specs.Decode.{decode}
-use Rattle.metrics.specs.Private.Sample.{before, answersTo, HasRecord}
+use Rattle.metrics.specs.Records.{before, answersTo, HasRecord}
 use borrow.Author.Needs.{needs}
 use Rattle.metrics.proofs.OneArrivalMore.{answers-start, answers-end, answers-length}
 use Rattle.metrics.proofs.CountsBySeen.{SeenPackets, seen-start, seen-next, counts-seen}

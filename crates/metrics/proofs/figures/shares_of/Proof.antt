@@ -8,7 +8,7 @@ use lib.Seq.{take-all}
 use denote.Ref.{now}
 use Rattle.sample.specs.Decode.{decode}
 use Rattle.metrics.specs.Sample.{sizeOf, sampleArrivals}
-use Rattle.metrics.specs.Private.Sample.{before, HasRecord}
+use Rattle.metrics.specs.Records.{before, HasRecord}
 use Rattle.metrics.specs.Private.Steps.{sharesOf, ShareTables}
 use Rattle.metrics.proofs.TablesFollow.{arrivals-laid, before-more, before-length}
 use Rattle.metrics.proofs.EngineState.{links-laid}

@@ -10,7 +10,7 @@ use Rattle.rfc4737.specs.Tally.{tally}
 use Rattle.rfc4737.proofs.Folds.{length-tally, tally-le}
 use Rattle.rfc4737.specs.Judge.{sentMost, arrivalsMost}
 use Rattle.sample.specs.Decode.{decode}
-use Rattle.metrics.specs.Private.Sample.{before, answerAt, answersTo, HasRecord}
+use Rattle.metrics.specs.Records.{before, answerAt, answersTo, HasRecord}
 use Rattle.metrics.specs.Private.Tables.{EngineTables, ClassOf}
 use borrow.Author.Needs.{needs}
 use Rattle.metrics.proofs.TablesFollow.{numbered-le}

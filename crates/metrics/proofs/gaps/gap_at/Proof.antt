@@ -12,12 +12,12 @@ use Rattle.metrics.proofs.gaps.gap_at.Statement.{statement}
 use Rattle.metrics.proofs.gaps.gap_at.Tie as tie
 
 returns : tie.Need-returns
-returns c = let p = c .before .before .pre in λ l m inside. gap-other l _ m _ (p .0) (p .1) inside (c .if1 .taken)
+returns c = let p = c .before .before .pre in λ l m. gap-other l _ m _ (p .0) (p .1) (c .if1 .taken)
 
 returns-2 : tie.Need-returns-2
 returns-2 c =
     let p = c .before .before .before .before .pre in
-    λ l m inside. gap-first l _ m _ (p .0) (p .1) inside (c .before .before .if1 .left) _ (c .before .last-to .ensures) (c .if2 .taken)
+    λ l m. gap-first l _ m _ (p .0) (p .1) _ (c .before .last-to .ensures) (c .if2 .taken)
 
 -- the neighbour is before p
 near : (c : tie.Else2) → lastTo (now (c .before .before .before .before .args .found)) (c .before .before .before .before .args .p - 1) ≤ c .before .before .before .before .args .p - 1
@@ -39,13 +39,13 @@ returns-3 : tie.Need-returns-3
 returns-3 c =
     let e = c .before .before .before in
     let p = e .before .before .before .before .pre in
-    λ l m inside. gap-near l _ m _ (p .0) (p .1) inside (e .before .before .if1 .left) _ (e .before .last-to .ensures) true (e .if2 .left) (lt-ltb _ _ (c .if3 .taken))
+    λ l m. gap-near l _ m _ (p .0) (p .1) _ (e .before .last-to .ensures) true (e .if2 .left) (lt-ltb _ _ (c .if3 .taken))
 
 returns-4 : tie.Need-returns-4
 returns-4 c =
     let e = c .before .before .before in
     let p = e .before .before .before .before .pre in
-    λ l m inside. gap-near l _ m _ (p .0) (p .1) inside (e .before .before .if1 .left) _ (e .before .last-to .ensures) false (e .if2 .left) (le-ltb _ _ (c .if3 .left))
+    λ l m. gap-near l _ m _ (p .0) (p .1) _ (e .before .last-to .ensures) false (e .if2 .left) (le-ltb _ _ (c .if3 .left))
 
 pub gap-at-spec : {M : Type 1} → statement M
 gap-at-spec =

@@ -9,7 +9,7 @@ use native.Mathlib.Omega.{arith}
 use denote.Ref.{now}
 use Rattle.rfc4737.specs.Gaps.{positionOf}
 use Rattle.sample.specs.Decode.{decode}
-use Rattle.metrics.specs.Private.Sample.{before, answerAt, answersTo, HasRecord}
+use Rattle.metrics.specs.Records.{before, answerAt, answersTo, HasRecord}
 use Rattle.metrics.specs.Private.Tables.{EngineTables, ClassOf}
 use Rattle.metrics.specs.Private.Steps.{known, DiscoverersAt}
 use borrow.Author.Needs.{needs}

@@ -15,7 +15,7 @@ use Rattle.rfc4737.specs.Runs.{counts}
 use Rattle.rfc4737.specs.Judge.{arrivalsMost}
 use Rattle.sample.specs.Decode.{decode}
 use Rattle.metrics.specs.Private.Engine.{EngineState}
-use Rattle.metrics.specs.Private.Sample.{answersTo, HasRecord}
+use Rattle.metrics.specs.Records.{answersTo, HasRecord}
 use Rattle.metrics.specs.Private.Taken.{PassedTo}
 use Rattle.metrics.proofs.DigitBounds.{answers-within, counts-within}
 use Rattle.metrics.proofs.Listed.{lines-within}

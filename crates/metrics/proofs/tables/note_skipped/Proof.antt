@@ -4,7 +4,7 @@ use Prim.Native.Nat.{_+_, _≤_, _-_}
 use native.Mathlib.Omega.{arith}
 use lib.ListN.{length, length-set}
 use mathlib.Core.Path.{_≡_}
-use Rattle.metrics.specs.Private.Sample.{numberPlaces}
+use Rattle.metrics.specs.Records.{numberPlaces}
 use Rattle.metrics.specs.Private.Tables.{Filled}
 use Rattle.metrics.proofs.TablesFollow.{filled-none, filled-more, filled-to}
 use Rattle.metrics.proofs.tables.note_skipped.Statement.{statement}

@@ -27,7 +27,7 @@ sub-t19 c =
     let s = c .before .before .before .before .before .before .before .before .before .before .before .before in
     let k = s .pre .0 in
     let f = c .before .before .before .before .before .fill-tree .ensures (k .fs) (k .numbered) (k .totalled) in
-    omega (arith, c .before .sum-to .ensures, total-sum _ (sizes (c .before .before .before .before .before .before .before .before .before .before .before)) (k .fs) (omega (arith, k .numbered .all, k .few)) _ _ (s .args .s) (f .1 ∙ k .numbered .all) (s .pre .2) (f .0))
+    omega (arith, c .before .sum-to .ensures .0, total-sum _ (sizes (c .before .before .before .before .before .before .before .before .before .before .before)) (k .fs) (omega (arith, k .numbered .all, k .few)) _ _ (s .args .s) (f .1 ∙ k .numbered .all) (s .pre .2) (f .0))
 
 returns : tie.Need-returns
 returns c = (omega arith, λ fs n t. (t, rw (c .enum-told .given .1) tt))
@@ -47,7 +47,7 @@ returns-3 c =
             rw is (
               l .1 fs n,
               λ new.
-                  ap (λ (m : ℕ). c .before .before .before .before .before .fill-tree .result .total - m) (c .before .sum-to .ensures)
+                  ap (λ (m : ℕ). c .before .before .before .before .before .fill-tree .result .total - m) (c .before .sum-to .ensures .0)
                   ∙ offset-summed _ (sizes (c .before .before .before .before .before .before .before .before .before .before .before)) fs (omega (arith, n .all, s .pre .0 .few)) _ _ (s .args .s) (f .1 ∙ n .all) (s .pre .1) (s .pre .2) (f .0) new,
             ),
           ),

@@ -10,11 +10,9 @@ use lib.ListN.{length, getD, drop, length-map, List·getD-map}
 use denote.Ref.{now}
 use Rattle.octets.proofs.Memory.{taken}
 use Rattle.rfc4737.specs.declared.Arrival.{Arrival}
-use Rattle.sample.specs.Decode.{decode, sampleOf}
 use Rattle.owamp.specs.Judge.{judgeTime, judgeSeconds}
 use Rattle.owamp.specs.Calls.{arrivalsOfFile}
 use Rattle.sample.specs.Places.{noArrival}
-use Rattle.sample.proofs.Accepted.{found-sample, arrival-found}
 use Rattle.rfc4737.specs.Refusals.{firstOf}
 use Rattle.rfc4737.proofs.JudgedInTurn.{turn-stop, turn-next, turn-done}
 use Rattle.owamp.proofs.Writing.{found-many}
@@ -50,7 +48,7 @@ found c =
     let i = c .before .before .before .loop .i in
     let f = now (a .args .file) in
     c .judge-time .ensures
-    ∙ ap judgeArrival (c .before .arrival .ensures ∙ arrival-found f (sampleOf (decode f)) (found-sample f (a .args .found) (a .pre .0) (a .pre .1)) (a .args .found) (a .pre .0) i noArrival (search needs))
+    ∙ ap judgeArrival (c .before .arrival .ensures .1 (a .pre .0) (search needs))
     ∙ sym (List·getD-map judgeArrival (arrivalsOfFile f) i noArrival)
 
 loop-holds : tie.Need-loop-holds Inv-loop μ-loop

@@ -1,10 +1,12 @@
--- `receiver::Receiver::fresh` meets its contract: each return is a case of the definition, and demand 3, the
--- window cases and the answers by a moved clock are laws. Assumes nothing.
+-- `receiver::Receiver::fresh` meets its contract: each return is a case of the definition, and demand 3, the window cases, the answers
+-- by a moved clock and the sum of two moves are laws. Assumes nothing.
 use Prim.Native.Nat.{ℕ}
 use mathlib.Core.List.{List}
 use mathlib.Core.Path.{_≡_, sym, subst, _∙_}
 use borrow.Author.Needs.{needs}
 use Rattle.rfc4737.specs.declared.Arrival.{Arrival}
+use Rattle.rfc4737.specs.Moved.{MovedTwice}
+use Rattle.rfc4737.proofs.Moved.{moved-twice}
 use Rattle.receiver.specs.declared.FreshAnswer.{FreshAnswer}
 use Rattle.receiver.specs.Step.{freshOf}
 use Rattle.receiver.specs.Demand3.{Demand3}
@@ -16,14 +18,14 @@ use Rattle.receiver.proofs.Moved.{moved-answers}
 use Rattle.receiver.proofs.Receiver.fresh.Statement.{statement}
 use Rattle.receiver.proofs.Receiver.fresh.Tie as tie
 
--- what is carried: of the receiver handed back demand 3 and that it answers by a moved clock as before; and the window cases
+-- what is carried: of the receiver handed back demand 3 and that it answers by a moved clock as before; the window cases; and the sum of two moves
 carries : (k : ℕ) (r : FreshAnswer) → r ≡ freshOf k
-    → (r ≡ freshOf k) × (((fed : List Arrival) → Demand3 (r .state .stream .sent) fed) × (WindowCasesHold × MovedAnswers (r .state .stream .sent)))
+    → (r ≡ freshOf k) × (((fed : List Arrival) → Demand3 (r .state .stream .sent) fed) × (WindowCasesHold × (MovedAnswers (r .state .stream .sent) × MovedTwice)))
 carries k r e = (
   e,
   (
     (λ fed. subst (λ (s : FreshAnswer). Demand3 (s .state .stream .sent) fed) (sym e) (demand3-fresh k fed)),
-    (window-cases-hold, subst (λ (s : FreshAnswer). MovedAnswers (s .state .stream .sent)) (sym e) (moved-answers k)),
+    (window-cases-hold, (subst (λ (s : FreshAnswer). MovedAnswers (s .state .stream .sent)) (sym e) (moved-answers k), moved-twice)),
   ),
 )
 

@@ -16,8 +16,12 @@ use Rattle.receiver.proofs.advance.advance_within.Tie as tie
 abbrev stateAt : tie.Start → Receiver
 stateAt c = whole (c .args .s) (c .args .marks .now) (c .args .positions .now) (c .args .numbers .now) (c .args .times .now)
 
+-- the entry, from where an arrival is not refused
+abbrev startOf : tie.Else1 → tie.Start
+startOf c = c .before .before .before .before .before .before .before
+
 -- an arrival that is not refused
-accepted : (c : tie.Else1) → Unrefused (stateAt (c .before .before .before .before .before .before .before)) (c .before .before .before .before .before .before .before .args .number)
+accepted : (c : tie.Else1) → Unrefused (stateAt (startOf c)) (startOf c .args .number)
 accepted c = said-accepted _ _ _ true _ (c .before .before .decide .ensures) (c .if1 .left)
 
 returns : tie.Need-returns
@@ -33,8 +37,9 @@ after-duplicate-requires c κs =
 
 after-in-order-requires : tie.Need-after-in-order-requires
 after-in-order-requires c κs =
-    let a = accepted (c .before .before .before .before) in
-    (a .stream, omega (arith, a .number-high, a .stream .sent-high))
+    let e = c .before .before .before .before in
+    let a = accepted e in
+    (a .stream, (omega (arith, a .number-high, a .stream .sent-high), startOf e .pre .0 .0))
 
 mark-requires : tie.Need-mark-requires
 mark-requires c κs =
@@ -58,7 +63,8 @@ cast-push-2 c =
 
 push-requires : tie.Need-push-requires
 push-requires c κs =
-    (accepted (c .before .before .before .before .before .before .before .before .before .before .before .before) .places .kept-high, c .before .before .before .before .before .before .before .before .before .before .before .before .before .before .before .before .before .before .before .pre)
+    let e = c .before .before .before .before .before .before .before .before .before .before .before .before in
+    (accepted e .places .kept-high, startOf e .pre)
 
 mark-requires-2 : tie.Need-mark-requires-2
 mark-requires-2 c κs =
@@ -80,7 +86,7 @@ returns-3 c =
     let late = c .before .before .before .before .before .before .before .before in
     let early = late .before .before .before .before .before in
     step-noted _ _ _ _ _ (early .before .before .decide .ensures) _ (early .if1 .left)
-    (jump-written _ _ _ _ _ _ _ _ _ _ _ _ _ _ _ (late .before .before .before .noted .given .1) (c .before .before .before .before .before .if2 .taken) (late .after-in-order .ensures _ _)
+    (jump-written _ _ _ _ _ _ _ _ _ _ _ _ _ _ _ (accepted early .places .kept-high, startOf early .pre) (late .before .before .before .noted .given .1) (c .before .before .before .before .before .if2 .taken) (late .after-in-order .ensures _ _)
     (c .before .before .before .before .before .before .mark .ensures) (c .push .ensures))
 
 returns-4 : tie.Need-returns-4

@@ -4,6 +4,7 @@
 use native.Mathlib.Omega.{arith}
 use borrow.Author.Needs.{needs}
 use lib.ListN.{getD}
+use Rattle.rfc4737.specs.declared.Arrival.{Arrival}
 use Rattle.receiver.specs.Private.{placesOf}
 use Rattle.receiver.specs.Kept.{placeAt, Held, heldOf, keptOf}
 use Rattle.receiver.proofs.Search.{search-found, search-none}
@@ -15,12 +16,16 @@ use Rattle.receiver.proofs.decide.late_outcome.Tie as tie
 abbrev heldAt : tie.Start → Held
 heldAt c = heldOf (c .args .s) (placesOf (c .args .positions .now) (c .args .numbers .now) (c .args .times .now))
 
+-- the arrival
+abbrev arrivalAt : tie.Start → Arrival
+arrivalAt c = record { number = c .args .number; time = c .args .time }
+
 returns : tie.Need-returns
 unfolding keptOf
 returns c =
     let s = c .before .before .before in
     let h = heldAt s in
-    late-none h _ (s .args .number) (s .args .time)
+    late-none (s .args .s) (h .places) (arrivalAt s)
     (search-none (h .places) (s .args .number) (h .kept) _ (c .if1 .taken) (c .before .before .place-above .ensures))
 
 lateness-from-requires : tie.Need-lateness-from-requires
@@ -33,7 +38,7 @@ unfolding keptOf placeAt
 returns-2 c =
     let s = c .before .before .before .before .before .before .before in
     let h = heldAt s in
-    late-beyond h _ (s .args .number) (s .args .time) _ _ _
+    late-beyond (s .args .s) (h .places) (arrivalAt s) _ _ _
     (search-found (h .places) (s .args .number) (h .kept) _ (c .before .before .before .before .if1 .left) (c .before .before .before .before .before .before .place-above .ensures))
     (c .before .before .if2 .taken)
     (oldest-kept h (omega (arith, c .before .before .before .before .if1 .left)))
@@ -49,7 +54,7 @@ unfolding keptOf placeAt
 returns-3 c =
     let s = c .before .before .before .before .before .before .before in
     let h = heldAt s in
-    late-exact h _ (s .args .number) (s .args .time) _ _
+    late-exact (s .args .s) (h .places) (arrivalAt s) _ _
     (search-found (h .places) (s .args .number) (h .kept) _ (c .before .before .before .before .if1 .left) (c .before .before .before .before .before .before .place-above .ensures))
     (c .before .before .if2 .left)
     (c .lateness-from2 .ensures (getD (h .places .numbers) (c .before .before .before .before .before .before .place-above .result) 0))

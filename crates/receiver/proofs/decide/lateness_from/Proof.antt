@@ -2,7 +2,7 @@
 -- the place, which is at most that of the packet, so that the difference does not wrap. Assumes nothing.
 use borrow.Author.Needs.{needs}
 use Rattle.rfc4737.specs.Extent.{extentFrom, lateFrom}
-use Rattle.receiver.specs.Step.{latenessFrom}
+use Rattle.receiver.specs.Outcomes.{latenessFrom}
 use Rattle.receiver.proofs.decide.lateness_from.Statement.{statement}
 use Rattle.receiver.proofs.decide.lateness_from.Tie as tie
 

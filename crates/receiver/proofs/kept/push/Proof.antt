@@ -10,7 +10,7 @@ use borrow.Author.Tests.{lt-ltb, le-ltb}
 use borrow.Author.Needs.{needs}
 use lib.Dec.{ltb}
 use Rattle.receiver.specs.Limits.{windowPlaces}
-use Rattle.receiver.specs.Kept.{pushed}
+use Rattle.receiver.specs.Private.{pushed}
 use Rattle.receiver.proofs.kept.push.Statement.{statement}
 use Rattle.receiver.proofs.kept.push.Tie as tie
 

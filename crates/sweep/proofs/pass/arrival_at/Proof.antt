@@ -8,12 +8,12 @@ use Rattle.sweep.proofs.pass.arrival_at.Tie as tie
 part-twelve-end : tie.Need-part-twelve-end
 part-twelve-end c =
     let p = c .before .before .pre in
-    arrival-inside _ _ (p .file) _ (p .inside) (c .arrivals-at .ensures)
+    arrival-inside _ _ (p .file) _ (p .inside) (c .arrivals-at .ensures .1 _)
 
 returns : tie.Need-returns
 returns c =
     let p = c .before .before .before .before .pre in
-    arrival-read _ _ (p .file) _ (p .inside) (c .before .before .arrivals-at .ensures) (c .arrival-of .ensures)
+    arrival-read _ _ (p .file) _ (p .inside) (c .before .before .arrivals-at .ensures .1 _) (c .arrival-of .ensures)
 
 pub arrival-at-spec : {M : Type 1} → statement M
 arrival-at-spec =
