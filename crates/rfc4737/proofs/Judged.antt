@@ -1,6 +1,7 @@
 -- The judge goes from the front with the reference, and at each arrival the first refusal that is due is the arrival's own or that of
 -- those after it. So a loop keeps that the refusal of all arrivals is that of those left, from the reference: it stops with the refusal of
--- the arrival at i (`judge-stop`), goes on where that is none (`judge-next`), and at the end none is due (`judge-done`). Where none is
+-- the arrival at i (`judge-stop`), goes on where that is none (`judge-next`), and at the end none is due (`judge-done`); by the record
+-- that `judge_next` returns these are `judged-stop` and `judged-next`. Where none is
 -- refused, the first arrival is not, nor one of the others (`judge-split`). So by induction on the list every number lies in 1 to k
 -- (`judged-number`), and no time is over 1,000 below an earlier one (`judged-times`), since the reference is at least every earlier time
 -- (`reference-above`). `lists-fit` takes the four refusals of K and lists apart in their order, and `fit-lists` puts them together.
@@ -17,6 +18,7 @@ use lib.Dec.{eqb}
 use lib.ListN.{length, getD, drop, drop-of-length-le}
 use lib.Seq.{drop-cons}
 use Rattle.rfc4737.specs.declared.Arrival.{Arrival}
+use Rattle.rfc4737.specs.declared.judge.Judged.{Judged}
 use Rattle.rfc4737.specs.Refusals.{outside, inCase, sentOutside, manyArrivals, numberOutside, timeBack, listsDiffer}
 use Rattle.rfc4737.specs.Times.{backMost, tooEarly, nextReference}
 use Rattle.rfc4737.specs.Judge.{sentMost, arrivalsMost, arrivalsFrom, judgeSent, judgeArrivals, judgeOne, judge, refusalOfLists}
@@ -44,6 +46,16 @@ module _ (k : ℕ) (l : List Arrival) (reference i : ℕ) (z a : Arrival) (h : i
       left ∙ first-next (judgeOne k reference a) (judge k (nextReference reference (a .time)) (drop (suc i) l) ∷ []) (sym e ∙ n)
       ∙ first-one (judge k (nextReference reference (a .time)) (drop (suc i) l))
       ∙ ap (λ (n : ℕ). judge k (nextReference reference (a .time)) (drop n l)) (sym (add-one i))
+
+  -- the same by what `judge_next` ensures of it
+  module _ (j : Judged) (e : j ≡ record { refusal = judgeOne k reference a; reference = nextReference reference (a .time) }) where
+    pub judged-stop : (j .refusal ≡ 0 → ⊥) → j .refusal ≡ judge k 0 l
+    judged-stop n = judge-stop (j .refusal) (ap (λ (x : Judged). x .refusal) e) n
+
+    pub judged-next : j .refusal ≡ 0 → judge k 0 l ≡ judge k (j .reference) (drop (i + 1) l)
+    judged-next n =
+        judge-next (j .refusal) (ap (λ (x : Judged). x .refusal) e) n
+        ∙ ap (λ (x : Judged). judge k (x .reference) (drop (i + 1) l)) (sym e)
 
 -- at the end
 pub judge-done : (k : ℕ) (l : List Arrival) (reference i : ℕ) → length l ≤ i → judge k 0 l ≡ judge k reference (drop i l) → 0 ≡ judge k 0 l

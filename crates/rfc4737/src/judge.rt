@@ -2,6 +2,7 @@
 ghost use mathlib.Core.Path.{_≡_};
 ghost use lib.ListN.{length};
 ghost use Rattle.rfc4737.specs.Refusals.{outside};
+ghost use Rattle.rfc4737.specs.Times.{nextReference};
 ghost use Rattle.rfc4737.specs.Judge.{arrivalsFrom, judgeOne, judge, refusalOfLists};
 use crate::refusal::LISTS_DIFFER;
 use crate::refusal::MANY_ARRIVALS;
@@ -45,6 +46,31 @@ pub fn judge_one(k: u64, reference: u64, number: u64, time: u64) -> u32
     0
 }
 
+// What the judge says of one arrival: the refusal (0 for none), and the reference for the time of the next arrival.
+pub struct Judged {
+    pub refusal: u32,
+    pub reference: u64,
+}
+
+// Judges one arrival of several. A number in 1 to K at a time that does not go back is accepted by these two tests alone; any
+// other arrival is for `judge_one`.
+pub fn judge_next(k: u64, reference: u64, number: u64, time: u64) -> Judged
+    ensures { λ r. ⌜ r ≡ record { refusal = judgeOne k reference (record { number = number; time = time }); reference = nextReference reference time } ⌝ }
+{
+    if reference <= time {
+        if !outside(1, k, number) {
+            return Judged {
+                refusal: 0,
+                reference: time,
+            };
+        }
+    }
+    Judged {
+        refusal: judge_one(k, reference, number, time),
+        reference: next_reference(reference, time),
+    }
+}
+
 // The arrivals of two lists in turn.
 fn judge_lists(k: u64, numbers: &[u32], times: &[u64]) -> u32
     requires { ⌜ length (now times) ≡ length (now numbers) ⌝ }
@@ -54,11 +80,11 @@ fn judge_lists(k: u64, numbers: &[u32], times: &[u64]) -> u32
     let mut i = 0;
     while i < numbers.len() {
         let time = times[i];
-        let refusal = judge_one(k, reference, numbers[i] as u64, time);
-        if refusal != 0 {
-            return refusal;
+        let judged = judge_next(k, reference, numbers[i] as u64, time);
+        if judged.refusal != 0 {
+            return judged.refusal;
         }
-        reference = next_reference(reference, time);
+        reference = judged.reference;
         i += 1;
     }
     0

@@ -8,9 +8,8 @@ ghost use Rattle.sample.specs.Judge.{someUnshown};
 ghost use Rattle.sample.specs.Decode.{arrivalIn};
 use crate::arrival_of;
 use crate::sections::ARRIVAL_WIDTH;
-use rfc4737::judge::judge_one;
+use rfc4737::judge::judge_next;
 use rfc4737::judge::outside;
-use rfc4737::time::next_reference;
 
 // The least octet of a label.
 const SHOWN_LEAST: u64 = 0x20;
@@ -44,11 +43,11 @@ pub(crate) fn judge_file(file: &[u8], at: usize, sent: u64, count: usize) -> u32
         let end = start + ARRIVAL_WIDTH;
         let twelve = &file[start..end];
         let arrival = arrival_of(twelve);
-        let refusal = judge_one(sent, reference, arrival.number as u64, arrival.time);
-        if refusal != 0 {
-            return refusal;
+        let judged = judge_next(sent, reference, arrival.number as u64, arrival.time);
+        if judged.refusal != 0 {
+            return judged.refusal;
         }
-        reference = next_reference(reference, arrival.time);
+        reference = judged.reference;
         i += 1;
     }
     0

@@ -1,16 +1,16 @@
 -- `rfc4737::judge::judge_lists` meets its contract. The loop's invariant: judging all arrivals is judging what is left of them from the
--- reference. A turn returns the refusal of the arrival at i (`judge-stop`) or goes on past it (`judge-next`), and at the end nothing is
+-- reference. A turn returns the refusal of the arrival at i (`judged-stop`) or goes on past it (`judged-next`), and at the end nothing is
 -- left to refuse (`judge-done`). The measure is the number of arrivals left. Assumes nothing.
 use borrow.Author.Needs.{needs}
-use Prim.Native.Nat.{ℕ, _+_, _-_, _≤_, _<_}
+use Prim.Native.Nat.{_-_, _≤_, _<_}
 use native.Mathlib.Omega.{arith}
-use mathlib.Core.Path.{_≡_, refl, ap, sym, _∙_}
+use mathlib.Core.Path.{_≡_, refl}
 use lib.ListN.{length, getD, drop}
 use denote.Ref.{now}
 use Rattle.rfc4737.specs.declared.Arrival.{Arrival}
 use Rattle.rfc4737.specs.Judge.{arrivalsFrom, judge}
 use Rattle.rfc4737.proofs.Pairs.{arrivals-length, arrivals-getD}
-use Rattle.rfc4737.proofs.Judged.{judge-stop, judge-next, judge-done}
+use Rattle.rfc4737.proofs.Judged.{judged-stop, judged-next, judge-done}
 use Rattle.rfc4737.proofs.judge.judge_lists.Statement.{statement}
 use Rattle.rfc4737.proofs.judge.judge_lists.Tie as tie
 
@@ -38,29 +38,30 @@ loop-holds : tie.Need-loop-holds Inv-loop μ-loop
 loop-holds c =
     (search needs, refl)
 
-cast-judge-one : tie.Need-cast-judge-one Inv-loop μ-loop
-cast-judge-one c =
+cast-judge-next : tie.Need-cast-judge-next Inv-loop μ-loop
+cast-judge-next c =
     omega (arith, c .shared-slice-known4 .given (c .before .before .before .loop .i))
 
 returns : tie.Need-returns Inv-loop μ-loop
 returns c =
-    let l = c .before .before .before .before .before in
+    let t = c .before .before .before .before .before in
+    let l = t .before in
     let a = l .before .before .before .args in
-    judge-stop (a .k) (arrivalsFrom (now (a .numbers)) (now (a .times))) (l .loop .reference) (l .loop .i) none
+    judged-stop (a .k) (arrivalsFrom (now (a .numbers)) (now (a .times))) (l .loop .reference) (l .loop .i) none
     (record { number = getD (now (a .numbers)) (l .loop .i) 0; time = getD (now (a .times)) (l .loop .i) 0 })
-    (turn (c .before .before .before .before)) (arrivals-getD (now (a .numbers)) (now (a .times)) (l .loop .i) none (search needs) (c .before .before .before .before .loop-test .taken)) (l .loop .inv .1)
-    (c .before .judge-one .result) (c .before .judge-one .ensures) (c .if1 .taken)
+    (turn t) (arrivals-getD (now (a .numbers)) (now (a .times)) (l .loop .i) none (search needs) (t .loop-test .taken)) (l .loop .inv .1)
+    (c .before .before .judge-next .result) (c .before .before .judge-next .ensures) (c .if1 .taken)
 
 loop-again : tie.Need-loop-again Inv-loop μ-loop
 loop-again c =
-    let l = c .before .before .before .before .before .before in
+    let t = c .before .before .before .before .before in
+    let l = t .before in
     let a = l .before .before .before .args in (
       search needs,
-      judge-next (a .k) (arrivalsFrom (now (a .numbers)) (now (a .times))) (l .loop .reference) (l .loop .i) none
+      judged-next (a .k) (arrivalsFrom (now (a .numbers)) (now (a .times))) (l .loop .reference) (l .loop .i) none
           (record { number = getD (now (a .numbers)) (l .loop .i) 0; time = getD (now (a .times)) (l .loop .i) 0 })
-          (turn (c .before .before .before .before .before)) (arrivals-getD (now (a .numbers)) (now (a .times)) (l .loop .i) none (search needs) (c .before .before .before .before .before .loop-test .taken)) (l .loop .inv .1)
-          (c .before .before .judge-one .result) (c .before .before .judge-one .ensures) (c .before .if1 .left)
-          ∙ ap (λ (r : ℕ). judge (a .k) r (drop (l .loop .i + 1) (arrivalsFrom (now (a .numbers)) (now (a .times))))) (sym (c .next-reference .ensures)),
+          (turn t) (arrivals-getD (now (a .numbers)) (now (a .times)) (l .loop .i) none (search needs) (t .loop-test .taken)) (l .loop .inv .1)
+          (c .before .before .judge-next .result) (c .before .before .judge-next .ensures) (c .if1 .left),
     )
 
 returns-2 : tie.Need-returns-2 Inv-loop μ-loop
@@ -77,9 +78,9 @@ judge-lists-spec =
     μ-loop
     loop-holds
     (λ c. search needs) (λ c. search needs) (λ c. search needs) (λ c. search needs)
-    cast-judge-one
+    cast-judge-next
     (λ c κs. search needs)
     returns
-    (λ c κs. search needs) (λ c. search needs) (λ c. search needs)
+    (λ c. search needs) (λ c. search needs)
     loop-again
     returns-2)

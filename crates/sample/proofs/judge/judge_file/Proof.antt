@@ -1,6 +1,7 @@
 -- `sample::judge::judge_file` meets its contract. The loop's invariant: judging all arrivals is judging what is left of them from the
--- reference. The arrival read at i is the first of these (`found`): refused, its refusal is that of all (`judge-stop`); else the rest is judged
--- from the next reference (`judge-next`). The measure is the number of arrivals left. Assumes nothing.
+-- reference. The arrival read at i is the first of these (`found`): refused, its refusal is that of all (`judged-stop`); else the rest is judged
+-- from the next reference (`judged-next`). The measure is the number of arrivals left. In a turn l is the loop's head, t after its test, and f
+-- after the arrival is read. Assumes nothing.
 use borrow.Author.Needs.{needs}
 use Prim.Native.Nat.{ℕ, _+_, _*_, _-_, _≤_, _<_}
 use native.Mathlib.Omega.{arith}
@@ -14,7 +15,7 @@ use Rattle.sample.specs.Decode.{arrivalIn}
 use Rattle.sample.specs.Places.{noArrival}
 use Rattle.rfc4737.specs.Judge.{judge}
 use Rattle.sample.proofs.Items.{items-length, items-stand, arrival-taken}
-use Rattle.rfc4737.proofs.Judged.{judge-stop, judge-next, judge-done}
+use Rattle.rfc4737.proofs.Judged.{judged-stop, judged-next, judge-done}
 use Rattle.sample.proofs.judge.judge_file.Statement.{statement}
 use Rattle.sample.proofs.judge.judge_file.Tie as tie
 
@@ -52,21 +53,24 @@ loop-holds c =
 
 returns : tie.Need-returns Inv-loop μ-loop
 returns c =
-    let l = c .before .before .before .before .before .before in
+    let f = c .before .before .before .before in
+    let t = f .before .before in
+    let l = t .before in
     let a = l .before .before .args in
-    judge-stop (a .sent) (standing (now (a .file)) (a .at) (a .count)) (l .loop .reference) (l .loop .i) noArrival
-    (c .before .before .before .arrival-of .result) (turn (c .before .before .before .before .before)) (found (c .before .before .before)) (l .loop .inv .1)
-    (c .before .judge-one .result) (c .before .judge-one .ensures) (c .if1 .taken)
+    judged-stop (a .sent) (standing (now (a .file)) (a .at) (a .count)) (l .loop .reference) (l .loop .i) noArrival
+    (f .arrival-of .result) (turn t) (found f) (l .loop .inv .1)
+    (c .before .before .judge-next .result) (c .before .before .judge-next .ensures) (c .if1 .taken)
 
 loop-again : tie.Need-loop-again Inv-loop μ-loop
 loop-again c =
-    let l = c .before .before .before .before .before .before .before in
+    let f = c .before .before .before .before in
+    let t = f .before .before in
+    let l = t .before in
     let a = l .before .before .args in (
       search needs,
-      judge-next (a .sent) (standing (now (a .file)) (a .at) (a .count)) (l .loop .reference) (l .loop .i) noArrival
-          (c .before .before .before .before .arrival-of .result) (turn (c .before .before .before .before .before .before)) (found (c .before .before .before .before)) (l .loop .inv .1)
-          (c .before .before .judge-one .result) (c .before .before .judge-one .ensures) (c .before .if1 .left)
-          ∙ ap (λ (r : ℕ). judge (a .sent) r (drop (l .loop .i + 1) (standing (now (a .file)) (a .at) (a .count)))) (sym (c .next-reference .ensures)),
+      judged-next (a .sent) (standing (now (a .file)) (a .at) (a .count)) (l .loop .reference) (l .loop .i) noArrival
+          (f .arrival-of .result) (turn t) (found f) (l .loop .inv .1)
+          (c .before .before .judge-next .result) (c .before .before .judge-next .ensures) (c .if1 .left),
     )
 
 returns-2 : tie.Need-returns-2 Inv-loop μ-loop
@@ -85,6 +89,6 @@ judge-file-spec =
     (λ c. search needs) (λ c. search needs) (λ c. search needs) (λ c. search needs) (λ c. search needs)
     (λ c. search needs) (λ c κs. search needs) (λ c. search needs) (λ c κs. search needs)
     returns
-    (λ c κs. search needs) (λ c. search needs) (λ c. search needs)
+    (λ c. search needs) (λ c. search needs)
     loop-again
     returns-2)
