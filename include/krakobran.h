@@ -185,7 +185,7 @@ krakobran_log_import krakobran_import_text(const uint8_t *log, size_t octets, ui
                                          size_t number_places, uint64_t *times, size_t time_places);
 
 /* The number of the first line of the text log of K sent packets that is refused, from 1; 0 where no line is, as where K
- * itself is refused. It costs what an import does, and needs no lists. */
+ * itself is refused. It has no refusal, and takes no lists. */
 uint32_t krakobran_refused_line(const uint8_t *log, size_t octets, uint32_t sent);
 
 /* Writes the text log of arrivals of K sent packets from the start of out: three decimals after a comma. Refusals:

@@ -8,7 +8,7 @@ A row has a claim, statements, files and contracts; names stand in backticks.
 - With "by `X`" before contracts they cite X, from which a name of the row is reached.
 Semicolons part statements and contracts into groups that belong together, in order. In a table of two columns the head of the second one
 gives record, file and contract for all rows. A file `sample/Decode` is crates/sample/specs/Decode.antt, `rfc4737/proofs/Skipped` is a file of
-proofs/, and then the last cell names the files of proofs/ that cite the statement. A table whose head ends otherwise is not looked at.
+proofs/, and then the last cell names the files of proofs/ that cite the statement. A contract is a public function's, or one of a program.
 
 Beside the rows: no public function has a `requires`, and no public contract reaches a definition of specs/Private."""
 import glob
@@ -103,6 +103,7 @@ def reached(nodes):
 # ---- the contracts: for each function of src/ its `ensures` by their names, '' for the first
 
 functions = {}
+public = set()
 for path in sorted(glob.glob('crates/*/src/**/*.rt', recursive=True)):
     crate, place = re.match(r'crates/(\w+)/src/(.*)\.rt$', path).groups()
     text = read(path)
@@ -130,7 +131,10 @@ for path in sorted(glob.glob('crates/*/src/**/*.rt', recursive=True)):
                 for node in reached(set().union(*ensures.values())):
                     if node[1].startswith('specs/Private'):
                         wrong.append('%s: the public contract of %s reaches %s of %s' % (path, fn.group(2), node[2], node[1]))
-            functions['::'.join([crate] + module + (holder if fn.group(1) else []) + [fn.group(2)])] = ensures
+            whole = '::'.join([crate] + module + (holder if fn.group(1) else []) + [fn.group(2)])
+            functions[whole] = ensures
+            if re.match(r' *pub (?:extern "C" )?fn', part) or glob.glob('crates/%s/src/main.rt' % crate):
+                public.add(whole)
 
 
 def called(name, before):
@@ -209,6 +213,8 @@ def check_group(line, names, places, carrier):
             before = called(name, before)
             if before:
                 calls.append([before, None])
+                if before not in public:
+                    complain(line, '%s is not public' % before)
             else:
                 complain(line, '%s is no function, or one of several' % name)
         else:
@@ -258,6 +264,8 @@ for number, line in enumerate(read(PAGE).split('\n'), 1):
             continue
         row = cells(line)
         check_row(number, whole.group(1) + ' ' + row[1].replace(';', ','), whole.group(2), whole.group(3))
+    else:
+        complain(number, 'the table has another head than the others')
 
 for text in wrong:
     print(text)

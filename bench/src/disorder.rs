@@ -29,21 +29,41 @@ fn by_library(file: &[u8]) -> Total {
 
 // The reference.
 
-/// How many pairs of first arrivals came in the wrong order: of each, how many earlier ones have a greater number. The numbers
-/// so far stand in rising order.
+/// How many pairs of first arrivals came in the wrong order: of each, how many earlier ones have a greater number. A tree of
+/// sums counts those below; a number above all before it needs no sum.
 fn by_reference(file: &[u8]) -> Total {
     let sample = match check(file) {
         Ok(sample) => sample,
         Err(refusal) => return Total { refusal, total: 0 },
     };
-    let mut rising: Vec<u32> = Vec::new();
+    let sent = sample.sizes.len();
+    let mut tree = [0u16; 4097];
+    let mut seen = [false; 4097];
+    let mut greatest = 0;
+    let mut count = 0;
     let mut total = 0;
     for arrival in sample.arrivals {
-        let (number, _) = number_and_time(arrival);
-        if let Err(place) = rising.binary_search(&number) {
-            total += (rising.len() - place) as u32;
-            rising.insert(place, number);
+        let number = number_and_time(arrival).0 as usize;
+        if std::mem::replace(&mut seen[number], true) {
+            continue;
         }
+        if greatest < number {
+            greatest = number;
+        } else {
+            let mut lower = 0;
+            let mut at = number;
+            while at != 0 {
+                lower += u32::from(tree[at]);
+                at &= at - 1;
+            }
+            total += count - lower;
+        }
+        let mut at = number;
+        while at <= sent {
+            tree[at] += 1;
+            at += at & at.wrapping_neg();
+        }
+        count += 1;
     }
     Total { refusal: 0, total }
 }

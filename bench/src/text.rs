@@ -348,7 +348,7 @@ fn one(random: &mut Random, log: &[u8], sent: u32, seen: &mut Seen) -> Result<()
         return Err(format!("import\n left {a:?} {left:?}\nright {b:?} {right:?}\n"));
     }
     let (line, found) = (refused_line_by_library(log, sent), refused_line(log, sent));
-    seen.call("refused_line", 0);
+    seen.call("import line", 0);
     if line != found {
         return Err(format!("refused line\n left {line}\nright {found}\n"));
     }

@@ -12,14 +12,14 @@ use Rattle.checker.specs.declared.SampleVerdict.{SampleVerdict}
 
 -- the first wrong line of those given, against those that must be given, where the first has the number n: one that differs, is
 -- missing or is extra, at its place
-unfoldable pub verdictOnLines : ℕ → List (List ℕ) → List (List ℕ) → Verdict
+unfoldable pub verdictOnLines : (n : ℕ) (expected given : List (List ℕ)) → Verdict
 verdictOnLines n [] [] = Verdict.Agrees
 verdictOnLines n [] (l ∷ ls) = Verdict.WrongLine n
 verdictOnLines n (e ∷ es) [] = Verdict.WrongLine n
 verdictOnLines n (e ∷ es) (l ∷ ls) = cond (sameText e l) (verdictOnLines (n + 1) es ls) (Verdict.WrongLine n)
 
 -- a listing against the text that must be given
-unfoldable pub verdictOn : List ℕ → List ℕ → Verdict
+unfoldable pub verdictOn : (expected listing : List ℕ) → Verdict
 verdictOn expected listing = verdictOnLines 1 (lines expected) (lines listing)
 
 -- the checker's answer: the sample's refusal, with which the listing is not looked at, and the verdict, line 0 with a refusal

@@ -2,7 +2,7 @@
 -- above make up all (`lower-sum`). One more is in a wrong pair with each above it, and counts at its number (`paired-more`); whether an
 -- arrival is a first one the table of packets tells (`firsts-seen`). And with sizes of 1 the total is the sum of byte offsets
 -- (`sums-offsets`), since each arrival's packet has one of the sizes.
--- Here fs are the first arrivals, a the next one, p how many there are and how many of their pairs are wrong, d the decoded file, y its
+-- Here fs are the first arrivals, a the next one, p their number, how many of their pairs are wrong and a number that none is above, d the decoded file, y its
 -- layout, i the records before, n the number of record i + 1, and a prime marks the tree after it. Assumes nothing.
 use mathlib.Core.Path.{_≡_, refl, sym, ap, _∙_}
 use mathlib.Core.Bool.{Bool, true, false, cond}
@@ -11,7 +11,7 @@ use Prim.Native.Nat.{ℕ, _+_, _-_, _≤_, _<_}
 use native.Mathlib.Omega.{arith}
 use lib.ListN.{length, getD, set, replicate, getD-replicate, length-append}
 use lib.Seq.{take-all}
-use borrow.Author.Tests.{lt-ltb}
+use borrow.Author.Tests.{lt-ltb, le-ltb}
 use Rattle.rfc4737.specs.declared.Arrival.{Arrival}
 use Rattle.rfc4737.specs.Arrivals.{firsts, withArrival, count}
 use Rattle.rfc4737.specs.Judge.{sentMost, arrivalsMost}
@@ -57,9 +57,9 @@ sums-offsets d y h ones = sum-wrong (sizeOf d) (sampleArrivals d) (sizes-one d y
 -- ---- the pairs, one first arrival after the other
 
 -- of none
-pub paired-start : (d : Decoded) → PairTree (firsts (before d 0)) (replicate (sentMost + 1) 0) (record { count = 0; wrong = 0 })
+pub paired-start : (d : Decoded) → PairTree (firsts (before d 0)) (replicate (sentMost + 1) 0) (record { count = 0; wrong = 0; greatest = 0 })
 unfolding firsts wrongPairs pairs count byteOffset
-paired-start d = record { places = refl; summed = summed-none _ (sentMost + 1) (λ i. refl); count = refl; whole = refl; wrong = refl; small = omega arith }
+paired-start d = record { places = refl; summed = summed-none _ (sentMost + 1) (λ i. refl); count = refl; whole = refl; wrong = refl; small = omega arith; above = λ s h. refl }
 
 -- the sums are small
 ones-few : (fs : List Arrival) (s : ℕ) → byteOffset (λ _. 1) fs s ≤ length fs
@@ -71,11 +71,11 @@ pub lower-sum : (fs : List Arrival) (tree : List ℕ) (p : Pairs) → PairTree f
 lower-sum fs tree p k few number high =
     sum-summed _ tree (k .summed) number (omega (arith, k .places)) (omega (arith, k .whole)) ∙ sym (k .whole)
 
--- of one more
-pub paired-more : (fs : List Arrival) (a : Arrival) (tree tree′ : List ℕ) (p : Pairs) → 1 ≤ a .number → a .number ≤ sentMost → p .count < arrivalsMost → PairTree fs tree p
-    → Added (a .number) 1 tree tree′
-    → PairTree (fs ++ (a ∷ [])) tree′ (record { count = p .count + 1; wrong = p .wrong + (p .count - sumTo tree (a .number)) })
-paired-more fs a tree tree′ p low high few h added =
+-- of one more: w are the wrong pairs then, and g a number that none is above
+pub paired-more : (fs : List Arrival) (a : Arrival) (tree tree′ : List ℕ) (p : Pairs) → 1 ≤ a .number → p .count < arrivalsMost → PairTree fs tree p
+    → Added (a .number) 1 tree tree′ → (w g : ℕ) → w ≡ p .wrong + byteOffset (λ _. 1) fs (a .number) → p .greatest ≤ g → a .number ≤ g
+    → PairTree (fs ++ (a ∷ [])) tree′ (record { count = p .count + 1; wrong = w; greatest = g })
+paired-more fs a tree tree′ p low few h added w g is up own =
     let more = length-append fs (a ∷ []) in
     record {
       places = added .places ∙ h .places;
@@ -84,8 +84,9 @@ paired-more fs a tree tree′ p low high few h added =
           (λ i. omega (arith, ones-few (fs ++ (a ∷ [])) i, h .count, more));
       count = omega (arith, h .count, more);
       whole = sym (offset-more (λ _. 1) fs 0 a ∙ rw (lt-ltb 0 (a .number) low, ← h .whole));
-      wrong = omega (arith, wrong-more fs a, h .wrong, lower-sum fs tree p h few (a .number) high);
-      small = omega (arith, h .small);
+      wrong = omega (arith, wrong-more fs a, h .wrong, is);
+      small = omega (arith, h .small, is, ones-few fs (a .number), h .count, few);
+      above = λ s k. offset-more (λ _. 1) fs s a ∙ rw (le-ltb s (a .number) (omega (arith, own, k)), h .above s (omega (arith, up, k)));
     }
 
 -- the table of the packets that have arrived before record i + 1

@@ -39,7 +39,7 @@ pub data Exchange : List Arrival → List Arrival → Type 0 where
   here : {a b : Arrival} {l : List Arrival} → Exchange (a ∷ b ∷ l) (b ∷ a ∷ l)
   after : {a : Arrival} {l m : List Arrival} → Exchange l m → Exchange (a ∷ l) (a ∷ m)
 
--- the last list comes of the first by so many exchanges of neighbours, whichever they are
+-- the last list comes of the first by this number of exchanges of neighbours, whichever they are
 pub data Exchanges : ℕ → List Arrival → List Arrival → Type 0 where
   none : {l : List Arrival} → Exchanges 0 l l
   one : {n : ℕ} {k l m : List Arrival} → Exchange k l → Exchanges n l m → Exchanges (suc n) k m

@@ -18,6 +18,7 @@ pub record PairTree (fs : List Arrival) (tree : List ℕ) (p : Pairs) : Type 0 w
   pub whole : p .count ≡ byteOffset (λ _. 1) fs 0
   pub wrong : p .wrong ≡ wrongPairs fs
   pub small : p .wrong ≤ arrivalsMost * p .count
+  pub above : (s : ℕ) → p .greatest ≤ s → byteOffset (λ _. 1) fs s ≡ 0
 
 -- of fewer than 4,096
 pub record FewPairs (tree : List ℕ) (p : Pairs) : Type 0 where

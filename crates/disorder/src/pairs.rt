@@ -15,20 +15,26 @@ use sample::Layout;
 // The places: the packet numbers, and 0, which is not used.
 const PLACES: usize = SENT_MOST as usize + 1;
 
-// How many first arrivals there are, and how many pairs of them came in the wrong order.
+// How many first arrivals there are, how many pairs of them came in the wrong order, and their greatest number.
 pub(crate) struct Pairs {
     pub count: u32,
     pub wrong: u32,
+    pub greatest: u32,
 }
 
 // Of no arrivals.
 fn no_pairs() -> Pairs
-    ensures { λ r. ⌜ r ≡ record { count = 0; wrong = 0 } ⌝ }
+    ensures { λ r. ⌜ r ≡ record { count = 0; wrong = 0; greatest = 0 } ⌝ }
 {
-    Pairs { count: 0, wrong: 0 }
+    Pairs {
+        count: 0,
+        wrong: 0,
+        greatest: 0,
+    }
 }
 
-// Of one arrival more, whose packet has arrived or not: it is in a wrong pair with each greater number.
+// Of one arrival more, whose packet has arrived or not: it is in a wrong pair with each greater number. The tree is not asked
+// for a number above all before it.
 fn pairs_after(counts: &mut [u32], arrived: bool, number: u32, p: Pairs) -> Pairs
     requires { ⌜ (1 ≤ number) × (number ≤ sentMost) × FewPairs (now counts) p ⌝ }
     ensures { λ r. ⌜ ((fs : List Arrival) (a : Arrival) → a .number ≡ number → PairTree fs (now (counts .entry)) p
@@ -37,11 +43,20 @@ fn pairs_after(counts: &mut [u32], arrived: bool, number: u32, p: Pairs) -> Pair
     if arrived {
         return p;
     }
+    if p.greatest < number {
+        sums::add(counts, number, 1);
+        return Pairs {
+            count: p.count + 1,
+            wrong: p.wrong,
+            greatest: number,
+        };
+    }
     let lower = sums::sum_to(counts, number);
     sums::add(counts, number, 1);
     Pairs {
         count: p.count + 1,
         wrong: p.wrong + (p.count - lower),
+        greatest: p.greatest,
     }
 }
 

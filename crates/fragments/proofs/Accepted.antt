@@ -13,7 +13,8 @@ use Rattle.octets.specs.Memory.{over}
 use Rattle.rfc4737.specs.Refusals.{inCase, sentOutside, manyArrivals, listsDiffer, outputShort}
 use Rattle.rfc4737.specs.Judge.{judgeSent, judgeArrivals, sentMost, arrivalsMost}
 use Rattle.sample.specs.Output.{ifNone}
-use Rattle.rfc4737.proofs.Due.{each-none, case-none, limit-none, neither}
+use Rattle.rfc4737.proofs.Due.{each-none, case-none, limit-none}
+use Rattle.rfc4737.proofs.Tests.{neither}
 use Rattle.fragments.specs.Pieces.{piecesOf}
 use Rattle.fragments.specs.Judge.{judgePieces}
 use Rattle.fragments.specs.Calls.{sameLengths, orderRefusal}

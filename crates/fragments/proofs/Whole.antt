@@ -25,7 +25,7 @@ use Rattle.fragments.specs.declared.Expected.{Expected}
 use Rattle.fragments.specs.Pieces.{arrivalOf, some, isLast, isWhole, copies, isCopy, firstAfter, noCopies}
 use Rattle.fragments.specs.Order.{atStart, isReorderedFragment, inOrderAfter, expectedAfter, expected, flagAfter, flags}
 use Rattle.fragments.specs.Whole.{orderFlag, WholeFlags}
-use Rattle.rfc4737.proofs.Due.{neither}
+use Rattle.rfc4737.proofs.Tests.{neither}
 use Rattle.fragments.proofs.Laws.{both, some-more}
 
 -- some arrival is a fragment

@@ -23,7 +23,7 @@ use Rattle.sample.specs.Output.{Output, ifNone}
 use Rattle.sample.proofs.Output.{output-refused}
 use Rattle.sample.specs.declared.WriteAnswer.{WriteAnswer}
 use Rattle.textlog.specs.Decode.{logArrivals, judgeLog}
-use Rattle.textlog.specs.Calls.{arrivalsUnless, LogImportedFrom}
+use Rattle.textlog.specs.Calls.{LogImportedFrom}
 use Rattle.textlog.specs.RoundTrip.{sampleWith}
 use Rattle.textlog.specs.declared.LogImport.{LogImport}
 use Rattle.textlog.proofs.Accepted.{accepted-log, accepted-lists}
@@ -53,15 +53,15 @@ module _ (k : ℕ) (log numbers times : List ℕ) (y : LogImport) (numbers′ ti
   pub log-holds : y .refusal ≡ 0 → Holds k (y .arrivals) numbers′ times′ (logArrivals log)
   log-holds z =
       let none : judgeLog k log .refusal ≡ 0 = sym log-refusal ∙ z in
-      let many : y .arrivals ≡ length (logArrivals log) = f .arrivals ∙ ap (λ (r : ℕ). length (arrivalsUnless r (logArrivals log))) z in
+      let many : y .arrivals ≡ length (logArrivals log) = f .arrivals ∙ ap (λ (r : ℕ). ifNone r (length (logArrivals log)) 0) z in
       record {
         sent = accepted-log k log none .most;
         inNumbers =
             over-first (numbersOf (logArrivals log)) numbers (many ∙ sym (length-map (logArrivals log) _))
-            (f .filledNumbers ∙ ap (λ (r : ℕ). over (numbersOf (arrivalsUnless r (logArrivals log))) numbers) z);
+            (f .filledNumbers ∙ ap (λ (r : ℕ). ifNone r (over (numbersOf (logArrivals log)) numbers) numbers) z);
         inTimes =
             over-first (timesOf (logArrivals log)) times (many ∙ sym (length-map (logArrivals log) _))
-            (f .filledTimes ∙ ap (λ (r : ℕ). over (timesOf (arrivalsUnless r (logArrivals log))) times) z);
+            (f .filledTimes ∙ ap (λ (r : ℕ). ifNone r (over (timesOf (logArrivals log)) times) times) z);
         judged = accepted-lists k log none;
       }
 

@@ -24,7 +24,7 @@ use Rattle.rfc4737.specs.Extent.{discontinuity}
 use Rattle.rfc4737.specs.Answer.{inOrderAnswer, reorderedAnswer, firstAnswer, answerTo}
 use Rattle.rfc4737.specs.Runs.{runsAfter, counts}
 use Rattle.rfc4737.proofs.Lists.{snoc-ind}
-use Rattle.rfc4737.proofs.Arrivals.{has-more, firsts-more, with-duplicate, with-first}
+use Rattle.rfc4737.proofs.Arrivals.{has-more, firsts-more, has-firsts, with-duplicate, with-first}
 use Rattle.rfc4737.proofs.Folds.{next-more}
 use Rattle.rfc4737.proofs.Jumps.{nextAfter-above}
 use Rattle.rfc4737.specs.Judge.{sentMost}
@@ -68,7 +68,15 @@ has-below s fs = snoc-ind (λ (fs : List Arrival). has s fs ≡ true → s < nex
         go false q true r w = omega (arith, eqb-true (a .number) s r, b)
         go false q false r w = absurd (true≢false (sym w))
 
--- so NextExp goes by every arrival alike: a copy leaves it
+-- so the table has no packet from NextExp on
+pub unseen : (l : List Arrival) (seen : List Bool) (next : ℕ) → SeenPackets l seen next → (n : ℕ) → n ≤ sentMost → next ≤ n → getD seen n false ≡ false
+unseen l seen next f n high h = f .at n high ∙ go (has n l) refl
+  where
+    go : (t : Bool) → has n l ≡ t → t ≡ false
+    go true e = absurd (omega (arith, h, f .expected, has-below n (firsts l) (has-firsts n l ∙ e)))
+    go false e = refl
+
+-- and NextExp goes by every arrival alike: a copy leaves it
 pub next-arrival : (l : List Arrival) (a : Arrival) → nextExp (firsts (l ++ (a ∷ []))) ≡ nextAfter (nextExp (firsts l)) (a .number)
 unfolding nextAfter
 next-arrival l a = go (has (a .number) (firsts l)) refl

@@ -39,9 +39,8 @@ use Rattle.sample.specs.declared.Layout.{Layout}
 use Rattle.sample.proofs.Accepted.{size-fits, time-fits, times-within}
 use Rattle.metrics.specs.Sample.{sizeOf, sampleArrivals, answersOf}
 use Rattle.sample.specs.Places.{noArrival}
-use Rattle.metrics.specs.Private.Sample.{FileLayout}
+use Rattle.metrics.specs.Records.{FileLayout, arrivalAt, before, answerAt, HasRecord}
 use Rattle.metrics.specs.Figures.{atRecord, recordRefusal, recordAnswer}
-use Rattle.metrics.specs.Records.{arrivalAt, before, answerAt, HasRecord}
 use Rattle.metrics.proofs.Records.{record-some}
 use Rattle.metrics.proofs.TablesFollow.{inside-laid, before-length, arrivals-laid}
 use Rattle.metrics.proofs.RecordsAsked.{answer-refused, record-inside, answer-known}

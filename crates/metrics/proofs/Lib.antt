@@ -10,9 +10,11 @@ pub mod Links
 pub mod NotingArrivals
 pub mod Pairs
 pub mod EngineState
+pub mod Accommodation
 pub mod Shares
 pub mod Discovered
 pub mod RecordsAsked
+pub mod RowLaws
 pub mod DigitBounds
 pub mod Listed
 pub mod Common

@@ -26,8 +26,10 @@ use Rattle.sample.specs.Format.{Sample}
 use Rattle.sample.specs.Decode.{Decoded, accepted}
 use Rattle.sample.specs.Moved.{movedSample}
 use Rattle.sample.proofs.Moved.{moved-accepted, sample-twice}
+use Rattle.rfc4737.specs.Needs as need
+use Rattle.rfc4737.specs.declared.Measure.{Measure}
 use Rattle.metrics.specs.Sample.{answersOf}
-use Rattle.metrics.specs.Figures.{atRecord, recordAnswer, recordGap, sampleCounts, sampleTally, degreeCounts, sampleDegree, sampleRatios, degreeMost}
+use Rattle.metrics.specs.Figures.{atRecord, recordAnswer, recordGap, sampleCounts, sampleTally, degreeCounts, sampleDegree, sampleRatios, sampleAccommodated, sampleNeeds, degreeMost}
 use Rattle.metrics.specs.Report.{sampleText}
 use Rattle.metrics.specs.Moved.{SameFigures, ClockMoved}
 
@@ -68,7 +70,7 @@ module _ (c : ℕ) where
 
     -- every call
     pub figures-same : SameFigures there here
-    unfolding recordAnswer recordGap sampleCounts sampleTally degreeCounts sampleDegree sampleRatios
+    unfolding recordAnswer recordGap sampleCounts sampleTally degreeCounts sampleDegree sampleRatios sampleAccommodated sampleNeeds
     figures-same =
         let a = answers-same in
         let n = records-same in
@@ -99,6 +101,14 @@ module _ (c : ℕ) where
                 ratio = ratio.degree m (cond (outside 1 degreeMost m) [] (a i));
               };
           ratios = λ i. record { refusal = 0; ratios = ratio.ratios (a i) };
+          buffers = λ m size i. record { refusal = 0; accommodated = need.accommodated m size (a i); arrived = run.arrived (a i) };
+          needs = λ i.
+              record {
+                refusal = 0;
+                packets = need.greatestNeed Measure.Packets (a i);
+                octets = need.greatestNeed Measure.Octets (a i);
+                time = need.greatestNeed Measure.Time (a i);
+              };
         }
 
 -- as `listing` carries it, of a file of octets

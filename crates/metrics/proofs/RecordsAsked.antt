@@ -90,7 +90,7 @@ module _ {A : Type 0} (other : A) (l : List A) where
       over false e = absurd (h (omega arith) (omega (arith, leb-false (length l) i e)))
 
   -- at a record stands its element
-  at-inside : (asked : ℕ) → 1 ≤ asked → atRecord other l asked ≡ getD l (asked - 1) other
+  pub at-inside : (asked : ℕ) → 1 ≤ asked → atRecord other l asked ≡ getD l (asked - 1) other
   unfolding atRecord
   at-inside zero h = absurd (omega arith)
   at-inside (suc i) h = let e : suc i - 1 ≡ i = omega arith in rw e

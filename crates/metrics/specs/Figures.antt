@@ -7,11 +7,13 @@ use mathlib.Core.List.{List, [], _∷_}
 use lib.ListN.{length, getD}
 use Rattle.rfc4737.specs.declared.Answer.{Answer}
 use Rattle.rfc4737.specs.declared.Gap.{Gap}
+use Rattle.rfc4737.specs.declared.Measure.{Measure}
 use Rattle.rfc4737.specs.Refusals.{outside, inCase, firstOf, askedOutside}
 use Rattle.rfc4737.specs.Runs.{arrived, counts}
 use Rattle.rfc4737.specs.Tally.{tally}
 use Rattle.rfc4737.specs.Gaps.{gaps}
 use Rattle.rfc4737.specs.Ratios.{nReordered, degree, ratios}
+use Rattle.rfc4737.specs.Needs.{greatestNeed, accommodated}
 use Rattle.sample.specs.Decode.{Decoded, decodedRefusal}
 use Rattle.metrics.specs.Sample.{sampleArrivals, answersOf}
 use Rattle.metrics.specs.declared.RecordAnswer.{RecordAnswer}
@@ -21,6 +23,8 @@ use Rattle.metrics.specs.declared.SampleTally.{SampleTally}
 use Rattle.metrics.specs.declared.DegreeCounts.{DegreeCounts}
 use Rattle.metrics.specs.declared.SampleDegree.{SampleDegree}
 use Rattle.metrics.specs.declared.SampleRatios.{SampleRatios}
+use Rattle.metrics.specs.declared.SampleAccommodated.{SampleAccommodated}
+use Rattle.metrics.specs.declared.SampleNeeds.{SampleNeeds}
 
 -- ---- what is asked for
 
@@ -31,11 +35,11 @@ module _ {ℓ} {A : Type ℓ} where
   atRecord other l (suc i) = getD l i other
 
 -- the refusal of a call that asks for a number from low to high: the file's own, then 9
-abbrev pub askedRefusal : Decoded → ℕ → ℕ → ℕ → ℕ
+abbrev pub askedRefusal : (d : Decoded) (low high asked : ℕ) → ℕ
 askedRefusal d low high asked = firstOf (decodedRefusal d ∷ inCase (outside low high asked) askedOutside ∷ [])
 
 -- the refusal of a call that asks for a record: 1 to A
-abbrev pub recordRefusal : Decoded → ℕ → ℕ
+abbrev pub recordRefusal : (d : Decoded) (asked : ℕ) → ℕ
 recordRefusal d asked = askedRefusal d 1 (length (sampleArrivals d)) asked
 
 -- the greatest n of a degree
@@ -43,7 +47,7 @@ abbrev pub degreeMost : ℕ
 degreeMost = 100
 
 -- the answers over which n is asked for: none where it is outside 1 to 100
-abbrev pub degreeAnswers : Decoded → ℕ → List Answer
+abbrev pub degreeAnswers : (d : Decoded) (n : ℕ) → List Answer
 degreeAnswers d n = cond (outside 1 degreeMost n) [] (answersOf d)
 
 -- ---- the calls
@@ -84,3 +88,18 @@ sampleDegree d n = record { refusal = askedRefusal d 1 degreeMost n; ratio = deg
 -- the ratio figures of a sample
 unfoldable pub sampleRatios : Decoded → SampleRatios
 sampleRatios d = record { refusal = decodedRefusal d; ratios = ratios (answersOf d) }
+
+-- how many first arrivals of a sample a buffer of this size accommodates, and L
+unfoldable pub sampleAccommodated : Decoded → Measure → ℕ → SampleAccommodated
+sampleAccommodated d m size =
+    record { refusal = decodedRefusal d; accommodated = accommodated m size (answersOf d); arrived = arrived (answersOf d) }
+
+-- the greatest needs of a sample
+unfoldable pub sampleNeeds : Decoded → SampleNeeds
+sampleNeeds d =
+    record {
+      refusal = decodedRefusal d;
+      packets = greatestNeed Measure.Packets (answersOf d);
+      octets = greatestNeed Measure.Octets (answersOf d);
+      time = greatestNeed Measure.Time (answersOf d);
+    }

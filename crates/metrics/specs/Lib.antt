@@ -2,6 +2,7 @@
 pub mod Sample
 pub mod Records
 pub mod Figures
+pub mod Rows
 pub mod Report
 pub mod Agreement
 pub mod Moved

@@ -4,11 +4,12 @@ use Prim.Native.Nat.{ℕ, _^_}
 use mathlib.Core.List.{List}
 use mathlib.Core.Path.{_≡_}
 use Rattle.octets.specs.Below.{Below}
+use Rattle.rfc4737.specs.declared.Measure.{Measure}
 use Rattle.rfc4737.specs.Judge.{timesOf}
 use Rattle.sample.specs.Format.{Sample, fileOf}
 use Rattle.sample.specs.Decode.{Decoded, decode, accepted, decodedRefusal}
 use Rattle.sample.specs.Moved.{movedSample, MovedAccepted, SampleMovedTwice}
-use Rattle.metrics.specs.Figures.{recordAnswer, recordGap, sampleCounts, sampleTally, degreeCounts, sampleDegree, sampleRatios}
+use Rattle.metrics.specs.Figures.{recordAnswer, recordGap, sampleCounts, sampleTally, degreeCounts, sampleDegree, sampleRatios, sampleAccommodated, sampleNeeds}
 use Rattle.metrics.specs.Report.{sampleText}
 
 -- every call answers of one decoded file as of another
@@ -27,6 +28,9 @@ pub record SameFigures (d e : Decoded) : Type 0 where
   pub degree : (n : ℕ) → sampleDegree d n ≡ sampleDegree e n
   -- `ratios`
   pub ratios : sampleRatios d ≡ sampleRatios e
+  -- `accommodated`, of any buffer, and `greatest_needs`
+  pub buffers : (m : Measure) (size : ℕ) → sampleAccommodated d m size ≡ sampleAccommodated e m size
+  pub needs : sampleNeeds d ≡ sampleNeeds e
 
 -- the claim, of a file
 pub record ClockMoved (file : List ℕ) : Type 0 where

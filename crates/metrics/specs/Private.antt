@@ -3,3 +3,5 @@ pub mod Tables
 pub mod Steps
 pub mod Engine
 pub mod Taken
+pub mod Needs
+pub mod Rows

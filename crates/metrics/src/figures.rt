@@ -1,5 +1,6 @@
 // The figures of a whole sample, each in one pass over the arrivals.
 ghost use mathlib.Core.Path.{_≡_};
+ghost use mathlib.Core.Bool.{false};
 ghost use mathlib.Core.List.{List, [], _∷_, _++_};
 ghost use Prim.Native.Nat.{ℕ, _+_, _≤_, _<_};
 ghost use lib.ListN.{length, getD};
@@ -85,17 +86,18 @@ pub(crate) fn counts_after(c: Counts, class: Class) -> Counts
     }
 }
 
-// The class of an arrival of this number, without its figures, by the packets that have arrived and NextExp.
+// The class of an arrival of this number, without its figures, by the packets that have arrived and NextExp. A packet that has
+// arrived is below NextExp, so the table is asked for those below alone.
 fn kind_of(seen: &[bool; PLACES], next: u32, number: u32) -> Class
-    requires { ⌜ number ≤ sentMost ⌝ }
+    requires { ⌜ (number ≤ sentMost) × (next ≤ number → getD (now seen) number false ≡ false) ⌝ }
     ensures { λ r. ⌜ r ≡ kindBy (now (seen .entry)) next number ⌝ }
 {
+    if next <= number {
+        return Class::InOrder(0);
+    }
     let at = number as usize;
     if seen[at] {
         return Class::Duplicate(0);
-    }
-    if next <= number {
-        return Class::InOrder(0);
     }
     Class::Reordered(0)
 }

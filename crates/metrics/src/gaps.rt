@@ -9,9 +9,9 @@ ghost use Rattle.rfc4737.specs.Gaps.{positionOf, gapOf};
 ghost use Rattle.rfc4737.specs.Judge.{sentMost};
 ghost use Rattle.sample.specs.Decode.{decode};
 ghost use Rattle.metrics.specs.Sample.{answersOf};
-ghost use Rattle.metrics.specs.Records.{FileLayout, answerAt, numberPlaces};
+ghost use Rattle.metrics.specs.Records.{FileLayout, before, answerAt, answersTo, numberPlaces};
 ghost use Rattle.metrics.specs.Figures.{recordGap};
-ghost use Rattle.metrics.specs.Private.Tables.{ClassOf, IfLate};
+ghost use Rattle.metrics.specs.Private.Tables.{EngineTables, ClassOf, IfLate};
 ghost use Rattle.metrics.specs.Private.Steps.{known, DiscoverersAt, lastTo};
 use crate::RecordGap;
 use crate::answers::asked_refusal;
@@ -20,6 +20,7 @@ use crate::classes::class_of;
 use crate::input;
 use crate::tables::FIRSTS;
 use crate::tables::PLACES;
+use crate::tables::State;
 use crate::tables::note;
 use crate::tables::start_state;
 use rfc4737::Gap;
@@ -56,8 +57,38 @@ fn position_of(count: u32, class: Class) -> u32
     }
 }
 
+// Notes at the discontinuities of the records after `from`, up to `to`, the position of its discoverer.
+fn note_to(
+    file: &[u8],
+    y: Layout,
+    from: u32,
+    to: u32,
+    numbers: &mut [u16; FIRSTS],
+    records: &mut [u16; PLACES],
+    skipped: &mut [u16; PLACES],
+    found: &mut [u16; PLACES],
+    start: State,
+) -> State
+    requires { ⌜ FileLayout (decode (now file)) y × (from ≤ to) × (to ≤ y .arrivals)
+        × EngineTables (before (decode (now file)) from) (now numbers) (now records) (now skipped) start
+        × DiscoverersAt (answersTo (decode (now file)) from) (now found) ⌝ }
+    ensures { λ r. ⌜ EngineTables (before (decode (now (file .entry))) to) (now (numbers .exit)) (now (records .exit)) (now (skipped .exit)) r
+        × DiscoverersAt (answersTo (decode (now (file .entry))) to) (now (found .exit)) ⌝ }
+{
+    let mut state = start;
+    let mut i = from;
+    while i < to {
+        let number = input::number_of(file, y, i);
+        let class = class_of(records, skipped, state.next, number);
+        note_discoverer(found, state.count, class);
+        state = note(numbers, records, skipped, i, number, 0, state);
+        i += 1;
+    }
+    state
+}
+
 // Notes at every discontinuity of a sample the position of its discoverer, and answers the position of the record
-// asked for, 0 for a duplicate.
+// asked for, 0 for a duplicate. It stops before that record, so that no other has to be asked whether it is the one.
 fn note_discoverers(file: &[u8], y: Layout, asked: u32, found: &mut [u16; PLACES]) -> u32
     requires { ⌜ FileLayout (decode (now file)) y × (1 ≤ asked) × (asked ≤ y .arrivals) × (now found ≡ replicate numberPlaces 0) ⌝ }
     ensures { λ r. ⌜ (known r ≡ positionOf (answerAt (decode (now (file .entry))) (asked - 1)))
@@ -66,28 +97,32 @@ fn note_discoverers(file: &[u8], y: Layout, asked: u32, found: &mut [u16; PLACES
     let mut numbers = [0u16; FIRSTS];
     let mut records = [0u16; PLACES];
     let mut skipped = [0u16; PLACES];
-    let mut state = start_state();
-    let mut position: u32 = 0;
-    let mut i: u32 = 0;
-    while i < y.arrivals {
-        let number = input::number_of(file, y, i);
-        let class = class_of(&records, &skipped, state.next, number);
-        if i + 1 == asked {
-            position = position_of(state.count, class);
-        }
-        note_discoverer(found, state.count, class);
-        state = note(
-            &mut numbers,
-            &mut records,
-            &mut skipped,
-            i,
-            number,
-            0,
-            state,
-        );
-        i += 1;
-    }
-    position
+    let i = asked - 1;
+    let state = note_to(
+        file,
+        y,
+        0,
+        i,
+        &mut numbers,
+        &mut records,
+        &mut skipped,
+        found,
+        start_state(),
+    );
+    let number = input::number_of(file, y, i);
+    let class = class_of(&records, &skipped, state.next, number);
+    note_to(
+        file,
+        y,
+        i,
+        y.arrivals,
+        &mut numbers,
+        &mut records,
+        &mut skipped,
+        found,
+        state,
+    );
+    position_of(state.count, class)
 }
 
 // The last discontinuity at a position from 1 to p, 0 if there is none.

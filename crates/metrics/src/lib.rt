@@ -9,7 +9,8 @@ ghost use lib.ListN.{length};
 ghost use Rattle.rfc4737.specs.Cases.{CasesHold};
 ghost use Rattle.rfc4737.specs.Reordered.{ReorderedHaveDiscontinuity, OffsetsBounded, FiguresBounded};
 ghost use Rattle.sample.specs.Decode.{decode};
-ghost use Rattle.metrics.specs.Figures.{recordAnswer, recordGap, sampleCounts, sampleTally, degreeCounts, sampleDegree, sampleRatios};
+ghost use Rattle.metrics.specs.Figures.{recordAnswer, recordGap, sampleCounts, sampleTally, degreeCounts, sampleDegree, sampleRatios, sampleAccommodated, sampleNeeds};
+ghost use Rattle.metrics.specs.Rows.{RowsTo, RowsTell};
 ghost use Rattle.listing.specs.Example.{ExampleHolds};
 ghost use Rattle.listing.specs.Room.{listingOctets};
 ghost use Rattle.metrics.specs.Report.{sampleText, ListedTo};
@@ -24,10 +25,12 @@ mod figures;
 mod gaps;
 mod input;
 mod lines;
+mod needs;
 mod parts;
 mod pass;
 mod quotients;
 mod report;
+mod rows;
 mod scan;
 mod tables;
 mod totals;
@@ -41,12 +44,19 @@ use figures::shares_of;
 use figures::tally_of;
 use gaps::gap_of;
 use input::layout;
+use needs::needs_of;
 use quotients::ratio_of;
 use quotients::ratios_of;
 use report::listing_refusal;
 use report::write_listing;
+use rfc4737::Measure;
 use rfc4737::refusal::NONE;
+use rfc4737::refusal::OUTPUT_SHORT;
+use rows::put_rows;
+use rows::rows_short;
+use sample::Layout;
 use sample::WriteAnswer;
+use sample::refused_layout;
 
 // The greatest extent that has a place of its own in a tally.
 const TALLY_MOST: u32 = 100;
@@ -101,6 +111,23 @@ pub struct SampleDegree {
 pub struct SampleRatios {
     pub refusal: u32,
     pub ratios: rfc4737::Ratios,
+}
+
+// How many first arrivals of a sample a receiver's buffer accommodates, how many there are, and the refusal (0 for none).
+#[repr(C)]
+pub struct SampleAccommodated {
+    pub refusal: u32,
+    pub accommodated: u32,
+    pub arrived: u32,
+}
+
+// The greatest extent, byte offset and late time of a sample, 0 where no packet is reordered, and the refusal (0 for none).
+#[repr(C)]
+pub struct SampleNeeds {
+    pub refusal: u32,
+    pub packets: u64,
+    pub octets: u64,
+    pub time: u64,
 }
 
 // How many octets of a text agree with the listing of a sample, from the start on; whether the text is that listing; and the
@@ -197,6 +224,51 @@ pub fn ratios(file: &[u8]) -> SampleRatios
         refusal: y.refusal,
         ratios: ratios_of(shares.reordered, shares.low, shares.high, shares.whole),
     }
+}
+
+// How many first arrivals a receiver's buffer of this size accommodates: one pass, as that of `listing`. A times the binary digits of
+// K, and K.
+pub fn accommodated(file: &[u8], measure: Measure, size: u64) -> SampleAccommodated
+    ensures { λ r. ⌜ r ≡ sampleAccommodated (decode (now (file .entry))) measure size ⌝ }
+{
+    let y = layout(file);
+    let held = needs_of(file, y, measure, size);
+    SampleAccommodated {
+        refusal: y.refusal,
+        accommodated: held.accommodated,
+        arrived: held.arrived,
+    }
+}
+
+// The greatest needs of a sample, at the same cost.
+pub fn greatest_needs(file: &[u8]) -> SampleNeeds
+    ensures { λ r. ⌜ r ≡ sampleNeeds (decode (now (file .entry))) ⌝ }
+{
+    let y = layout(file);
+    let held = needs_of(file, y, Measure::Time, 0);
+    SampleNeeds {
+        refusal: y.refusal,
+        packets: held.packets,
+        octets: held.octets,
+        time: held.time,
+    }
+}
+
+// Every figure of every record, in rows of eight numbers from the start of a lent list: one pass, as that of `listing`. With a refusal,
+// the file's own or 8, the list stays as it was.
+pub fn record_rows(file: &[u8], rows: &mut [u64]) -> Layout
+    ensures { λ r. ⌜ RowsTo (decode (now (file .entry))) (now (rows .entry)) r (now (rows .exit)) ⌝ }
+    ensures tell { λ _. ⌜ RowsTell ⌝ }
+{
+    let y = layout(file);
+    if y.refusal != NONE {
+        return y;
+    }
+    if rows_short(y.arrivals, rows.len()) {
+        return refused_layout(OUTPUT_SHORT);
+    }
+    put_rows(file, y, rows);
+    y
 }
 
 // The listing of a sample, at the start of lent memory that has room for it, as LISTING_OCTETS octets have for any:

@@ -47,11 +47,6 @@ pub case-none : (b : Bool) (r : ℕ) → 0 < r → inCase b r ≡ 0 → b ≡ fa
 case-none true r h e = absurd (omega arith)
 case-none false r h e = refl
 
--- two tests that are both false
-pub neither : (a b : Bool) → (a || b) ≡ false → (a ≡ false) × (b ≡ false)
-neither true b e = absurd (let z : _≡_ {A = ℕ} 0 1 = cc in omega arith)
-neither false b e = (refl, e)
-
 -- not outside: between the limits
 pub between : (least most n : ℕ) → outside least most n ≡ false → (least ≤ n) × (n ≤ most)
 unfolding outside

@@ -192,7 +192,8 @@ duplicate-or-first l =
     each-one (InOrder d) = refl
     each-one (Reordered d) = refl
 
-not-duplicate : (size : ℕ → ℕ) (fs : List Arrival) (a : Arrival) → not (isDuplicate (firstAnswer size fs a)) ≡ true
+-- a first arrival is no duplicate
+pub not-duplicate : (size : ℕ → ℕ) (fs : List Arrival) (a : Arrival) → not (isDuplicate (firstAnswer size fs a)) ≡ true
 unfolding firstAnswer inOrderAnswer reorderedAnswer
 not-duplicate size fs a = go (isInOrder fs (a .number))
   where

@@ -23,6 +23,8 @@ use Rattle.rfc4737.specs.Refusals.{outside, inCase, sentOutside, manyArr
 use Rattle.rfc4737.specs.Times.{backMost, tooEarly, nextReference}
 use Rattle.rfc4737.specs.Judge.{sentMost, arrivalsMost, arrivalsFrom, judgeSent, judgeArrivals, judgeOne, judge, refusalOfLists}
 use Rattle.rfc4737.proofs.Due.{first-none, each-none, first-stop, first-next, first-one, case-none, limit-none, not-outside}
+use Rattle.rfc4737.proofs.Lists.{All}
+use Rattle.rfc4737.proofs.Packets.{OfPackets}
 use Rattle.rfc4737.proofs.Times.{reference-above}
 use Rattle.rfc4737.proofs.Pairs.{arrivals-length, arrivals-getD}
 
@@ -162,3 +164,11 @@ pub fit-lists : (k : ℕ) (numbers times : List ℕ) → 1 ≤ k → k ≤ sentM
 unfolding refusalOfLists
 fit-lists k numbers times a b c s j =
     rw (not-outside 1 sentMost k a b, not-outside 0 arrivalsMost (length numbers) (omega arith) c, eq-eqb (length numbers) (length times) (sym s), j)
+
+-- every arrival is of one of the packets 1 to k
+pub judged-packets : (k reference : ℕ) (l : List Arrival) → judge k reference l ≡ 0 → All (OfPackets k) l
+judged-packets k reference [] e = tt
+judged-packets k reference (a ∷ l) e =
+    let p = judge-split k reference a l e in
+    let n = one-split k reference a (p .0) in
+    (record { low = n .0 .0; high = n .0 .1 }, judged-packets k (nextReference reference (a .time)) l (p .1))

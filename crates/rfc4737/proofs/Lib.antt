@@ -1,4 +1,5 @@
 -- Laws of the definitions of specs/, which the crates above cite. Assumes nothing.
+pub mod Tests
 pub mod Lists
 pub mod Arrivals
 pub mod Folds
@@ -7,6 +8,8 @@ pub mod Jumps
 pub mod Skipped
 pub mod Packets
 pub mod Reordered
+pub mod Offsets
+pub mod Needs
 pub mod Cases
 pub mod Due
 pub mod JudgedInTurn

@@ -37,6 +37,11 @@ module _ {ℓ} {A : Type ℓ} where
   all-weaken f [] h = tt
   all-weaken f (a ∷ l) h = (f a (h .0), all-weaken f l (h .1))
 
+  -- what holds of any element holds of every one of a list
+  pub all-every : (P : A → Type 0) → ((a : A) → P a) → (l : List A) → All P l
+  all-every P f [] = tt
+  all-every P f (a ∷ l) = (f a, all-every P f l)
+
   -- what holds of each element and what else holds hold together
   pub all-both : {P Q : A → Type 0} {R : A → Type 0} → ((a : A) → P a → Q a → R a) → (l : List A) → All P l → All Q l → All R l
   all-both f [] h g = tt

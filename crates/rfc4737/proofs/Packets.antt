@@ -15,7 +15,7 @@ use borrow.Author.Tests.{eqb-true, eqb-false, eq-eqb, ne-eqb}
 use Rattle.rfc4737.specs.declared.Arrival.{Arrival}
 use Rattle.rfc4737.specs.Arrivals.{has, withArrival, firsts}
 use Rattle.rfc4737.specs.Order.{nextAfter, nextExp}
-use Rattle.rfc4737.proofs.Lists.{snoc-ind, All, all-append, all-left, all-right}
+use Rattle.rfc4737.proofs.Lists.{snoc-ind, All, Ordered, all-weaken, all-append, all-left, all-right, ordered-more, ordered-left, ordered-across}
 use Rattle.rfc4737.proofs.Arrivals.{has-more, firsts-more, with-duplicate, with-first}
 use Rattle.rfc4737.proofs.Folds.{next-more}
 
@@ -44,6 +44,17 @@ all-firsts P = snoc-ind (λ (l : List Arrival). All P l → All P (firsts l)) mo
     more l a h g =
         let k = h (all-left P l (a ∷ []) g) in
         rw firsts-more (with-cases (All P) (firsts l) a k (λ n. all-append P (firsts l) (a ∷ []) k (all-right P l (a ∷ []) g)))
+
+-- the first arrivals are in an order in which the arrivals are
+pub ordered-firsts : (R : Arrival → Arrival → Type 0) (l : List Arrival) → Ordered R l → Ordered R (firsts l)
+unfolding firsts
+ordered-firsts R = snoc-ind (λ (l : List Arrival). Ordered R l → Ordered R (firsts l)) more (λ o. tt)
+  where
+    more : (l : List Arrival) (a : Arrival) → (Ordered R l → Ordered R (firsts l)) → Ordered R (l ++ (a ∷ [])) → Ordered R (firsts (l ++ (a ∷ [])))
+    more l a k o =
+        let h = k (ordered-left R l (a ∷ []) o) in
+        rw firsts-more (with-cases (Ordered R) (firsts l) a h (λ n. ordered-more R (firsts l) a h
+        (all-firsts (λ (b : Arrival). R b a) l (all-weaken {P = λ (b : Arrival). All (R b) (a ∷ [])} {Q = λ (b : Arrival). R b a} (λ b q. q .0) l (ordered-across R l (a ∷ []) o)))))
 
 -- NextExp is at most K + 1
 pub next-high : (k : ℕ) (fs : List Arrival) → All (OfPackets k) fs → nextExp fs ≤ k + 1

@@ -9,6 +9,7 @@ pub mod Gaps
 pub mod Runs
 pub mod Tally
 pub mod Ratios
+pub mod Needs
 pub mod Cases
 pub mod Refusals
 pub mod Judge

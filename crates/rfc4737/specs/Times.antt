@@ -1,7 +1,7 @@
 -- What is asked of arrival times, which may be equal and go back a little. Each rule stands behind one name. Assumes nothing.
 use Prim.Native.Nat.{ℕ, _-_}
-use mathlib.Core.Bool.{Bool, cond}
-use mathlib.Core.List.{List, foldl}
+use mathlib.Core.Bool.{Bool, false, cond, _||_}
+use mathlib.Core.List.{List, [], _∷_, foldl}
 use lib.Dec.{ltb}
 use Rattle.rfc4737.specs.declared.Arrival.{Arrival}
 use Rattle.rfc4737.specs.declared.LateTime.{LateTime}
@@ -27,3 +27,8 @@ greatestTime l = foldl (λ (t : ℕ) (a : Arrival). nextReference t (a .time)) 0
 -- after, by 0
 unfoldable pub elapsed : ℕ → ℕ → LateTime
 elapsed past own = cond (ltb own past) (Before (past - own)) (After (own - past))
+
+-- whether the clock steps back, if it showed t last: an arrival is stamped before t, or before the arrival before it
+unfoldable pub stepsBack : ℕ → List Arrival → Bool
+stepsBack t [] = false
+stepsBack t (a ∷ l) = ltb (a .time) t || stepsBack (a .time) l

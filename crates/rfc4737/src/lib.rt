@@ -98,3 +98,10 @@ pub enum Ratios {
     Undefined,
     Known(RatioFigures),
 }
+
+// The unit in which the size of a receiver's buffer is given (RFC 4737, section 1.1): packets, octets, or microseconds.
+pub enum Measure {
+    Packets,
+    Octets,
+    Time,
+}

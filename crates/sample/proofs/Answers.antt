@@ -23,7 +23,7 @@ use Rattle.sample.specs.Places.{sizesAt, arrivalsAt}
 use Rattle.sample.specs.Calls.{listsShort, decodeInto, ReadFrom, sampleFrom, WrittenTo, unlessShort}
 use Rattle.sample.specs.Judge.{sampleRefusal}
 use Rattle.sample.specs.declared.Layout.{Layout}
-use Rattle.rfc4737.proofs.Due.{neither}
+use Rattle.rfc4737.proofs.Tests.{neither}
 use Rattle.rfc4737.proofs.Pairs.{arrivals-length}
 use Rattle.sample.proofs.Items.{size-long, octets-many}
 use Rattle.sample.proofs.Decoded.{refused-none, decided-refusal, decode-accepted, decode-refused, layout-accepted}

@@ -24,8 +24,8 @@ labelPlace (accepted s) = itemsAt 0
 
 -- ---- the reader
 
--- whether one of three lists is too short for what was found, lists of so many places for the sizes, the numbers and the times
-unfoldable pub listsShort : Layout → ℕ → ℕ → ℕ → Bool
+-- whether one of three lists of these lengths is too short for what was found
+unfoldable pub listsShort : (found : Layout) (sizes numbers times : ℕ) → Bool
 listsShort found sizes numbers times = ltb sizes (found .sent) || (ltb numbers (found .arrivals) || ltb times (found .arrivals))
 
 -- a decoded file where what is lent may be too short for its sample: 8 comes after the file's own refusals
@@ -33,8 +33,8 @@ unfoldable pub unlessShort : (short : Bool) → Decoded → Decoded
 unlessShort short (refused r) = refused r
 unlessShort short (accepted s) = cond short (refused outputShort) (accepted s)
 
--- what a file decodes to where lists of so many places are filled
-unfoldable pub decodeInto : ℕ → ℕ → ℕ → List ℕ → Decoded
+-- what a file decodes to where lists of these lengths are filled
+unfoldable pub decodeInto : (sizes numbers times : ℕ) (file : List ℕ) → Decoded
 decodeInto sizes numbers times file = unlessShort (listsShort (layoutOf (decode file)) sizes numbers times) (decode file)
 
 -- what is answered of a decoded file, and three lists after it: the sample's values from their start, all else as it was
@@ -52,7 +52,7 @@ ReadFrom file sizes numbers times answer sizes′ numbers′ times′ =
 -- ---- the writer
 
 -- the sample of a label and lists
-abbrev pub sampleFrom : List ℕ → List ℕ → List ℕ → List ℕ → Sample
+abbrev pub sampleFrom : (label sizes numbers times : List ℕ) → Sample
 sampleFrom label sizes numbers times = record { label = label; sizes = sizes; arrivals = arrivalsFrom numbers times }
 
 -- the writer's answer, and the lent octets after it: those of the sample's file

@@ -15,8 +15,8 @@ use Rattle.sample.specs.declared.Layout.{Layout}
 
 -- ---- the counts of a file, and where its sections stand by them
 
--- the count that stands at a place
-unfoldable pub countAt : ℕ → List ℕ → ℕ
+-- the count that stands at `at`
+unfoldable pub countAt : (at : ℕ) (file : List ℕ) → ℕ
 countAt at file = beValue (part at countWidth file)
 
 -- the octets of the label
@@ -60,8 +60,8 @@ sampleIn file =
 
 -- ---- what is refused
 
--- a section that begins at a place, with items of so many octets each: its count is read (1), judged, then its length (1)
-unfoldable pub sectionStage : ℕ → ℕ → (ℕ → ℕ) → List ℕ → ℕ
+-- the section that begins at `at`, with items of `width` octets each: its count is read (1), judged, then its length (1)
+unfoldable pub sectionStage : (at width : ℕ) (judged : ℕ → ℕ) (file : List ℕ) → ℕ
 sectionStage at width judged file =
     firstOf
     (inCase (ltb (length file) (itemsAt at)) endsEarly

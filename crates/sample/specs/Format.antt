@@ -55,30 +55,30 @@ timeWidth = 8
 abbrev pub arrivalWidth : ℕ
 arrivalWidth = numberWidth + timeWidth
 
--- where the items of a section begin that begins at a place
-abbrev pub itemsAt : ℕ → ℕ
+-- where the items of a section begin that begins at `at`
+abbrev pub itemsAt : (at : ℕ) → ℕ
 itemsAt at = at + countWidth
 
--- where a section ends that begins at a place, with so many items of so many octets each
-abbrev pub endOf : ℕ → ℕ → ℕ → ℕ
+-- where a section ends that begins at `at`, with `count` items of `width` octets each
+abbrev pub endOf : (at width count : ℕ) → ℕ
 endOf at width count = itemsAt at + width * count
 
 -- where the section of sent packets begins: the label's, before it, begins at 0
-abbrev pub sentStart : ℕ → ℕ
+abbrev pub sentStart : (label : ℕ) → ℕ
 sentStart label = endOf 0 octetWidth label
 
 -- where the section of arrivals begins
-abbrev pub arrivedStart : ℕ → ℕ → ℕ
+abbrev pub arrivedStart : (label sent : ℕ) → ℕ
 arrivedStart label sent = endOf (sentStart label) sizeWidth sent
 
 -- where the last section ends
-abbrev pub lastEnd : ℕ → ℕ → ℕ → ℕ
+abbrev pub lastEnd : (label sent arrivals : ℕ) → ℕ
 lastEnd label sent arrivals = endOf (arrivedStart label sent) arrivalWidth arrivals
 
 -- ---- the octets of a sample
 
 -- a section: the count of its items, then its items' octets
-unfoldable pub section : ℕ → List ℕ → List ℕ
+unfoldable pub section : (count : ℕ) (octets : List ℕ) → List ℕ
 section count octets = beOctets countWidth count ++ octets
 
 -- a payload size
@@ -91,12 +91,12 @@ arrivalOctets a = beOctets numberWidth (a .number) ++ beOctets timeWidth (a .tim
 
 module _ {ℓ} {A : Type ℓ} where
   -- the octets of items, one item after the other
-  unfoldable pub itemOctets : (A → List ℕ) → List A → List ℕ
+  unfoldable pub itemOctets : (octets : A → List ℕ) → List A → List ℕ
   itemOctets octets [] = []
   itemOctets octets (x ∷ xs) = octets x ++ itemOctets octets xs
 
-  -- so many items of so many octets each, one after the other
-  unfoldable pub itemsIn : ℕ → (List ℕ → A) → ℕ → List ℕ → List A
+  -- `n` items of `width` octets each, one after the other
+  unfoldable pub itemsIn : (width : ℕ) (item : List ℕ → A) (n : ℕ) (os : List ℕ) → List A
   itemsIn width item zero os = []
   itemsIn width item (suc n) os = item (take width os) ∷ itemsIn width item n (drop width os)
 

@@ -23,7 +23,7 @@ abbrev pub judgeOctets : List ℕ → ℕ
 judgeOctets label = inCase (someUnshown label) octetOutside
 
 -- the first refusal that is due of a label and lists: 3, 13, then those of K, the number of sizes, and the lists
-unfoldable pub sampleRefusal : List ℕ → List ℕ → List ℕ → List ℕ → ℕ
+unfoldable pub sampleRefusal : (label sizes numbers times : List ℕ) → ℕ
 sampleRefusal label sizes numbers times = firstOf (judgeLabel (length label) ∷ judgeOctets label ∷ refusalOfLists (length sizes) numbers times ∷ [])
 
 -- a fit sample: nothing of its label and lists is refused, and every value that is not judged fits its field

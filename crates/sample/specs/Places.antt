@@ -21,7 +21,7 @@ abbrev pub arrivalsAt : Layout → ℕ
 arrivalsAt y = itemsAt (arrivedStart (y .label) (y .sent))
 
 -- the payload size of packet j + 1
-unfoldable pub sizeFound : List ℕ → Layout → ℕ → ℕ
+unfoldable pub sizeFound : (file : List ℕ) (y : Layout) (j : ℕ) → ℕ
 sizeFound file y j = beValue (part (sizesAt y + sizeWidth * j) sizeWidth file)
 
 -- what stands where there is no arrival
@@ -29,7 +29,7 @@ abbrev pub noArrival : Arrival
 noArrival = record { number = 0; time = 0 }
 
 -- the arrival of record i + 1: what its octets say, none where the file ends before them
-unfoldable pub arrivalFound : List ℕ → Layout → ℕ → Arrival
+unfoldable pub arrivalFound : (file : List ℕ) (y : Layout) (i : ℕ) → Arrival
 arrivalFound file y i =
     let at = arrivalsAt y + arrivalWidth * i in
     cond (ltb (length file) (at + arrivalWidth)) noArrival (arrivalIn (part at arrivalWidth file))

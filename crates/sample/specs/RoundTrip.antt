@@ -21,9 +21,9 @@ use Rattle.sample.specs.declared.WriteAnswer.{WriteAnswer}
 abbrev pub ExactFile : List ℕ → Type 0
 ExactFile file = (s : Sample) → (decode file ≡ accepted s) ↔ (FitSample s × (file ≡ fileOf s))
 
--- a sample of so many label octets, sent packets and arrivals: every octet is a space, every size and time is 0, every arrival is of
--- packet 1
-unfoldable pub filled : ℕ → ℕ → ℕ → Sample
+-- a sample with these counts of label octets, sent packets and arrivals: every octet is a space, every size and time is 0, every arrival is
+-- of packet 1
+unfoldable pub filled : (label sent arrivals : ℕ) → Sample
 filled label sent arrivals =
     record { label = replicate label shownLeast; sizes = replicate sent 0; arrivals = replicate arrivals (record { number = 1; time = 0 }) }
 
@@ -34,9 +34,9 @@ among n (m ∷ l) = eqb n m || among n l
 
 -- a file beside the longest sample
 pub record Lengths (file : List ℕ) : Type 0 where
-  -- an accepted file has at most as many octets
+  -- an accepted file is no longer
   pub most : (s : Sample) → decode file ≡ accepted s → length file ≤ longest
-  -- some accepted file has as many: that of a sample that is filled up to the limits
+  -- some accepted file is as long: that of a sample that is filled up to the limits
   pub reached : decode (fileOf (filled labelMost sentMost arrivalsMost)) ≡ accepted (filled labelMost sentMost arrivalsMost)
   pub reachedBy : length (fileOf (filled labelMost sentMost arrivalsMost)) ≡ longest
   -- a longer file is refused with 2, 3, 13, 4 or 5

@@ -61,7 +61,7 @@ pub struct WriteAnswer {
 }
 
 // The answer that a refusal has.
-fn refused_layout(refusal: u32) -> Layout
+pub fn refused_layout(refusal: u32) -> Layout
     ensures { λ r. ⌜ r ≡ layoutOf (refused refusal) ⌝ }
 {
     Layout {

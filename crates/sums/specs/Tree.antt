@@ -12,7 +12,7 @@ unfoldable pub rest : ℕ → ℕ
 rest i = bitAnd i (i - 1)
 
 -- what the place i takes of a value at a number: all, if the number is above `rest i` and up to i
-unfoldable pub share : ℕ → ℕ → ℕ → ℕ
+unfoldable pub share : (number value i : ℕ) → ℕ
 share number value i = cond (ltb (rest i) number) (cond (leb number i) value 0) 0
 
 -- a tree after a value was added at a number
@@ -21,13 +21,13 @@ pub record Added (number value : ℕ) (old new : List ℕ) : Type 0 where
   pub at : (i : ℕ) → i < length old → getD new i 0 ≡ (getD old i 0 + share number value i) % 2 ^ 32
 
 -- what stands at the places i, `rest i`, `rest (rest i)` and so on, as many of them as are not 0 and as there is fuel
-unfoldable pub partsTo : ℕ → List ℕ → ℕ → ℕ
+unfoldable pub partsTo : (fuel : ℕ) (tree : List ℕ) (i : ℕ) → ℕ
 partsTo zero tree i = 0
 partsTo (suc fuel) tree zero = 0
 partsTo (suc fuel) tree (suc i) = getD tree (suc i) 0 + partsTo fuel tree (rest (suc i))
 
 -- what stands there, wrapped; 0 where the tree has no place for the number. `ExactSum` says that it is a sum
-unfoldable pub sumTo : List ℕ → ℕ → ℕ
+unfoldable pub sumTo : (tree : List ℕ) (number : ℕ) → ℕ
 sumTo tree number = cond (ltb number (length tree)) (partsTo number tree number % 2 ^ 32) 0
 
 -- a tree holds the sums of values of which f i is the sum over the numbers above i
@@ -42,7 +42,7 @@ pub data Holds : List (ℕ × ℕ) → List ℕ → Type 0 where
   more : {a : ℕ × ℕ} {vs : List (ℕ × ℕ)} {old new : List ℕ} → Added (a .0) (a .1) old new → Holds vs old → Holds (a ∷ vs) new
 
 -- the sum of the values at the numbers from 1 to n
-unfoldable pub valuesTo : ℕ → List (ℕ × ℕ) → ℕ
+unfoldable pub valuesTo : (n : ℕ) → List (ℕ × ℕ) → ℕ
 valuesTo n [] = 0
 valuesTo n (a ∷ vs) = cond (leb 1 (a .0) && leb (a .0) n) (a .1) 0 + valuesTo n vs
 

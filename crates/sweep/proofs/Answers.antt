@@ -19,7 +19,7 @@ use Rattle.octets.specs.Memory.{over}
 use Rattle.octets.proofs.Memory.{over-length, over-first}
 use Rattle.rfc4737.specs.declared.Answer.{Answer}
 use Rattle.rfc4737.specs.Answer.{answers}
-use Rattle.rfc4737.proofs.Due.{neither}
+use Rattle.rfc4737.proofs.Tests.{neither}
 use Rattle.rfc4737.proofs.Folds.{length-answers}
 use Rattle.sample.specs.declared.Layout.{Layout}
 use Rattle.sample.specs.Decode.{Decoded, refused, accepted, sampleOf, layoutOf}
@@ -27,9 +27,10 @@ use Rattle.sample.specs.Calls.{unlessShort}
 use Rattle.metrics.specs.Sample.{sizeOf, sampleArrivals, answersOf}
 use Rattle.metrics.specs.Records.{FileLayout}
 use Rattle.metrics.specs.Figures.{recordAnswer, atRecord}
+use Rattle.metrics.specs.Rows.{rowOf}
 use Rattle.metrics.proofs.RecordsAsked.{asked-within}
 use Rattle.sweep.specs.Figures.{figuresOf}
-use Rattle.sweep.specs.Calls.{tablePlaces, Lent, lent, lentShort, lentShortFor, SweptTo, figuresAt, EnginesAgree, ReportAgrees}
+use Rattle.sweep.specs.Calls.{tablePlaces, Lent, lent, lentShort, lentShortFor, SweptTo, figuresAt, EnginesAgree, ReportAgrees, RowsAgree}
 use Rattle.sweep.specs.Private.{Room, SweepReady, FilledWith}
 
 -- with any refusal nothing is said of the lists
@@ -177,3 +178,15 @@ module _ (d : Decoded) (y : Layout) (e : y ≡ layoutOf d) (own : d ≡ accepted
                 let c = at-list (λ (a : Answer). figuresOf a .extent) refl (old .extents) (new .extents) (f .extents) i h in
                 let g = at-list (λ (a : Answer). figuresOf a .late) refl (old .lates) (new .lates) (f .lates) i h in
                 rw (a, b, c, g)
+
+-- ---- the rows of records
+
+row-figures : (a : Answer)
+    → figuresOf a ≡ record { flag = getD (rowOf a) 0 0; position = getD (rowOf a) 1 0; extent = getD (rowOf a) 3 0; late = getD (rowOf a) 4 0 }
+unfolding figuresOf rowOf
+row-figures (Answer.InOrder d) = refl
+row-figures (Answer.Reordered d) = refl
+row-figures (Answer.Duplicate d) = refl
+
+pub rows-agree : RowsAgree
+rows-agree = record { figures = row-figures }

@@ -6,7 +6,7 @@ use mathlib.Core.List.{List, []}
 use mathlib.Core.Logic.{_↔_}
 use Prim.Native.Nat.{ℕ, _^_}
 use lib.Dec.{ltb}
-use lib.ListN.{length, take, replicate}
+use lib.ListN.{length, getD, take, replicate}
 use Rattle.octets.specs.Below.{Below}
 use Rattle.octets.specs.Memory.{over}
 use Rattle.rfc4737.specs.Judge.{sentMost, timesOf}
@@ -20,6 +20,7 @@ use Rattle.sample.specs.Calls.{unlessShort}
 use Rattle.sample.specs.Moved.{movedSample}
 use Rattle.metrics.specs.Sample.{sampleArrivals, answersOf}
 use Rattle.metrics.specs.Figures.{atRecord, recordAnswer}
+use Rattle.metrics.specs.Rows.{rowOf}
 use Rattle.metrics.specs.Report.{sampleText}
 use Rattle.sweep.specs.declared.Figures.{Figures}
 use Rattle.sweep.specs.Figures.{figuresOf, flagsOf, positionsOf, extentsOf, latesOf}
@@ -38,12 +39,12 @@ pub record Lent : Type 0 where
   pub extents : List ℕ
   pub lates : List ℕ
 
-abbrev pub lent : List ℕ → List ℕ → List ℕ → List ℕ → List ℕ → Lent
+abbrev pub lent : (table flags positions extents lates : List ℕ) → Lent
 lent table flags positions extents lates =
     record { table = table; flags = flags; positions = positions; extents = extents; lates = lates }
 
--- whether a table or one of four lists, of so many places, is too short for so many arrivals
-unfoldable pub lentShort : ℕ → ℕ → ℕ → ℕ → ℕ → ℕ → Bool
+-- whether a table or one of four lists, of these lengths, is too short for this number of arrivals
+unfoldable pub lentShort : (arrivals table flags positions extents lates : ℕ) → Bool
 lentShort arrivals table flags positions extents lates =
     ltb table tablePlaces || (ltb flags arrivals || (ltb positions arrivals || (ltb extents arrivals || ltb lates arrivals)))
 
@@ -92,8 +93,8 @@ pub record EnginesAgree (d : Decoded) (answer : Layout) (new : Lent) : Type 0 wh
   pub at : answer .refusal ≡ 0 → (asked : ℕ) → recordAnswer d asked .refusal ≡ 0
       → figuresAt new asked ≡ figuresOf (recordAnswer d asked .answer)
 
--- and what the report says: there are answers of which the report, that `metrics::listing` writes, has the lines, and of which after a
--- sweep that is not refused the lists have the figures, record by record
+-- the report, too: there are answers, one for each record, whose listing is the report that `metrics::listing` writes, and whose figures
+-- stand in the lists after a sweep that is not refused
 pub record ReportAgrees (d : Decoded) (answer : Layout) (new : Lent) : Type 0 where
   pub answers : List Answer
   pub listed : sampleText d ≡ listingOf (length (sampleOf d .sizes)) (sampleArrivals d) answers (counts answers)
@@ -102,6 +103,11 @@ pub record ReportAgrees (d : Decoded) (answer : Layout) (new : Lent) : Type 0 wh
   pub positions : answer .refusal ≡ 0 → take (answer .arrivals) (new .positions) ≡ positionsOf answers
   pub extents : answer .refusal ≡ 0 → take (answer .arrivals) (new .extents) ≡ extentsOf answers
   pub lates : answer .refusal ≡ 0 → take (answer .arrivals) (new .lates) ≡ latesOf answers
+
+-- and the rows of `metrics::record_rows`: the figures of a record stand in its row, at the places 1, 2, 4 and 5
+pub record RowsAgree : Type 0 where
+  pub figures : (a : Answer)
+      → figuresOf a ≡ record { flag = getD (rowOf a) 0 0; position = getD (rowOf a) 1 0; extent = getD (rowOf a) 3 0; late = getD (rowOf a) 4 0 }
 
 -- ---- moving the clock
 

@@ -1,8 +1,8 @@
 // The second engine: after the checks one pass over the arrivals of a sample, with a lent table by packet number. It fills lent
 // lists with the flag, position, extent and late time of every record. The whole is linear in arrivals and packets.
 ghost use mathlib.Core.Path.{_≡_};
-ghost use Rattle.sample.specs.Decode.{decode, refused, layoutOf};
-ghost use Rattle.sweep.specs.Calls.{lentShort, lent, SweptTo, EnginesAgree, ReportAgrees, SweepMoved};
+ghost use Rattle.sample.specs.Decode.{decode};
+ghost use Rattle.sweep.specs.Calls.{lentShort, lent, SweptTo, EnginesAgree, ReportAgrees, SweepMoved, RowsAgree};
 
 mod pass;
 mod table;
@@ -11,6 +11,7 @@ use pass::pass;
 use rfc4737::refusal::NONE;
 use rfc4737::refusal::OUTPUT_SHORT;
 use sample::Layout;
+use sample::refused_layout;
 use table::PLACES;
 use table::clear;
 
@@ -21,18 +22,6 @@ pub struct Figures {
     pub position: u32,
     pub extent: u32,
     pub late: u64,
-}
-
-// The answer that a refusal has.
-fn refused_layout(refusal: u32) -> Layout
-    ensures { λ r. ⌜ r ≡ layoutOf (refused refusal) ⌝ }
-{
-    Layout {
-        refusal,
-        label: 0,
-        sent: 0,
-        arrivals: 0,
-    }
 }
 
 // Whether a table or one of four lists, of so many places, is too short for so many arrivals.
@@ -79,6 +68,7 @@ pub fn sweep(
         (lent (now (table .exit)) (now (flags .exit)) (now (positions .exit)) (now (extents .exit)) (now (lates .exit))) ⌝ }
     ensures report { λ r. ⌜ ReportAgrees (decode (now (file .entry))) r
         (lent (now (table .exit)) (now (flags .exit)) (now (positions .exit)) (now (extents .exit)) (now (lates .exit))) ⌝ }
+    ensures rows { λ _. ⌜ RowsAgree ⌝ }
     ensures moved { λ _. ⌜ SweepMoved (now (file .entry)) ⌝ }
 {
     let y = sample::check(file);

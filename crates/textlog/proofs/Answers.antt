@@ -14,9 +14,11 @@ use Rattle.octets.specs.Memory.{over}
 use Rattle.rfc4737.specs.Judge.{arrivalsMost, numbersOf, timesOf}
 use Rattle.octets.specs.Text.{lines}
 use Rattle.rfc4737.specs.Refusals.{inCase, firstOf, outputShort}
-use Rattle.rfc4737.proofs.Due.{neither, first-due, first-next}
+use Rattle.rfc4737.proofs.Due.{first-due, first-next}
+use Rattle.rfc4737.proofs.Tests.{neither}
+use Rattle.sample.specs.Output.{ifNone}
 use Rattle.textlog.specs.Decode.{logArrivals, judgeLog}
-use Rattle.textlog.specs.Calls.{logListsShort, importRefusal, arrivalsUnless, LogImportedFrom}
+use Rattle.textlog.specs.Calls.{logListsShort, importRefusal, LogImportedFrom}
 use Rattle.textlog.specs.Private.{Fillable}
 use Rattle.textlog.specs.declared.LogImport.{LogImport}
 use Rattle.textlog.specs.declared.LogJudgement.{LogJudgement}
@@ -33,9 +35,9 @@ refused-from k log numbers times (suc x) z f {r} q =
     let p : r .refusal ≡ suc x = ap (λ (v : LogImport). v .refusal) q in
     record {
       refusal = p ∙ sym f;
-      arrivals = ap (λ (v : LogImport). v .arrivals) q ∙ ap (λ (n : ℕ). length (arrivalsUnless n (logArrivals log))) (sym p);
-      filledNumbers = ap (λ (n : ℕ). over (numbersOf (arrivalsUnless n (logArrivals log))) numbers) (sym p);
-      filledTimes = ap (λ (n : ℕ). over (timesOf (arrivalsUnless n (logArrivals log))) times) (sym p);
+      arrivals = ap (λ (v : LogImport). v .arrivals) q ∙ ap (λ (n : ℕ). ifNone n (length (logArrivals log)) 0) (sym p);
+      filledNumbers = ap (λ (n : ℕ). ifNone n (over (numbersOf (logArrivals log)) numbers) numbers) (sym p);
+      filledTimes = ap (λ (n : ℕ). ifNone n (over (timesOf (logArrivals log)) times) times) (sym p);
     }
 
 module _ (k : ℕ) (log numbers times : List ℕ) (y : LogJudgement) (e : y ≡ judgeLog k log) where

@@ -24,9 +24,10 @@ use Rattle.rfc4737.proofs.Judged.{judge-split, one-split, ListsFit, lists-fit}
 use Rattle.rfc4737.proofs.Pairs.{arrivals-length, numbers-back, times-back, arrivals-back}
 use Rattle.sample.specs.Format.{itemOctets}
 use Rattle.sample.proofs.Output.{own-none, output-read}
+use Rattle.sample.specs.Output.{ifNone}
 use Rattle.textlog.specs.Form.{semicolon, comma, numberMost, Digits, one, more, byComma, thousandths, threeDigits, Time, parted, Line, line, Log, none, after, lineOf, logOf}
 use Rattle.textlog.specs.Decode.{DecodedLine, arrivalOr0, arrivalsOfLines, logArrivals, unless, judgeLines, judgeLog}
-use Rattle.textlog.specs.Calls.{importRefusal, arrivalsUnless}
+use Rattle.textlog.specs.Calls.{importRefusal}
 use Rattle.textlog.specs.RoundTrip.{ExactLog, LogReadAgain}
 use Rattle.textlog.specs.declared.LogJudgement.{LogJudgement}
 use Rattle.textlog.proofs.Lines.{decodes, line-first}
@@ -150,12 +151,11 @@ read-again k numbers times b out out′ numbers₀ times₀ numbers′ times′ 
     r .refusal
     ∙ ap (importRefusal k (length numbers₀) (length times₀)) t
     ∙ import-fits k (length numbers₀) (length times₀) (logOf (arrivalsFrom numbers times)) (ap (λ (x : LogJudgement). x .refusal) j) (omega arith) (omega (arith, f .same)) in
-    let a : arrivalsUnless (read .refusal) (logArrivals (take (written .length) out′)) ≡ arrivalsFrom numbers times =
-    ap (λ (x : ℕ). arrivalsUnless x (logArrivals (take (written .length) out′))) y
-    ∙ ap logArrivals t
-    ∙ form-arrivals g in
-    let n = r .arrivals ∙ ap length a ∙ l in (
+    let a : logArrivals (take (written .length) out′) ≡ arrivalsFrom numbers times = ap logArrivals t ∙ form-arrivals g in
+    let n = r .arrivals ∙ ap (λ (x : ℕ). ifNone x (length (logArrivals (take (written .length) out′))) 0) y ∙ ap length a ∙ l in (
       (λ i. record { refusal = y i; arrivals = n i }),
-      r .filledNumbers ∙ ap (λ (x : List Arrival). over (numbersOf x) numbers₀) a ∙ ap (λ (x : List ℕ). over x numbers₀) (numbers-back numbers times (f .same)),
-      r .filledTimes ∙ ap (λ (x : List Arrival). over (timesOf x) times₀) a ∙ ap (λ (x : List ℕ). over x times₀) (times-back numbers times (f .same)),
+      r .filledNumbers ∙ ap (λ (x : ℕ). ifNone x (over (numbersOf (logArrivals (take (written .length) out′))) numbers₀) numbers₀) y
+          ∙ ap (λ (x : List Arrival). over (numbersOf x) numbers₀) a ∙ ap (λ (x : List ℕ). over x numbers₀) (numbers-back numbers times (f .same)),
+      r .filledTimes ∙ ap (λ (x : ℕ). ifNone x (over (timesOf (logArrivals (take (written .length) out′))) times₀) times₀) y
+          ∙ ap (λ (x : List Arrival). over (timesOf x) times₀) a ∙ ap (λ (x : List ℕ). over x times₀) (times-back numbers times (f .same)),
     )

@@ -1,15 +1,14 @@
 -- What the calls answer, and what lent memory holds after them. Assumes nothing.
-use Prim.Native.Nat.{ℕ, zero, suc}
+use Prim.Native.Nat.{ℕ}
 use mathlib.Core.Bool.{Bool, _||_}
 use mathlib.Core.List.{List, [], _∷_}
 use mathlib.Core.Path.{_≡_}
 use lib.Dec.{ltb}
 use lib.ListN.{length}
 use Rattle.octets.specs.Memory.{over}
-use Rattle.rfc4737.specs.declared.Arrival.{Arrival}
 use Rattle.rfc4737.specs.Judge.{numbersOf, timesOf, arrivalsFrom, refusalOfLists}
 use Rattle.rfc4737.specs.Refusals.{inCase, firstOf, outputShort}
-use Rattle.sample.specs.Output.{Output}
+use Rattle.sample.specs.Output.{ifNone, Output}
 use Rattle.sample.specs.declared.WriteAnswer.{WriteAnswer}
 use Rattle.textlog.specs.Form.{logOf}
 use Rattle.textlog.specs.Decode.{judgeLog, logArrivals}
@@ -17,26 +16,21 @@ use Rattle.textlog.specs.declared.LogImport.{LogImport}
 
 -- ---- the importer
 
--- whether one of two lists, of so many places, is too short for so many arrivals
+-- whether one of two lists, of these lengths, is too short for this number of arrivals
 unfoldable pub logListsShort : (arrivals numbers times : ℕ) → Bool
 logListsShort arrivals numbers times = ltb numbers arrivals || ltb times arrivals
 
--- the importer's refusal where lists of so many places are filled: the log's own, then 8
+-- the importer's refusal where lists of these lengths are filled: the log's own, then 8
 unfoldable pub importRefusal : (k numbers times : ℕ) (log : List ℕ) → ℕ
 importRefusal k numbers times log =
     firstOf (judgeLog k log .refusal ∷ inCase (logListsShort (length (logArrivals log)) numbers times) outputShort ∷ [])
 
--- arrivals, or none with a refusal
-abbrev pub arrivalsUnless : ℕ → List Arrival → List Arrival
-arrivalsUnless zero l = l
-arrivalsUnless (suc r) l = []
-
 -- the importer's answer, and the two lists after it: the arrivals' values from their start, all else as it was
 pub record LogImportedFrom (k : ℕ) (log numbers times : List ℕ) (answer : LogImport) (numbers′ times′ : List ℕ) : Type 0 where
   pub refusal : answer .refusal ≡ importRefusal k (length numbers) (length times) log
-  pub arrivals : answer .arrivals ≡ length (arrivalsUnless (answer .refusal) (logArrivals log))
-  pub filledNumbers : numbers′ ≡ over (numbersOf (arrivalsUnless (answer .refusal) (logArrivals log))) numbers
-  pub filledTimes : times′ ≡ over (timesOf (arrivalsUnless (answer .refusal) (logArrivals log))) times
+  pub arrivals : answer .arrivals ≡ ifNone (answer .refusal) (length (logArrivals log)) 0
+  pub filledNumbers : numbers′ ≡ ifNone (answer .refusal) (over (numbersOf (logArrivals log)) numbers) numbers
+  pub filledTimes : times′ ≡ ifNone (answer .refusal) (over (timesOf (logArrivals log)) times) times
 
 -- ---- the writer
 

@@ -1,6 +1,6 @@
 -- Of two samples the one with the greater reordered ratio (RFC 4737, section 4.1), compared as fractions of whole numbers, and its
 -- label. Assumes nothing.
-use Prim.Native.Nat.{ℕ, zero, suc, _+_, _*_}
+use Prim.Native.Nat.{ℕ, _+_, _*_}
 use mathlib.Core.Bool.{Bool, cond}
 use mathlib.Core.List.{List, [], _∷_}
 use lib.Dec.{ltb, eqb}
@@ -9,6 +9,7 @@ use Rattle.rfc4737.specs.Refusals.{firstOf}
 use Rattle.sample.specs.Decode.{Decoded, sampleOf, decodedRefusal}
 use Rattle.sample.specs.Calls.{labelPlace}
 use Rattle.metrics.specs.Figures.{sampleCounts}
+use Rattle.sample.specs.Output.{ifNone}
 use Rattle.worse.specs.declared.Comparison.{Comparison}
 use Rattle.worse.specs.declared.Fraction.{Fraction}
 use Rattle.worse.specs.declared.Link.{Link}
@@ -34,14 +35,9 @@ ratioIn d = reorderedRatio (sampleCounts d .counts)
 unfoldable pub refusalOfBoth : Decoded → Decoded → ℕ
 refusalOfBoth a b = firstOf (decodedRefusal a ∷ decodedRefusal b ∷ [])
 
--- a link, unless there is a refusal
-abbrev pub linkUnless : ℕ → Link → Link
-linkUnless zero link = link
-linkUnless (suc r) link = Refused
-
 -- the sample with the greater reordered ratio, none with a refusal; equal ratios give the first
 unfoldable pub worseOf : Decoded → Decoded → Link
-worseOf a b = linkUnless (refusalOfBoth a b) (cond (greater (ratioIn b) (ratioIn a)) Second First)
+worseOf a b = ifNone (refusalOfBoth a b) (cond (greater (ratioIn b) (ratioIn a)) Second First) Refused
 
 -- the refusal and the worse sample
 unfoldable pub comparisonOf : Decoded → Decoded → Comparison

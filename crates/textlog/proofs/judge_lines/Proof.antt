@@ -1,9 +1,10 @@
 -- `textlog::judge_lines` meets its contract. The loop's invariant: at most 4,096 lines are passed, and the answer of all lines is that of those
 -- left, with `count` lines before them and the reference that these leave. Each return is a law of Judging.antt for the line that is read at
 -- `at`, or that none is. The measure is what is left of the log: a line has at least an octet. Assumes nothing.
-use Prim.Native.Nat.{_-_, _≤_}
+use Prim.Native.Nat.{ℕ, _-_, _≤_}
 use native.Mathlib.Omega.{arith}
 use mathlib.Core.Path.{_≡_, refl, sym, _∙_}
+use mathlib.Core.List.{List}
 use borrow.Author.Needs.{needs}
 use lib.ListN.{length, drop}
 use denote.Ref.{now}
@@ -24,12 +25,23 @@ Inv-loop log k reference₀ at₀ count₀ reference at count =
 abbrev μ-loop : tie.MeasureT-loop
 μ-loop log k reference₀ at₀ count₀ reference at count = length log - at
 
+-- ---- places in the code: the loop's head (l), and after a line is read (r)
+
+abbrev start : tie.At-loop Inv-loop μ-loop → tie.Start Inv-loop μ-loop
+start l = l .before .before
+
+abbrev log-at : tie.At-loop Inv-loop μ-loop → List ℕ
+log-at l = now (start l .args .log)
+
+abbrev head : tie.After-known-told Inv-loop μ-loop → tie.At-loop Inv-loop μ-loop
+head r = r .before .before .before .before .before
+
 -- the line that is read
-read : (c : tie.After-known-told Inv-loop μ-loop)
-    → lineIn (c .before .before .before .before .before .loop .at)
-    (drop (c .before .before .before .before .before .loop .at) (now (c .before .before .before .before .before .before .before .args .log)))
-    ≡ Read (c .before .number .given .0 .0) (c .before .number .given .0 .1 .0) (c .before .number .given .0 .1 .1 .0)
-read c = sym (c .before .before .before .line-at .ensures) ∙ c .before .number .given .1
+read : (r : tie.After-known-told Inv-loop μ-loop)
+    → lineIn (head r .loop .at) (drop (head r .loop .at) (log-at (head r))) ≡ Read (r .before .number .given .0 .0) (r .before .number .given .0 .1 .0) (r .before .number .given .0 .1 .1 .0)
+read r = sym (r .before .before .before .line-at .ensures) ∙ r .before .number .given .1
+
+-- ---- the needs
 
 loop-holds : tie.Need-loop-holds Inv-loop μ-loop
 loop-holds c = (search needs, refl)
@@ -39,47 +51,46 @@ enum-told c = search needs
 
 returns : tie.Need-returns Inv-loop μ-loop
 returns c =
-    let a = c .before .before .before .before .before .before .before .args in
-    let l = c .before .before .before .before .before .loop in
+    let l = c .before .before .before .before .before in
     c .refused-at .ensures
-    ∙ judge-bad (a .k) (now (a .log)) (l .count) (l .reference) (l .at) (l .inv .1) (c .before .before .before .before .loop-test .taken)
+    ∙ judge-bad (start l .args .k) (log-at l) (l .loop .count) (l .loop .reference) (l .loop .at) (l .loop .inv .1) (c .before .before .before .before .loop-test .taken)
     (sym (c .before .before .before .line-at .ensures) ∙ c .before .enum-told .given .1)
 
 returns-2 : tie.Need-returns-2 Inv-loop μ-loop
 returns-2 c =
-    let a = c .before .before .before .before .before .before .before .before .before .args in
-    let l = c .before .before .before .before .before .before .before .loop in
+    let r = c .before .before in
+    let l = head r in
     c .refused-at2 .ensures
-    ∙ judge-many (a .k) (now (a .log)) (l .count) (l .reference) (l .at) (l .inv .1) _ _ _ (read (c .before .before)) (c .before .if1 .taken)
+    ∙ judge-many (start l .args .k) (log-at l) (l .loop .count) (l .loop .reference) (l .loop .at) (l .loop .inv .1) _ _ _ (read r) (c .before .if1 .taken)
 
 returns-3 : tie.Need-returns-3 Inv-loop μ-loop
 returns-3 c =
-    let a = c .before .before .before .before .before .before .before .before .before .before .before .args in
-    let l = c .before .before .before .before .before .before .before .before .before .loop in
+    let r = c .before .before .before .before in
+    let l = head r in
     let j = c .before .before .judge-one in
     c .refused-at3 .ensures
-    ∙ judge-stop (a .k) (now (a .log)) (l .count) (l .reference) (l .at) (l .inv .1) _ _ _ (read (c .before .before .before .before))
+    ∙ judge-stop (start l .args .k) (log-at l) (l .loop .count) (l .loop .reference) (l .loop .at) (l .loop .inv .1) _ _ _ (read r)
     (c .before .before .before .if1 .left) (j .result) (j .ensures) (c .before .if2 .taken)
 
 loop-less : tie.Need-loop-less Inv-loop μ-loop
 loop-less c =
-    omega (arith, line-read _ _ (read (c .before .before .before .before)) .onward, c .before .before .before .before .before .before .before .before .loop-test .taken)
+    let r = c .before .before .before .before in
+    omega (arith, line-read _ _ (read r) .onward, r .before .before .before .before .loop-test .taken)
 
 loop-again : tie.Need-loop-again Inv-loop μ-loop
 loop-again c =
-    let a = c .before .before .before .before .before .before .before .before .before .before .before .args in
-    let l = c .before .before .before .before .before .before .before .before .before .loop in
+    let r = c .before .before .before .before in
+    let l = head r in
     let j = c .before .before .judge-one in (
       omega (arith, c .before .before .before .if1 .left),
-      judge-next (a .k) (now (a .log)) (l .count) (l .reference) (l .at) (l .inv .1) _ _ _ (read (c .before .before .before .before))
+      judge-next (start l .args .k) (log-at l) (l .loop .count) (l .loop .reference) (l .loop .at) (l .loop .inv .1) _ _ _ (read r)
           (c .before .before .before .if1 .left) (j .result) (j .ensures) (c .before .if2 .left) (c .next-reference .ensures),
     )
 
 returns-4 : tie.Need-returns-4 Inv-loop μ-loop
 returns-4 c =
-    let a = c .before .before .before .args in
-    let l = c .before .loop in
-    judge-done (a .k) (now (a .log)) (l .count) (l .reference) (l .at) (l .inv .1) (c .loop-test .left)
+    let l = c .before in
+    judge-done (start l .args .k) (log-at l) (l .loop .count) (l .loop .reference) (l .loop .at) (l .loop .inv .1) (c .loop-test .left)
 
 pub judge-lines-spec : {M : Type 1} → statement M
 judge-lines-spec =

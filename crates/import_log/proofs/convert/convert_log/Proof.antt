@@ -11,8 +11,9 @@ convert-lists-requires c κs z = (_, log-holds _ _ _ _ _ _ _ (c .before .before 
 
 returns : tie.Need-returns
 returns c =
-    let f = c .before .before .before .before .before .before .before .before .import .ensures .0 in
-    rw (← log-refusal _ _ _ _ _ _ _ f arrivals-room arrivals-room) (c .before .before .convert-lists .ensures _ (log-holds _ _ _ _ _ _ _ f arrivals-room arrivals-room))
+    let d = c .before .before in
+    let f = d .before .before .before .before .before .before .import .ensures .0 in
+    rw (← log-refusal _ _ _ _ _ _ _ f arrivals-room arrivals-room) (d .convert-lists .ensures _ (log-holds _ _ _ _ _ _ _ f arrivals-room arrivals-room))
 
 pub convert-log-spec : {M : Type 1} → statement M
 convert-log-spec =

@@ -11,7 +11,7 @@ use Rattle.sample.specs.Decode.{decode}
 use Rattle.metrics.specs.Records.{before, answersTo, HasRecord}
 use borrow.Author.Needs.{needs}
 use Rattle.metrics.proofs.OneArrivalMore.{answers-start, answers-end, answers-length}
-use Rattle.metrics.proofs.CountsBySeen.{SeenPackets, seen-start, seen-next, counts-seen}
+use Rattle.metrics.proofs.CountsBySeen.{SeenPackets, seen-start, seen-next, unseen, counts-seen}
 use Rattle.metrics.proofs.DigitBounds.{counts-within}
 use Rattle.metrics.proofs.figures.counts_of.Statement.{statement}
 use Rattle.metrics.proofs.figures.counts_of.Tie as tie
@@ -41,7 +41,7 @@ number-of-requires : tie.Need-number-of-requires Inv-loop μ-loop
 number-of-requires c κs = record { file = c .before .before .before .before .before .pre; inside = c .if1 .taken }
 
 kind-of-requires : tie.Need-kind-of-requires Inv-loop μ-loop
-kind-of-requires c κs = c .before .number-of .ensures .2
+kind-of-requires c κs = let h = c .before .number-of .ensures .2 in (h, unseen _ _ _ (c .before .before .before .before .loop .inv .1) _ h)
 
 counts-after-requires : tie.Need-counts-after-requires Inv-loop μ-loop
 counts-after-requires c κs = rw (c .before .before .before .before .before .loop .inv .2) (counts-within _ (omega (arith, answers-length _ _ _ (here c), few c)))

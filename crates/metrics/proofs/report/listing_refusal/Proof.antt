@@ -27,6 +27,14 @@ text c = sampleText (decode (now (c .args .file)))
 own : (c : tie.Start) → c .args .y .refusal ≡ ownRefusal c
 own c = ap (λ (y : Layout). y .refusal) (c .pre .laid)
 
+-- ---- places in the code: the start, from where the file is not refused, and that place, from where the lines are made
+
+abbrev start : tie.Else1 → tie.Start
+start k = k .before .before .before
+
+abbrev unrefused : tie.After-none2 → tie.Else1
+unrefused n = n .before .before .before .before
+
 returns : tie.Need-returns
 returns c =
     let s = c .before .before .before in
@@ -34,20 +42,20 @@ returns c =
 
 returns-2 : tie.Need-returns-2
 returns-2 c =
-    let s = c .before .before .before .before in
+    let s = start (c .before) in
     let octets = below-fits w8 (now (s .args .file)) (c .before .before .before .shared-slice-known .given) in
     let fits : length (text s) ≤ s .args .room = omega (arith, c .if2 .taken, sample-within (now (s .args .file)) (s .args .y) (s .pre) octets) in
     refusal-none (ownRefusal s) (text s) (s .args .room) (sym (own s) ∙ c .before .if1 .left) fits
 
 returns-3 : tie.Need-returns-3
 returns-3 c =
-    let s = c .before .before .before .before .before .before .before .before in
-    refusal-short (ownRefusal s) (text s) (s .args .room) (sym (own s) ∙ c .before .before .before .before .before .if1 .left) (omega (arith, c .if3 .taken, c .before .before .write-listing .ensures .0))
+    let s = start (unrefused (c .before)) in
+    refusal-short (ownRefusal s) (text s) (s .args .room) (sym (own s) ∙ unrefused (c .before) .if1 .left) (omega (arith, c .if3 .taken, c .before .before .write-listing .ensures .0))
 
 returns-4 : tie.Need-returns-4
 returns-4 c =
-    let s = c .before .before .before .before .before .before .before .before in
-    refusal-none (ownRefusal s) (text s) (s .args .room) (sym (own s) ∙ c .before .before .before .before .before .if1 .left) (omega (arith, c .if3 .left, c .before .before .write-listing .ensures .0))
+    let s = start (unrefused (c .before)) in
+    refusal-none (ownRefusal s) (text s) (s .args .room) (sym (own s) ∙ unrefused (c .before) .if1 .left) (omega (arith, c .if3 .left, c .before .before .write-listing .ensures .0))
 
 pub listing-refusal-spec : {M : Type 1} → statement M
 listing-refusal-spec =

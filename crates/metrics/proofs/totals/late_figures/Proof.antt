@@ -19,15 +19,27 @@ use Rattle.metrics.proofs.totals.late_figures.Tie as tie
 sizes : (c : tie.After-shared-slice-known) (s : ℕ) → sizeOf (decode (now (c .before .args .file))) s ≤ 65535
 sizes c = size-most (now (c .before .args .file)) (below-fits w8 (now (c .before .args .file)) (c .shared-slice-known .given))
 
+-- ---- places in the code, each by the one before it: the start, where the class is known, after the tree is filled
+
+abbrev told-at : tie.After-fill-tree → tie.After-enum-told3
+told-at t = t .before .before .before
+
+abbrev filled-at : tie.After-struct-known → tie.After-fill-tree
+filled-at c = c .before .before .before .before .before
+
+abbrev known-at : tie.After-fill-tree → tie.After-shared-slice-known
+known-at t = told-at t .before .before .before
+
 enum-told : tie.Need-enum-told
 enum-told c = search needs
 
 sub-t19 : tie.Need-sub-t19
 sub-t19 c =
-    let s = c .before .before .before .before .before .before .before .before .before .before .before .before in
+    let t = filled-at c in
+    let s = known-at t .before in
     let k = s .pre .0 in
-    let f = c .before .before .before .before .before .fill-tree .ensures (k .fs) (k .numbered) (k .totalled) in
-    omega (arith, c .before .sum-to .ensures .0, total-sum _ (sizes (c .before .before .before .before .before .before .before .before .before .before .before)) (k .fs) (omega (arith, k .numbered .all, k .few)) _ _ (s .args .s) (f .1 ∙ k .numbered .all) (s .pre .2) (f .0))
+    let f = t .fill-tree .ensures (k .fs) (k .numbered) (k .totalled) in
+    omega (arith, c .before .sum-to .ensures .0, total-sum _ (sizes (known-at t)) (k .fs) (omega (arith, k .numbered .all, k .few)) _ _ (s .args .s) (f .1 ∙ k .numbered .all) (s .pre .2) (f .0))
 
 returns : tie.Need-returns
 returns c = (omega arith, λ fs n t. (t, rw (c .enum-told .given .1) tt))
@@ -37,18 +49,19 @@ returns-2 c = (omega arith, λ fs n t. (t, rw (c .enum-told2 .given .1) tt))
 
 returns-3 : tie.Need-returns-3
 returns-3 c =
-    let s = c .before .before .before .before .before .before .before .before .before .before .before .before in
-    let is = c .before .before .before .before .before .before .before .before .enum-told3 .given .1 in
-    let l = c .before .before .before .before .before .before .before .largest-by-links .ensures in (
+    let u = filled-at c in
+    let s = known-at u .before in
+    let is = told-at u .enum-told3 .given .1 in
+    let l = u .before .before .largest-by-links .ensures in (
       l .0,
       λ fs n t.
-          let f = c .before .before .before .before .before .fill-tree .ensures fs n t in (
+          let f = u .fill-tree .ensures fs n t in (
             f .0,
             rw is (
               l .1 fs n,
               λ new.
-                  ap (λ (m : ℕ). c .before .before .before .before .before .fill-tree .result .total - m) (c .before .sum-to .ensures .0)
-                  ∙ offset-summed _ (sizes (c .before .before .before .before .before .before .before .before .before .before .before)) fs (omega (arith, n .all, s .pre .0 .few)) _ _ (s .args .s) (f .1 ∙ n .all) (s .pre .1) (s .pre .2) (f .0) new,
+                  ap (λ (m : ℕ). u .fill-tree .result .total - m) (c .before .sum-to .ensures .0)
+                  ∙ offset-summed _ (sizes (known-at u)) fs (omega (arith, n .all, s .pre .0 .few)) _ _ (s .args .s) (f .1 ∙ n .all) (s .pre .1) (s .pre .2) (f .0) new,
             ),
           ),
     )

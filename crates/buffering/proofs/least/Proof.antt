@@ -1,0 +1,91 @@
+-- `buffering::least` meets its contract. The file's own refusal comes first (`least-refused`), then 9 (`least-outside`); else the loop's
+-- invariant is `Between`, at first from nothing to the greatest need (`start`), and where the bounds meet they are the least size (`met`).
+-- The measure is how far they are apart. Assumes nothing.
+use borrow.Author.Needs.{needs}
+use denote.Ref.{now}
+use mir.Syntax.{w8}
+use Prim.Native.Nat.{ℕ, _-_}
+use mathlib.Core.Path.{_≡_, sym, ap, _∙_}
+use mathlib.Core.List.{List}
+use Rattle.octets.proofs.Below.{below-fits}
+use Rattle.rfc4737.proofs.Due.{between}
+use Rattle.sample.specs.Decode.{decode, decodedRefusal}
+use Rattle.metrics.specs.Sample.{answersOf}
+use Rattle.metrics.specs.declared.SampleNeeds.{SampleNeeds}
+use Rattle.metrics.specs.Figures.{sampleNeeds}
+use Rattle.buffering.specs.Least.{OneLeast, MoreIsNoWorse, AllIsGreatest}
+use Rattle.buffering.specs.Restoring.{RestoresFile, HoldsOffset, RestoresOrder}
+use Rattle.buffering.specs.Private.{Between}
+use Rattle.buffering.proofs.Sizes.{start, met, one-least, more-is-no-worse, all-is-greatest, least-refused, least-outside, least-found}
+use Rattle.buffering.proofs.Restored.{restores}
+use Rattle.buffering.proofs.Held.{holds-offset}
+use Rattle.buffering.proofs.InOrder.{restores-order}
+use Rattle.buffering.proofs.least.Statement.{statement}
+use Rattle.buffering.proofs.least.Tie as tie
+
+-- b₀ are the bounds where the loop begins, b those at its head
+abbrev Inv-loop : tie.InvT-loop
+Inv-loop file measure part whole most b₀ b = Between measure part whole (answersOf (decode file)) b
+
+abbrev μ-loop : tie.MeasureT-loop
+μ-loop file measure part whole most b₀ b = b .high - b .low
+
+-- the refusal of the needs is the file's
+told : (x : SampleNeeds) (f : List ℕ) → x ≡ sampleNeeds (decode f) → x .refusal ≡ decodedRefusal (decode f)
+unfolding sampleNeeds
+told x f e = ap (λ (y : SampleNeeds). y .refusal) e
+
+-- what is carried besides the answer
+carries : (c : tie.After-greatest-needs Inv-loop μ-loop)
+    → RestoresFile (decode (now (c .before .before .args .file))) × (HoldsOffset × (RestoresOrder × (OneLeast × (MoreIsNoWorse × AllIsGreatest))))
+carries c =
+    let file = now (c .before .before .args .file) in
+    (restores file (below-fits w8 file (c .before .shared-slice-known .given)), (holds-offset, (restores-order, (one-least, (more-is-no-worse, all-is-greatest)))))
+
+returns : tie.Need-returns Inv-loop μ-loop
+returns c =
+    let q = c .before .before in
+    (least-refused _ _ _ _ _ (told (q .greatest-needs .result) _ (q .greatest-needs .ensures)) (c .if1 .taken), carries q)
+
+returns-2 : tie.Need-returns-2 Inv-loop μ-loop
+returns-2 c =
+    let q = c .before .before .before .before in
+    (least-outside _ _ _ _ (sym (told (q .greatest-needs .result) _ (q .greatest-needs .ensures)) ∙ c .before .before .if1 .left) (sym (c .before .outside .ensures) ∙ c .if2 .taken), carries q)
+
+loop-holds : tie.Need-loop-holds Inv-loop μ-loop
+loop-holds c =
+    let q = c .before .before .before .before .before .greatest-needs in
+    rw (c .greatest-in .ensures _ (q .ensures)) (start _ _ _ _ (between 1 _ _ (sym (c .before .before .outside .ensures) ∙ c .before .if2 .left) .1))
+
+narrowed-requires : tie.Need-narrowed-requires Inv-loop μ-loop
+narrowed-requires c κs = (c .if3 .taken, c .before .before .loop .inv)
+
+loop-less : tie.Need-loop-less Inv-loop μ-loop
+loop-less c = c .narrowed .ensures .1
+
+loop-again : tie.Need-loop-again Inv-loop μ-loop
+loop-again c = c .narrowed .ensures .0
+
+returns-3 : tie.Need-returns-3 Inv-loop μ-loop
+returns-3 c =
+    let q = c .before .before .before .before .before .before .before .before in (
+      least-found _ _ _ _ (sym (told (q .greatest-needs .result) _ (q .greatest-needs .ensures)) ∙ c .before .before .before .before .before .before .if1 .left) (sym (c .before .before .before .before .before .outside .ensures) ∙ c .before .before .before .before .if2 .left) _ (met _ _ _ _ _ (c .before .before .loop .inv) (c .if3 .left)),
+      carries q,
+    )
+
+pub least-spec : {M : Type 1} → statement M
+least-spec =
+    tie.close
+    (tie.spec
+    Inv-loop
+    μ-loop
+    (λ c κs. search needs)
+    returns
+    (λ c κs. search needs)
+    returns-2
+    (λ c κs. search needs)
+    loop-holds
+    narrowed-requires
+    loop-less
+    loop-again
+    returns-3)

@@ -1,0 +1,209 @@
+-- Rows in a lent list. Numbers that are set one after the other are spliced in (`set-next`, `row-set`). There are eight for each record
+-- (`rows-length`), and one record more puts its row after those before (`rows-more`, `rows-next`). A row tells its answer: two rows that are
+-- the same have the same numbers, the first of which is that of the case (`rows-tell`).
+-- Here d is the decoded file, y its layout, i the records before, old and new the list before and now. Assumes nothing.
+use mathlib.Core.Path.{_≡_, refl, sym, ap, ap₂, subst, _∙_}
+use mathlib.Core.Bool.{Bool, true, false}
+use mathlib.Core.List.{List, [], _∷_, _++_, append-assoc, append-nil}
+use Prim.Native.Nat.{ℕ, zero, suc, _+_, _-_, _*_, _/_, _≤_, _<_}
+use native.Mathlib.Omega.{arith}
+use lib.ListN.{length, getD, set, take, drop, length-append}
+use lib.Seq.{take-append-seam, drop-append-add}
+use borrow.Author.Tests.{ltb-false}
+use Rattle.octets.specs.Memory.{over, splice}
+use Rattle.octets.proofs.Memory.{splice-set, splice-next, splice-length, over-next, over-length}
+use Rattle.rfc4737.specs.declared.Answer.{Answer}
+use Rattle.rfc4737.specs.declared.LateTime.{LateTime}
+use Rattle.rfc4737.specs.Answer.{answers}
+use Rattle.rfc4737.specs.Numbering.{reorderedNumber, amountOf}
+use Rattle.rfc4737.proofs.Folds.{length-answers}
+use Rattle.sample.specs.declared.Layout.{Layout}
+use Rattle.sample.specs.Decode.{Decoded, refused, accepted, sampleOf, layoutOf}
+use Rattle.sample.specs.Calls.{unlessShort}
+use Rattle.metrics.specs.Sample.{sizeOf, sampleArrivals, answersOf}
+use Rattle.metrics.specs.Records.{before, answerAt, answersTo, HasRecord, FileLayout}
+use Rattle.metrics.specs.Figures.{recordAnswer}
+use Rattle.metrics.specs.Rows.{rowOf, rowsOf, rowAt, rowsShort, rowsInto, RowsTo, RowsTell}
+use Rattle.metrics.proofs.TablesFollow.{arrivals-laid, before-count}
+use Rattle.metrics.proofs.OneArrivalMore.{answers-next, answers-length}
+use Rattle.metrics.proofs.RecordsAsked.{asked-within, at-inside}
+
+-- ---- numbers set one after the other
+
+-- one more after some
+set-next : (at n : ℕ) (xs old : List ℕ) (x : ℕ) → length xs ≡ n → at + n < length old → set (splice at xs old) (at + n) x ≡ splice at (xs ++ (x ∷ [])) old
+set-next at n xs old x e h =
+    splice-set (at + n) x (splice at xs old) (omega (arith, e, splice-length at xs old (omega (arith, e)))) ∙ splice-next at (at + n) xs (x ∷ []) old (rw e) (omega arith)
+
+-- the numbers of a row
+pub row-set : (at a b c d e f g h : ℕ) (old : List ℕ) → at + 8 ≤ length old
+    → set (set (set (set (set (set (set (set old at a) (at + 1) b) (at + 2) c) (at + 3) d) (at + 4) e) (at + 5) f) (at + 6) g) (at + 7) h
+    ≡ splice at (a ∷ b ∷ c ∷ d ∷ e ∷ f ∷ g ∷ h ∷ []) old
+row-set at a b c d e f g h old room =
+    rw (
+      splice-set at a old (omega arith),
+      set-next at 1 (a ∷ []) old b refl (omega arith),
+      set-next at 2 (a ∷ b ∷ []) old c refl (omega arith),
+      set-next at 3 (a ∷ b ∷ c ∷ []) old d refl (omega arith),
+      set-next at 4 (a ∷ b ∷ c ∷ d ∷ []) old e refl (omega arith),
+      set-next at 5 (a ∷ b ∷ c ∷ d ∷ e ∷ []) old f refl (omega arith),
+      set-next at 6 (a ∷ b ∷ c ∷ d ∷ e ∷ f ∷ []) old g refl (omega arith),
+    )
+    (set-next at 7 (a ∷ b ∷ c ∷ d ∷ e ∷ f ∷ g ∷ []) old h refl (omega arith))
+
+-- ---- rows
+
+row-length : (a : Answer) → length (rowOf a) ≡ 8
+unfolding rowOf
+row-length (Answer.Duplicate d) = refl
+row-length (Answer.InOrder d) = refl
+row-length (Answer.Reordered d) = refl
+
+pub rows-length : (l : List Answer) → length (rowsOf l) ≡ 8 * length l
+unfolding rowsOf
+rows-length [] = refl
+rows-length (a ∷ l) = length-append (rowOf a) (rowsOf l) ∙ omega (arith, row-length a, rows-length l)
+
+pub rows-more : (l : List Answer) (a : Answer) → rowsOf (l ++ (a ∷ [])) ≡ rowsOf l ++ rowOf a
+unfolding rowsOf
+rows-more [] a = append-nil (rowOf a)
+rows-more (b ∷ l) a = ap (λ (r : List ℕ). rowOf b ++ r) (rows-more l a) ∙ sym (append-assoc (rowOf b) (rowsOf l) (rowOf a))
+
+-- before any
+pub rows-none : (d : Decoded) (old : List ℕ) → old ≡ over (rowsOf (answersTo d 0)) old
+unfolding rowsOf answers Rattle.rfc4737.specs.Arrivals.each Rattle.rfc4737.specs.Arrivals.eachAfter
+rows-none d old = refl
+
+-- the list is as long as it was, after the first i
+pub rows-kept-to : (d : Decoded) (y : Layout) (i : ℕ) → FileLayout d y → i ≤ y .arrivals → (old new : List ℕ) → 8 * y .arrivals ≤ length old
+    → new ≡ over (rowsOf (answersTo d i)) old → length new ≡ length old
+rows-kept-to d y i h most old new room is =
+    let n : length (rowsOf (answersTo d i)) ≡ 8 * i = rows-length (answersTo d i) ∙ ap (λ (n : ℕ). 8 * n) (length-answers (sizeOf d) (before d i) ∙ before-count d y i h most) in
+    ap length is ∙ over-length (rowsOf (answersTo d i)) old (omega (arith, n, most, room))
+
+module _ (d : Decoded) (y : Layout) (i : ℕ) (h : HasRecord d y i) (old new : List ℕ) (room : 8 * y .arrivals ≤ length old) (is : new ≡ over (rowsOf (answersTo d i)) old) where
+  filled : length (rowsOf (answersTo d i)) ≡ 8 * i
+  filled = rows-length (answersTo d i) ∙ ap (λ (n : ℕ). 8 * n) (answers-length d y i h)
+
+  -- the list is as long as it was
+  rows-kept : length new ≡ length old
+  rows-kept = rows-kept-to d y i (h .file) (omega (arith, h .inside)) old new room is
+
+  -- there is room for a row
+  pub rows-room : 8 * i + 8 ≤ length new
+  rows-room = omega (arith, rows-kept, h .inside)
+
+  -- under record i + 1
+  pub rows-next : (next : List ℕ) → next ≡ splice (8 * i) (rowOf (answerAt d i)) new → next ≡ over (rowsOf (answersTo d (i + 1))) old
+  rows-next next e =
+      e
+      ∙ ap (splice (8 * i) (rowOf (answerAt d i))) is
+      ∙ over-next (8 * i) (rowsOf (answersTo d i)) (rowOf (answerAt d i)) old filled
+      ∙ ap (λ (r : List ℕ). over r old) (sym (ap rowsOf (answers-next d y i h) ∙ rows-more (answersTo d i) (answerAt d i)))
+
+-- ---- what the call answers
+
+-- with the file's own refusal
+pub rows-refused : (d : Decoded) (y : Layout) → y ≡ layoutOf d → (y .refusal ≡ 0 → ⊥) → (old : List ℕ) → RowsTo d old y old
+unfolding unlessShort rowsOf answers Rattle.rfc4737.specs.Arrivals.each Rattle.rfc4737.specs.Arrivals.eachAfter
+rows-refused (refused r) y e n old = record { layout = e; rows = refl }
+rows-refused (accepted s) y e n old = absurd (n (ap (λ (y : Layout). y .refusal) e))
+
+module _ (d : Decoded) (y : Layout) (h : FileLayout d y) (a : d ≡ accepted (sampleOf d)) (old : List ℕ) where
+  -- the arrivals of the layout are those of the sample
+  short-is : (b : Bool) → b ≡ rowsShort (y .arrivals) (length old) → rowsShort (length (sampleArrivals d)) (length old) ≡ b
+  short-is b q = ap (λ (n : ℕ). rowsShort n (length old)) (sym (arrivals-laid d y h)) ∙ sym q
+
+  -- with 8
+  pub rows-eight : true ≡ rowsShort (y .arrivals) (length old) → (r : Layout) → r ≡ layoutOf (refused 8) → RowsTo d old r old
+  unfolding unlessShort rowsOf answers Rattle.rfc4737.specs.Arrivals.each Rattle.rfc4737.specs.Arrivals.eachAfter
+  rows-eight q r e = record { layout = rw into e; rows = rw into }
+    where
+      into : rowsInto d (length old) ≡ refused 8
+      into = ap₂ unlessShort (short-is true q) a
+
+  -- with none
+  module _ (q : false ≡ rowsShort (y .arrivals) (length old)) where
+    -- there is room for all
+    pub rows-fit : 8 * y .arrivals ≤ length old
+    unfolding rowsShort
+    rows-fit = let k = ltb-false (length old / 8) (y .arrivals) (sym q) in omega (arith, k)
+
+    pub rows-filled : (new : List ℕ) → new ≡ over (rowsOf (answersOf d)) old → RowsTo d old y new
+    unfolding unlessShort
+    rows-filled new f = record { layout = rw into (h .laid ∙ ap layoutOf a); rows = rw into f }
+      where
+        into : rowsInto d (length old) ≡ accepted (sampleOf d)
+        into = ap₂ unlessShort (short-is false q) a
+
+-- ---- a row tells its answer
+
+-- two lists of which one begins the other have the same number at a place
+same-at : {l m : List ℕ} → l ≡ m → (i : ℕ) → getD l i 0 ≡ getD m i 0
+same-at e i = ap (λ (l : List ℕ). getD l i 0) e
+
+rows-same : (a b : Answer) → rowOf a ≡ rowOf b → a ≡ b
+unfolding rowOf
+rows-same (Answer.Duplicate d) (Answer.Duplicate e) q = let k = same-at q 7 in ap (λ (n : ℕ). Answer.Duplicate (record { first = n })) k
+rows-same (Answer.Duplicate d) (Answer.InOrder e) q = let k = same-at q 0 in absurd (omega (arith, k))
+rows-same (Answer.Duplicate d) (Answer.Reordered e) q = absurd (late (e .late) (same-at q 0))
+  where
+    late : (t : LateTime) → 3 ≡ reorderedNumber t → ⊥
+    late (LateTime.After t) k = omega (arith, k)
+    late (LateTime.Before t) k = omega (arith, k)
+rows-same (Answer.InOrder d) (Answer.Duplicate e) q = let k = same-at q 0 in absurd (omega (arith, k))
+rows-same (Answer.InOrder d) (Answer.InOrder e) q = ap₂ (λ (n j : ℕ). Answer.InOrder (record { position = n; jump = j })) (same-at q 1) (same-at q 2)
+rows-same (Answer.InOrder d) (Answer.Reordered e) q = absurd (late (e .late) (same-at q 0))
+  where
+    late : (t : LateTime) → 0 ≡ reorderedNumber t → ⊥
+    late (LateTime.After t) k = omega (arith, k)
+    late (LateTime.Before t) k = omega (arith, k)
+rows-same (Answer.Reordered d) (Answer.Duplicate e) q = absurd (late (d .late) (same-at q 0))
+  where
+    late : (t : LateTime) → reorderedNumber t ≡ 3 → ⊥
+    late (LateTime.After t) k = omega (arith, k)
+    late (LateTime.Before t) k = omega (arith, k)
+rows-same (Answer.Reordered d) (Answer.InOrder e) q = absurd (late (d .late) (same-at q 0))
+  where
+    late : (t : LateTime) → reorderedNumber t ≡ 0 → ⊥
+    late (LateTime.After t) k = omega (arith, k)
+    late (LateTime.Before t) k = omega (arith, k)
+rows-same (Answer.Reordered d) (Answer.Reordered e) q =
+    made (same-at q 1) (same-at q 3) (late (d .late) (e .late) (same-at q 0) (same-at q 4)) (same-at q 5) (same-at q 6)
+  where
+    late : (s t : LateTime) → reorderedNumber s ≡ reorderedNumber t → amountOf s ≡ amountOf t → s ≡ t
+    late (LateTime.After s) (LateTime.After t) k g = ap LateTime.After g
+    late (LateTime.After s) (LateTime.Before t) k g = absurd (omega (arith, k))
+    late (LateTime.Before s) (LateTime.After t) k g = absurd (omega (arith, k))
+    late (LateTime.Before s) (LateTime.Before t) k g = ap LateTime.Before g
+
+    made : {p x o n : ℕ} {p′ x′ o′ n′ : ℕ} {s t : LateTime} → p ≡ p′ → x ≡ x′ → s ≡ t → o ≡ o′ → n ≡ n′
+        → Answer.Reordered (record { position = p; extent = x; late = s; offset = o; largest = n }) ≡ Answer.Reordered (record { position = p′; extent = x′; late = t; offset = o′; largest = n′ })
+    made a b c d e = rw (a, b, c, d, e)
+
+-- ---- the row of a record
+
+-- the first eight numbers are the first row, and the rest the other rows
+first-row : (a : Answer) (r : List ℕ) → take 8 (rowOf a ++ r) ≡ rowOf a
+first-row a r = subst (λ (n : ℕ). take n (rowOf a ++ r) ≡ rowOf a) (row-length a) (take-append-seam (rowOf a) r)
+
+other-rows : (a : Answer) (r : List ℕ) (n : ℕ) → drop (8 + n) (rowOf a ++ r) ≡ drop n r
+other-rows a r n = subst (λ (m : ℕ). drop (m + n) (rowOf a ++ r) ≡ drop n r) (row-length a) (drop-append-add (rowOf a) r n)
+
+row-at : (z : Answer) (l : List Answer) (i : ℕ) → i < length l → take 8 (drop (8 * i) (rowsOf l)) ≡ rowOf (getD l i z)
+unfolding rowsOf
+row-at z [] i h = absurd (omega arith)
+row-at z (a ∷ l) zero h = first-row a (rowsOf l)
+row-at z (a ∷ l) (suc i) h =
+    let e : 8 * suc i ≡ 8 + 8 * i = omega arith in
+    ap (λ (n : ℕ). take 8 (drop n (rowOf a ++ rowsOf l))) e ∙ ap (take 8) (other-rows a (rowsOf l) (8 * i)) ∙ row-at z l i (omega arith)
+
+rows-at : (d : Decoded) (asked : ℕ) → recordAnswer d asked .refusal ≡ 0 → rowAt (rowsOf (answersOf d)) asked ≡ rowOf (recordAnswer d asked .answer)
+unfolding rowAt recordAnswer
+rows-at d asked e =
+    let k = asked-within d 1 (length (sampleArrivals d)) asked e in
+    let n = length-answers (sizeOf d) (sampleArrivals d) in
+    row-at _ (answersOf d) (asked - 1) (omega (arith, k, n)) ∙ sym (ap rowOf (at-inside _ (answersOf d) asked (k .0)))
+
+pub rows-tell : RowsTell
+rows-tell = record { tell = rows-same; at = rows-at }

@@ -1,0 +1,14 @@
+-- `metrics::greatest_needs` meets its contract: the layout has the file's refusal, and `needs_of` gives the greatest needs of its sample.
+-- Assumes nothing.
+use borrow.Author.Needs.{needs}
+use Rattle.metrics.specs.Figures.{sampleNeeds}
+use Rattle.metrics.specs.Private.Needs.{needsOf}
+use Rattle.metrics.proofs.greatest_needs.Statement.{statement}
+use Rattle.metrics.proofs.greatest_needs.Tie as tie
+
+returns : tie.Need-returns
+unfolding sampleNeeds needsOf
+returns c = rw (c .before .layout .ensures .laid, c .needs-of .ensures)
+
+pub greatest-needs-spec : {M : Type 1} → statement M
+greatest-needs-spec = tie.close (tie.spec (λ c κs. search needs) (λ c κs. search needs) returns)
