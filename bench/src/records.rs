@@ -148,6 +148,27 @@ fn record(random: &mut Random, sequence: u32, time: u64) -> [u8; WIDTH] {
     octets
 }
 
+/// How receive times lie: each after the one before, each moved by up to 8 places, in any order, each before the one before.
+#[derive(Clone, Copy)]
+enum Lie {
+    InOrder,
+    Nearly,
+    Shuffled,
+    Reversed,
+}
+
+/// The place of each record in the order of the receive times.
+fn places(random: &mut Random, lie: Lie, many: usize) -> Vec<usize> {
+    let mut places: Vec<usize> = (0..many).collect();
+    match lie {
+        Lie::InOrder => {}
+        Lie::Nearly => places.chunks_mut(8).for_each(|some| random.shuffle(some)),
+        Lie::Shuffled => random.shuffle(&mut places),
+        Lie::Reversed => places.reverse(),
+    }
+    places
+}
+
 /// A receive time: near others, equal to some, far off, near 0, or of a lost packet.
 fn receive_time(random: &mut Random, lost: usize) -> u64 {
     if random.once_in(lost) {
@@ -179,6 +200,20 @@ fn drawn(random: &mut Random, many: usize, sent: u32) -> Vec<u8> {
     records
 }
 
+/// Records whose times lie in one of the four ways, some of them equal, some lost.
+fn laid(random: &mut Random, many: usize, sent: u32) -> Vec<u8> {
+    let lie = random.pick(&[Lie::InOrder, Lie::Nearly, Lie::Shuffled, Lie::Reversed]);
+    let equal = random.pick(&[1, 2, 16]);
+    let lost = random.pick(&[4, 1000]);
+    let mut records = Vec::new();
+    for place in places(random, lie, many) {
+        let time = if random.once_in(lost) { 0 } else { SECOND + (place / equal) as u64 * (SECOND / 50) };
+        let sequence = random.below(sent.clamp(1, MOST as u32) as usize) as u32;
+        records.extend(record(random, sequence, time));
+    }
+    records
+}
+
 // The comparison.
 
 /// The library against the reference on records made from a seed, and on the samples of the comparison of files; the text of the
@@ -186,9 +221,14 @@ fn drawn(random: &mut Random, many: usize, sent: u32) -> Vec<u8> {
 pub fn compare(seed: u64, inputs: u64, seen: &mut Seen) -> Result<(), String> {
     for index in 0..inputs {
         let mut random = Random::new(seed ^ 0x6F77_616D, index);
-        let many = if random.once_in(500) { random.between(MOST - 1, 2 * MOST) } else { random.below(12) };
+        let many = match random.below(500) {
+            0 => random.between(MOST - 1, 2 * MOST),
+            1..=5 => random.between(12, MOST),
+            _ => random.below(40),
+        };
         let sent = if random.once_in(40) { random.pick(&[0, 4097, u32::MAX]) } else { random.between(1, MOST) as u32 };
-        let mut records = drawn(&mut random, many, sent);
+        let draw = if random.once_in(2) { drawn } else { laid };
+        let mut records = draw(&mut random, many, sent);
         if random.once_in(20) {
             records.truncate(random.below(records.len() + 1));
         }
@@ -231,23 +271,10 @@ fn written(random: &mut Random, file: &[u8], seen: &mut Seen) -> Result<(), Stri
 
 // The measurement.
 
-/// How the receive times of measured records lie: each after the one before, each moved by up to 8 places, each before it.
-#[derive(Clone, Copy)]
-enum Lie {
-    InOrder,
-    Nearly,
-    Reversed,
-}
-
 /// So many arrivals, some 20 milliseconds apart.
 fn measured(lie: Lie, many: usize) -> Vec<u8> {
     let mut random = Random::new(1, 1);
-    let mut places: Vec<usize> = (0..many).collect();
-    match lie {
-        Lie::InOrder => {}
-        Lie::Nearly => places.chunks_mut(8).for_each(|some| random.shuffle(some)),
-        Lie::Reversed => places.reverse(),
-    }
+    let places = places(&mut random, lie, many);
     let mut records = Vec::new();
     for (sequence, place) in places.into_iter().enumerate() {
         let time = SECOND + place as u64 * (SECOND / 50) + random.below(1 << 20) as u64;
@@ -259,9 +286,12 @@ fn measured(lie: Lie, many: usize) -> Vec<u8> {
 /// Import in each order, and write, of so many records, in nanoseconds of a call.
 pub fn time(amounts: &[usize]) {
     println!("{:22} {:>5} {:>11} {:>11} {:>6}", "OWAMP records", "A", "library", "reference", "ratio");
-    for (name, lie) in
-        [("import in order", Lie::InOrder), ("import nearly", Lie::Nearly), ("import reversed", Lie::Reversed)]
-    {
+    for (name, lie) in [
+        ("import in order", Lie::InOrder),
+        ("import nearly", Lie::Nearly),
+        ("import shuffled", Lie::Shuffled),
+        ("import reversed", Lie::Reversed),
+    ] {
         for &many in amounts {
             let records = measured(lie, many);
             let mut lists = [(); 2].map(|()| (vec![0; many], vec![0; many]));

@@ -57,7 +57,7 @@ fn position_of(count: u32, class: Class) -> u32
     }
 }
 
-// Notes at the discontinuities of the records after `from`, up to `to`, the position of its discoverer.
+// Goes over the records after the first `from`, up to record `to`: notes at each discontinuity the position of its discoverer.
 fn note_to(
     file: &[u8],
     y: Layout,
@@ -87,8 +87,8 @@ fn note_to(
     state
 }
 
-// Notes at every discontinuity of a sample the position of its discoverer, and answers the position of the record
-// asked for, 0 for a duplicate. It stops before that record, so that no other has to be asked whether it is the one.
+// Notes at every discontinuity of a sample the position of its discoverer, and returns the position of the record
+// asked for, 0 for a duplicate. The pass stops before that record, so that no other is asked whether it is the one.
 fn note_discoverers(file: &[u8], y: Layout, asked: u32, found: &mut [u16; PLACES]) -> u32
     requires { ⌜ FileLayout (decode (now file)) y × (1 ≤ asked) × (asked ≤ y .arrivals) × (now found ≡ replicate numberPlaces 0) ⌝ }
     ensures { λ r. ⌜ (known r ≡ positionOf (answerAt (decode (now (file .entry))) (asked - 1)))

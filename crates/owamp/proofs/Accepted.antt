@@ -10,6 +10,8 @@ use mathlib.Core.Path.{_≡_, refl, sym, ap, _∙_}
 use lib.Dec.{ltb}
 use lib.ListN.{length, length-map}
 use borrow.Author.Tests.{le-ltb, ltb-false}
+use Rattle.merging.specs.Order.{NotBelow, insert, inOrder}
+use Rattle.merging.proofs.Ordered.{in-order, order-length, order-more}
 use Rattle.rfc4737.specs.declared.Arrival.{Arrival}
 use Rattle.rfc4737.specs.Judge.{numbersOf, timesOf, judgeOne, judge, refusalOfLists}
 use Rattle.rfc4737.specs.Refusals.{firstOf}
@@ -20,36 +22,34 @@ use Rattle.rfc4737.proofs.Pairs.{arrivals-back}
 use Rattle.rfc4737.proofs.Judged.{fit-lists}
 use Rattle.sample.specs.Judge.{judgeLabel, judgeOctets, sampleRefusal}
 use Rattle.owamp.specs.Record.{recordsArrivals}
-use Rattle.owamp.specs.Order.{NotBefore, NotBack, insert, inTimeOrder}
+use Rattle.owamp.specs.Order.{timeOf, NotBack, inTimeOrder}
 use Rattle.owamp.specs.Clock.{microseconds, smallest, since, fromSmallest}
 use Rattle.owamp.specs.Judge.{recordsRefusal}
 use Rattle.owamp.specs.Calls.{importedArrivals}
 use Rattle.owamp.specs.RoundTrip.{AcceptedLists}
-use Rattle.owamp.proofs.Sorted.{in-order, order-more}
 use Rattle.owamp.proofs.Reading.{Within}
 use Rattle.owamp.proofs.Clocks.{micro-rising}
-use Rattle.owamp.proofs.Inserted.{order-length}
 use Rattle.owamp.proofs.Converted.{smallest-length}
 use Rattle.owamp.proofs.Answers.{none-refused}
 
 -- ---- what holds of every arrival holds of every one in order
 
 module _ (P : Arrival → Type 0) where
-  insert-all : (a : Arrival) (l : List Arrival) → P a → All P l → All P (insert a l)
+  insert-all : (a : Arrival) (l : List Arrival) → P a → All P l → All P (insert timeOf a l)
   unfolding insert
   insert-all a [] p h = (p, tt)
   insert-all a (b ∷ l) p h = go (insert-all a l p (h .1)) (ltb (a .time) (b .time))
     where
-      go : All P (insert a l) → (t : Bool) → All P (cond t (a ∷ b ∷ l) (b ∷ insert a l))
+      go : All P (insert timeOf a l) → (t : Bool) → All P (cond t (a ∷ b ∷ l) (b ∷ insert timeOf a l))
       go m true = (p, h)
       go m false = (h .0, m)
 
   order-all : (l : List Arrival) → All P l → All P (inTimeOrder l)
-  unfolding inTimeOrder
+  unfolding inOrder
   order-all l = snoc-ind (λ (l : List Arrival). All P l → All P (inTimeOrder l)) more (λ h. tt) l
     where
       more : (l : List Arrival) (a : Arrival) → (All P l → All P (inTimeOrder l)) → All P (l ++ (a ∷ [])) → All P (inTimeOrder (l ++ (a ∷ [])))
-      more l a f h = rw (order-more l a) (insert-all a (inTimeOrder l) (all-right P l (a ∷ []) h .0) (f (all-left P l (a ∷ []) h)))
+      more l a f h = rw (order-more timeOf l a) (insert-all a (inTimeOrder l) (all-right P l (a ∷ []) h .0) (f (all-left P l (a ∷ []) h)))
 
 -- ---- in microseconds
 
@@ -58,7 +58,7 @@ module _ (b : ℕ) where
   since-within k [] h = tt
   since-within k (a ∷ l) h = (h .0, since-within k l (h .1))
 
-  since-before : (t : ℕ) (l : List Arrival) → NotBefore t l → NotBefore (microseconds t - b) (map (since b) l)
+  since-before : (t : ℕ) (l : List Arrival) → NotBelow timeOf t l → NotBelow timeOf (microseconds t - b) (map (since b) l)
   since-before t [] n = tt
   since-before t (a ∷ l) n = ((let m = micro-rising t (a .time) (n .0) in omega arith), since-before t l (n .1))
 
@@ -70,7 +70,7 @@ imported-rising : (os : List ℕ) → NotBack (importedArrivals os)
 unfolding importedArrivals fromSmallest
 imported-rising os =
     let l : List Arrival = inTimeOrder (recordsArrivals os) in
-    since-rising (smallest (map microseconds (timesOf l))) l (in-order (recordsArrivals os) .rising)
+    since-rising (smallest (map microseconds (timesOf l))) l (in-order timeOf (recordsArrivals os) .rising)
 
 -- ---- the judge of arrivals
 
@@ -84,7 +84,7 @@ reference-on reference time h = go (ltb reference time) refl
     go false e = omega (arith, ltb-false)
 
 -- numbers in 1 to K and times that do not go back, from the reference on: none is refused
-judge-none : (k reference : ℕ) (l : List Arrival) → All (Within k) l → NotBefore reference l → NotBack l → judge k reference l ≡ 0
+judge-none : (k reference : ℕ) (l : List Arrival) → All (Within k) l → NotBelow timeOf reference l → NotBack l → judge k reference l ≡ 0
 unfolding judge judgeOne tooEarly
 judge-none k reference [] h n r = refl
 judge-none k reference (a ∷ l) h n r =
@@ -92,7 +92,7 @@ judge-none k reference (a ∷ l) h n r =
     rw
     (not-outside 1 k (a .number) (h .0 .0) (h .0 .1), le-ltb backMost (reference - a .time) b, reference-on reference (a .time) (n .0), judge-none k (a .time) l (h .1) (r .0) (r .1))
 
-before-zero : (l : List Arrival) → NotBefore 0 l
+before-zero : (l : List Arrival) → NotBelow timeOf 0 l
 before-zero [] = tt
 before-zero (a ∷ l) = (zero-le, before-zero l)
 
@@ -104,7 +104,7 @@ imported-within k os w =
 
 imported-length : (os : List ℕ) → length (importedArrivals os) ≡ length (recordsArrivals os)
 unfolding importedArrivals
-imported-length os = smallest-length (inTimeOrder (recordsArrivals os)) ∙ order-length (recordsArrivals os)
+imported-length os = smallest-length (inTimeOrder (recordsArrivals os)) ∙ order-length timeOf (recordsArrivals os)
 
 accepted : (k : ℕ) (os : List ℕ) → recordsRefusal k os ≡ 0 → refusalOfLists k (numbersOf (importedArrivals os)) (timesOf (importedArrivals os)) ≡ 0
 accepted k os e =

@@ -10,23 +10,23 @@ use mathlib.Core.Bool.{_||_, or-true}
 use mathlib.Core.List.{List, [], _∷_}
 use mathlib.Core.Path.{_≡_, refl, sym, ap, _∙_}
 use lib.Dec.{ltb}
-use lib.ListN.{length, getD, List·getD-append, length-map, drop}
+use lib.ListN.{length, getD, List·getD-append, List·getD-map, length-map, drop}
 use borrow.Author.Tests.{lt-ltb, le-ltb}
 use Rattle.octets.specs.Memory.{over}
+use Rattle.merging.proofs.Ordered.{rising-at, in-order, order-length}
 use Rattle.rfc4737.specs.declared.Arrival.{Arrival}
 use Rattle.rfc4737.specs.Refusals.{inCase, firstOf, sentOutside, manyArrivals, outputShort}
 use Rattle.rfc4737.specs.Judge.{numbersOf, timesOf, judgeSent, judgeArrivals, sentMost, arrivalsMost}
 use Rattle.sample.specs.Output.{ifNone}
+use Rattle.sample.specs.Places.{noArrival}
 use Rattle.owamp.specs.Record.{recordsArrivals}
-use Rattle.owamp.specs.Order.{inTimeOrder}
+use Rattle.owamp.specs.Order.{timeOf, NotBack, inTimeOrder}
 use Rattle.owamp.specs.Clock.{fromSmallest}
 use Rattle.owamp.specs.Judge.{judgeLength, judgeNumbers, recordsRefusal}
 use Rattle.owamp.specs.Calls.{importRefusal, importedArrivals, RecordsImportedFrom}
 use Rattle.rfc4737.proofs.Due.{each-none, limit-none}
 use Rattle.rfc4737.proofs.Lists.{All}
-use Rattle.owamp.proofs.Sorted.{in-order}
 use Rattle.owamp.proofs.Reading.{Within, numbers-all}
-use Rattle.owamp.proofs.Inserted.{order-length, rising-first}
 use Rattle.owamp.proofs.Converted.{smallest-numbers, smallest-length}
 
 -- what is known of K and records of which nothing is refused
@@ -88,7 +88,7 @@ module _ (k : ℕ) (os numbers times : List ℕ) where
       let l : List Arrival = inTimeOrder (recordsArrivals os) in
       let a : length (recordsArrivals os) ≤ length numbers = omega arith in
       let b : length (recordsArrivals os) ≤ length times = omega arith in
-      let m : length (fromSmallest l) ≡ length (recordsArrivals os) = smallest-length l ∙ order-length (recordsArrivals os) in
+      let m : length (fromSmallest l) ≡ length (recordsArrivals os) = smallest-length l ∙ order-length timeOf (recordsArrivals os) in
       answered n (simp (e, le-ltb _ _ a, le-ltb _ _ b)) (c ∙ sym m) (f ∙ ap (λ (x : List ℕ). over x numbers) (smallest-numbers l)) t
 
 -- where there are places for 4,096 arrivals, the refusal is that of K and the records
@@ -102,12 +102,18 @@ import-room k numbers times os n t = go (recordsRefusal k os) refl
         rw (e, le-ltb numbers (length (recordsArrivals os)) (omega arith), le-ltb times (length (recordsArrivals os)) (omega arith))
     go (suc r) e = rw e
 
+-- of rising times none is before the first
+rising-first : (l : List Arrival) → NotBack l → (k : ℕ) → k < length l → getD (timesOf l) 0 0 ≤ getD (timesOf l) k 0
+rising-first l r k h =
+    let at : (j : ℕ) → getD (timesOf l) j 0 ≡ getD l j noArrival .time = λ j. List·getD-map timeOf l j noArrival in
+    omega (arith, at 0, at k, rising-at timeOf l r 0 k noArrival (omega arith) h)
+
 -- none of the recorded times, as they were filled, is before the first
 pub filled-first : (os old : List ℕ) {d : List ℕ} → d ≡ over (timesOf (inTimeOrder (recordsArrivals os))) old → (i : ℕ) → i < length (recordsArrivals os) → getD d 0 0 ≤ getD d i 0
 filled-first os old {d} e i h =
     let l : List Arrival = inTimeOrder (recordsArrivals os) in
-    let m : length (timesOf l) ≡ length (recordsArrivals os) = length-map l (λ (a : Arrival). a .time) ∙ order-length (recordsArrivals os) in
+    let m : length (timesOf l) ≡ length (recordsArrivals os) = length-map l (λ (a : Arrival). a .time) ∙ order-length timeOf (recordsArrivals os) in
     let p : getD d 0 0 ≡ getD (timesOf l) 0 0 = ap (λ (x : List ℕ). getD x 0 0) e ∙ List·getD-append (timesOf l) (drop (length (timesOf l)) old) 0 0 (omega arith) in
     let q : getD d i 0 ≡ getD (timesOf l) i 0 = ap (λ (x : List ℕ). getD x i 0) e ∙ List·getD-append (timesOf l) (drop (length (timesOf l)) old) 0 i (omega arith) in
-    let r = rising-first l (in-order (recordsArrivals os) .rising) i (omega (arith, order-length (recordsArrivals os))) in
+    let r = rising-first l (in-order timeOf (recordsArrivals os) .rising) i (omega (arith, order-length timeOf (recordsArrivals os))) in
     omega arith

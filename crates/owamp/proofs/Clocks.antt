@@ -7,7 +7,8 @@ use mathlib.Core.List.{List, [], _∷_, foldl, map}
 use mathlib.Core.Path.{_≡_, refl, ap, _∙_}
 use Rattle.rfc4737.specs.declared.Arrival.{Arrival}
 use Rattle.rfc4737.specs.Judge.{timesOf}
-use Rattle.owamp.specs.Order.{NotBefore, NotBack}
+use Rattle.merging.specs.Order.{NotBelow}
+use Rattle.owamp.specs.Order.{timeOf, NotBack}
 use Rattle.owamp.specs.Clock.{fractions, micros, microseconds, takenOff, Distance, smallest}
 
 -- the distance from the exact time
@@ -26,7 +27,7 @@ unfolding microseconds
 micro-rising s t h = omega arith
 
 -- the smallest where none is before the first
-first-smallest : (t : ℕ) (l : List Arrival) → NotBefore t l → foldl min (microseconds t) (map microseconds (timesOf l)) ≡ microseconds t
+first-smallest : (t : ℕ) (l : List Arrival) → NotBelow timeOf t l → foldl min (microseconds t) (map microseconds (timesOf l)) ≡ microseconds t
 first-smallest t [] n = refl
 first-smallest t (a ∷ l) n =
     let k = micro-rising t (a .time) (n .0) in

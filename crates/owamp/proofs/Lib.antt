@@ -1,9 +1,9 @@
 -- Laws of the definitions of specs/.
-pub mod Sorted
 pub mod Clocks
-pub mod Shifted
 pub mod Reading
-pub mod Inserted
+pub mod InTurn
+pub mod Paired
+pub mod Sorting
 pub mod Converted
 pub mod Answers
 pub mod Accepted

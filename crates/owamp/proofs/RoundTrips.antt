@@ -15,19 +15,20 @@ use borrow.Author.Tests.{ltb-false, ne-eqb, eq-eqb}
 use Rattle.octets.specs.BigEndian.{beValue, beOctets}
 use Rattle.octets.specs.Memory.{part}
 use Rattle.octets.proofs.BigEndian.{octets-length, value-octets, value-append}
+use Rattle.merging.specs.Order.{NotBelow, passing}
+use Rattle.merging.proofs.Ordered.{order-rising}
 use Rattle.rfc4737.specs.declared.Arrival.{Arrival}
 use Rattle.rfc4737.specs.Refusals.{outside, firstOf, secondsOver}
 use Rattle.rfc4737.specs.Judge.{sentMost, arrivalsMost, numbersOf}
 use Rattle.sample.specs.Format.{itemsIn, itemOctets}
-use Rattle.owamp.specs.Record.{recordWidth, recordIn, recordCount, passing, isArrival, recordsArrivals}
-use Rattle.owamp.specs.Order.{NotBefore, NotBack, inTimeOrder}
+use Rattle.owamp.specs.Record.{recordWidth, recordIn, recordCount, isArrival, recordsArrivals}
+use Rattle.owamp.specs.Order.{timeOf, NotBack, inTimeOrder}
 use Rattle.owamp.specs.Clock.{fractions, fromSmallest, writtenSeconds, writtenFraction}
 use Rattle.owamp.specs.Judge.{judgeNumber, judgeNumbers, recordsRefusal, secondsMost, judgeTime, judgeSeconds}
 use Rattle.owamp.specs.Calls.{importedArrivals, recordOctets, recordsOf}
 use Rattle.rfc4737.proofs.Due.{first-none, case-none, not-outside}
 use Rattle.rfc4737.proofs.Lists.{All}
 use Rattle.sample.proofs.Items.{octets-many}
-use Rattle.owamp.proofs.Sorted.{order-rising}
 use Rattle.owamp.proofs.Reading.{Within, numbers-all}
 use Rattle.owamp.proofs.Converted.{smallest-numbers}
 
@@ -116,7 +117,7 @@ arrivals-read k l h e s =
     let n : recordCount (itemOctets recordOctets l) ≡ length l = omega (arith, octets-many recordOctets recordWidth record-long l) in
     ap (λ (c : ℕ). passing isArrival (itemsIn recordWidth recordIn c (itemOctets recordOctets l))) n ∙ ap (passing isArrival) (items-read k l h (numbers-all k l e) s) ∙ all-arrived l
 
-stamped-before : (t : ℕ) (l : List Arrival) → NotBefore t l → NotBefore (stampOf t) (map stamped l)
+stamped-before : (t : ℕ) (l : List Arrival) → NotBelow timeOf t l → NotBelow timeOf (stampOf t) (map stamped l)
 stamped-before t [] n = tt
 stamped-before t (a ∷ l) n = (stamp-rising t (a .time) (n .0), stamped-before t l (n .1))
 
@@ -150,6 +151,6 @@ records-again k l h₁ h₂ m e s r =
     let o : outside 0 arrivalsMost (length (recordsArrivals (recordsOf l))) ≡ false = not-outside 0 arrivalsMost _ (omega arith) (omega arith) in (
       simp (eq-eqb _ _ n, not-outside 1 sentMost k h₁ h₂, o, j),
       ap (λ (x : List Arrival). numbersOf (fromSmallest (inTimeOrder x))) q
-          ∙ ap (λ (x : List Arrival). numbersOf (fromSmallest x)) (order-rising (map stamped l) (stamped-rising l r))
+          ∙ ap (λ (x : List Arrival). numbersOf (fromSmallest x)) (order-rising timeOf (map stamped l) (stamped-rising l r))
           ∙ sym (smallest-numbers (map stamped l)) ∙ stamped-numbers l,
     )

@@ -1,12 +1,13 @@
 -- The packet record of RFC 4656, section 3.9: 25 octets, all numbers big-endian. The places of its fields stand here and nowhere else.
 -- Assumes nothing.
 use Prim.Native.Nat.{ℕ, _+_, _/_}
-use mathlib.Core.Bool.{Bool, true, false, not}
-use mathlib.Core.List.{List, [], _∷_}
+use mathlib.Core.Bool.{Bool, not}
+use mathlib.Core.List.{List}
 use lib.Dec.{eqb}
 use lib.ListN.{length}
 use Rattle.octets.specs.BigEndian.{beValue, beOctets}
 use Rattle.octets.specs.Memory.{part}
+use Rattle.merging.specs.Order.{passing}
 use Rattle.rfc4737.specs.declared.Arrival.{Arrival}
 use Rattle.sample.specs.Format.{itemsIn}
 
@@ -67,16 +68,6 @@ recordCount os = length os / recordWidth
 -- the records in file order
 abbrev pub recordsIn : List ℕ → List Arrival
 recordsIn os = itemsIn recordWidth recordIn (recordCount os) os
-
--- an element before a list if a test passes
-abbrev pub keptIf {ℓ} : {A : Type ℓ} → Bool → A → List A → List A
-keptIf true a l = a ∷ l
-keptIf false a l = l
-
--- the elements that pass a test, in their order
-unfoldable pub passing {ℓ} : {A : Type ℓ} → (A → Bool) → List A → List A
-passing p [] = []
-passing p (a ∷ l) = keptIf (p a) a (passing p l)
 
 -- whether a record is an arrival; one with a receive time of zero is a lost packet
 abbrev pub isArrival : Arrival → Bool

@@ -3,7 +3,7 @@ ghost use mathlib.Core.Path.{_≡_};
 ghost use Rattle.owamp.specs.Clock.{microseconds, writtenSeconds, writtenFraction};
 
 // Fractions to a second.
-const FRACTIONS: u64 = 4_294_967_296;
+pub(crate) const FRACTIONS: u64 = 4_294_967_296;
 
 // Microseconds to a second.
 const MICROS: u64 = 1_000_000;

@@ -1,13 +1,12 @@
 // What is refused of records and K, and of times that are written.
 ghost use mathlib.Core.Path.{_≡_};
-ghost use mathlib.Core.Bool.{cond};
-ghost use lib.Dec.{eqb};
+ghost use mathlib.Core.List.{[], _∷_};
 ghost use lib.ListN.{length};
+ghost use Rattle.rfc4737.specs.Refusals.{outside, inCase, firstOf, numberOutside};
 ghost use Rattle.sample.specs.Decode.{decode, layoutOf};
 ghost use Rattle.owamp.specs.Record.{recordsArrivals};
 ghost use Rattle.owamp.specs.Judge.{judgeNumbers, recordsRefusal, judgeTime, judgeSeconds};
 ghost use Rattle.owamp.specs.Calls.{arrivalsOfFile};
-ghost use Rattle.owamp.specs.Private.{judgeRecord};
 use crate::clock::seconds_of;
 use crate::records::WIDTH;
 use crate::records::number_of;
@@ -25,62 +24,55 @@ use sample::Layout;
 // The greatest number of 32 bits.
 const SECONDS_MOST: u64 = 4_294_967_295;
 
-// 1 for an arrival, 0 for a lost packet, by the receive time.
-fn one_if_arrived(time: u64) -> usize
-    ensures { λ r. ⌜ r ≡ cond (eqb time 0) 0 1 ⌝ }
-{
-    if time != 0 {
-        return 1;
-    }
-    0
+// What a pass over records finds: the number of arrivals, and the first refusal of an arrival, or 0.
+pub(crate) struct Judged {
+    pub arrivals: usize,
+    pub refusal: u32,
 }
 
-// How many records are arrivals.
-pub(crate) fn arrivals_among(records: &[u8]) -> usize
-    ensures { λ r. ⌜ r ≡ length (recordsArrivals (now (records .entry))) ⌝ }
+// One packet number by 6.
+fn judge_number(k: u64, number: u64) -> u32
+    ensures { λ r. ⌜ r ≡ inCase (outside 1 k number) numberOutside ⌝ }
 {
-    let count = records.len() / WIDTH;
-    let mut n = 0;
-    let mut i = 0;
-    while i < count {
-        n += one_if_arrived(time_of(records, i));
-        i += 1;
-    }
-    n
-}
-
-// One record by 6; nothing of a lost one is judged.
-fn judge_record(k: u64, number: u64, time: u64) -> u32
-    ensures { λ r. ⌜ r ≡ judgeRecord k (record { number = number; time = time }) ⌝ }
-{
-    if time == 0 {
-        return 0;
-    }
     if outside(1, k, number) {
         return NUMBER_OUTSIDE;
     }
     0
 }
 
-// The records in turn, each by 6.
-fn judge_numbers(records: &[u8], k: u64) -> u32
-    ensures { λ r. ⌜ r ≡ judgeNumbers k (recordsArrivals (now (records .entry))) ⌝ }
+// The first of two refusals that applies.
+fn first_of(first: u32, second: u32) -> u32
+    ensures { λ r. ⌜ r ≡ firstOf (first ∷ second ∷ []) ⌝ }
 {
-    let count = records.len() / WIDTH;
-    let mut i = 0;
-    while i < count {
-        let refusal = judge_record(k, number_of(records, i), time_of(records, i));
-        if refusal != 0 {
-            return refusal;
-        }
-        i += 1;
+    if first != 0 {
+        return first;
     }
-    0
+    second
 }
 
-// The first refusal that is due of K and records, so many of them arrivals: 15, 4, 5, 6; 0 if none is.
-pub(crate) fn records_refusal(records: &[u8], k: u32, count: usize) -> u32
-    requires { ⌜ count ≡ length (recordsArrivals (now records)) ⌝ }
+// Counts the arrivals among records and judges each by 6; a lost record is passed over.
+pub(crate) fn judge_arrivals(records: &[u8], k: u64) -> Judged
+    ensures { λ r. ⌜ (r .arrivals ≡ length (recordsArrivals (now (records .entry)))) × (r .refusal ≡ judgeNumbers k (recordsArrivals (now (records .entry)))) ⌝ }
+{
+    let count = records.len() / WIDTH;
+    let mut arrivals = 0;
+    let mut refusal = 0;
+    let mut i = 0;
+    while i < count {
+        let number = number_of(records, i);
+        let time = time_of(records, i);
+        i += 1;
+        if time != 0 {
+            arrivals += 1;
+            refusal = first_of(refusal, judge_number(k, number));
+        }
+    }
+    Judged { arrivals, refusal }
+}
+
+// The first refusal that applies to K and records whose arrivals are judged: 15, 4, 5, 6; 0 if none does.
+pub(crate) fn records_refusal(records: &[u8], k: u32, judged: Judged) -> u32
+    requires { ⌜ (judged .arrivals ≡ length (recordsArrivals (now records))) × (judged .refusal ≡ judgeNumbers k (recordsArrivals (now records))) ⌝ }
     ensures { λ r. ⌜ r ≡ recordsRefusal k (now (records .entry)) ⌝ }
 {
     if records.len() % WIDTH != 0 {
@@ -89,10 +81,10 @@ pub(crate) fn records_refusal(records: &[u8], k: u32, count: usize) -> u32
     if outside(1, SENT_MOST, k as u64) {
         return SENT_OUTSIDE;
     }
-    if outside(0, ARRIVALS_MOST, count as u64) {
+    if outside(0, ARRIVALS_MOST, judged.arrivals as u64) {
         return MANY_ARRIVALS;
     }
-    judge_numbers(records, k as u64)
+    judged.refusal
 }
 
 // One time by 18.

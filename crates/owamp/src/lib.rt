@@ -5,7 +5,8 @@ ghost use Prim.Native.Nat.{_*_, _≤_};
 ghost use lib.ListN.{length};
 ghost use Rattle.octets.specs.Memory.{splice};
 ghost use Rattle.owamp.specs.Record.{recordWidth, recordsArrivals};
-ghost use Rattle.owamp.specs.Order.{OnlyOne};
+ghost use Rattle.merging.specs.Order.{OnlyOne};
+ghost use Rattle.owamp.specs.Order.{timeOf};
 ghost use Rattle.owamp.specs.Clock.{RoundedDown};
 ghost use Rattle.owamp.specs.Calls.{RecordsImportedFrom, recordsOf, arrivalsOfFile, RecordsWrittenTo};
 ghost use Rattle.owamp.specs.RoundTrip.{AcceptedLists, RecordsReadAgain};
@@ -15,11 +16,12 @@ ghost use Rattle.sample.specs.Decode.{decode, layoutOf};
 mod clock;
 mod fill;
 mod judge;
+mod order;
 mod records;
 
 use fill::fill_arrivals;
 use fill::to_microseconds;
-use judge::arrivals_among;
+use judge::judge_arrivals;
 use judge::judge_seconds;
 use judge::records_refusal;
 use records::WIDTH;
@@ -36,22 +38,23 @@ pub struct RecordsImport {
 }
 
 // Imports the records of K sent packets: fills the lists of numbers and times from their start, in the order of the receive
-// times as recorded. With a refusal they stay as they were.
+// times as recorded. With a refusal they stay as they were. Cost: O(A) in order, O(A log A) at most.
 pub fn import(records: &[u8], k: u32, numbers: &mut [u32], times: &mut [u64]) -> RecordsImport
     ensures { λ r. ⌜ RecordsImportedFrom k (now (records .entry)) (now (numbers .entry)) (now (times .entry)) r (now (numbers .exit)) (now (times .exit)) ⌝ }
-    ensures order { λ _. ⌜ OnlyOne (recordsArrivals (now (records .entry))) ⌝ }
+    ensures order { λ _. ⌜ OnlyOne timeOf (recordsArrivals (now (records .entry))) ⌝ }
     ensures clock { λ _. ⌜ RoundedDown ⌝ }
     ensures accepted { λ _. ⌜ AcceptedLists k (now (records .entry)) ⌝ }
     ensures cases { λ _. ⌜ RecordsReadAsGiven ⌝ }
 {
-    let count = arrivals_among(records);
-    let refusal = records_refusal(records, k, count);
+    let judged = judge_arrivals(records, k as u64);
+    let refusal = records_refusal(records, k, judged);
     if refusal != 0 {
         return RecordsImport {
             refusal,
             arrivals: 0,
         };
     }
+    let count = judged.arrivals;
     if numbers.len() < count {
         return RecordsImport {
             refusal: OUTPUT_SHORT,

@@ -6,6 +6,7 @@ ghost use Rattle.octets.specs.Memory.{put};
 ghost use Rattle.owamp.specs.Record.{recordWidth, recordCount, recordsIn};
 ghost use Rattle.owamp.specs.Calls.{recordOctets};
 ghost use Rattle.sample.specs.Places.{noArrival};
+use crate::clock::FRACTIONS;
 use crate::clock::fraction_of;
 use crate::clock::seconds_of;
 
@@ -32,15 +33,23 @@ pub(crate) fn number_of(records: &[u8], i: usize) -> u64
     requires { ⌜ i < recordCount (now records) ⌝ }
     ensures { λ r. ⌜ r ≡ getD (recordsIn (now (records .entry))) i noArrival .number ⌝ }
 {
-    octets::number_at(records, WIDTH * i + SEQUENCE_NUMBER, 4) + 1
+    let start = WIDTH * i;
+    let end = start + WIDTH;
+    let one = &records[start..end];
+    octets::number_at(one, SEQUENCE_NUMBER, 4) + 1
 }
 
-// The receive time of record i + 1, as recorded.
+// The receive time of record i + 1, as recorded: seconds and fraction, two numbers of 4 octets, which compile to one load.
 pub(crate) fn time_of(records: &[u8], i: usize) -> u64
     requires { ⌜ i < recordCount (now records) ⌝ }
     ensures { λ r. ⌜ r ≡ getD (recordsIn (now (records .entry))) i noArrival .time ⌝ }
 {
-    octets::number_at(records, WIDTH * i + RECEIVE_TIME, 8)
+    let start = WIDTH * i;
+    let end = start + WIDTH;
+    let one = &records[start..end];
+    let seconds = octets::number_at(one, RECEIVE_TIME, 4);
+    let fraction = octets::number_at(one, RECEIVE_FRACTION, 4);
+    seconds * FRACTIONS + fraction
 }
 
 // Writes the record of an arrival.

@@ -8,26 +8,26 @@ use mathlib.Core.Path.{_≡_, sym, _∙_}
 use mathlib.Core.List.{List}
 use lib.ListN.{length}
 use denote.Ref.{now}
+use Rattle.merging.specs.Order.{OnlyOne}
+use Rattle.merging.proofs.Ordered.{in-order, order-length, only-one}
 use Rattle.owamp.proofs.Accepted.{accepted-lists}
 use Rattle.owamp.specs.Record.{recordsArrivals}
-use Rattle.owamp.specs.Order.{inTimeOrder, OnlyOne}
+use Rattle.owamp.specs.Order.{timeOf, inTimeOrder}
 use Rattle.owamp.specs.Clock.{RoundedDown}
 use Rattle.owamp.specs.Judge.{recordsRefusal}
 use Rattle.owamp.specs.RoundTrip.{AcceptedLists}
 use Rattle.owamp.specs.Cases.{RecordsReadAsGiven}
 use Rattle.owamp.proofs.Clocks.{distance}
 use Rattle.owamp.proofs.Cases.{read-as-given}
-use Rattle.owamp.proofs.Sorted.{only-one, in-order}
 use Rattle.owamp.proofs.Reading.{numbers-fit}
-use Rattle.owamp.proofs.Inserted.{order-length}
 use Rattle.owamp.proofs.Converted.{times-converted}
 use Rattle.owamp.proofs.Answers.{none-refused, import-refused, import-short-numbers, import-short-times, import-filled, filled-first}
 use Rattle.owamp.proofs.import.Statement.{statement}
 use Rattle.owamp.proofs.import.Tie as tie
 
 -- the theorems that the contract carries
-carried : (k : ℕ) (os : List ℕ) → OnlyOne (recordsArrivals os) × (RoundedDown × (AcceptedLists k os × RecordsReadAsGiven))
-carried k os = (only-one (recordsArrivals os), (distance, (accepted-lists k os, read-as-given)))
+carried : (k : ℕ) (os : List ℕ) → OnlyOne timeOf (recordsArrivals os) × (RoundedDown × (AcceptedLists k os × RecordsReadAsGiven))
+carried k os = (only-one timeOf (recordsArrivals os), (distance, (accepted-lists k os, read-as-given)))
 
 -- the start, from where K and the records are not refused
 abbrev start : tie.Else1 → tie.Start
@@ -40,8 +40,8 @@ records c = now (start c .args .records)
 none : (c : tie.Else1) → recordsRefusal (start c .args .k) (records c) ≡ 0
 none c = sym (c .before .records-refusal .ensures) ∙ c .if1 .left
 
-many : (c : tie.Else1) → c .before .before .arrivals-among .result ≡ length (recordsArrivals (records c))
-many c = c .before .before .arrivals-among .ensures
+many : (c : tie.Else1) → c .before .before .judge-arrivals .result .arrivals ≡ length (recordsArrivals (records c))
+many c = c .before .before .judge-arrivals .ensures .0
 
 returns : tie.Need-returns
 returns c =
@@ -63,7 +63,7 @@ fill-arrivals-requires : tie.Need-fill-arrivals-requires
 fill-arrivals-requires c κs =
     let e = c .before .before .before .before in
     let f = none-refused (start e .args .k) (records e) (none e) in
-    (omega (arith, c .before .before .before .if2 .left, many e), omega (arith, c .before .before .if3 .left, many e), numbers-fit (start e .args .k) (recordsArrivals (records e)) (f .most) (f .numbers))
+    (omega (arith, c .before .before .before .if2 .left, many e), omega (arith, c .before .before .if3 .left, many e), numbers-fit (start e .args .k) (recordsArrivals (records e)) (f .most) (f .numbers), f .few)
 
 to-microseconds-requires : tie.Need-to-microseconds-requires
 to-microseconds-requires c κs =
@@ -73,8 +73,8 @@ to-microseconds-requires c κs =
     let n = many e in
     (omega arith, λ i h. filled-first (records e) (now (start e .args .times)) (f .ensures .1) i (omega arith))
 
-cast-t16 : tie.Need-cast-t16
-cast-t16 c =
+cast-t18 : tie.Need-cast-t18
+cast-t18 c =
     let e = c .before .before .before .before .before .before .before .before .before .before .before .before .before in
     omega (arith, none-refused (start e .args .k) (records e) (none e) .few, many e)
 
@@ -84,7 +84,7 @@ returns-4 c =
     let a = start e .args in
     let l = recordsArrivals (records e) in
     let f = c .before .before .before .before .before .before .before .before .fill-arrivals .ensures in
-    let t = times-converted (inTimeOrder l) _ (now (a .times)) (in-order l .rising) (many e ∙ sym (order-length l)) (f .1) (c .before .before .to-microseconds .ensures) in
+    let t = times-converted (inTimeOrder l) _ (now (a .times)) (in-order timeOf l .rising) (many e ∙ sym (order-length timeOf l)) (f .1) (c .before .before .to-microseconds .ensures) in
     (import-filled (a .k) (records e) (now (a .numbers)) (now (a .times)) _ (none e) (many e) (c .before .before .before .before .before .before .before .before .before .before .before .before .if2 .left) (c .before .before .before .before .before .before .before .before .before .before .before .if3 .left) (f .0) t, carried (a .k) (records e))
 
 pub import-spec : {M : Type 1} → statement M
@@ -97,6 +97,6 @@ import-spec =
     returns-3
     fill-arrivals-requires
     to-microseconds-requires
-    cast-t16
+    cast-t18
     (λ c. search needs) (λ c. search needs)
     returns-4)

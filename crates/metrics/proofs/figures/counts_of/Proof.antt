@@ -1,6 +1,7 @@
 -- `metrics::figures::counts_of` meets its contract. The loop's invariant: the table has the packets that have arrived before i, `next` is
 -- their NextExp, and the counts are those of their answers. One arrival more is `seen-next` and `counts-seen`; the counts stay small, as
--- there are at most 4,096 arrivals. The measure is what is left of the arrivals. Assumes nothing.
+-- there are at most 4,096 arrivals. The measure is what is left of the arrivals. k is the place where the kind is known.
+-- Assumes nothing.
 use mathlib.Core.Path.{_≡_, sym, ap, _∙_}
 use Prim.Native.Nat.{_≤_, _<_, _-_}
 use native.Mathlib.Omega.{arith}
@@ -24,13 +25,23 @@ Inv-loop file y seen₀ next₀ c₀ i₀ seen next c i =
 abbrev μ-loop : tie.MeasureT-loop
 μ-loop file y seen₀ next₀ c₀ i₀ seen next c i = y .arrivals - i
 
+-- ---- places: the loop's head, and the function's start
+
+abbrev head : tie.After-kind-of Inv-loop μ-loop → tie.At-loop Inv-loop μ-loop
+head k = k .before .before .before .before .before
+
+abbrev start : tie.At-loop Inv-loop μ-loop → tie.Start Inv-loop μ-loop
+start l = l .before .before .before
+
+-- ---- a turn
+
 -- record i + 1 is there
-here : (c : tie.After-kind-of Inv-loop μ-loop) → HasRecord (decode (now (c .before .before .before .before .before .before .before .before .args .file))) (c .before .before .before .before .before .before .before .before .args .y) (c .before .before .before .before .before .loop .i)
-here c = record { file = c .before .before .before .before .before .before .before .before .pre; inside = c .before .before .before .if1 .taken }
+here : (k : tie.After-kind-of Inv-loop μ-loop) → HasRecord (decode (now (start (head k) .args .file))) (start (head k) .args .y) (head k .loop .i)
+here k = record { file = start (head k) .pre; inside = k .before .before .before .if1 .taken }
 
 -- the arrivals before it are few
-few : (c : tie.After-kind-of Inv-loop μ-loop) → c .before .before .before .before .before .loop .i < arrivalsMost
-few c = let h = here c in omega (arith, h .inside, h .file .few)
+few : (k : tie.After-kind-of Inv-loop μ-loop) → head k .loop .i < arrivalsMost
+few k = let h = here k in omega (arith, h .inside, h .file .few)
 
 loop-holds : tie.Need-loop-holds Inv-loop μ-loop
 loop-holds c =
@@ -44,7 +55,7 @@ kind-of-requires : tie.Need-kind-of-requires Inv-loop μ-loop
 kind-of-requires c κs = let h = c .before .number-of .ensures .2 in (h, unseen _ _ _ (c .before .before .before .before .loop .inv .1) _ h)
 
 counts-after-requires : tie.Need-counts-after-requires Inv-loop μ-loop
-counts-after-requires c κs = rw (c .before .before .before .before .before .loop .inv .2) (counts-within _ (omega (arith, answers-length _ _ _ (here c), few c)))
+counts-after-requires c κs = rw (head c .loop .inv .2) (counts-within _ (omega (arith, answers-length _ _ _ (here c), few c)))
 
 cast-at : tie.Need-cast-at Inv-loop μ-loop
 cast-at c = omega (arith, c .before .before .before .number-of .ensures .2)
@@ -63,12 +74,12 @@ loop-less c = omega (arith, c .before .before .before .before .before .if1 .take
 
 loop-again : tie.Need-loop-again Inv-loop μ-loop
 loop-again c =
-    let l = c .before .before .before .before .before .before .before .loop in
-    let at = c .before .before in
-    let n = c .before .before .before .before .number-of .ensures in (
-      omega (arith, here at .inside),
-      rw (c .next-after .ensures) (seen-next _ _ _ (here at) _ _ (l .inv .1) _ (n .0) (n .2)),
-      counts-seen _ _ _ (here at) _ _ (l .inv .1) _ (n .0) (n .2) (at .kind-of .ensures) (λ m a. c .before .counts-after .ensures _ m a (l .inv .2)),
+    let k = c .before .before in
+    let l = head k .loop in
+    let n = k .before .before .number-of .ensures in (
+      omega (arith, here k .inside),
+      rw (c .next-after .ensures) (seen-next _ _ _ (here k) _ _ (l .inv .1) _ (n .0) (n .2)),
+      counts-seen _ _ _ (here k) _ _ (l .inv .1) _ (n .0) (n .2) (k .kind-of .ensures) (λ m a. c .before .counts-after .ensures _ m a (l .inv .2)),
     )
 
 returns : tie.Need-returns Inv-loop μ-loop

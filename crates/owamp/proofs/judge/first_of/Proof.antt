@@ -1,0 +1,13 @@
+-- `owamp::judge::first_of` meets its contract: a first refusal that is not 0 is the first, by cases (`first-taken`), else the second is. Assumes nothing.
+use Rattle.owamp.proofs.InTurn.{first-taken, first-passed}
+use Rattle.owamp.proofs.judge.first_of.Statement.{statement}
+use Rattle.owamp.proofs.judge.first_of.Tie as tie
+
+returns : tie.Need-returns
+returns c = first-taken (c .before .args .first) (c .before .args .second) (c .if1 .taken)
+
+returns-2 : tie.Need-returns-2
+returns-2 c = first-passed (c .before .args .first) (c .before .args .second) (c .if1 .left)
+
+pub first-of-spec : {M : Type 1} → statement M
+first-of-spec = tie.close (tie.spec returns returns-2)
