@@ -486,6 +486,10 @@ uint32_t krakobran_full_numbers_10(uint32_t sent, const uint16_t *shorts, size_t
 krakobran_step_figures krakobran_step_8(krakobran_receiver state, uint16_t number, uint64_t time);
 krakobran_step_figures krakobran_step_10(krakobran_receiver state, uint16_t number, uint64_t time);
 
+/* The same, with the new state left in the lent receiver, as by krakobran_step_lent. */
+krakobran_outcome_figures krakobran_step_8_lent(krakobran_receiver *state, uint16_t number, uint64_t time);
+krakobran_outcome_figures krakobran_step_10_lent(krakobran_receiver *state, uint16_t number, uint64_t time);
+
 /* ---- a meter: two streams that share the places of their kept jumps */
 
 /* What a stream has for itself: its numbers, and a bit for each packet that has arrived, as a receiver has them. */
@@ -532,11 +536,10 @@ krakobran_meter_start_answer krakobran_meter_start(krakobran_meter meter, uint32
  * receiver's of the stream: 11, 6, 7, and 10 for a reordered packet with no greater kept jump. */
 krakobran_meter_step_figures krakobran_meter_step(krakobran_meter meter, uint32_t stream, uint32_t number, uint64_t time);
 
-/* The start, with the new state left in the lent meter; gives back the refusal. */
+/* The start, with the new state left in the lent meter: it is written where it stands. Gives back the refusal. */
 uint32_t krakobran_meter_start_lent(krakobran_meter *meter, uint32_t stream, uint32_t sent);
 
-/* The step, with the new state left in the lent meter. Unlike a receiver's, it is the step by value, and the state
- * is copied. */
+/* The step, with the new state left in the lent meter: it is written where it stands. */
 krakobran_outcome_figures krakobran_meter_step_lent(krakobran_meter *meter, uint32_t stream, uint32_t number, uint64_t time);
 
 #undef KRAKOBRAN_SIZE

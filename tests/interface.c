@@ -111,10 +111,12 @@ static void fed_receiver(uint8_t octet, krakobran_receiver *saved) {
     for (uint32_t i = 0; i < 300; i++) {
         uint32_t number = i < 150 ? 2 * i + 2 : 2 * (i - 150) + 1;
         paint(octet);
-        if (i % 3 == 0)
+        if (i % 4 == 0)
             *saved = krakobran_step(*saved, number, i).state;
-        else if (i % 3 == 1)
+        else if (i % 4 == 1)
             *saved = krakobran_step_10(*saved, (uint16_t)number, i).state;
+        else if (i % 4 == 2)
+            krakobran_step_10_lent(saved, (uint16_t)number, i);
         else
             krakobran_step_lent(saved, number, i);
     }
@@ -222,6 +224,8 @@ CALL(step, krakobran_step(receiver, 1, 9000).refusal)
 CALL(step_lent, krakobran_step_lent(&receiver, 1, 9000).refusal)
 CALL(step_8, krakobran_step_8(receiver, 43, 9000).refusal)
 CALL(step_10, krakobran_step_10(receiver, 299, 9000).refusal)
+CALL(step_8_lent, krakobran_step_8_lent(&receiver, 43, 9000).refusal)
+CALL(step_10_lent, krakobran_step_10_lent(&receiver, 299, 9000).refusal)
 CALL(meter_new, krakobran_meter_new().first.stream.arrived)
 CALL(meter_start, krakobran_meter_start(meter, 1, 300).refusal)
 CALL(meter_start_lent, krakobran_meter_start_lent(&meter, 1, 300))
@@ -237,7 +241,7 @@ static const struct {
     NAMED(write_text), NAMED(import_records), NAMED(write_records), NAMED(answer), NAMED(counts), NAMED(tally), NAMED(gap), NAMED(n_reordered),
     NAMED(degree), NAMED(ratios), NAMED(disorder), NAMED(worse), NAMED(listing), NAMED(check_listing), NAMED(sweep),
     NAMED(fragment_order), NAMED(full_numbers_8), NAMED(full_numbers_10), NAMED(fresh), NAMED(step), NAMED(step_lent), NAMED(step_8),
-    NAMED(step_10), NAMED(meter_new), NAMED(meter_start), NAMED(meter_start_lent), NAMED(meter_step),
+    NAMED(step_10), NAMED(step_8_lent), NAMED(step_10_lent), NAMED(meter_new), NAMED(meter_start), NAMED(meter_start_lent), NAMED(meter_step),
     NAMED(meter_step_lent)};
 
 /* Runs a call on a stack of its own and gives back how many octets of it were written to. */

@@ -470,6 +470,20 @@ pub fn time(amounts: &[usize]) {
             println!("{:22} {many:5} {a:9.1} {b:9.1} {by_value:6.2} {d:9.1} {e:9.1} {lent:6.2}", name(kind));
         }
     }
+    let mut meters = [started(); 3];
+    let [a, b, d] = meters.each_mut();
+    let [by_value, lent, reference] = measure([
+        calls(|| {
+            *a = unsafe { c::krakobran_meter_start(*a, 1, PACKETS) }.state;
+            a.first.stream.arrived
+        }),
+        calls(|| unsafe { c::krakobran_meter_start_lent(b, 1, PACKETS) }),
+        calls(|| start(d, 1, PACKETS)),
+    ]);
+    println!(
+        "a start: by value {by_value:.1}, lent {lent:.1}, reference lent {reference:.1}, ratio {:.2}",
+        lent / reference
+    );
     let (meter, two) = (size_of::<c::Meter>(), 2 * size_of::<Receiver>());
     println!("a meter has {meter} octets; two receivers of plain Rust have {two}");
 }

@@ -30,6 +30,8 @@ extern "C" {
     ) -> u32;
     fn krakobran_step_8(state: c::State, number: u16, time: u64) -> c::Stepped;
     fn krakobran_step_10(state: c::State, number: u16, time: u64) -> c::Stepped;
+    fn krakobran_step_8_lent(state: *mut c::State, number: u16, time: u64) -> c::Said;
+    fn krakobran_step_10_lent(state: *mut c::State, number: u16, time: u64) -> c::Said;
 }
 
 fn list_by_library(width: Width, sent: u32, shorts: &[u16], times: &[u64], numbers: &mut [u32]) -> u32 {
@@ -50,6 +52,18 @@ fn step_by_library(width: Width, receiver: &Receiver, short: u16, time: u64) -> 
     // SAFETY: the state is passed by value.
     let s = unsafe { call(to_archive(receiver), short, time) };
     Stepped { refusal: s.refusal, answer: noted(s.noted), receiver: from_archive(&s.state) }
+}
+
+/// The step that leaves the new state in the lent receiver.
+fn step_lent_by_library(width: Width, receiver: &Receiver, short: u16, time: u64) -> Stepped {
+    let call = match width {
+        Width::Eight => krakobran_step_8_lent,
+        Width::Ten => krakobran_step_10_lent,
+    };
+    let mut state = to_archive(receiver);
+    // SAFETY: what is lent is a whole receiver.
+    let s = unsafe { call(&mut state, short, time) };
+    Stepped { refusal: s.refusal, answer: noted(s.noted), receiver: from_archive(&state) }
 }
 
 // The reference.
@@ -197,6 +211,11 @@ fn step(width: Width, receiver: &Receiver, short: u16, time: u64, seen: &mut See
     if left != right {
         return Err(format!("short {short} time {time}\n left {left:?}\nright {right:?}\nbefore {receiver:?}\n"));
     }
+    let lent = step_lent_by_library(width, receiver, short, time);
+    seen.call("short step lent", lent.refusal);
+    if lent != right {
+        return Err(format!("lent, short {short} time {time}\n left {lent:?}\nright {right:?}\nbefore {receiver:?}\n"));
+    }
     Ok(left.receiver)
 }
 
@@ -218,6 +237,30 @@ fn feed_library(width: Width, shorts: &[u16], times: &[u64]) -> u32 {
     state.stream.arrived
 }
 
+/// The same to a receiver that is lent.
+fn feed_library_lent(width: Width, shorts: &[u16], times: &[u64]) -> u32 {
+    let call = match width {
+        Width::Eight => krakobran_step_8_lent,
+        Width::Ten => krakobran_step_10_lent,
+    };
+    // SAFETY: what is lent is a whole receiver.
+    let mut state = unsafe { c::krakobran_fresh(Receiver::PACKETS as u32) }.state;
+    for (&short, &time) in shorts.iter().zip(times) {
+        black_box(unsafe { call(&mut state, short, time) });
+    }
+    state.stream.arrived
+}
+
+/// The same by the reference, stepped by pointer.
+fn feed_reference_lent(width: Width, shorts: &[u16], times: &[u64]) -> u32 {
+    let mut receiver = Receiver::fresh(Receiver::PACKETS as u32).receiver;
+    for (&short, &time) in shorts.iter().zip(times) {
+        let number = number_by(width, &receiver, short);
+        black_box(receiver.step_mut(number, time));
+    }
+    receiver.first_arrivals
+}
+
 /// The same by the reference, handed over by C's convention.
 fn feed_reference(width: Width, shorts: &[u16], times: &[u64]) -> u32 {
     let mut receiver = Receiver::fresh(Receiver::PACKETS as u32).receiver;
@@ -230,7 +273,7 @@ fn feed_reference(width: Width, shorts: &[u16], times: &[u64]) -> u32 {
     receiver.first_arrivals
 }
 
-/// Nanoseconds of a list call and of a step by value, for arrivals in order: a number out of order by half the range or more would not be found.
+/// Nanoseconds of a list call and of a step by value and lent, for arrivals in order: a number out of order by half the range or more would not be found.
 pub fn time(amounts: &[usize]) {
     println!("{:22} {:>5} {:>11} {:>11} {:>6}", "short numbers", "A", "library", "reference", "ratio");
     for width in [Width::Eight, Width::Ten] {
@@ -248,8 +291,12 @@ pub fn time(amounts: &[usize]) {
                 calls(|| feed_library(width, black_box(s), times)),
                 calls(|| feed_reference(width, black_box(s), times)),
             ]);
-            let each = steps.map(|whole| whole / many as f64);
-            for (call, [library, reference]) in [("list", list), ("step", each)] {
+            let lent = measure([
+                calls(|| feed_library_lent(width, black_box(s), times)),
+                calls(|| feed_reference_lent(width, black_box(s), times)),
+            ]);
+            let [each, each_lent] = [steps, lent].map(|whole| whole.map(|sum| sum / many as f64));
+            for (call, [library, reference]) in [("list", list), ("step", each), ("step lent", each_lent)] {
                 let (name, ratio) = (format!("{call}, {} bits", width.range().ilog2()), library / reference);
                 println!("{name:22} {many:5} {library:11.1} {reference:11.1} {ratio:6.2}");
             }

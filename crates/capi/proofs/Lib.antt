@@ -1,3 +1,4 @@
 -- The walks that two functions share. Assumes nothing.
+pub mod HeldInLocal
 pub mod LocalStep
 mod PassedOn

@@ -91,6 +91,13 @@ pub fn step_figures(s: StepAnswer) -> StepFigures
     }
 }
 
+// Returns the refusal of an outcome.
+pub fn refusal_of(outcome: Outcome) -> u32
+    ensures { λ r. ⌜ r ≡ outcome .refusal ⌝ }
+{
+    outcome.refusal
+}
+
 // The answer of a step by reference.
 pub fn outcome_figures(outcome: Outcome) -> OutcomeFigures
     ensures { λ r. ⌜ r ≡ outcomeFigures outcome ⌝ }

@@ -1,7 +1,5 @@
 // The receiver lent by reference: a thin call over the receiver's step by value, which leaves the new state in it.
 
-pub mod meters;
-
 use receiver::Outcome;
 use receiver::Receiver;
 use receiver::StepAnswer;

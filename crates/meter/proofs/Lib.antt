@@ -2,8 +2,8 @@
 pub mod CallsByStream
 pub mod PlacesFacing
 pub mod KeptJumps
-pub mod Reversed
 pub mod Carries
 pub mod Demand3
 pub mod Independence
 pub mod Meters
+pub mod LentMeter

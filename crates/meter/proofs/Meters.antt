@@ -9,28 +9,36 @@
 use Prim.Native.Nat.{ℕ, zero, suc, _+_, _-_, _≤_, _<_, min, max}
 use mathlib.Core.Path.{_≡_, refl, sym, ap, _∙_}
 use mathlib.Core.Bool.{Bool, true, false, cond, _&&_, true≢false}
+use mathlib.Core.List.{List, []}
 use mathlib.Core.Option.{Option, none, some}
 use native.Mathlib.Omega.{arith}
 use lib.Dec.{leb, ltb, eqb}
+use lib.ListN.{replicate}
 use borrow.Author.Tests.{leb-true, ltb-false, lt-ltb, le-ltb, eq-eqb, ne-eqb}
-use Rattle.rfc4737.specs.Refusals.{outside, stateUnfit, noStream}
+use Rattle.rfc4737.specs.Refusals.{outside, sentOutside, stateUnfit, noStream}
+use Rattle.rfc4737.specs.Judge.{sentMost}
 use Rattle.rfc4737.proofs.Due.{between, not-outside}
+use Rattle.receiver.specs.declared.Stream.{Stream}
 use Rattle.receiver.specs.declared.Places.{Places}
 use Rattle.receiver.specs.declared.Receiver.{Receiver}
 use Rattle.receiver.specs.declared.StepAnswer.{StepAnswer}
 use Rattle.receiver.specs.declared.FreshAnswer.{FreshAnswer}
 use Rattle.receiver.specs.Limits.{windowPlaces}
-use Rattle.receiver.specs.Fit.{every}
-use Rattle.receiver.specs.Step.{freshOf, stepWith, stepWithin}
-use Rattle.receiver.proofs.Fits.{and-true, every-true}
+use Rattle.receiver.specs.Outcomes.{refusedOutcome}
+use Rattle.receiver.specs.Marks.{markWords}
+use Rattle.receiver.specs.Parts.{oldestFirst, whole}
+use Rattle.receiver.specs.Fit.{every, fit}
+use Rattle.receiver.specs.Step.{freshStream, madeFor, freshOf, stepRefusal, outcomeOf, stepWith, stepWithin}
+use Rattle.receiver.proofs.Fits.{and-true}
 use Rattle.receiver.proofs.StepCases.{refused-equal}
 use Rattle.meter.specs.declared.Meter.{Meter}
 use Rattle.meter.specs.declared.MeterStepAnswer.{MeterStepAnswer}
 use Rattle.meter.specs.declared.MeterStartAnswer.{MeterStartAnswer}
 use Rattle.meter.specs.Streams.{Side, one, two, sideOf, other, shared, mostKept, freeBeside, takesPlace, facing, receiverOf, streamIn, withStream, withReceiver, keptIn, free}
+use Rattle.meter.specs.Private.{fewKept, wholeMeter}
 use Rattle.meter.specs.Step.{fitOnMeter, meterFit, notStepped, stepOn, meterStep, notStarted, startOn, meterStart}
 use Rattle.meter.proofs.CallsByStream.{stepFor, startFor}
-use Rattle.meter.proofs.PlacesFacing.{put-back}
+use Rattle.meter.proofs.PlacesFacing.{put-back, facing-back}
 use Rattle.meter.proofs.KeptJumps.{takes}
 
 -- ---- the stream of a number
@@ -63,44 +71,55 @@ side-known n e = go n (between 1 2 n e .0) (between 1 2 n e .1)
 
 -- ---- fit meters
 
--- a fit stream keeps at most 48 jumps
-pub stream-few : (r : Receiver) → fitOnMeter r ≡ true → r .stream .kept ≤ mostKept
-unfolding fitOnMeter
-stream-few r e = leb-true _ _ (and-true _ _ e .0)
+-- the tests of a fit meter in another order: how many jumps are kept, and then each stream
+spread : (a b d f g : Bool) → (a && f) && ((b && g) && (d && true)) ≡ ((a && (b && d)) && (f && g))
+spread false b d f g = refl
+spread true false d false g = refl
+spread true false d true g = refl
+spread true true false false g = refl
+spread true true true false g = refl
+spread true true false true false = refl
+spread true true false true true = refl
+spread true true true true false = refl
+spread true true true true true = refl
+
+-- two tests in the other order
+turned-and : (a b : Bool) → (a && b) ≡ (b && a)
+turned-and true true = refl
+turned-and true false = refl
+turned-and false true = refl
+turned-and false false = refl
 
 module _ (m : Meter) where
-  -- so do both of a fit meter
-  pub meter-few : meterFit m ≡ true → (s : Side) → keptIn s m ≤ mostKept
-  unfolding meterFit
-  meter-few e one = stream-few (receiverOf one m) (every-true _ _ e .0)
-  meter-few e two = let a = every-true _ _ e in stream-few (receiverOf two m) (every-true _ _ (a .1) .0)
+  -- so few jumps are kept
+  abbrev few : Bool
+  few = fewKept (keptIn one m) (keptIn two m)
 
-  -- a meter is fit exactly if its streams are and keep few jumps together
-  pub unfit-first : fitOnMeter (receiverOf one m) ≡ false → false ≡ meterFit m
-  unfolding meterFit every
-  unfit-first e = simp e
+  -- a meter is fit exactly if they keep few jumps and both are fit as receivers
+  pub fit-parts : (few && (fit (receiverOf one m) && fit (receiverOf two m))) ≡ meterFit m
+  unfolding meterFit every fitOnMeter
+  fit-parts = sym (spread (leb (keptIn one m) mostKept) (leb (keptIn two m) mostKept) (leb (keptIn one m + keptIn two m) shared) (fit (receiverOf one m)) (fit (receiverOf two m)))
 
-  pub unfit-second : fitOnMeter (receiverOf one m) ≡ true → fitOnMeter (receiverOf two m) ≡ false → false ≡ meterFit m
-  unfolding meterFit every
-  unfit-second e f = simp (e, f)
+  -- the neighbour first
+  fit-beside : (s : Side) → (few && (fit (receiverOf (other s) m) && fit (receiverOf s m))) ≡ meterFit m
+  fit-beside one = ap (λ (t : Bool). few && t) (turned-and (fit (receiverOf two m)) (fit (receiverOf one m))) ∙ fit-parts
+  fit-beside two = fit-parts
 
-  pub fit-together : fitOnMeter (receiverOf one m) ≡ true → fitOnMeter (receiverOf two m) ≡ true
-      → leb (keptIn one m + keptIn two m) shared ≡ meterFit m
-  unfolding meterFit every
-  fit-together e f = rw (e, f) (sym (and-one (leb (keptIn one m + keptIn two m) shared)))
-    where
-      and-one : (b : Bool) → (b && true) ≡ b
-      and-one true = refl
-      and-one false = refl
+  -- few jumps are at most 48 each
+  pub few-each : few ≡ true → (s : Side) → keptIn s m ≤ mostKept
+  few-each e one = leb-true _ _ (and-true (leb (keptIn one m) mostKept) _ e .0)
+  few-each e two = leb-true _ _ (and-true (leb (keptIn two m) mostKept) _ (and-true (leb (keptIn one m) mostKept) _ e .1) .0)
 
--- the receiver of stream 2, with the places turned
-pub second-known : (m : Meter) (r : Receiver) (p : Places) → r ≡ record { stream = m .second .stream; marks = m .second .marks; places = p }
-    → p ≡ facing two (m .places) → r ≡ receiverOf two m
-second-known m r p e q = e ∙ ap (λ (x : Places). record { stream = m .second .stream; marks = m .second .marks; places = x }) q
+  -- the receivers of both, whatever the marks
+  pub fit-one : fit (whole (m .first .stream) [] (oldestFirst false (m .places .positions)) (oldestFirst false (m .places .numbers)) (oldestFirst false (m .places .times)))
+      ≡ fit (receiverOf one m)
+  unfolding fit oldestFirst
+  fit-one = refl
 
--- the fit test of a stream, as it was called
-pub fit-known : (q r : Receiver) (t u : Bool) → r ≡ q → t ≡ fitOnMeter r → t ≡ u → fitOnMeter q ≡ u
-fit-known q r t u e f g = sym (ap fitOnMeter e) ∙ sym f ∙ g
+  pub fit-two : fit (whole (m .second .stream) [] (oldestFirst true (m .places .positions)) (oldestFirst true (m .places .numbers)) (oldestFirst true (m .places .times)))
+      ≡ fit (receiverOf two m)
+  unfolding fit oldestFirst
+  fit-two = refl
 
 -- ---- the step on a stream
 
@@ -133,22 +152,25 @@ free-beside two m =
     ap (λ (n : ℕ). shared - n) e
 
 -- the receiver's step, keeping at most so many jumps, is the step on a stream of a fit meter
-pub step-kept : (s : Side) (m : Meter) (number time most : ℕ) (r : Receiver) (x : StepAnswer)
-    → meterFit m ≡ true
+step-kept : (s : Side) (m : Meter) (number time most : ℕ) (x : StepAnswer)
+    → keptIn (other s) m ≤ mostKept
     → most ≡ min mostKept (shared - keptIn (other s) m)
-    → r ≡ receiverOf s m
-    → x ≡ stepWithin most r number time
+    → x ≡ stepWithin most (receiverOf s m) number time
     → _≡_ {A = MeterStepAnswer} (record { outcome = x .outcome; state = withReceiver s (x .state) m }) (stepOn s m number time)
 unfolding stepOn
-step-kept s m number time most r x fit e is known =
+step-kept s m number time most x few e known =
     let room : ltb (keptIn s m) (max 1 (min (min mostKept (shared - keptIn (other s) m)) windowPlaces)) ≡ takesPlace (keptIn s m) (free m) =
-    room-beside (keptIn s m) (keptIn (other s) m) (meter-few m fit (other s)) ∙ ap (takesPlace (keptIn s m)) (free-beside s m) in
+    room-beside (keptIn s m) (keptIn (other s) m) few ∙ ap (takesPlace (keptIn s m)) (free-beside s m) in
     let done : x ≡ stepWith (takesPlace (keptIn s m) (free m)) (receiverOf s m) number time =
     known
-    ∙ ap (λ (q : Receiver). stepWithin most q number time) is
     ∙ ap (λ (n : ℕ). stepWithin n (receiverOf s m) number time) e
     ∙ ap (λ (t : Bool). stepWith t (receiverOf s m) number time) room in
     ap (λ (y : StepAnswer). record { outcome = y .outcome; state = withReceiver s (y .state) m }) done
+
+-- a meter of parts in which stream 2 was written, its places counted from the last down
+pub second-put : (m : Meter) (s : Stream) (marks : List ℕ) (p : Places)
+    → wholeMeter (m .first .stream) s (m .first .marks) marks p ≡ withReceiver two (record { stream = s; marks = marks; places = facing two p }) m
+second-put m s marks p = sym (ap (λ (q : Places). wholeMeter (m .first .stream) s (m .first .marks) marks q) (facing-back p))
 
 -- ---- the cases of a step
 
@@ -157,13 +179,48 @@ module _ (m : Meter) (n number time : ℕ) where
   unfolding meterStep
   step-nowhere e = rw e
 
-  pub step-unfit : (s : Side) → sideOf n ≡ some s → meterFit m ≡ false → notStepped stateUnfit m ≡ meterStep m n number time
+  step-unfit : (s : Side) → sideOf n ≡ some s → meterFit m ≡ false → notStepped stateUnfit m ≡ meterStep m n number time
   unfolding meterStep
   step-unfit s e f = rw (e, f)
 
-  pub step-fit : (s : Side) → sideOf n ≡ some s → meterFit m ≡ true → stepOn s m number time ≡ meterStep m n number time
+  step-fit : (s : Side) → sideOf n ≡ some s → meterFit m ≡ true → stepOn s m number time ≡ meterStep m n number time
   unfolding meterStep
   step-fit s e f = rw (e, f)
+
+  -- a stream that is unfit refuses its step by itself, and so does the meter then
+  unfit-refused : (s : Side) → fit (receiverOf s m) ≡ false → stepOn s m number time ≡ notStepped stateUnfit m
+  unfolding stepOn stepWith outcomeOf stepRefusal
+  unfit-refused s e = rw e (ap (λ (x : Meter). record { outcome = refusedOutcome stateUnfit; state = x }) (put-back s m))
+
+  -- where few jumps are kept and the neighbour is fit, the step is the stream's, fit or not
+  module _ (s : Side) (e : sideOf n ≡ some s) (k : fewKept (keptIn one m) (keptIn two m) ≡ true) (b : fit (receiverOf (other s) m) ≡ true) where
+    own-fit : fit (receiverOf s m) ≡ meterFit m
+    own-fit = rw (k, b) at (fit-beside m s)
+
+    pub step-own : stepOn s m number time ≡ meterStep m n number time
+    step-own = go (fit (receiverOf s m)) refl
+      where
+        go : (t : Bool) → fit (receiverOf s m) ≡ t → stepOn s m number time ≡ meterStep m n number time
+        go true q = step-fit s e (sym own-fit ∙ q)
+        go false q = unfit-refused s q ∙ step-unfit s e (sym own-fit ∙ q)
+
+    -- the step on its parts: x is the receiver's, and m′ the meter with what it leaves
+    pub stepped : (most : ℕ) (x : StepAnswer) (m′ : Meter) → most ≡ min mostKept (shared - keptIn (other s) m)
+        → x ≡ stepWithin most (receiverOf s m) number time → m′ ≡ withReceiver s (x .state) m
+        → _≡_ {A = MeterStepAnswer} (record { outcome = x .outcome; state = m′ }) (meterStep m n number time)
+    stepped most x m′ q known w =
+        ap (λ (y : Meter). record { outcome = x .outcome; state = y }) w
+        ∙ step-kept s m number time most x (few-each m k (other s)) q known
+        ∙ step-own
+
+  -- too many jumps are kept
+  pub step-many : (s : Side) → sideOf n ≡ some s → fewKept (keptIn one m) (keptIn two m) ≡ false → notStepped stateUnfit m ≡ meterStep m n number time
+  step-many s e k = step-unfit s e (sym (rw k at (fit-parts m)))
+
+  -- the neighbour is unfit
+  pub step-beside : (s : Side) → sideOf n ≡ some s → fewKept (keptIn one m) (keptIn two m) ≡ true → fit (receiverOf (other s) m) ≡ false
+      → notStepped stateUnfit m ≡ meterStep m n number time
+  step-beside s e k b = step-unfit s e (sym (rw (k, b) at (fit-beside m s)))
 
   -- a refused arrival leaves an equal meter
   pub step-refused : (meterStep m n number time .outcome .refusal ≡ 0 → ⊥) → meterStep m n number time .state ≡ m
@@ -191,16 +248,17 @@ module _ (m : Meter) (n k : ℕ) where
   unfolding meterStart
   start-unfit s e f = rw (e, f)
 
-  module _ (s : Side) (e : sideOf n ≡ some s) (f : meterFit m ≡ true) (r : FreshAnswer) (fresh : r ≡ freshOf k) where
-    -- a fresh receiver for K is refused
-    pub start-outside : (r .refusal ≡ 0 → ⊥) → notStarted (r .refusal) m ≡ meterStart m n k
-    unfolding meterStart startOn
-    start-outside h = rw (e, f, ← fresh, ne-eqb (r .refusal) 0 h)
+  module _ (s : Side) (e : sideOf n ≡ some s) (f : meterFit m ≡ true) where
+    -- K is refused
+    pub start-outside : outside 1 sentMost k ≡ true → notStarted sentOutside m ≡ meterStart m n k
+    unfolding meterStart startOn freshOf
+    start-outside h = rw (e, f, h)
 
     -- or not
-    pub start-done : r .refusal ≡ 0 → _≡_ {A = MeterStartAnswer} (record { refusal = 0; state = withStream s (streamIn (r .state)) m }) (meterStart m n k)
-    unfolding meterStart startOn
-    start-done h = rw (e, f, ← fresh, h)
+    pub start-done : outside 1 sentMost k ≡ false
+        → _≡_ {A = MeterStartAnswer} (record { refusal = 0; state = withStream s (record { stream = freshStream k; marks = replicate markWords 0 }) m }) (meterStart m n k)
+    unfolding meterStart startOn freshOf madeFor
+    start-done h = rw (e, f, h)
 
   -- a refused start leaves an equal meter
   pub start-refused : (meterStart m n k .refusal ≡ 0 → ⊥) → meterStart m n k .state ≡ m

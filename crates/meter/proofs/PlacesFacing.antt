@@ -4,44 +4,21 @@
 -- Here i and j are the places after and before, s is a stream, m the meter, and r the receiver that is put into it. Assumes nothing.
 use Prim.Native.Nat.{ℕ, suc, _+_, _-_, _≤_, _<_}
 use mathlib.Core.Path.{_≡_, refl, sym, ap, _∙_}
-use mathlib.Core.Bool.{Bool, true, false}
-use mathlib.Core.List.{List, [], _∷_, _++_, reverse, reverse-cons, reverse-reverse}
+use mathlib.Core.List.{List, reverse, reverse-reverse}
 use native.Mathlib.Omega.{arith}
-use lib.Dec.{ltb}
-use lib.ListN.{length, getD, length-reverse, List·getD-append}
-use lib.Seq.{getD-at}
-use borrow.Author.Tests.{ltb-true, ltb-false}
+use lib.ListN.{length, getD, length-reverse}
 use Rattle.rfc4737.specs.Order.{FirstArrival}
 use Rattle.receiver.specs.declared.Places.{Places}
 use Rattle.receiver.specs.declared.Receiver.{Receiver}
 use Rattle.receiver.specs.Limits.{windowPlaces}
 use Rattle.receiver.specs.Kept.{placeAt, Held, keptOf}
+use Rattle.receiver.proofs.OldestFirst.{getD-reverse}
 use Rattle.receiver.proofs.HeldJumps.{placed-path, places-same, AllPlaces, Holds}
 use Rattle.meter.specs.declared.Meter.{Meter}
 use Rattle.meter.specs.Streams.{Side, one, two, other, facing, receiverOf, withReceiver}
 
--- a list from its end
-pub getD-reverse : (l : List ℕ) (i : ℕ) → i < length l → getD (reverse l) i 0 ≡ getD l (length l - suc i) 0
-getD-reverse [] i h = absurd (omega arith)
-getD-reverse (x ∷ l) i h = ap (λ (m : List ℕ). getD m i 0) (reverse-cons x l) ∙ go (λ k. getD-reverse l i k) (ltb i (length l)) refl
-  where
-    go : (i < length l → getD (reverse l) i 0 ≡ getD l (length l - suc i) 0)
-        → (t : Bool)
-        → ltb i (length l) ≡ t
-        → getD (reverse l ++ (x ∷ [])) i 0 ≡ getD (x ∷ l) (suc (length l) - suc i) 0
-    go before true e =
-        let k : i < length l = ltb-true _ _ e in
-        let r : i < length (reverse l) = rw length-reverse k in
-        let m : suc (length l) - suc i ≡ suc (length l - suc i) = omega arith in
-        List·getD-append (reverse l) (x ∷ []) 0 i r ∙ before k ∙ sym (ap (λ (n : ℕ). getD (x ∷ l) n 0) m)
-    go before false e =
-        let k : length l ≤ i = ltb-false _ _ e in
-        let n : length (reverse l) ≡ i = length-reverse l ∙ omega arith in
-        let m : suc (length l) - suc i ≡ 0 = omega arith in
-        getD-at (reverse l) x [] 0 i n ∙ sym (ap (λ (n : ℕ). getD (x ∷ l) n 0) m)
-
 -- places turned twice
-facing-back : (p : Places) → facing two (facing two p) ≡ p
+pub facing-back : (p : Places) → facing two (facing two p) ≡ p
 facing-back p =
     λ i. record {
       positions = reverse-reverse (p .positions) i;

@@ -5,3 +5,4 @@ pub mod Lent
 pub mod Account
 pub mod Demand3
 pub mod Independence
+pub mod Private

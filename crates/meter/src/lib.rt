@@ -1,23 +1,27 @@
-// A meter: two streams, each with a receiver's numbers and marks, that share the places of their kept jumps. It is handed in and
-// back by value. Its rule is specs/Step.antt.
+// A meter: two streams, each with a receiver's numbers and marks, that share the places of their kept jumps. It is stepped where it
+// stands (`step_in_place`), or handed in and back by value. Its rule is specs/Step.antt.
 
-mod places;
-
-use places::turned;
 use receiver::MARK_WORDS;
 use receiver::Outcome;
 use receiver::Places;
 use receiver::Receiver;
 use receiver::ReceiverAnswer;
 use receiver::Stream;
+use receiver::parts;
+use rfc4737::judge::SENT_MOST;
 use rfc4737::judge::outside;
 use rfc4737::refusal;
 ghost use mathlib.Core.Path.{_≡_};
-ghost use mathlib.Core.Bool.{true};
 ghost use mathlib.Core.List.{List};
-ghost use Prim.Native.Nat.{_-_, _≤_, min};
-ghost use Rattle.meter.specs.Streams.{one, two, shared, mostKept, streamIn, withStream};
-ghost use Rattle.meter.specs.Step.{newMeter, fitOnMeter, meterFit, notStepped, stepOn, meterStep, meterStart};
+ghost use Prim.Native.Nat.{ℕ, _-_, _≤_, min};
+ghost use lib.ListN.{replicate};
+ghost use Rattle.meter.specs.Streams.{shared, mostKept, streamIn};
+ghost use Rattle.meter.specs.Step.{newMeter, meterFit, meterStep, meterStart};
+ghost use Rattle.meter.specs.Lent.{AsMeterStep, AsMeterStart};
+ghost use Rattle.meter.specs.Private.{fewKept, wholeMeter, meterAnswerOf, startAnswerOf};
+ghost use Rattle.receiver.specs.Outcomes.{refusedOutcome};
+ghost use Rattle.receiver.specs.Marks.{markWords};
+ghost use Rattle.receiver.specs.Parts.{placesOf};
 ghost use Rattle.meter.specs.Account.{Call};
 ghost use Rattle.meter.specs.Demand3.{MeterDemand3};
 ghost use Rattle.meter.specs.Independence.{Independence};
@@ -51,6 +55,13 @@ pub struct MeterStartAnswer {
     pub state: Meter,
 }
 
+// What is said of an arrival on a stream, and the numbers of both streams after it.
+pub struct StreamsStep {
+    pub outcome: Outcome,
+    pub first: Stream,
+    pub second: Stream,
+}
+
 impl Meter {
     // How many places the streams share: those that one receiver has. What Receiver::WINDOW is to a receiver, how many jumps it
     // keeps, is MOST_KEPT to a stream of a meter.
@@ -79,35 +90,42 @@ impl Meter {
         ensures start { λ r. ⌜ r ≡ meterStart self stream k ⌝ }
         ensures refused { λ r. ⌜ ((r .refusal ≡ 0 → ⊥) → r .state ≡ self) ⌝ }
     {
-        if outside(1, 2, stream as u64) {
-            return MeterStartAnswer {
-                refusal: refusal::NO_STREAM,
-                state: self,
-            };
-        }
-        if !is_fit(self) {
-            return MeterStartAnswer {
-                refusal: refusal::STATE_UNFIT,
-                state: self,
-            };
-        }
-        let fresh = Receiver::fresh(k);
-        if fresh.refusal != 0 {
-            return MeterStartAnswer {
-                refusal: fresh.refusal,
-                state: self,
-            };
-        }
-        let r = fresh.state;
-        if stream == 1 {
-            return MeterStartAnswer {
-                refusal: 0,
-                state: with_first(self, stream_in(r)),
-            };
-        }
+        let mut marks1 = self.first.marks;
+        let mut marks2 = self.second.marks;
+        let mut positions = self.places.positions;
+        let mut numbers = self.places.numbers;
+        let mut times = self.places.times;
+        let a = restart(
+            self.first.stream,
+            self.second.stream,
+            &mut marks1,
+            &mut marks2,
+            &mut positions,
+            &mut numbers,
+            &mut times,
+            stream,
+            k,
+        );
+        let refusal = a.outcome.refusal;
+        let first = a.first;
+        let second = a.second;
         MeterStartAnswer {
-            refusal: 0,
-            state: with_second(self, stream_in(r)),
+            refusal,
+            state: Meter {
+                first: StreamState {
+                    stream: first,
+                    marks: marks1,
+                },
+                second: StreamState {
+                    stream: second,
+                    marks: marks2,
+                },
+                places: Places {
+                    positions,
+                    numbers,
+                    times,
+                },
+            },
         }
     }
 
@@ -116,29 +134,44 @@ impl Meter {
         ensures step { λ r. ⌜ r ≡ meterStep self stream number time ⌝ }
         ensures refused { λ r. ⌜ ((r .outcome .refusal ≡ 0 → ⊥) → r .state ≡ self) ⌝ }
     {
-        if outside(1, 2, stream as u64) {
-            return not_stepped(refusal::NO_STREAM, self);
+        let mut marks1 = self.first.marks;
+        let mut marks2 = self.second.marks;
+        let mut positions = self.places.positions;
+        let mut numbers = self.places.numbers;
+        let mut times = self.places.times;
+        let a = advance(
+            self.first.stream,
+            self.second.stream,
+            &mut marks1,
+            &mut marks2,
+            &mut positions,
+            &mut numbers,
+            &mut times,
+            stream,
+            number,
+            time,
+        );
+        let outcome = a.outcome;
+        let first = a.first;
+        let second = a.second;
+        MeterStepAnswer {
+            outcome,
+            state: Meter {
+                first: StreamState {
+                    stream: first,
+                    marks: marks1,
+                },
+                second: StreamState {
+                    stream: second,
+                    marks: marks2,
+                },
+                places: Places {
+                    positions,
+                    numbers,
+                    times,
+                },
+            },
         }
-        if !is_fit(self) {
-            return not_stepped(refusal::STATE_UNFIT, self);
-        }
-        if stream == 1 {
-            return step_first(self, number, time);
-        }
-        step_second(self, number, time)
-    }
-}
-
-// A refused arrival: an equal meter.
-fn not_stepped(refusal: u32, m: Meter) -> MeterStepAnswer
-    ensures { λ r. ⌜ r ≡ notStepped refusal m ⌝ }
-{
-    MeterStepAnswer {
-        outcome: Outcome {
-            refusal,
-            noted: ReceiverAnswer::InOrder(0),
-        },
-        state: m,
     }
 }
 
@@ -149,61 +182,6 @@ fn stream_in(r: Receiver) -> StreamState
     let stream = r.stream;
     let marks = r.marks;
     StreamState { stream, marks }
-}
-
-// The receiver of a stream's state and places.
-fn receiver_of(t: StreamState, places: Places) -> Receiver
-    ensures { λ r. ⌜ r ≡ record { stream = t .stream; marks = t .marks; places = places } ⌝ }
-{
-    let stream = t.stream;
-    let marks = t.marks;
-    Receiver {
-        stream,
-        marks,
-        places,
-    }
-}
-
-// The meter with another state of stream 1.
-fn with_first(mut m: Meter, t: StreamState) -> Meter
-    ensures { λ r. ⌜ r ≡ withStream one t m ⌝ }
-{
-    m.first = t;
-    m
-}
-
-// The meter with another state of stream 2.
-fn with_second(mut m: Meter, t: StreamState) -> Meter
-    ensures { λ r. ⌜ r ≡ withStream two t m ⌝ }
-{
-    m.second = t;
-    m
-}
-
-// Whether a stream, seen as a receiver, is fit.
-fn fit_on_meter(r: Receiver) -> bool
-    ensures { λ t. ⌜ t ≡ fitOnMeter r ⌝ }
-{
-    if Meter::MOST_KEPT < r.stream.kept {
-        return false;
-    }
-    Receiver::is_fit(r)
-}
-
-// Whether a meter is fit.
-fn is_fit(m: Meter) -> bool
-    ensures { λ r. ⌜ r ≡ meterFit m ⌝ }
-{
-    let first = m.first;
-    let second = m.second;
-    let places = m.places;
-    if !fit_on_meter(receiver_of(first, places)) {
-        return false;
-    }
-    if !fit_on_meter(receiver_of(second, turned(places))) {
-        return false;
-    }
-    first.stream.kept + second.stream.kept <= Meter::PLACES
 }
 
 // How many jumps a stream can keep beside a neighbour that keeps so many.
@@ -217,45 +195,198 @@ fn most_beside(kept: u32) -> u32
     Meter::MOST_KEPT
 }
 
-// The step on stream 1 of a fit meter.
-fn step_first(m: Meter, number: u32, time: u64) -> MeterStepAnswer
-    requires { ⌜ meterFit m ≡ true ⌝ }
-    ensures { λ r. ⌜ r ≡ stepOn one m number time ⌝ }
+// Returns an outcome that notes nothing, and the numbers of both streams.
+fn answered(refusal: u32, first: Stream, second: Stream) -> StreamsStep
+    ensures { λ r. ⌜ r ≡ record { outcome = refusedOutcome refusal; first = first; second = second } ⌝ }
 {
-    let first = m.first;
-    let second = m.second;
-    let most = most_beside(second.stream.kept);
-    let s = Receiver::step_within(receiver_of(first, m.places), most, number, time);
-    let outcome = s.outcome;
-    let r = s.state;
-    let places = r.places;
-    MeterStepAnswer {
-        outcome,
-        state: Meter {
-            first: stream_in(r),
-            second,
-            places,
+    StreamsStep {
+        outcome: Outcome {
+            refusal,
+            noted: ReceiverAnswer::InOrder(0),
         },
+        first,
+        second,
     }
 }
 
-// The step on stream 2 of a fit meter.
-fn step_second(m: Meter, number: u32, time: u64) -> MeterStepAnswer
-    requires { ⌜ meterFit m ≡ true ⌝ }
-    ensures { λ r. ⌜ r ≡ stepOn two m number time ⌝ }
+// Returns whether two streams that keep `first` and `second` jumps keep few enough.
+fn few(first: u32, second: u32) -> bool
+    ensures { λ r. ⌜ r ≡ fewKept first second ⌝ }
 {
-    let first = m.first;
-    let second = m.second;
-    let most = most_beside(first.stream.kept);
-    let s = Receiver::step_within(receiver_of(second, turned(m.places)), most, number, time);
-    let outcome = s.outcome;
-    let r = s.state;
-    MeterStepAnswer {
-        outcome,
-        state: Meter {
-            first,
-            second: stream_in(r),
-            places: turned(r.places),
-        },
+    if Meter::MOST_KEPT < first {
+        return false;
     }
+    if Meter::MOST_KEPT < second {
+        return false;
+    }
+    first + second <= Meter::PLACES
+}
+
+// Returns whether a meter of these numbers and places is fit, whatever its marks.
+fn is_fit<'a>(
+    first: Stream,
+    second: Stream,
+    positions: &'a [u16; Receiver::WINDOW],
+    numbers: &'a [u16; Receiver::WINDOW],
+    times: &'a [u64; Receiver::WINDOW],
+) -> bool
+    ensures { λ r. ⌜ ((marks₁ marks₂ : List ℕ) → r ≡ meterFit (wholeMeter first second marks₁ marks₂ (placesOf (now (positions .entry)) (now (numbers .entry)) (now (times .entry))))) ⌝ }
+{
+    if !few(first.kept, second.kept) {
+        return false;
+    }
+    if !parts::is_fit(first, false, positions, numbers, times) {
+        return false;
+    }
+    parts::is_fit(second, true, positions, numbers, times)
+}
+
+// Steps a stream on the meter's parts: the numbers by value, the marks and the places borrowed and written where they stand. The
+// neighbour's fit test is made here, the stream's own by its step.
+fn advance<'a>(
+    first: Stream,
+    second: Stream,
+    marks1: &'a mut [u64; MARK_WORDS],
+    marks2: &'a mut [u64; MARK_WORDS],
+    positions: &'a mut [u16; Receiver::WINDOW],
+    numbers: &'a mut [u16; Receiver::WINDOW],
+    times: &'a mut [u64; Receiver::WINDOW],
+    stream: u32,
+    number: u32,
+    time: u64,
+) -> StreamsStep
+    ensures { λ a. ⌜ meterAnswerOf a (now (marks1 .exit)) (now (marks2 .exit)) (placesOf (now (positions .exit)) (now (numbers .exit)) (now (times .exit)))
+        ≡ meterStep (wholeMeter first second (now (marks1 .entry)) (now (marks2 .entry)) (placesOf (now (positions .entry)) (now (numbers .entry)) (now (times .entry)))) stream number time ⌝ }
+{
+    if outside(1, 2, stream as u64) {
+        return answered(refusal::NO_STREAM, first, second);
+    }
+    if !few(first.kept, second.kept) {
+        return answered(refusal::STATE_UNFIT, first, second);
+    }
+    if stream == 1 {
+        if !parts::is_fit(second, true, positions, numbers, times) {
+            return answered(refusal::STATE_UNFIT, first, second);
+        }
+        let a = parts::advance(
+            first,
+            false,
+            most_beside(second.kept),
+            marks1,
+            positions,
+            numbers,
+            times,
+            number,
+            time,
+        );
+        let outcome = a.outcome;
+        let own = a.stream;
+        return StreamsStep {
+            outcome,
+            first: own,
+            second,
+        };
+    }
+    if !parts::is_fit(first, false, positions, numbers, times) {
+        return answered(refusal::STATE_UNFIT, first, second);
+    }
+    let a = parts::advance(
+        second,
+        true,
+        most_beside(first.kept),
+        marks2,
+        positions,
+        numbers,
+        times,
+        number,
+        time,
+    );
+    let outcome = a.outcome;
+    let own = a.stream;
+    StreamsStep {
+        outcome,
+        first,
+        second: own,
+    }
+}
+
+// Clears the marks.
+fn clear(marks: &mut [u64; MARK_WORDS])
+    ensures { λ _. ⌜ now (marks .exit) ≡ replicate markWords 0 ⌝ }
+{
+    *marks = [0u64; MARK_WORDS];
+}
+
+// Starts a stream afresh for k packets on the meter's parts, which are borrowed as by `advance`; the places are only read. The outcome
+// has the refusal, 0 for none, and notes nothing.
+fn restart<'a>(
+    first: Stream,
+    second: Stream,
+    marks1: &'a mut [u64; MARK_WORDS],
+    marks2: &'a mut [u64; MARK_WORDS],
+    positions: &'a mut [u16; Receiver::WINDOW],
+    numbers: &'a mut [u16; Receiver::WINDOW],
+    times: &'a mut [u64; Receiver::WINDOW],
+    stream: u32,
+    k: u32,
+) -> StreamsStep
+    ensures { λ a. ⌜ startAnswerOf a (now (marks1 .exit)) (now (marks2 .exit)) (placesOf (now (positions .exit)) (now (numbers .exit)) (now (times .exit)))
+        ≡ meterStart (wholeMeter first second (now (marks1 .entry)) (now (marks2 .entry)) (placesOf (now (positions .entry)) (now (numbers .entry)) (now (times .entry)))) stream k ⌝ }
+{
+    if outside(1, 2, stream as u64) {
+        return answered(refusal::NO_STREAM, first, second);
+    }
+    if !is_fit(first, second, positions, numbers, times) {
+        return answered(refusal::STATE_UNFIT, first, second);
+    }
+    if outside(1, SENT_MOST, k as u64) {
+        return answered(refusal::SENT_OUTSIDE, first, second);
+    }
+    if stream == 1 {
+        clear(marks1);
+        return answered(0, parts::fresh_stream(k), second);
+    }
+    clear(marks2);
+    answered(0, first, parts::fresh_stream(k))
+}
+
+// Steps the borrowed meter in place; returns the outcome of `Meter::step`. Only the numbers of the two streams are copied.
+pub fn step_in_place(m: &mut Meter, stream: u32, number: u32, time: u64) -> Outcome
+    ensures { λ outcome. ⌜ AsMeterStep (now (m .entry)) stream number time outcome (now (m .exit)) ⌝ }
+{
+    let a = advance(
+        m.first.stream,
+        m.second.stream,
+        &mut m.first.marks,
+        &mut m.second.marks,
+        &mut m.places.positions,
+        &mut m.places.numbers,
+        &mut m.places.times,
+        stream,
+        number,
+        time,
+    );
+    m.first.stream = a.first;
+    m.second.stream = a.second;
+    a.outcome
+}
+
+// Starts a stream of the borrowed meter afresh in place; returns an outcome with the refusal of `Meter::start` that notes nothing.
+pub fn start_in_place(m: &mut Meter, stream: u32, k: u32) -> Outcome
+    ensures { λ outcome. ⌜ AsMeterStart (now (m .entry)) stream k (outcome .refusal) (now (m .exit)) ⌝ }
+{
+    let a = restart(
+        m.first.stream,
+        m.second.stream,
+        &mut m.first.marks,
+        &mut m.second.marks,
+        &mut m.places.positions,
+        &mut m.places.numbers,
+        &mut m.places.times,
+        stream,
+        k,
+    );
+    m.first.stream = a.first;
+    m.second.stream = a.second;
+    a.outcome
 }

@@ -1,4 +1,5 @@
 -- Laws behind the receiver's step and demand 3. Assumes nothing.
+pub mod OldestFirst
 pub mod Fits
 pub mod Search
 pub mod FitTests
@@ -22,3 +23,4 @@ pub mod Returned
 pub mod PassedNumbers
 pub mod LentStruct
 pub mod Local
+pub mod LentReceiver

@@ -3,14 +3,17 @@
 -- `shifted (i + 1)` (`shifted-next`). After n of them the place n is set to the new value v, and the list is pushed (`pushed-last`). l is the
 -- list before, t the list now. Assumes nothing.
 use Prim.Native.Nat.{ℕ, suc, _+_, _<_, _≤_}
-use mathlib.Core.Bool.{false}
+use mathlib.Core.Bool.{Bool, false}
 use mathlib.Core.List.{List, [], _∷_, _++_}
 use mathlib.Core.Path.{_≡_, refl, sym, ap, _∙_}
 use native.Mathlib.Numerals.{add-one}
 use native.Mathlib.Omega.{arith}
-use lib.ListN.{length, take, drop, getD, set, length-drop}
+use lib.ListN.{length, take, drop, getD, set, length-drop, length-set}
 use lib.Seq.{take-nil, take-suc, drop-cons, length-take-le, set-at, getD-append-add, getD-drop, append-snoc}
+use Rattle.receiver.specs.Limits.{windowPlaces}
+use Rattle.receiver.specs.Parts.{placeFrom, oldestFirst}
 use Rattle.receiver.specs.Private.{pushed}
+use Rattle.receiver.proofs.OldestFirst.{read-at, write-at, same-length}
 
 -- the first i places hold what stood after each
 abbrev pub shifted : ℕ → List ℕ → List ℕ
@@ -63,3 +66,34 @@ pub pushed-last : (l : List ℕ) (n : ℕ) → n < length l → (kept : ℕ) →
     → set t n v ≡ pushed false kept l v
 unfolding pushed
 pushed-last l n size kept k i t a e v = rw (k, e, a) (shifted-last l n size v)
+
+-- ---- from either end
+
+-- in the order of the count i places have moved: l₀ are the values before, l those now
+pub record Moved (down : Bool) (l₀ l : List ℕ) (i : ℕ) : Type 0 where
+  pub size : length l ≡ windowPlaces
+  pub held : oldestFirst down l ≡ shifted i (oldestFirst down l₀)
+
+pub moved-none : (down : Bool) (l : List ℕ) → length l ≡ windowPlaces → Moved down l l 0
+moved-none down l size = record { size = size; held = refl }
+
+module _ (down : Bool) (l₀ : List ℕ) (long : length l₀ ≡ windowPlaces) (n : ℕ) (few : n < windowPlaces) where
+  -- so many are oldestFirst
+  enough : n < length (oldestFirst down l₀)
+  enough = omega (arith, same-length down l₀, long)
+
+  -- one more: what stands at `from` is set at `to`
+  pub moved-more : (l : List ℕ) (i to from : ℕ) → i < n → to ≡ placeFrom down i → from ≡ placeFrom down (i + 1) → Moved down l₀ l i
+      → Moved down l₀ (set l to (getD l from 0)) (i + 1)
+  moved-more l i to from h a b m = record {
+    size = length-set l to (getD l from 0) ∙ m .size;
+    held = write-at l (m .size) down i to (getD l from 0) (omega arith) a
+        ∙ ap (λ (v : ℕ). set (oldestFirst down l) i v) (read-at l (m .size) down (i + 1) from (omega arith) b)
+        ∙ shifted-next (oldestFirst down l₀) n enough i (oldestFirst down l) h (m .held);
+  }
+
+  -- the last one is new
+  pub moved-last : (l : List ℕ) (i end v : ℕ) → i ≡ n → end ≡ placeFrom down n → Moved down l₀ l i
+      → oldestFirst down (set l end v) ≡ pushed false (n + 1) (oldestFirst down l₀) v
+  moved-last l i end v e a m =
+      write-at l (m .size) down n end v few a ∙ pushed-last (oldestFirst down l₀) n enough (n + 1) (add-one n) i (oldestFirst down l) e (m .held) v

@@ -30,7 +30,8 @@ use Rattle.receiver.specs.declared.ReceiverAnswer.the-variants.{Duplicat
 use Rattle.receiver.specs.Marks.{withMark}
 use Rattle.receiver.specs.Kept.{placeAt, placesFrom, Held, heldOf, keptOf, keptWith, laid, withJump, heldAfter}
 use Rattle.receiver.specs.Step.{placedAt, duplicateStream, inOrderStream, reorderedStream, inOrderState, reorderedState, notedState}
-use Rattle.receiver.specs.Private.{placesOf, whole, Full, pushed}
+use Rattle.receiver.specs.Parts.{placesOf, whole}
+use Rattle.receiver.specs.Private.{Full, pushed}
 use Rattle.receiver.proofs.HeldJumps.{length-places}
 use Rattle.receiver.proofs.ReceiverAnswer.{the-type}
 

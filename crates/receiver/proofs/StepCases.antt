@@ -31,7 +31,8 @@ use Rattle.receiver.specs.Outcomes.{refusedOutcome, acceptedOutcome, lat
 use Rattle.receiver.specs.Marks.{markAt}
 use Rattle.receiver.specs.Kept.{placeAt, placesFrom, Held, heldOf, keptOf}
 use Rattle.receiver.specs.Fit.{fit, jumpFit}
-use Rattle.receiver.specs.Step.{stepRefusal, reorderedOutcome, lateOutcome, firstOutcome, lookedAt, outcomeOf, notedState, stepWith}
+use Rattle.receiver.specs.Step.{stepRefusal, reorderedOutcome, lateOutcome, firstOutcome, lookedAt, outcomeOf, notedState, stepWith, stepOf}
+use Rattle.receiver.specs.Lent.{AsStep}
 use Rattle.receiver.specs.Private.{Unrefused}
 use Rattle.receiver.proofs.Fits.{and-true, stream-facts, places-facts, jump-facts}
 use Rattle.receiver.proofs.Search.{all-at}
@@ -149,3 +150,12 @@ pub refused-equal : (room : Bool) (r : Receiver) (number time : ℕ) → (stepWi
     → stepWith room r number time .state ≡ r
 unfolding stepWith
 refused-equal room r number time h = rw (ne-eqb _ 0 h)
+
+-- an answer that is the step's is as the contract of a step in place says
+pub as-step : (r : Receiver) (number time : ℕ) (d : StepAnswer) → d ≡ stepOf r number time → AsStep r number time (d .outcome) (d .state)
+as-step r number time d e = (
+  ap (λ (p : StepAnswer). p .outcome) e,
+  ap (λ (p : StepAnswer). p .state) e,
+  λ refusal. ap (λ (p : StepAnswer). p .state) e
+      ∙ refused-equal _ r number time (λ none. refusal (ap (λ (p : StepAnswer). p .outcome .refusal) e ∙ none)),
+)

@@ -5,6 +5,7 @@ pub mod Marks
 pub mod Kept
 pub mod Fit
 pub mod Step
+pub mod Parts
 pub mod Lent
 pub mod Numbering
 pub mod Account

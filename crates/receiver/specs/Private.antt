@@ -1,5 +1,4 @@
--- What private functions say to each other, which no public contract reaches: a fit state as facts, a receiver in parts, and what the
--- functions of a step know and find. Assumes nothing.
+-- What private functions say to each other, which no public contract reaches: a fit state as facts, and what the functions of a step know and find. Assumes nothing.
 use Prim.Native.Nat.{ℕ, zero, suc, _+_, _<_, _≤_}
 use mathlib.Core.Bool.{Bool, true, false, cond, _&&_}
 use mathlib.Core.List.{List, _∷_, _++_, map}
@@ -12,8 +11,6 @@ use Rattle.rfc4737.specs.Runs.{squaresMost}
 use Rattle.receiver.specs.declared.Stream.{Stream}
 use Rattle.receiver.specs.declared.Places.{Places}
 use Rattle.receiver.specs.declared.Receiver.{Receiver}
-use Rattle.receiver.specs.declared.StepAnswer.{StepAnswer}
-use Rattle.receiver.specs.declared.advance.StreamStep.{StreamStep}
 use Rattle.receiver.specs.Limits.{windowPlaces}
 use Rattle.receiver.specs.Kept.{heldOf, keptOf}
 use Rattle.receiver.specs.Fit.{every, jumpFit}
@@ -48,20 +45,6 @@ pub record PlacesFit (s : Stream) (places : Places) : Type 0 where
   pub dropped-high : s .dropped ≤ s .sent
 
 -- ---- a receiver in parts
-
--- the places of three arrays
-abbrev pub placesOf : List ℕ → List ℕ → List ℕ → Places
-placesOf positions numbers times = record { positions = positions; numbers = numbers; times = times }
-
--- the receiver of a stream, with its marks and places
-abbrev pub whole : Stream → List ℕ → List ℕ → List ℕ → List ℕ → Receiver
-whole s marks positions numbers times =
-    record { stream = s; marks = marks; places = placesOf positions numbers times }
-
--- the step that gives the parts: what was said, and the receiver of the stream, with the marks and places then
-abbrev pub stepAnswerOf : StreamStep → List ℕ → List ℕ → List ℕ → List ℕ → StepAnswer
-stepAnswerOf a marks positions numbers times =
-    record { outcome = a .outcome; state = whole (a .stream) marks positions numbers times }
 
 -- the places are as many as an array of them has
 abbrev pub Full : List ℕ → List ℕ → List ℕ → Type 0

@@ -1,5 +1,5 @@
-// The step on a receiver's parts: the stream's numbers by value, the marks and the places of the kept jumps lent and written
-// where they stand. Nothing else is copied.
+// The step on a receiver's parts: the stream's numbers go in and come back by value; the marks and the places of the kept jumps are
+// borrowed and written where they stand.
 
 use crate::MARK_WORDS;
 use crate::MOST;
@@ -13,12 +13,14 @@ use crate::marking::mark;
 use crate::numbers::after_duplicate;
 use crate::numbers::after_in_order;
 use crate::numbers::after_reordered;
+use crate::parts;
 ghost use mathlib.Core.Path.{_≡_};
 ghost use Prim.Native.Nat.{_≤_};
 ghost use lib.Dec.{ltb};
 ghost use Rattle.receiver.specs.Limits.{windowPlaces};
+ghost use Rattle.receiver.specs.Parts.{whole, wholeBy, stepAnswerOf, stepAnswerBy};
 ghost use Rattle.receiver.specs.Step.{stepWith, stepOf};
-ghost use Rattle.receiver.specs.Private.{Full, whole, stepAnswerOf};
+ghost use Rattle.receiver.specs.Private.{Full};
 
 // What is said of an arrival, and the stream's numbers after it.
 pub struct StreamStep {
@@ -26,10 +28,11 @@ pub struct StreamStep {
     pub stream: Stream,
 }
 
-// The answer to an arrival, and the parts after it, where at most so many jumps are kept: first what is said is decided, which
-// only reads; then the parts are written. With a refusal they stay as they were.
+// Steps a stream that keeps at most `most` jumps, its places counted down from the last if `down`. First the outcome is decided,
+// which only reads; then the parts are written. A refused arrival leaves them as they were.
 pub(crate) fn advance_within<'a>(
     s: Stream,
+    down: bool,
     most: u32,
     marks: &'a mut [u64; MARK_WORDS],
     positions: &'a mut [u16; Receiver::WINDOW],
@@ -39,10 +42,10 @@ pub(crate) fn advance_within<'a>(
     time: u64,
 ) -> StreamStep
     requires { ⌜ ((1 ≤ most) × (most ≤ windowPlaces)) × Full (now positions) (now numbers) (now times) ⌝ }
-    ensures { λ a. ⌜ stepAnswerOf a (now (marks .exit)) (now (positions .exit)) (now (numbers .exit)) (now (times .exit))
-        ≡ stepWith (ltb (s .kept) most) (whole s (now (marks .entry)) (now (positions .entry)) (now (numbers .entry)) (now (times .entry))) number time ⌝ }
+    ensures { λ a. ⌜ stepAnswerBy down a (now (marks .exit)) (now (positions .exit)) (now (numbers .exit)) (now (times .exit))
+        ≡ stepWith (ltb (s .kept) most) (wholeBy down s (now (marks .entry)) (now (positions .entry)) (now (numbers .entry)) (now (times .entry))) number time ⌝ }
 {
-    let outcome = decide(s, marks, positions, numbers, times, number, time);
+    let outcome = decide(s, down, marks, positions, numbers, times, number, time);
     if outcome.refusal != 0 {
         return StreamStep { outcome, stream: s };
     }
@@ -53,13 +56,14 @@ pub(crate) fn advance_within<'a>(
             stream: after_duplicate(s, time),
         },
         ReceiverAnswer::InOrder(size) => {
-            let stream = after_in_order(s, most, numbers, size, number, time);
+            let stream = after_in_order(s, most, down, numbers, size, number, time);
             mark(marks, number);
             if size != 0 {
                 push(
                     positions,
                     numbers,
                     times,
+                    down,
                     s.kept,
                     most,
                     (s.arrived + 1) as u16,
@@ -79,7 +83,7 @@ pub(crate) fn advance_within<'a>(
     }
 }
 
-// The same for a receiver that keeps as many jumps as it has places.
+// The same for a receiver: it keeps 64 jumps, counted from the first place up.
 pub(crate) fn advance<'a>(
     s: Stream,
     marks: &'a mut [u64; MARK_WORDS],
@@ -89,9 +93,18 @@ pub(crate) fn advance<'a>(
     number: u32,
     time: u64,
 ) -> StreamStep
-    requires { ⌜ Full (now positions) (now numbers) (now times) ⌝ }
     ensures { λ a. ⌜ stepAnswerOf a (now (marks .exit)) (now (positions .exit)) (now (numbers .exit)) (now (times .exit))
         ≡ stepOf (whole s (now (marks .entry)) (now (positions .entry)) (now (numbers .entry)) (now (times .entry))) number time ⌝ }
 {
-    advance_within(s, MOST, marks, positions, numbers, times, number, time)
+    parts::advance(
+        s,
+        false,
+        MOST,
+        marks,
+        positions,
+        numbers,
+        times,
+        number,
+        time,
+    )
 }

@@ -6,9 +6,11 @@ use crate::Outcome;
 use crate::Receiver;
 use crate::ReceiverAnswer;
 use crate::Stream;
+use crate::ends::place;
 use crate::fit::places_fit;
 use crate::fit::stream_fit;
 use crate::kept::place_above;
+use crate::kept::wide;
 use crate::marking::is_marked;
 use rfc4737::judge::judge_one;
 use rfc4737::refusal;
@@ -17,27 +19,30 @@ ghost use mathlib.Core.Path.{_≡_};
 ghost use mathlib.Core.List.{[]};
 ghost use mathlib.Core.Option.{some};
 ghost use Prim.Native.Nat.{ℕ, _+_, _<_, _≤_};
-ghost use lib.ListN.{getD};
+ghost use lib.ListN.{length, getD};
 ghost use Rattle.receiver.specs.Step.{stepRefusal, lateOutcome, outcomeOf};
 ghost use Rattle.receiver.specs.Outcomes.{latenessFrom};
 ghost use Rattle.receiver.specs.Limits.{windowPlaces};
-ghost use Rattle.receiver.specs.Private.{placesOf, whole, Unrefused};
+ghost use Rattle.receiver.specs.Parts.{oldestFirst, placesBy, wholeBy};
+ghost use Rattle.receiver.specs.Private.{Full, Unrefused};
 
 // The refusal that an arrival meets before it is looked at, 0 for none.
 fn step_refusal<'a>(
     s: Stream,
+    down: bool,
     positions: &'a [u16; Receiver::WINDOW],
     numbers: &'a [u16; Receiver::WINDOW],
     times: &'a [u64; Receiver::WINDOW],
     number: u32,
     time: u64,
 ) -> u32
-    ensures { λ r. ⌜ r ≡ stepRefusal (whole s [] (now (positions .entry)) (now (numbers .entry)) (now (times .entry))) number time ⌝ }
+    requires { ⌜ Full (now positions) (now numbers) (now times) ⌝ }
+    ensures { λ r. ⌜ r ≡ stepRefusal (wholeBy down s [] (now (positions .entry)) (now (numbers .entry)) (now (times .entry))) number time ⌝ }
 {
     if !stream_fit(s) {
         return refusal::STATE_UNFIT;
     }
-    if !places_fit(s, positions, numbers, times) {
+    if !places_fit(s, down, positions, numbers, times) {
         return refusal::STATE_UNFIT;
     }
     if s.arrived + s.duplicates == Receiver::PACKETS {
@@ -50,46 +55,49 @@ fn step_refusal<'a>(
 fn lateness_from<'a>(
     positions: &'a [u16; Receiver::WINDOW],
     times: &'a [u64; Receiver::WINDOW],
-    place: usize,
+    down: bool,
+    i: usize,
     position: u32,
     time: u64,
 ) -> Lateness
-    requires { ⌜ (place < windowPlaces) × (getD (now positions) place 0 ≤ position) ⌝ }
-    ensures { λ r. ⌜ ((s : ℕ) → r ≡ latenessFrom position time (some (record { position = getD (now (positions .entry)) place 0; number = s; time = getD (now (times .entry)) place 0 }))) ⌝ }
+    requires { ⌜ (i < windowPlaces) × ((getD (oldestFirst down (now positions)) i 0 ≤ position) × ((length (now positions) ≡ windowPlaces) × (length (now times) ≡ windowPlaces))) ⌝ }
+    ensures { λ r. ⌜ ((s : ℕ) → r ≡ latenessFrom position time (some (record { position = getD (oldestFirst down (now (positions .entry))) i 0; number = s; time = getD (oldestFirst down (now (times .entry))) i 0 }))) ⌝ }
 {
+    let at = place(down, i);
     Lateness {
-        extent: position - positions[place] as u32,
-        late: elapsed(times[place], time),
+        extent: position - wide(positions[at]),
+        late: elapsed(times[at], time),
     }
 }
 
 // What is said of a reordered packet.
 fn late_outcome<'a>(
     s: Stream,
+    down: bool,
     positions: &'a [u16; Receiver::WINDOW],
     numbers: &'a [u16; Receiver::WINDOW],
     times: &'a [u64; Receiver::WINDOW],
     number: u32,
     time: u64,
 ) -> Outcome
-    requires { ⌜ Unrefused (whole s [] (now positions) (now numbers) (now times)) number ⌝ }
-    ensures { λ r. ⌜ r ≡ lateOutcome s (placesOf (now (positions .entry)) (now (numbers .entry)) (now (times .entry))) (record { number = number; time = time }) ⌝ }
+    requires { ⌜ Unrefused (wholeBy down s [] (now positions) (now numbers) (now times)) number × Full (now positions) (now numbers) (now times) ⌝ }
+    ensures { λ r. ⌜ r ≡ lateOutcome s (placesBy down (now (positions .entry)) (now (numbers .entry)) (now (times .entry))) (record { number = number; time = time }) ⌝ }
 {
-    let place = place_above(numbers, s.kept, number);
-    if s.kept as usize <= place {
+    let found = place_above(numbers, down, s.kept, number);
+    if s.kept as usize <= found {
         return Outcome {
             refusal: refusal::STATE_UNFIT,
             noted: ReceiverAnswer::InOrder(0),
         };
     }
     if number < s.dropped {
-        let lateness = lateness_from(positions, times, 0, s.arrived + 1, time);
+        let lateness = lateness_from(positions, times, down, 0, s.arrived + 1, time);
         return Outcome {
             refusal: 0,
             noted: ReceiverAnswer::Beyond(lateness),
         };
     }
-    let lateness = lateness_from(positions, times, place, s.arrived + 1, time);
+    let lateness = lateness_from(positions, times, down, found, s.arrived + 1, time);
     Outcome {
         refusal: 0,
         noted: ReceiverAnswer::Exact(lateness),
@@ -99,6 +107,7 @@ fn late_outcome<'a>(
 // What is said of an arrival.
 pub(crate) fn decide<'a>(
     s: Stream,
+    down: bool,
     marks: &'a [u64; MARK_WORDS],
     positions: &'a [u16; Receiver::WINDOW],
     numbers: &'a [u16; Receiver::WINDOW],
@@ -106,9 +115,10 @@ pub(crate) fn decide<'a>(
     number: u32,
     time: u64,
 ) -> Outcome
-    ensures { λ r. ⌜ r ≡ outcomeOf (whole s (now (marks .entry)) (now (positions .entry)) (now (numbers .entry)) (now (times .entry))) number time ⌝ }
+    requires { ⌜ Full (now positions) (now numbers) (now times) ⌝ }
+    ensures { λ r. ⌜ r ≡ outcomeOf (wholeBy down s (now (marks .entry)) (now (positions .entry)) (now (numbers .entry)) (now (times .entry))) number time ⌝ }
 {
-    let refusal = step_refusal(s, positions, numbers, times, number, time);
+    let refusal = step_refusal(s, down, positions, numbers, times, number, time);
     if refusal != 0 {
         return Outcome {
             refusal,
@@ -127,5 +137,5 @@ pub(crate) fn decide<'a>(
             noted: ReceiverAnswer::InOrder(number - s.next),
         };
     }
-    late_outcome(s, positions, numbers, times, number, time)
+    late_outcome(s, down, positions, numbers, times, number, time)
 }

@@ -2,15 +2,18 @@
 
 use crate::Receiver;
 use crate::Stream;
+use crate::ends::place;
 ghost use mathlib.Core.Path.{_≡_};
 ghost use mathlib.Core.Bool.{_&&_};
 ghost use Prim.Native.Nat.{ℕ, _≤_};
 ghost use lib.Dec.{leb};
+ghost use lib.ListN.{length};
 ghost use Rattle.rfc4737.specs.Refusals.{within};
 ghost use Rattle.rfc4737.specs.Judge.{sentMost};
 ghost use Rattle.receiver.specs.Limits.{windowPlaces};
+ghost use Rattle.receiver.specs.Parts.{oldestFirst, placesBy};
 ghost use Rattle.receiver.specs.Fit.{streamFit, placesFit};
-ghost use Rattle.receiver.specs.Private.{placesOf, firstPass};
+ghost use Rattle.receiver.specs.Private.{Full, firstPass};
 
 // The greatest sum of squares.
 const SQUARES_MOST: u32 = 16777216;
@@ -70,28 +73,28 @@ fn is_within(most: u16, value: u16) -> bool
 }
 
 // Whether each of the first values lies from 1 to the most. All are looked at, several at a time.
-fn all_within(places: &[u16; Receiver::WINDOW], count: usize, most: u16) -> bool
-    requires { ⌜ count ≤ windowPlaces ⌝ }
-    ensures { λ r. ⌜ r ≡ firstPass (within 1 most) (now (places .entry)) count ⌝ }
+fn all_within(places: &[u16; Receiver::WINDOW], down: bool, count: usize, most: u16) -> bool
+    requires { ⌜ (count ≤ windowPlaces) × (length (now places) ≡ windowPlaces) ⌝ }
+    ensures { λ r. ⌜ r ≡ firstPass (within 1 most) (oldestFirst down (now (places .entry))) count ⌝ }
 {
     let mut fit = true;
     let mut i = 0;
     while i < count {
-        fit = both(fit, is_within(most, places[i]));
+        fit = both(fit, is_within(most, places[place(down, i)]));
         i += 1;
     }
     fit
 }
 
 // Whether none of the first times is after the greatest. All are looked at, several at a time.
-fn none_after(times: &[u64; Receiver::WINDOW], count: usize, greatest: u64) -> bool
-    requires { ⌜ count ≤ windowPlaces ⌝ }
-    ensures { λ r. ⌜ r ≡ firstPass (λ (t : ℕ). leb t greatest) (now (times .entry)) count ⌝ }
+fn none_after(times: &[u64; Receiver::WINDOW], down: bool, count: usize, greatest: u64) -> bool
+    requires { ⌜ (count ≤ windowPlaces) × (length (now times) ≡ windowPlaces) ⌝ }
+    ensures { λ r. ⌜ r ≡ firstPass (λ (t : ℕ). leb t greatest) (oldestFirst down (now (times .entry))) count ⌝ }
 {
     let mut fit = true;
     let mut i = 0;
     while i < count {
-        fit = both(fit, times[i] <= greatest);
+        fit = both(fit, times[place(down, i)] <= greatest);
         i += 1;
     }
     fit
@@ -100,12 +103,13 @@ fn none_after(times: &[u64; Receiver::WINDOW], count: usize, greatest: u64) -> b
 // Whether the kept places are fit, under K, L and the greatest time.
 pub(crate) fn places_fit<'a>(
     s: Stream,
+    down: bool,
     positions: &'a [u16; Receiver::WINDOW],
     numbers: &'a [u16; Receiver::WINDOW],
     times: &'a [u64; Receiver::WINDOW],
 ) -> bool
-    requires { ⌜ (s .sent ≤ sentMost) × (s .arrived ≤ sentMost) ⌝ }
-    ensures { λ r. ⌜ r ≡ placesFit s (placesOf (now (positions .entry)) (now (numbers .entry)) (now (times .entry))) ⌝ }
+    requires { ⌜ ((s .sent ≤ sentMost) × (s .arrived ≤ sentMost)) × Full (now positions) (now numbers) (now times) ⌝ }
+    ensures { λ r. ⌜ r ≡ placesFit s (placesBy down (now (positions .entry)) (now (numbers .entry)) (now (times .entry))) ⌝ }
 {
     let kept = s.kept as usize;
     if Receiver::WINDOW < kept {
@@ -114,11 +118,11 @@ pub(crate) fn places_fit<'a>(
     if s.sent < s.dropped {
         return false;
     }
-    if !all_within(positions, kept, s.arrived as u16) {
+    if !all_within(positions, down, kept, s.arrived as u16) {
         return false;
     }
-    if !all_within(numbers, kept, s.sent as u16) {
+    if !all_within(numbers, down, kept, s.sent as u16) {
         return false;
     }
-    none_after(times, kept, s.greatest)
+    none_after(times, down, kept, s.greatest)
 }

@@ -1,18 +1,21 @@
 // The receiver: fed one arrival at a time, it answers each and keeps a state of fixed size, handed in and
 // back by value, or lent and written where it stands. Its rule is specs/Step.antt, after the scope's "The receiver".
 
-mod advance;
+pub mod advance;
 mod decide;
+mod ends;
 mod fit;
 mod kept;
 mod marking;
 pub mod numbering;
 mod numbers;
+pub mod parts;
 
 use advance::advance;
 use advance::advance_within;
 use fit::places_fit;
 use fit::stream_fit;
+use parts::fresh_stream;
 use rfc4737::LateTime;
 use rfc4737::Runs;
 use rfc4737::judge::SENT_MOST;
@@ -144,6 +147,7 @@ impl Receiver {
         let mut times = self.places.times;
         let a = advance_within(
             self.stream,
+            false,
             kept,
             &mut marks,
             &mut positions,
@@ -177,7 +181,7 @@ impl Receiver {
         let positions = self.places.positions;
         let numbers = self.places.numbers;
         let times = self.places.times;
-        places_fit(self.stream, &positions, &numbers, &times)
+        places_fit(self.stream, false, &positions, &numbers, &times)
     }
 }
 
@@ -185,7 +189,7 @@ impl Receiver {
 const MOST: u32 = Receiver::WINDOW as u32;
 
 // How many jumps are kept at most, where so many are asked for.
-fn at_most(most: u32) -> u32
+pub(crate) fn at_most(most: u32) -> u32
     ensures { λ r. ⌜ r ≡ max 1 (min most windowPlaces) ⌝ }
 {
     if most == 0 {
@@ -218,22 +222,9 @@ pub fn step_in_place(r: &mut Receiver, number: u32, time: u64) -> Outcome
 fn made_for(k: u32) -> Receiver
     ensures { λ r. ⌜ r ≡ madeFor k ⌝ }
 {
+    let stream = fresh_stream(k);
     Receiver {
-        stream: Stream {
-            sent: k,
-            arrived: 0,
-            duplicates: 0,
-            inorder: 0,
-            next: 1,
-            kept: 0,
-            greatest: 0,
-            runs: Runs {
-                closed: 0,
-                squares: 0,
-                current: 0,
-            },
-            dropped: 0,
-        },
+        stream,
         marks: [0u64; MARK_WORDS],
         places: Places {
             positions: [0u16; Receiver::WINDOW],

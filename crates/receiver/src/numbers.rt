@@ -10,12 +10,15 @@ ghost use mathlib.Core.Path.{_≡_};
 ghost use mathlib.Core.List.{List};
 ghost use Prim.Native.Nat.{ℕ, _≤_};
 ghost use lib.Dec.{ltb};
+ghost use lib.ListN.{length};
+ghost use Rattle.receiver.specs.Limits.{windowPlaces};
+ghost use Rattle.receiver.specs.Parts.{oldestFirst, placesOf};
 ghost use Rattle.rfc4737.specs.Judge.{sentMost};
 ghost use Rattle.rfc4737.specs.Order.{nextAfter};
 ghost use Rattle.rfc4737.specs.Runs.{lengthened, ended, squaresMost};
 ghost use Rattle.receiver.specs.Kept.{heldOf, heldAfter};
 ghost use Rattle.receiver.specs.Step.{placedAt, duplicateStream, inOrderStream, reorderedStream};
-ghost use Rattle.receiver.specs.Private.{StreamFit, placesOf};
+ghost use Rattle.receiver.specs.Private.{StreamFit};
 
 // The numbers after a duplicate.
 pub(crate) fn after_duplicate(s: Stream, time: u64) -> Stream
@@ -40,13 +43,14 @@ pub(crate) fn after_duplicate(s: Stream, time: u64) -> Stream
 pub(crate) fn after_in_order(
     s: Stream,
     most: u32,
+    down: bool,
     numbers: &[u16; Receiver::WINDOW],
     size: u32,
     number: u32,
     time: u64,
 ) -> Stream
-    requires { ⌜ StreamFit s × ((number ≤ sentMost) × (1 ≤ most)) ⌝ }
-    ensures { λ r. ⌜ ((positions times : List ℕ) → r ≡ inOrderStream s (heldAfter (ltb (s .kept) most) (heldOf s (placesOf positions (now (numbers .entry)) times)) size (placedAt s number time)) number time) ⌝ }
+    requires { ⌜ StreamFit s × ((number ≤ sentMost) × ((1 ≤ most) × (length (now numbers) ≡ windowPlaces))) ⌝ }
+    ensures { λ r. ⌜ ((positions times : List ℕ) → r ≡ inOrderStream s (heldAfter (ltb (s .kept) most) (heldOf s (placesOf positions (oldestFirst down (now (numbers .entry))) times)) size (placedAt s number time)) number time) ⌝ }
 {
     let runs = lengthened(s.runs);
     Stream {
@@ -58,7 +62,7 @@ pub(crate) fn after_in_order(
         kept: kept_after(s.kept, most, size),
         greatest: next_reference(s.greatest, time),
         runs,
-        dropped: dropped_after(s.dropped, s.kept, most, size, numbers),
+        dropped: dropped_after(s.dropped, s.kept, most, size, down, numbers),
     }
 }
 

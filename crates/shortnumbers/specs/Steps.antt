@@ -10,6 +10,7 @@ use Rattle.receiver.specs.declared.Receiver.{Receiver}
 use Rattle.receiver.specs.declared.Outcome.{Outcome}
 use Rattle.receiver.specs.declared.StepAnswer.{StepAnswer}
 use Rattle.receiver.specs.Step.{freshOf, stepOf}
+use Rattle.receiver.specs.Lent.{AsStep}
 use Rattle.receiver.specs.Account.{accountOf}
 use Rattle.receiver.specs.Demand3.{stateAfter, receiverOutcomes, Demand3}
 use Rattle.shortnumbers.specs.Number.{rangeOf, shortOf, Near, numberFound, ExactNumber}
@@ -22,6 +23,10 @@ greatestBy s = s .stream .next - 1
 -- the step with a short number: the step with the number found
 unfoldable pub shortStep : (r : ℕ) (s : Receiver) (short time : ℕ) → StepAnswer
 shortStep r s short time = stepOf s (numberFound r (greatestBy s) short) time
+
+-- what a call over a receiver lent says and leaves: it is the step in place with the number found
+abbrev pub AsShortStep : (r : ℕ) → Receiver → ℕ → ℕ → Outcome → Receiver → Type 0
+AsShortStep r s short time = AsStep s (numberFound r (greatestBy s) short) time
 
 -- ---- short numbers fed to a fresh receiver for K
 

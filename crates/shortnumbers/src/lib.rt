@@ -5,13 +5,19 @@ ghost use Prim.Native.Nat.{_+_, _-_, _/_, _≤_, max};
 ghost use lib.ListN.{length};
 ghost use Rattle.octets.specs.Memory.{over};
 ghost use Rattle.rfc4737.specs.Judge.{sentMost, arrivalsMost, arrivalsFrom, judge, refusalOfLists};
+ghost use Rattle.receiver.specs.Parts.{whole, stepAnswerOf};
 ghost use Rattle.shortnumbers.specs.Number.{rangeOf, numberFound};
 ghost use Rattle.shortnumbers.specs.Lists.{numbersFound, FilledTo, EveryList};
-ghost use Rattle.shortnumbers.specs.Steps.{shortStep, EveryStep};
+ghost use Rattle.shortnumbers.specs.Steps.{shortStep, AsShortStep, EveryStep};
 ghost use Rattle.shortnumbers.specs.Cases.{FoundAsGiven};
 ghost use Rattle.shortnumbers.specs.Private.{Narrow};
+use receiver::MARK_WORDS;
+use receiver::Outcome;
 use receiver::Receiver;
 use receiver::StepAnswer;
+use receiver::Stream;
+use receiver::advance::StreamStep;
+use receiver::parts;
 use rfc4737::judge::ARRIVALS_MOST;
 use rfc4737::judge::SENT_MOST;
 use rfc4737::judge::judge_one;
@@ -27,6 +33,9 @@ const RANGE_8: u32 = 256;
 
 // The range of 10 bits.
 const RANGE_10: u32 = 1024;
+
+// How many jumps a receiver keeps.
+const MOST_KEPT: u32 = Receiver::WINDOW as u32;
 
 // The greater of two numbers.
 fn greater_of(a: u32, b: u32) -> u32
@@ -187,4 +196,100 @@ pub fn step_10(state: Receiver, short: u16, time: u64) -> StepAnswer
     ensures everywidth { λ _. ⌜ EveryStep ⌝ }
 {
     short_step(RANGE_10, state, short, time)
+}
+
+// Steps a receiver's parts with a short number, over a range; as `receiver::parts::advance`, from the first place up.
+fn short_advance<'a>(
+    range: u32,
+    s: Stream,
+    marks: &'a mut [u64; MARK_WORDS],
+    positions: &'a mut [u16; Receiver::WINDOW],
+    numbers: &'a mut [u16; Receiver::WINDOW],
+    times: &'a mut [u64; Receiver::WINDOW],
+    short: u16,
+    time: u64,
+) -> StreamStep
+    requires { ⌜ Narrow range ⌝ }
+    ensures { λ a. ⌜ stepAnswerOf a (now (marks .exit)) (now (positions .exit)) (now (numbers .exit)) (now (times .exit))
+        ≡ shortStep range (whole s (now (marks .entry)) (now (positions .entry)) (now (numbers .entry)) (now (times .entry))) short time ⌝ }
+{
+    let greatest = greatest_by(s.next);
+    let number = full_number(range, greatest, short);
+    parts::advance(
+        s,
+        false,
+        MOST_KEPT,
+        marks,
+        positions,
+        numbers,
+        times,
+        number,
+        time,
+    )
+}
+
+// The same for 8 bits.
+fn advance_8<'a>(
+    s: Stream,
+    marks: &'a mut [u64; MARK_WORDS],
+    positions: &'a mut [u16; Receiver::WINDOW],
+    numbers: &'a mut [u16; Receiver::WINDOW],
+    times: &'a mut [u64; Receiver::WINDOW],
+    short: u16,
+    time: u64,
+) -> StreamStep
+    ensures { λ a. ⌜ stepAnswerOf a (now (marks .exit)) (now (positions .exit)) (now (numbers .exit)) (now (times .exit))
+        ≡ shortStep (rangeOf 8) (whole s (now (marks .entry)) (now (positions .entry)) (now (numbers .entry)) (now (times .entry))) short time ⌝ }
+{
+    short_advance(RANGE_8, s, marks, positions, numbers, times, short, time)
+}
+
+// The same for 10 bits.
+fn advance_10<'a>(
+    s: Stream,
+    marks: &'a mut [u64; MARK_WORDS],
+    positions: &'a mut [u16; Receiver::WINDOW],
+    numbers: &'a mut [u16; Receiver::WINDOW],
+    times: &'a mut [u64; Receiver::WINDOW],
+    short: u16,
+    time: u64,
+) -> StreamStep
+    ensures { λ a. ⌜ stepAnswerOf a (now (marks .exit)) (now (positions .exit)) (now (numbers .exit)) (now (times .exit))
+        ≡ shortStep (rangeOf 10) (whole s (now (marks .entry)) (now (positions .entry)) (now (numbers .entry)) (now (times .entry))) short time ⌝ }
+{
+    short_advance(RANGE_10, s, marks, positions, numbers, times, short, time)
+}
+
+// Steps the borrowed receiver in place with a short number of 8 bits; returns the outcome of `step_8`.
+pub fn step_8_in_place(r: &mut Receiver, short: u16, time: u64) -> Outcome
+    ensures { λ outcome. ⌜ AsShortStep (rangeOf 8) (now (r .entry)) short time outcome (now (r .exit)) ⌝ }
+{
+    let a = advance_8(
+        r.stream,
+        &mut r.marks,
+        &mut r.places.positions,
+        &mut r.places.numbers,
+        &mut r.places.times,
+        short,
+        time,
+    );
+    r.stream = a.stream;
+    a.outcome
+}
+
+// Steps the borrowed receiver in place with a short number of 10 bits; returns the outcome of `step_10`.
+pub fn step_10_in_place(r: &mut Receiver, short: u16, time: u64) -> Outcome
+    ensures { λ outcome. ⌜ AsShortStep (rangeOf 10) (now (r .entry)) short time outcome (now (r .exit)) ⌝ }
+{
+    let a = advance_10(
+        r.stream,
+        &mut r.marks,
+        &mut r.places.positions,
+        &mut r.places.numbers,
+        &mut r.places.times,
+        short,
+        time,
+    );
+    r.stream = a.stream;
+    a.outcome
 }

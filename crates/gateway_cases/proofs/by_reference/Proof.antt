@@ -1,16 +1,24 @@
 -- `gateway_cases::by_reference` meets its contract. Its MIR is the function of capi's LocalStep with the gateway's step as the callee: the
--- receiver is held in a local, which is lent to the step, and what is said and the state are put together by `capi::local_step::step_answer`. LocalStep
--- has the walk (`meets`); it is handed the contracts of both callees (`cited`). Assumes nothing.
+-- receiver is held in a local, which is lent to the step, and what is said and the state are put together by
+-- `capi::local_step::step_answer`. LocalStep says that it meets the contract (`meets`). Assumes nothing.
+use mathlib.Core.List.{[], _∷_}
+use base.Logic.{id⊢}
 use contract.Running.{givenOf, tables, tablesOf}
+use denote.Struct.Laws as LL
 use denote.Triple.Spec.{tripleOf}
 use denote.Triple.Table.{entered, cited}
+use Rattle.receiver.proofs.Returned.{met-gives, for-nothing}
+use Rattle.receiver.proofs.Receiver as R
+use Rattle.receiver.proofs.Receiver.Laws as R′
+use Rattle.receiver.proofs.Outcome as S
+use Rattle.receiver.proofs.Outcome.Laws as S′
 use Rattle.gateway.proofs.step.Symbol as step-def
 use Rattle.gateway.proofs.step.Symbol.{name as #step}
 use Rattle.gateway.proofs.step.Met as step-thm
+use Rattle.capi.proofs.local_step.step_answer as both
 use Rattle.capi.proofs.local_step.step_answer.Symbol as both-def
-use Rattle.capi.proofs.local_step.step_answer.Symbol.{name as #both}
 use Rattle.capi.proofs.local_step.step_answer.Met as both-thm
-use Rattle.capi.proofs.LocalStep.{Step, Both, meets}
+use Rattle.capi.proofs.LocalStep.{Step, meets}
 use Rattle.gateway_cases.proofs.by_reference.Key.{name as #f}
 use Rattle.gateway_cases.proofs.by_reference as f
 use Rattle.gateway_cases.proofs.by_reference.Statement as stated
@@ -19,10 +27,15 @@ use Rattle.gateway_cases.proofs.by_reference.Code as code
 pub by-reference-spec : {M : Type 1} → stated.statement M
 unfolding code.routine tablesOf
 by-reference-spec 𝓤 H 𝓜 𝓖 𝓡 =
-    entered 𝓤 H (tripleOf 𝓤 H (𝓖 .A) f.signature (f.spec 𝓤 H (𝓖 .A) (𝓜 .mem) (𝓡 .run)))
+    let A = 𝓖 .A in
+    let W = givenOf 𝓤 H 𝓜 𝓖 in
+    entered 𝓤 H (tripleOf 𝓤 H A f.signature (f.spec 𝓤 H A (𝓜 .mem) (𝓡 .run)))
     (tables 𝓤 H 𝓜 𝓡 code.env .C) (tables 𝓤 H 𝓜 𝓡 code.env .Λ) #f code.function (code.unfolded 𝓤 H 𝓜 𝓡)
-    (meets 𝓤 H (𝓖 .A) (givenOf 𝓤 H 𝓜 𝓖) (𝓜 .mem) (𝓡 .run) (tablesOf 𝓤 H 𝓜 (tables 𝓤 H 𝓜 𝓡 code.env)) _ #step
-    (cited 𝓤 H (Step 𝓤 H (𝓖 .A) (𝓜 .mem) (𝓡 .run)) 𝓜 𝓡 code.env #step step-def.routine code.calls-gateway·step
+    (meets 𝓤 H A W (𝓜 .mem) (𝓡 .run) (tablesOf 𝓤 H 𝓜 (tables 𝓤 H 𝓜 𝓡 code.env)) _ #step
+    (cited 𝓤 H (Step 𝓤 H A (𝓜 .mem) (𝓡 .run)) 𝓜 𝓡 code.env #step step-def.routine code.calls-gateway·step
     (step-thm.met 𝓤 H 𝓜 𝓖 𝓡))
-    (cited 𝓤 H (Both 𝓤 H (𝓖 .A) (𝓜 .mem) (𝓡 .run)) 𝓜 𝓡 code.env #both both-def.routine code.calls-capi·local-step·step-answer
-    (both-thm.met 𝓤 H 𝓜 𝓖 𝓡)))
+    -- what `step_answer` gives
+    (λ s v is h was. met-gives 𝓤 H 𝓜 𝓖 𝓡 code.env both.ended (both.clauses 𝓤 H A (𝓜 .mem) (𝓡 .run)) both-def.name both-def.routine
+    code.calls-capi·local-step·step-answer (both-thm.met 𝓤 H 𝓜 𝓖 𝓡) ((tt, tt, tt, (s, (h, tt)), (v ∷ [], (LL.val R.the-type R′.the-laws h ∷ [], tt))), tt)
+    (for-nothing 𝓤 H A W (S.the-row ∷ R.the-row ∷ [])
+    (LL.makes S.the-type S′.the-plain 𝓤 H A, (LL.makes R.the-type R′.the-plain 𝓤 H A, tt)) (s, (h, tt)) _ (is, (was, tt))) _ (λ d _. id⊢ 𝓤 _)))

@@ -20,9 +20,9 @@ use Rattle.receiver.proofs.Outcome as S
 use Rattle.receiver.proofs.Outcome.Laws as S′
 use Rattle.capi.proofs.outcomes.OutcomeFigures as F
 use Rattle.capi.proofs.outcomes.OutcomeFigures.Laws as F′
-use Rattle.gateway.proofs.meters.step as step
-use Rattle.gateway.proofs.meters.step.Symbol as step-def
-use Rattle.gateway.proofs.meters.step.Met as step-thm
+use Rattle.meter.proofs.step_in_place as step
+use Rattle.meter.proofs.step_in_place.Symbol as step-def
+use Rattle.meter.proofs.step_in_place.Met as step-thm
 use Rattle.capi.proofs.outcomes.outcome_figures as said
 use Rattle.capi.proofs.outcomes.outcome_figures.Symbol as said-def
 use Rattle.capi.proofs.outcomes.outcome_figures.Met as said-thm
@@ -54,7 +54,7 @@ krakobran-meter-step-lent-spec 𝓤 H 𝓜 𝓖 𝓡 =
     (λ κs qs a are. lent-gives 𝓤 H A R.the-row S.the-row (w32 ∷ w32 ∷ w64 ∷ [])
     (λ h ns. AsMeterStep h (ns .0) (ns .1 .0) (ns .1 .1 .0)) W (𝓣 .C) (fmOf 𝓤 H (W .laws) 𝓣) (step.clauses 𝓤 H A (𝓜 .mem) (𝓡 .run)) step-def.name
     (cited 𝓤 H (tripleOf 𝓤 H A step.signature (step.spec 𝓤 H A (𝓜 .mem) (𝓡 .run))) 𝓜 𝓡 code.env step-def.name step-def.routine
-    code.calls-gateway·meters·step (step-thm.met 𝓤 H 𝓜 𝓖 𝓡)) κs qs a are tt (id⊢ 𝓤 _) (λ s e. id⊢ 𝓤 _))
+    code.calls-meter·step-in-place (step-thm.met 𝓤 H 𝓜 𝓖 𝓡)) κs qs a are tt (id⊢ 𝓤 _) (λ s e. id⊢ 𝓤 _))
     (λ s v is. met-gives 𝓤 H 𝓜 𝓖 𝓡 code.env said.ended (said.clauses 𝓤 H A (𝓜 .mem) (𝓡 .run)) said-def.name said-def.routine
     code.calls-capi·outcomes·outcome-figures (said-thm.met 𝓤 H 𝓜 𝓖 𝓡) ((tt, tt, tt, (s, tt), (v ∷ [], tt)), tt)
     (for-nothing 𝓤 H A W (S.the-row ∷ []) (LL.makes S.the-type S′.the-plain 𝓤 H A, tt) (s, tt) _ (is, tt)) _ (λ d _. id⊢ 𝓤 _))))

@@ -4,6 +4,7 @@ use mathlib.Core.Path.{sym, _∙_}
 use native.Mathlib.Omega.{arith}
 use borrow.Author.Tests.{not-true, not-false}
 use borrow.Author.Needs.{needs}
+use Rattle.receiver.specs.Parts.{oldestFirst}
 use Rattle.receiver.specs.Fit.{fit}
 use Rattle.receiver.proofs.Fits.{stream-facts}
 use Rattle.receiver.proofs.Receiver.is_fit.Statement.{statement}
@@ -17,10 +18,10 @@ places-fit-requires : tie.Need-places-fit-requires
 places-fit-requires c κs =
     let s = c .before .before .before .before .before .before in
     let h = stream-facts _ (sym (s .before .stream-fit .ensures) ∙ not-false _ (s .if1 .left)) in
-    (h .sent-high, omega (arith, h .arrived-high, h .sent-high))
+    ((h .sent-high, omega (arith, h .arrived-high, h .sent-high)), (search needs, (search needs, search needs)))
 
 returns-2 : tie.Need-returns-2
-unfolding fit
+unfolding fit oldestFirst
 returns-2 c =
     let s = c .before .before .before .before .before .before .before in
     simp (sym (s .before .stream-fit .ensures) ∙ not-false _ (s .if1 .left), c .places-fit .ensures)

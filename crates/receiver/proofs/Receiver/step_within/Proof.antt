@@ -2,6 +2,7 @@
 -- they become. Assumes nothing.
 use native.Mathlib.Omega.{arith}
 use borrow.Author.Needs.{needs}
+use Rattle.receiver.specs.Parts.{oldestFirst}
 use Rattle.receiver.proofs.Receiver.step_within.Statement.{statement}
 use Rattle.receiver.proofs.Receiver.step_within.Tie as tie
 
@@ -11,6 +12,7 @@ advance-within-requires c κs =
     ((omega arith, omega arith), (search needs, (search needs, search needs)))
 
 returns : tie.Need-returns
+unfolding oldestFirst
 returns c =
     rw (c .before .before .before .before .before .before .before .before .before .before .before .before .at-most .ensures) at
     (c .before .before .before .advance-within .ensures)

@@ -1,13 +1,13 @@
--- `receiver::advance::advance` meets its contract: it is `advance_within` where at most 64 jumps are kept. Assumes nothing.
-use native.Mathlib.Omega.{arith}
+-- `receiver::advance::advance` meets its contract: it is the step on parts where at most 64 jumps are kept, from the first place up. Assumes
+-- nothing.
+use borrow.Author.Needs.{needs}
+use Rattle.receiver.specs.Parts.{oldestFirst}
 use Rattle.receiver.proofs.advance.advance.Statement.{statement}
 use Rattle.receiver.proofs.advance.advance.Tie as tie
 
-advance-within-requires : tie.Need-advance-within-requires
-advance-within-requires c κs = ((omega arith, omega arith), c .before .before .before .before .pre)
-
 returns : tie.Need-returns
-returns c = c .advance-within .ensures
+unfolding oldestFirst
+returns c = c .advance .ensures
 
 pub advance-spec : {M : Type 1} → statement M
-advance-spec = tie.close (tie.spec advance-within-requires returns)
+advance-spec = tie.close (tie.spec (λ c κs. search needs) returns)

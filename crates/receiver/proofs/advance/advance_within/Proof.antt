@@ -6,15 +6,17 @@ use mathlib.Core.Bool.{true}
 use native.Mathlib.Omega.{arith}
 use borrow.Author.Needs.{needs}
 use Rattle.receiver.specs.declared.Receiver.{Receiver}
-use Rattle.receiver.specs.Private.{whole, Unrefused}
+use Rattle.receiver.specs.Parts.{oldestFirst, whole}
+use Rattle.receiver.specs.Private.{Unrefused}
 use Rattle.receiver.proofs.StepCases.{said-accepted, step-refused, step-noted}
 use Rattle.receiver.proofs.StatesWritten.{duplicate-written, in-order-written, jump-written, late-written}
+use Rattle.receiver.proofs.OldestFirst.{same-full}
 use Rattle.receiver.proofs.advance.advance_within.Statement.{statement}
 use Rattle.receiver.proofs.advance.advance_within.Tie as tie
 
 -- the receiver of the parts at entry
 abbrev stateAt : tie.Start → Receiver
-stateAt c = whole (c .args .s) (c .args .marks .now) (c .args .positions .now) (c .args .numbers .now) (c .args .times .now)
+stateAt c = whole (c .args .s) (c .args .marks .now) (oldestFirst (c .args .down) (c .args .positions .now)) (oldestFirst (c .args .down) (c .args .numbers .now)) (oldestFirst (c .args .down) (c .args .times .now))
 
 -- the entry, from where an arrival is not refused
 abbrev startOf : tie.Else1 → tie.Start
@@ -39,7 +41,7 @@ after-in-order-requires : tie.Need-after-in-order-requires
 after-in-order-requires c κs =
     let e = c .before .before .before .before in
     let a = accepted e in
-    (a .stream, (omega (arith, a .number-high, a .stream .sent-high), startOf e .pre .0 .0))
+    (a .stream, (omega (arith, a .number-high, a .stream .sent-high), (startOf e .pre .0 .0, startOf e .pre .1 .1 .0)))
 
 mark-requires : tie.Need-mark-requires
 mark-requires c κs =
@@ -86,7 +88,7 @@ returns-3 c =
     let late = c .before .before .before .before .before .before .before .before in
     let early = late .before .before .before .before .before in
     step-noted _ _ _ _ _ (early .before .before .decide .ensures) _ (early .if1 .left)
-    (jump-written _ _ _ _ _ _ _ _ _ _ _ _ _ _ _ (accepted early .places .kept-high, startOf early .pre) (late .before .before .before .noted .given .1) (c .before .before .before .before .before .if2 .taken) (late .after-in-order .ensures _ _)
+    (jump-written _ _ _ _ _ _ _ _ _ _ _ _ _ _ _ (accepted early .places .kept-high, (startOf early .pre .0, same-full _ _ _ _ (startOf early .pre .1))) (late .before .before .before .noted .given .1) (c .before .before .before .before .before .if2 .taken) (late .after-in-order .ensures _ _)
     (c .before .before .before .before .before .before .mark .ensures) (c .push .ensures))
 
 returns-4 : tie.Need-returns-4

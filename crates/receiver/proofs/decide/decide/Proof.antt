@@ -7,14 +7,15 @@ use borrow.Author.Needs.{needs}
 use Rattle.receiver.specs.declared.Receiver.{Receiver}
 use Rattle.receiver.specs.Step.{stepRefusal}
 use Rattle.receiver.specs.Fit.{fit}
-use Rattle.receiver.specs.Private.{whole, Unrefused}
+use Rattle.receiver.specs.Parts.{oldestFirst, whole}
+use Rattle.receiver.specs.Private.{Unrefused}
 use Rattle.receiver.proofs.StepCases.{accepted-facts, outcome-refused, outcome-duplicate, outcome-in-order, outcome-late}
 use Rattle.receiver.proofs.decide.decide.Statement.{statement}
 use Rattle.receiver.proofs.decide.decide.Tie as tie
 
 -- the state
 abbrev stateAt : tie.Start → Receiver
-stateAt c = whole (c .args .s) (c .args .marks .now) (c .args .positions .now) (c .args .numbers .now) (c .args .times .now)
+stateAt c = whole (c .args .s) (c .args .marks .now) (oldestFirst (c .args .down) (c .args .positions .now)) (oldestFirst (c .args .down) (c .args .numbers .now)) (oldestFirst (c .args .down) (c .args .times .now))
 
 -- past the first test there is no refusal
 no-refusal : (c : tie.Else1) → stepRefusal (stateAt (c .before .before)) (c .before .before .args .number) (c .before .before .args .time) ≡ 0
@@ -23,7 +24,7 @@ no-refusal c = sym (c .before .step-refusal .ensures) ∙ c .if1 .left
 
 -- so what an accepted arrival has holds, whatever the marks
 accepted : (c : tie.Else1) →
-    Unrefused (whole (c .before .before .args .s) [] (c .before .before .args .positions .now) (c .before .before .args .numbers .now) (c .before .before .args .times .now)) (c .before .before .args .number)
+    Unrefused (whole (c .before .before .args .s) [] (oldestFirst (c .before .before .args .down) (c .before .before .args .positions .now)) (oldestFirst (c .before .before .args .down) (c .before .before .args .numbers .now)) (oldestFirst (c .before .before .args .down) (c .before .before .args .times .now))) (c .before .before .args .number)
 accepted c = accepted-facts _ _ _ (sym (c .before .step-refusal .ensures) ∙ c .if1 .left)
 
 returns : tie.Need-returns
@@ -49,7 +50,7 @@ returns-3 c =
     (sym (c .before .before .before .before .is-marked .ensures) ∙ c .before .before .before .if2 .left) (c .before .if3 .taken)
 
 late-outcome-requires : tie.Need-late-outcome-requires
-late-outcome-requires c κs = accepted (c .before .before .before .before)
+late-outcome-requires c κs = (accepted (c .before .before .before .before), c .before .before .before .before .before .before .pre)
 
 returns-4 : tie.Need-returns-4
 returns-4 c =

@@ -5,7 +5,7 @@ use native.Mathlib.Omega.{arith}
 use borrow.Author.Needs.{needs}
 use lib.ListN.{getD}
 use Rattle.rfc4737.specs.declared.Arrival.{Arrival}
-use Rattle.receiver.specs.Private.{placesOf}
+use Rattle.receiver.specs.Parts.{placesBy}
 use Rattle.receiver.specs.Kept.{placeAt, Held, heldOf, keptOf}
 use Rattle.receiver.proofs.Search.{search-found, search-none}
 use Rattle.receiver.proofs.StepCases.{late-none, late-beyond, late-exact, after-place, oldest-kept}
@@ -14,7 +14,7 @@ use Rattle.receiver.proofs.decide.late_outcome.Tie as tie
 
 -- what is held of the jumps
 abbrev heldAt : tie.Start → Held
-heldAt c = heldOf (c .args .s) (placesOf (c .args .positions .now) (c .args .numbers .now) (c .args .times .now))
+heldAt c = heldOf (c .args .s) (placesBy (c .args .down) (c .args .positions .now) (c .args .numbers .now) (c .args .times .now))
 
 -- the arrival
 abbrev arrivalAt : tie.Start → Arrival
@@ -31,7 +31,9 @@ returns c =
 lateness-from-requires : tie.Need-lateness-from-requires
 lateness-from-requires c κs =
     let s = c .before .before .before .before .before .before in
-    after-place _ (s .args .number) (s .args .time) (s .pre) 0 (omega (arith, c .before .before .before .if1 .left))
+    let p = after-place _ (s .args .number) (s .args .time) (s .pre .0) 0 (omega (arith, c .before .before .before .if1 .left)) in
+    let full = s .pre .1 in
+    (p .0, (p .1, (full .0, full .1 .1)))
 
 returns-2 : tie.Need-returns-2
 unfolding keptOf placeAt
@@ -47,7 +49,9 @@ returns-2 c =
 lateness-from-requires-2 : tie.Need-lateness-from-requires-2
 lateness-from-requires-2 c κs =
     let s = c .before .before .before .before .before .before in
-    after-place _ (s .args .number) (s .args .time) (s .pre) _ (c .before .before .before .if1 .left)
+    let p = after-place _ (s .args .number) (s .args .time) (s .pre .0) _ (c .before .before .before .if1 .left) in
+    let full = s .pre .1 in
+    (p .0, (p .1, (full .0, full .1 .1)))
 
 returns-3 : tie.Need-returns-3
 unfolding keptOf placeAt

@@ -6,7 +6,7 @@ use native.Mathlib.Omega.{arith}
 use borrow.Author.Tests.{not-true, not-false, eq-eqb, ne-eqb}
 use borrow.Author.Needs.{needs}
 use Rattle.rfc4737.proofs.Due.{first-one}
-use Rattle.receiver.specs.Private.{placesOf}
+use Rattle.receiver.specs.Parts.{placesBy}
 use Rattle.receiver.specs.Step.{stepRefusal}
 use Rattle.receiver.specs.Fit.{streamFit, placesFit, fit}
 use Rattle.receiver.proofs.Fits.{stream-facts}
@@ -19,7 +19,7 @@ stream-known c = sym (c .before .before .before .stream-fit .ensures) ∙ not-fa
 
 -- and so are the places
 places-known : (c : tie.Else2) →
-    placesFit (c .before .before .before .before .args .s) (placesOf (c .before .before .before .before .args .positions .now) (c .before .before .before .before .args .numbers .now) (c .before .before .before .before .args .times .now)) ≡ true
+    placesFit (c .before .before .before .before .args .s) (placesBy (c .before .before .before .before .args .down) (c .before .before .before .before .args .positions .now) (c .before .before .before .before .args .numbers .now) (c .before .before .before .before .args .times .now)) ≡ true
 places-known c = sym (c .before .places-fit .ensures) ∙ not-false _ (c .if2 .left)
 
 returns : tie.Need-returns
@@ -29,7 +29,7 @@ returns c = simp (sym (c .before .stream-fit .ensures) ∙ not-true _ (c .if1 .t
 places-fit-requires : tie.Need-places-fit-requires
 places-fit-requires c κs =
     let h = stream-facts _ (sym (c .before .stream-fit .ensures) ∙ not-false _ (c .if1 .left)) in
-    (h .sent-high, omega (arith, h .arrived-high, h .sent-high))
+    ((h .sent-high, omega (arith, h .arrived-high, h .sent-high)), c .before .before .pre)
 
 returns-2 : tie.Need-returns-2
 unfolding stepRefusal fit
