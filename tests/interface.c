@@ -19,7 +19,8 @@ static void passed(const char *name, int holds) {
 /* ---- input: the longest sample, its packets in pairs that are exchanged, with a copy in each fourth place */
 
 static uint16_t sizes[KRAKOBRAN_SENT_MOST], shorts[KRAKOBRAN_ARRIVALS_MOST], table[KRAKOBRAN_TABLE_PLACES];
-static uint16_t lengths[KRAKOBRAN_ARRIVALS_MOST], offsets[KRAKOBRAN_ARRIVALS_MOST];
+static uint32_t ones[KRAKOBRAN_ARRIVALS_MOST];
+static uint16_t lengths[KRAKOBRAN_ARRIVALS_MOST], offsets[KRAKOBRAN_ARRIVALS_MOST], falling[KRAKOBRAN_ARRIVALS_MOST];
 static uint32_t numbers[KRAKOBRAN_ARRIVALS_MOST], positions[KRAKOBRAN_ARRIVALS_MOST], extents[KRAKOBRAN_ARRIVALS_MOST];
 static uint64_t times[KRAKOBRAN_ARRIVALS_MOST], lates[KRAKOBRAN_ARRIVALS_MOST];
 static uint8_t mores[KRAKOBRAN_ARRIVALS_MOST], cases[KRAKOBRAN_ARRIVALS_MOST], used[KRAKOBRAN_ARRIVALS_MOST];
@@ -36,6 +37,8 @@ static void make_sample(void) {
         times[i] = 10 * (uint64_t)i;
         shorts[i] = (uint16_t)(numbers[i] % 256);
         lengths[i] = 8;
+        ones[i] = 1;
+        falling[i] = (uint16_t)(KRAKOBRAN_ARRIVALS_MOST - i);
     }
     octets = krakobran_write(label, KRAKOBRAN_LABEL_MOST, sizes, KRAKOBRAN_SENT_MOST, numbers, KRAKOBRAN_ARRIVALS_MOST,
                              times, KRAKOBRAN_ARRIVALS_MOST, file, sizeof file)
@@ -217,6 +220,8 @@ CALL(check_listing, krakobran_check_listing(file, octets, out, sizeof out).refus
 CALL(sweep, krakobran_sweep(file, octets, table, MOST, cases, MOST, positions, MOST, extents, MOST, lates, MOST).refusal)
 CALL(fragment_order, krakobran_fragment_order(MOST, numbers, MOST, times, MOST, lengths, MOST, mores, MOST, offsets, MOST,
                                               cases, MOST, used, MOST))
+CALL(fragments_of_one, krakobran_fragment_order(1, ones, MOST, times, MOST, lengths, MOST, mores, MOST, falling, MOST, cases,
+                                                MOST, used, MOST))
 CALL(full_numbers_8, krakobran_full_numbers_8(MOST, shorts, MOST, times, MOST, positions, MOST))
 CALL(full_numbers_10, krakobran_full_numbers_10(MOST, shorts, 64, times, 64, positions, MOST))
 CALL(fresh, krakobran_fresh(MOST).refusal)
@@ -240,7 +245,7 @@ static const struct {
     NAMED(check), NAMED(read), NAMED(label), NAMED(write), NAMED(refusal_of_lists), NAMED(import_text), NAMED(refused_line),
     NAMED(write_text), NAMED(import_records), NAMED(write_records), NAMED(answer), NAMED(counts), NAMED(tally), NAMED(gap), NAMED(n_reordered),
     NAMED(degree), NAMED(ratios), NAMED(disorder), NAMED(worse), NAMED(listing), NAMED(check_listing), NAMED(sweep),
-    NAMED(fragment_order), NAMED(full_numbers_8), NAMED(full_numbers_10), NAMED(fresh), NAMED(step), NAMED(step_lent), NAMED(step_8),
+    NAMED(fragment_order), NAMED(fragments_of_one), NAMED(full_numbers_8), NAMED(full_numbers_10), NAMED(fresh), NAMED(step), NAMED(step_lent), NAMED(step_8),
     NAMED(step_10), NAMED(step_8_lent), NAMED(step_10_lent), NAMED(meter_new), NAMED(meter_start), NAMED(meter_start_lent), NAMED(meter_step),
     NAMED(meter_step_lent)};
 

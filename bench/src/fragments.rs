@@ -1,7 +1,6 @@
 //! Fragments: the archive's call, a plain Rust implementation of RFC 4737, Appendix B beside it, and arrivals to compare the two
 //! on.
 
-use std::collections::{HashMap, HashSet};
 use std::hint::black_box;
 
 use crate::archive::{pointer, pointer_mut};
@@ -140,18 +139,6 @@ fn judge(sent: u32, l: &Lists) -> Result<Vec<Piece>, u32> {
     Ok(all)
 }
 
-/// Which arrivals are equal to an earlier one in number, offset and length; of two whole packets the number alone decides.
-fn copies(all: &[Piece]) -> Vec<bool> {
-    let (mut equal, mut wholes) = (HashSet::new(), HashSet::new());
-    all.iter()
-        .map(|p| {
-            let seen = !equal.insert((p.number, p.offset, p.length));
-            let seen_whole = p.whole() && !wholes.insert(p.number);
-            seen || seen_whole
-        })
-        .collect()
-}
-
 /// The three cases of B.3, and what is expected after an arrival that is in order. `note` is told the case of each reordered one.
 fn flags(all: &[Piece], copies: &[bool], mut note: impl FnMut(&'static str)) -> Vec<u8> {
     let (mut next, mut packet, mut fragment) = (1, 0, 0);
@@ -176,19 +163,48 @@ fn flags(all: &[Piece], copies: &[bool], mut note: impl FnMut(&'static str)) -> 
     all.iter().zip(copies).map(|(p, &copy)| flag(p, copy)).collect()
 }
 
-/// The packets of which every octet from 0 to the end of a last one has arrived.
-fn complete(all: &[Piece]) -> HashSet<u32> {
-    let mut packets: HashMap<u32, Vec<&Piece>> = HashMap::new();
-    for piece in all {
-        packets.entry(piece.number).or_default().push(piece);
-    }
-    let covers = |parts: &mut Vec<&Piece>| {
-        parts.sort_by_key(|p| p.octets());
-        let reach =
-            parts.iter().fold(0, |reach, p| if p.octets().0 <= reach { reach.max(p.octets().1) } else { reach });
-        parts.iter().any(|p| p.last && p.octets().1 <= reach)
+/// The arrivals by number, offset, length and place, each in one number: a place has 12 bits, an offset and a length 16 each.
+fn sorted(all: &[Piece]) -> Vec<u64> {
+    let key = |(place, p): (usize, &Piece)| {
+        let packet = u64::from(p.number) << 32;
+        (packet | u64::from(p.offset) << 16 | u64::from(p.length)) << 12 | place as u64
     };
-    packets.iter_mut().filter_map(|(&number, parts)| covers(parts).then_some(number)).collect()
+    let mut keys: Vec<u64> = all.iter().enumerate().map(key).collect();
+    keys.sort_unstable();
+    keys
+}
+
+/// Which arrivals are copies, and by number the packets of which every octet from 0 to the end of a last one has arrived. Of equal
+/// arrivals, which stand side by side, all but the first are copies; of whole packets the number alone decides.
+fn copies_and_complete(sent: u32, all: &[Piece]) -> (Vec<bool>, Vec<bool>) {
+    let (mut copies, mut complete) = (vec![false; all.len()], vec![false; sent as usize + 1]);
+    let place = |key: u64| (key % 4096) as usize;
+    for packet in sorted(all).chunk_by(|a, b| a >> 44 == b >> 44) {
+        let mut reach = 0;
+        let mut least = u32::MAX;
+        for &key in packet {
+            let p = &all[place(key)];
+            let (start, end) = p.octets();
+            if start <= reach {
+                reach = reach.max(end);
+            }
+            if p.last {
+                least = least.min(end);
+            }
+        }
+        complete[(packet[0] >> 44) as usize] = least <= reach;
+        for pair in packet.windows(2) {
+            copies[place(pair[1])] = pair[0] >> 12 == pair[1] >> 12;
+        }
+    }
+    let mut wholes = vec![false; sent as usize + 1];
+    for (p, copy) in all.iter().zip(&mut copies) {
+        if p.whole() {
+            *copy |= wholes[p.number as usize];
+            wholes[p.number as usize] = true;
+        }
+    }
+    (copies, complete)
 }
 
 fn by_reference(sent: u32, l: &Lists, out: &mut Lent, mut note: impl FnMut(&'static str)) -> u32 {
@@ -199,10 +215,10 @@ fn by_reference(sent: u32, l: &Lists, out: &mut Lent, mut note: impl FnMut(&'sta
     if out.flags.len() < all.len() || out.usable.len() < all.len() {
         return OUTPUT_SHORT;
     }
-    let (copies, complete) = (copies(&all), complete(&all));
+    let (copies, complete) = copies_and_complete(sent, &all);
     out.flags[..all.len()].copy_from_slice(&flags(&all, &copies, &mut note));
     for (place, (p, copy)) in out.usable.iter_mut().zip(all.iter().zip(&copies)) {
-        *place = u8::from(!copy && complete.contains(&p.number));
+        *place = u8::from(!copy && complete[p.number as usize]);
         note(if *place == 1 { "fragments: usable" } else { "fragments: not usable" });
     }
     0
@@ -375,24 +391,29 @@ fn one(random: &mut Random, seen: &mut Seen) -> Result<(), String> {
 
 // The measurement.
 
-/// Packets that are whole, of four fragments each in the order in which they are sent, or all fragments of one packet, the last
-/// one first.
-fn measured(many: usize) -> [(&'static str, u32, Lists); 3] {
-    let piece = |record: usize, number: usize, part: usize, parts: usize| Piece {
+/// Whole packets in order and sent twice; packets of four fragments together and of two apart; and all fragments of one packet in
+/// order, the last one first, and shuffled.
+fn measured(many: usize) -> [(&'static str, u32, Lists); 7] {
+    let part = |number: usize, part: usize, parts: usize| Piece {
         number: number as u32,
-        time: 10 * record as u64,
+        time: 0,
         length: 8,
         last: part + 1 == parts,
         offset: part as u16,
     };
     let of = |all: Vec<Piece>| lists(&mut Random::new(1, 1), &all);
-    let wholes = (0..many).map(|i| piece(i, i + 1, 0, 1)).collect();
-    let fours = (0..many).map(|i| piece(i, i / 4 + 1, i % 4, 4)).collect();
-    let one = (0..many).map(|i| piece(i, 1, many - 1 - i, many)).collect();
+    let half = many / 2;
+    let one: Vec<Piece> = (0..many).map(|i| part(1, i, many)).collect();
+    let mut shuffled = one.clone();
+    Random::new(2, 2).shuffle(&mut shuffled);
     [
-        ("whole packets", many as u32, of(wholes)),
-        ("four each", many as u32 / 4, of(fours)),
-        ("one reversed", 1, of(one)),
+        ("whole packets", many as u32, of((0..many).map(|i| part(i + 1, 0, 1)).collect())),
+        ("sent twice", half as u32, of((0..many).map(|i| part(i % half + 1, 0, 1)).collect())),
+        ("four each", many as u32 / 4, of((0..many).map(|i| part(i / 4 + 1, i % 4, 4)).collect())),
+        ("two each, apart", half as u32, of((0..many).map(|i| part(i % half + 1, i / half, 2)).collect())),
+        ("one in order", 1, of(one.clone())),
+        ("one reversed", 1, of(one.into_iter().rev().collect())),
+        ("one shuffled", 1, of(shuffled)),
     ]
 }
 

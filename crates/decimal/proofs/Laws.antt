@@ -31,7 +31,9 @@ same-places zero g t o hf hg = absurd (omega arith)
 same-places (suc f) zero t o hf hg = absurd (omega arith)
 same-places (suc f) (suc g) zero o hf hg = refl
 same-places (suc f) (suc g) (suc t) o hf hg =
-    ap (λ (l : List ℕ). l ++ ((48 + o) ∷ [])) (same-places f g (suc t / 10) (suc t % 10) (omega arith) (omega arith))
+    let e : digitsOf f (suc t / 10) (suc t % 10) ≡ digitsOf g (suc t / 10) (suc t % 10) =
+    same-places f g (suc t / 10) (suc t % 10) (omega arith) (omega arith) in
+    rw e
 
 -- one digit taken off
 one-place : (n t o : ℕ) → suc t ≤ n → digitsOf (suc n) (suc t) o ≡ digitsOf (suc (suc t)) (suc t / 10) (suc t % 10) ++ ((48 + o) ∷ [])

@@ -21,7 +21,7 @@ use Rattle.fragments.specs.Calls.{sameLengths, orderRefusal}
 use Rattle.fragments.specs.Private.{Lists, NumbersWithin}
 use Rattle.fragments.proofs.Laws.{both, pieces-length}
 use Rattle.fragments.proofs.Judged.{numbered}
-use Rattle.fragments.proofs.Spans.{pieces-number}
+use Rattle.fragments.proofs.Numbers.{pieces-number}
 
 pub same-lists : (ns ts ls ms os : List ℕ) → sameLengths (length ns) (length ts) (length ls) (length ms) (length os) ≡ true → Lists ns ts ls ms os
 unfolding sameLengths

@@ -1,5 +1,5 @@
--- Laws of `some`, and a packet's completeness by its first uncovered octet. `some` holds exactly if one element passes: by induction on the
--- list, at a place (`some-at`) or at none (`some-none`). Where r is the first octet of packet s that is not covered, every octet below n is
+-- Laws of `any`, and a packet's completeness by its first uncovered octet. `any` holds exactly if one element passes: by induction on the
+-- list, at a place (`any-at`) or at none (`any-none`). Where r is the first octet of packet s that is not covered, every octet below n is
 -- covered exactly if n is at most r (`below-reach`, by induction on n), so s is complete exactly if an arrival of it with no more to come ends
 -- by r (`complete-ends`). The five lists, read side by side, give at each place the arrival of the values there (`pieces-getD`).
 -- Here p and q are tests, l is a list, a and b its elements, i a place and z what is read past the end, o an octet; ns, ts, ls, ms and os are
@@ -14,8 +14,8 @@ use lib.Dec.{leb, eqb}
 use lib.ListN.{length, getD, drop}
 use lib.Seq.{getD-drop}
 use Rattle.fragments.specs.declared.Piece.{Piece}
-use Rattle.fragments.specs.Pieces.{piecesOf, some, isLast, pieceEnd, copies}
-use Rattle.fragments.specs.Private.{noPiece, endsBy, Growth}
+use Rattle.fragments.specs.Pieces.{piecesOf, any, isLast, pieceEnd}
+use Rattle.fragments.specs.Private.{noPiece, endsBy, Reach}
 use Rattle.fragments.specs.Usable.{hasOctet, everyBelow, covered, complete}
 
 pub both : (a b : Bool) → (a && b) ≡ true → (a ≡ true) × (b ≡ true)
@@ -24,29 +24,29 @@ both false b e = absurd (let z : _≡_ {A = ℕ} 0 1 = cc in omega arith)
 
 module _ {ℓ} {A : Type ℓ} (p : A → Bool) where
   -- an element that passes
-  pub some-at : (l : List A) (i : ℕ) (z : A) → i < length l → p (getD l i z) ≡ true → some p l ≡ true
-  unfolding some
-  some-at [] i z h e = absurd (omega arith)
-  some-at (a ∷ l) zero z h e = rw e
-  some-at (a ∷ l) (suc i) z h e = rw (some-at l i z (omega arith) e) (or-true (p a))
+  pub any-at : (l : List A) (i : ℕ) (z : A) → i < length l → p (getD l i z) ≡ true → any p l ≡ true
+  unfolding any
+  any-at [] i z h e = absurd (omega arith)
+  any-at (a ∷ l) zero z h e = rw e
+  any-at (a ∷ l) (suc i) z h e = rw (any-at l i z (omega arith) e) (or-true (p a))
 
   -- no element passes
-  pub some-none : (l : List A) (z : A) → ((i : ℕ) → i < length l → p (getD l i z) ≡ false) → some p l ≡ false
-  unfolding some
-  some-none [] z h = refl
-  some-none (a ∷ l) z h = rw (h 0 (omega arith), some-none l z (λ (i : ℕ) (k : i < length l). h (suc i) (omega arith)))
+  pub any-none : (l : List A) (z : A) → ((i : ℕ) → i < length l → p (getD l i z) ≡ false) → any p l ≡ false
+  unfolding any
+  any-none [] z h = refl
+  any-none (a ∷ l) z h = rw (h 0 (omega arith), any-none l z (λ (i : ℕ) (k : i < length l). h (suc i) (omega arith)))
 
   -- under one element more
-  pub some-more : (l : List A) (a : A) → some p (l ++ (a ∷ [])) ≡ (some p l || p a)
-  unfolding some
-  some-more [] a = or-false (p a)
-  some-more (b ∷ l) a = rw (some-more l a) (sym (or-assoc (p b) (some p l) (p a)))
+  pub any-more : (l : List A) (a : A) → any p (l ++ (a ∷ [])) ≡ (any p l || p a)
+  unfolding any
+  any-more [] a = or-false (p a)
+  any-more (b ∷ l) a = rw (any-more l a) (sym (or-assoc (p b) (any p l) (p a)))
 
 -- of two tests that agree
-some-same {ℓ} : {A : Type ℓ} (p q : A → Bool) → ((a : A) → p a ≡ q a) → (l : List A) → some p l ≡ some q l
-unfolding some
-some-same p q h [] = refl
-some-same p q h (a ∷ l) = rw (h a, some-same p q h l)
+pub any-same {ℓ} : {A : Type ℓ} (p q : A → Bool) → ((a : A) → p a ≡ q a) → (l : List A) → any p l ≡ any q l
+unfolding any
+any-same p q h [] = refl
+any-same p q h (a ∷ l) = rw (h a, any-same p q h l)
 
 -- a test that the numbers below r pass, and r does not, is passed by every number below n exactly if n is at most r
 below-reach : (p : ℕ → Bool) (r : ℕ) → ((o : ℕ) → o < r → p o ≡ true) → p r ≡ false → (n : ℕ) → everyBelow n p ≡ leb n r
@@ -65,10 +65,10 @@ below-reach p r h k (suc n) = go (below-reach p r h k n) (leb (suc n) r) refl
     go b false e = rw b (past (leb n r) refl (omega (arith, leb-false (suc n) r e)))
 
 -- packet s is complete exactly if one of its arrivals with no more to come ends by its first uncovered octet
-pub complete-ends : (l : List Piece) (s r : ℕ) → Growth l s r r → complete l s ≡ some (endsBy s r) l
+pub complete-ends : (l : List Piece) (s r : ℕ) → Reach l s r → complete l s ≡ any (endsBy s r) l
 unfolding complete covered endsBy
 complete-ends l s r h =
-    some-same _ _ (λ (a : Piece). ap (λ (t : Bool). eqb (a .number) s && (isLast a && t)) (below-reach (λ (o : ℕ). some (hasOctet s o) l) r (h .covered) (h .stays refl) (pieceEnd a))) l
+    any-same _ _ (λ (a : Piece). ap (λ (t : Bool). eqb (a .number) s && (isLast a && t)) (below-reach (λ (o : ℕ). any (hasOctet s o) l) r (h .covered) (h .uncovered) (pieceEnd a))) l
 
 -- ---- the arrivals of lists
 
@@ -87,7 +87,7 @@ pieces-getD (n ∷ ns) ts ls ms os (suc i) h =
     pieces-getD ns (drop 1 ts) (drop 1 ls) (drop 1 ms) (drop 1 os) i (omega arith)
     ∙ simp (getD-drop, e)
 
--- an arrival of another packet has none of the packet's octets, does not end it, and is no copy of its arrivals
+-- an arrival of another packet has none of the packet's octets, and does not end it
 pub octet-of : (s o : ℕ) (a : Piece) → (a .number ≡ s → ⊥) → hasOctet s o a ≡ false
 unfolding hasOctet
 octet-of s o a h = rw ne-eqb
@@ -95,7 +95,3 @@ octet-of s o a h = rw ne-eqb
 pub ends-of : (s r : ℕ) (a : Piece) → (a .number ≡ s → ⊥) → endsBy s r a ≡ false
 unfolding endsBy
 ends-of s r a h = rw ne-eqb
-
-pub copy-of : (a b : Piece) → (b .number ≡ a .number → ⊥) → copies a b ≡ false
-unfolding copies
-copy-of a b h = rw ne-eqb

@@ -22,19 +22,19 @@ use Rattle.rfc4737.proofs.Arrivals.{fold-more, firsts-more, has-firsts}
 use Rattle.rfc4737.proofs.Folds.{next-more}
 use Rattle.fragments.specs.declared.Piece.{Piece}
 use Rattle.fragments.specs.declared.Expected.{Expected}
-use Rattle.fragments.specs.Pieces.{arrivalOf, some, isLast, isWhole, copies, isCopy, firstAfter, noCopies}
+use Rattle.fragments.specs.Pieces.{arrivalOf, any, isLast, isWhole, copies, isCopy, firstAfter, noCopies}
 use Rattle.fragments.specs.Order.{atStart, isReorderedFragment, inOrderAfter, expectedAfter, expected, flagAfter, flags}
 use Rattle.fragments.specs.Whole.{orderFlag, WholeFlags}
 use Rattle.rfc4737.proofs.Tests.{neither}
-use Rattle.fragments.proofs.Laws.{both, some-more}
+use Rattle.fragments.proofs.Laws.{both, any-more}
 
 -- some arrival is a fragment
 abbrev cut : List Piece → Bool
-cut l = some (λ (a : Piece). not (isWhole a)) l
+cut l = any (λ (a : Piece). not (isWhole a)) l
 
 -- of whole packets the number alone decides
 copy-whole : (l : List Piece) (a : Piece) → isWhole a ≡ true → cut l ≡ false → isCopy l a ≡ has (a .number) (map arrivalOf l)
-unfolding isCopy some copies has
+unfolding isCopy any copies has
 copy-whole [] a w c = refl
 copy-whole (b ∷ l) a w c =
     let n = neither (not (isWhole b)) (cut l) c in
@@ -59,7 +59,7 @@ expected-more l a = ap (foldl expectedAfter atStart) (firsts-more-piece l a) ∙
 -- some arrival is cut, under one arrival more
 uncut : (l : List Piece) (a : Piece) → cut (l ++ (a ∷ [])) ≡ false → (cut l ≡ false) × (isWhole a ≡ true)
 uncut l a c =
-    let n = neither (cut l) (not (isWhole a)) (sym (some-more (λ (a : Piece). not (isWhole a)) l a) ∙ c) in
+    let n = neither (cut l) (not (isWhole a)) (sym (any-more (λ (a : Piece). not (isWhole a)) l a) ∙ c) in
     (n .0, not-false (isWhole a) (n .1))
 
 -- ---- no fragment is under evaluation

@@ -7,3 +7,4 @@ pub mod Calls
 pub mod Whole
 pub mod Cases
 pub mod Private
+pub mod Places

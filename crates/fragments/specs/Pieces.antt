@@ -2,6 +2,7 @@
 use Prim.Native.Nat.{ℕ, _+_, _*_}
 use mathlib.Core.Bool.{Bool, false, cond, _&&_, _||_}
 use mathlib.Core.List.{List, [], _∷_, flatten}
+use denote.Ref.{RefT, now}
 use lib.Dec.{eqb}
 use lib.ListN.{getD, drop}
 use Rattle.rfc4737.specs.declared.Arrival.{Arrival}
@@ -14,6 +15,10 @@ piecesOf [] times lengths mores offsets = []
 piecesOf (n ∷ ns) times lengths mores offsets =
     record { number = n; time = getD times 0 0; length = getD lengths 0 0; more = getD mores 0 0; offset = getD offsets 0 0 }
     ∷ piecesOf ns (drop 1 times) (drop 1 lengths) (drop 1 mores) (drop 1 offsets)
+
+-- the arrivals of five lent lists
+abbrev pub piecesIn : RefT (List ℕ) → RefT (List ℕ) → RefT (List ℕ) → RefT (List ℕ) → RefT (List ℕ) → List Piece
+piecesIn numbers times lengths mores offsets = piecesOf (now numbers) (now times) (now lengths) (now mores) (now offsets)
 
 -- the number and the time of an arrival
 abbrev pub arrivalOf : Piece → Arrival
@@ -36,10 +41,10 @@ abbrev pub pieceEnd : Piece → ℕ
 pieceEnd a = 8 * a .offset + a .length
 
 module _ {ℓ} {A : Type ℓ} where
-  -- whether some element passes a test
-  unfoldable pub some : (A → Bool) → List A → Bool
-  some p [] = false
-  some p (a ∷ l) = p a || some p l
+  -- whether any element passes a test
+  unfoldable pub any : (A → Bool) → List A → Bool
+  any p [] = false
+  any p (a ∷ l) = p a || any p l
 
 -- whether an arrival is a copy of an earlier one: equal in number, fragment offset and length; of two whole packets the
 -- number alone decides
@@ -48,7 +53,7 @@ copies a b = eqb (b .number) (a .number) && (isWhole a && isWhole b || eqb (b .o
 
 -- a duplicate: a copy of any earlier arrival
 unfoldable pub isCopy : List Piece → Piece → Bool
-isCopy earlier a = some (copies a) earlier
+isCopy earlier a = any (copies a) earlier
 
 -- an arrival, if it is no copy
 unfoldable pub firstAfter : List Piece → Piece → List Piece

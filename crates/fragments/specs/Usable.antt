@@ -5,7 +5,7 @@ use mathlib.Core.List.{List}
 use lib.Dec.{leb, ltb, eqb}
 use Rattle.rfc4737.specs.Arrivals.{each}
 use Rattle.fragments.specs.declared.Piece.{Piece}
-use Rattle.fragments.specs.Pieces.{isLast, pieceStart, pieceEnd, some, isCopy}
+use Rattle.fragments.specs.Pieces.{isLast, pieceStart, pieceEnd, any, isCopy}
 
 -- whether an arrival is of packet s and has its octet o
 unfoldable pub hasOctet : ℕ → ℕ → Piece → Bool
@@ -16,13 +16,13 @@ unfoldable pub everyBelow : ℕ → (ℕ → Bool) → Bool
 everyBelow zero p = true
 everyBelow (suc n) p = everyBelow n p && p n
 
--- whether packet s's arrivals cover every octet from 0 to n
+-- whether packet s's arrivals cover every octet below n
 unfoldable pub covered : List Piece → ℕ → ℕ → Bool
-covered l s n = everyBelow n (λ (o : ℕ). some (hasOctet s o) l)
+covered l s n = everyBelow n (λ (o : ℕ). any (hasOctet s o) l)
 
 -- whether packet s's arrivals cover every octet from 0 to the end of one with no more to come
 unfoldable pub complete : List Piece → ℕ → Bool
-complete l s = some (λ (a : Piece). eqb (a .number) s && (isLast a && covered l s (pieceEnd a))) l
+complete l s = any (λ (a : Piece). eqb (a .number) s && (isLast a && covered l s (pieceEnd a))) l
 
 -- usable: no copy, and its packet is complete; 1 if so, else 0
 unfoldable pub usableAfter : List Piece → List Piece → Piece → ℕ

@@ -8,7 +8,7 @@ use Rattle.rfc4737.specs.declared.Answer.the-variants.{Duplicate, InOrder, Reor
 use Rattle.rfc4737.specs.Answer.{answers}
 use Rattle.rfc4737.specs.Numbering.{inOrderNumber, reorderedAfterNumber, duplicateNumber}
 use Rattle.fragments.specs.declared.Piece.{Piece}
-use Rattle.fragments.specs.Pieces.{arrivalOf, isWhole, some}
+use Rattle.fragments.specs.Pieces.{arrivalOf, isWhole, any}
 use Rattle.fragments.specs.Order.{flags}
 
 -- the flag of an answer: the number of its case, which for a reordered packet does not tell the late time's direction
@@ -19,4 +19,4 @@ orderFlag (Reordered d) = reorderedAfterNumber
 
 -- where no arrival is a fragment, the flags are those of the answers, whatever the payload sizes
 unfoldable pub WholeFlags : List Piece → Type 0
-WholeFlags l = some (λ (a : Piece). not (isWhole a)) l ≡ false → (size : ℕ → ℕ) → flags l ≡ map orderFlag (answers size (map arrivalOf l))
+WholeFlags l = any (λ (a : Piece). not (isWhole a)) l ≡ false → (size : ℕ → ℕ) → flags l ≡ map orderFlag (answers size (map arrivalOf l))

@@ -2,7 +2,7 @@
 ghost use mathlib.Core.Path.{_≡_};
 ghost use Prim.Native.Nat.{_<_};
 ghost use lib.ListN.{length, getD};
-ghost use Rattle.fragments.specs.Pieces.{piecesOf, isWhole, pieceEnd};
+ghost use Rattle.fragments.specs.Pieces.{piecesIn, isWhole, pieceEnd};
 ghost use Rattle.fragments.specs.Private.{noPiece, Lists};
 use crate::Piece;
 
@@ -16,7 +16,7 @@ pub(crate) fn piece_at(
     i: usize,
 ) -> Piece
     requires { ⌜ (i < length (now numbers)) × Lists (now numbers) (now times) (now lengths) (now mores) (now offsets) ⌝ }
-    ensures { λ r. ⌜ r ≡ getD (piecesOf (now (numbers .entry)) (now (times .entry)) (now (lengths .entry)) (now (mores .entry)) (now (offsets .entry))) i noPiece ⌝ }
+    ensures { λ r. ⌜ r ≡ getD (piecesIn (numbers .entry) (times .entry) (lengths .entry) (mores .entry) (offsets .entry)) i noPiece ⌝ }
 {
     Piece {
         number: numbers[i],

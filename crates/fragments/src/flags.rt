@@ -1,21 +1,21 @@
 // The order flags and the usable arrivals, filled into two lists.
 ghost use mathlib.Core.Path.{_≡_};
-ghost use mathlib.Core.Bool.{cond};
+ghost use mathlib.Core.Bool.{cond, not, _&&_, _||_};
+ghost use lib.Dec.{eqb};
 ghost use Prim.Native.Nat.{_≤_, _<_};
 ghost use lib.ListN.{length};
-ghost use Rattle.octets.specs.Memory.{over};
-ghost use Rattle.rfc4737.specs.Judge.{sentMost};
+ghost use Rattle.rfc4737.specs.Judge.{sentMost, arrivalsMost};
 ghost use Rattle.rfc4737.specs.Numbering.{inOrderNumber, reorderedAfterNumber, duplicateNumber};
-ghost use Rattle.fragments.specs.Pieces.{piecesOf};
+ghost use Rattle.fragments.specs.Pieces.{piecesIn, isWhole};
 ghost use Rattle.fragments.specs.Order.{isReorderedFragment, expectedAfter, flags};
 ghost use Rattle.fragments.specs.Usable.{usable};
-ghost use Rattle.fragments.specs.Private.{Lists, NumbersWithin, Firsts, Completeness};
+ghost use Rattle.fragments.specs.Private.{Lists, NumbersWithin};
+ghost use Rattle.fragments.specs.Places.{Noted};
 use crate::Expected;
 use crate::PACKETS;
 use crate::Piece;
+use crate::arrival::is_whole;
 use crate::arrival::piece_at;
-use crate::duplicates::is_copy;
-use crate::tables::index_of;
 use rfc4737::numbering::DUPLICATE;
 use rfc4737::numbering::IN_ORDER;
 use rfc4737::numbering::REORDERED_AFTER;
@@ -91,24 +91,46 @@ fn usable_of(copy: bool, whole: u8) -> u8
     whole
 }
 
-// Fills the two lists.
+// Whether an arrival is a copy, by its mark and by what was seen of whole packets of its number.
+fn is_copy(a: Piece, mark: u8, seen: u8) -> bool
+    ensures { λ r. ⌜ r ≡ (not (eqb mark 0) || (isWhole a && not (eqb seen 0))) ⌝ }
+{
+    if mark != 0 {
+        return true;
+    }
+    if is_whole(a) {
+        return seen != 0;
+    }
+    false
+}
+
+// What was seen of whole packets of its number after an arrival.
+fn seen_after(a: Piece, seen: u8) -> u8
+    ensures { λ r. ⌜ r ≡ cond (isWhole a) 1 seen ⌝ }
+{
+    if is_whole(a) {
+        return 1;
+    }
+    seen
+}
+
+// Replaces what is noted of the arrivals by their flags and by which are usable.
 pub(crate) fn fill_flags_and_used(
     numbers: &[u32],
     times: &[u64],
     lengths: &[u16],
     mores: &[u8],
     offsets: &[u16],
-    firsts: &[u16; PACKETS],
-    table: &[u8; PACKETS],
     flagged: &mut [u8],
     used: &mut [u8],
 )
-    requires { ⌜ Lists (now numbers) (now times) (now lengths) (now mores) (now offsets) × NumbersWithin sentMost (now numbers) × Firsts (now numbers) (now firsts)
-        × Completeness sentMost (piecesOf (now numbers) (now times) (now lengths) (now mores) (now offsets)) (now table)
-        × (length (now numbers) ≤ length (now flagged)) × (length (now numbers) ≤ length (now used)) ⌝ }
-    ensures { λ _. ⌜ (now (flagged .exit) ≡ over (flags (piecesOf (now (numbers .entry)) (now (times .entry)) (now (lengths .entry)) (now (mores .entry)) (now (offsets .entry)))) (now (flagged .entry)))
-        × (now (used .exit) ≡ over (usable (piecesOf (now (numbers .entry)) (now (times .entry)) (now (lengths .entry)) (now (mores .entry)) (now (offsets .entry)))) (now (used .entry))) ⌝ }
+    requires { ⌜ Lists (now numbers) (now times) (now lengths) (now mores) (now offsets) × NumbersWithin sentMost (now numbers) × (length (now numbers) ≤ arrivalsMost)
+        × (length (now flagged) ≡ length (now numbers)) × (length (now used) ≡ length (now numbers))
+        × Noted (piecesIn numbers times lengths mores offsets) (now flagged) (now used) ⌝ }
+    ensures { λ _. ⌜ (now (flagged .exit) ≡ flags (piecesIn (numbers .entry) (times .entry) (lengths .entry) (mores .entry) (offsets .entry)))
+        × (now (used .exit) ≡ usable (piecesIn (numbers .entry) (times .entry) (lengths .entry) (mores .entry) (offsets .entry))) ⌝ }
 {
+    let mut seen = [0u8; PACKETS];
     let mut e = Expected {
         next: 1,
         packet: 0,
@@ -118,18 +140,11 @@ pub(crate) fn fill_flags_and_used(
     while i < numbers.len() {
         let a = piece_at(numbers, times, lengths, mores, offsets, i);
         let p = (a.number - 1) as usize;
-        let copy = is_copy(
-            numbers,
-            times,
-            lengths,
-            mores,
-            offsets,
-            a,
-            index_of(firsts[p]),
-            i,
-        );
+        let old = seen[p];
+        let copy = is_copy(a, flagged[i], old);
+        seen[p] = seen_after(a, old);
         flagged[i] = flag_of(copy, e, a);
-        used[i] = usable_of(copy, table[p]);
+        used[i] = usable_of(copy, used[i]);
         let next = expected_after(copy, e, a);
         e = next;
         i += 1;

@@ -1,6 +1,6 @@
 // What is refused: K, the lists, and the arrivals in turn.
 ghost use mathlib.Core.Path.{_≡_};
-ghost use Rattle.fragments.specs.Pieces.{piecesOf};
+ghost use Rattle.fragments.specs.Pieces.{piecesIn};
 ghost use Rattle.fragments.specs.Judge.{isUnfit, judgePiece, judgePieces};
 ghost use Rattle.fragments.specs.Private.{Lists};
 ghost use Rattle.fragments.specs.Calls.{sameLengths, orderRefusal};
@@ -69,7 +69,7 @@ fn judge_pieces(
     offsets: &[u16],
 ) -> u32
     requires { ⌜ Lists (now numbers) (now times) (now lengths) (now mores) (now offsets) ⌝ }
-    ensures { λ r. ⌜ r ≡ judgePieces k (piecesOf (now (numbers .entry)) (now (times .entry)) (now (lengths .entry)) (now (mores .entry)) (now (offsets .entry))) ⌝ }
+    ensures { λ r. ⌜ r ≡ judgePieces k (piecesIn (numbers .entry) (times .entry) (lengths .entry) (mores .entry) (offsets .entry)) ⌝ }
 {
     let mut reference: u64 = 0;
     let mut i = 0;

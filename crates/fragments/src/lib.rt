@@ -5,7 +5,7 @@ ghost use Prim.Native.Nat.{_≤_};
 ghost use lib.ListN.{length};
 ghost use Rattle.octets.specs.Memory.{over};
 ghost use Rattle.rfc4737.specs.Judge.{sentMost, arrivalsMost};
-ghost use Rattle.fragments.specs.Pieces.{piecesOf};
+ghost use Rattle.fragments.specs.Pieces.{piecesIn};
 ghost use Rattle.fragments.specs.Order.{flags};
 ghost use Rattle.fragments.specs.Usable.{usable};
 ghost use Rattle.fragments.specs.Private.{Lists, NumbersWithin};
@@ -15,17 +15,16 @@ ghost use Rattle.fragments.specs.Cases.{FlaggedAsGiven};
 
 mod arrival;
 mod cover;
-mod duplicates;
 mod flags;
 mod judge;
+mod notes;
+mod sort;
 mod tables;
 
 use flags::fill_flags_and_used;
 use judge::order_refusal;
+use notes::note_arrivals;
 use rfc4737::judge::SENT_MOST;
-use tables::fill_complete;
-use tables::fill_firsts;
-use tables::fill_lasts;
 
 // How many packets there are at most.
 const PACKETS: usize = SENT_MOST as usize;
@@ -60,41 +59,18 @@ fn order_accepted(
     requires { ⌜ (k ≤ sentMost) × Lists (now numbers) (now times) (now lengths) (now mores) (now offsets)
         × NumbersWithin k (now numbers) × (length (now numbers) ≤ arrivalsMost)
         × (length (now numbers) ≤ length (now flagged)) × (length (now numbers) ≤ length (now used)) ⌝ }
-    ensures { λ _. ⌜ (now (flagged .exit) ≡ over (flags (piecesOf (now (numbers .entry)) (now (times .entry)) (now (lengths .entry)) (now (mores .entry)) (now (offsets .entry)))) (now (flagged .entry)))
-        × (now (used .exit) ≡ over (usable (piecesOf (now (numbers .entry)) (now (times .entry)) (now (lengths .entry)) (now (mores .entry)) (now (offsets .entry)))) (now (used .entry))) ⌝ }
+    ensures { λ _. ⌜ (now (flagged .exit) ≡ over (flags (piecesIn (numbers .entry) (times .entry) (lengths .entry) (mores .entry) (offsets .entry))) (now (flagged .entry)))
+        × (now (used .exit) ≡ over (usable (piecesIn (numbers .entry) (times .entry) (lengths .entry) (mores .entry) (offsets .entry))) (now (used .entry))) ⌝ }
 {
-    let mut firsts = [0u16; PACKETS];
-    let mut lasts = [0u16; PACKETS];
-    let mut table = [0u8; PACKETS];
-    fill_firsts(numbers, &mut firsts);
-    fill_lasts(numbers, &mut lasts);
-    fill_complete(
-        k,
-        numbers,
-        times,
-        lengths,
-        mores,
-        offsets,
-        &firsts,
-        &lasts,
-        &mut table,
-    );
-    fill_flags_and_used(
-        numbers,
-        times,
-        lengths,
-        mores,
-        offsets,
-        &firsts,
-        &table,
-        flagged,
-        used,
-    );
+    let n = numbers.len();
+    let marks = &mut flagged[..n];
+    let wholes = &mut used[..n];
+    note_arrivals(k, numbers, times, lengths, mores, offsets, marks, wholes);
+    fill_flags_and_used(numbers, times, lengths, mores, offsets, marks, wholes);
 }
 
 // The order flags and the usable arrivals, filled into two lists from their start. With a refusal they stay as they were.
-// The cost is linear for whole packets and for a few fragments each. The worst list is one packet of 4,096 fragments in reverse
-// order: 4,096 passes over 4,096 arrivals.
+// Cost: O(A log A + K) for A arrivals of K packets; O(A + K) while no packet has more than a few arrivals.
 pub fn order(
     k: u32,
     numbers: &[u32],
@@ -106,7 +82,7 @@ pub fn order(
     used: &mut [u8],
 ) -> u32
     ensures { λ r. ⌜ OrderedTo k (now (numbers .entry)) (now (times .entry)) (now (lengths .entry)) (now (mores .entry)) (now (offsets .entry)) (now (flagged .entry)) (now (used .entry)) r (now (flagged .exit)) (now (used .exit)) ⌝ }
-    ensures whole { λ _. ⌜ WholeFlags (piecesOf (now (numbers .entry)) (now (times .entry)) (now (lengths .entry)) (now (mores .entry)) (now (offsets .entry))) ⌝ }
+    ensures whole { λ _. ⌜ WholeFlags (piecesIn (numbers .entry) (times .entry) (lengths .entry) (mores .entry) (offsets .entry)) ⌝ }
     ensures cases { λ _. ⌜ FlaggedAsGiven ⌝ }
 {
     let refusal = order_refusal(

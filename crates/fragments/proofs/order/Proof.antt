@@ -15,19 +15,23 @@ use Rattle.fragments.proofs.order.Tie as tie
 
 returns : tie.Need-returns
 returns c =
-    let a = c .before .before .before .before .before .before .before .before .before .args in
+    let k = c .before .before .before .before in
+    let a = k .before .before .before .before .before .args in
     (record { refusal = c .before .order-refusal .ensures; filledFlags = refused-over _ (flags (piecesOf (now (a .numbers)) (now (a .times)) (now (a .lengths)) (now (a .mores)) (now (a .offsets)))) (now (a .flagged)) (c .if1 .taken); filledUsable = refused-over _ (usable (piecesOf (now (a .numbers)) (now (a .times)) (now (a .lengths)) (now (a .mores)) (now (a .offsets)))) (now (a .used)) (c .if1 .taken) }, (whole-flags (piecesOf (now (a .numbers)) (now (a .times)) (now (a .lengths)) (now (a .mores)) (now (a .offsets))), flagged-as-given))
 
 order-accepted-requires : tie.Need-order-accepted-requires
 order-accepted-requires c κs =
-    let a = c .before .before .before .before .before .before .before .before .before .before .before .args in
+    let k = c .before .before .before .before .before .before in
+    let a = k .before .before .before .before .before .args in
     let k = accepted (a .k) (now (a .numbers)) (now (a .times)) (now (a .lengths)) (now (a .mores)) (now (a .offsets)) (length (now (a .flagged))) (length (now (a .used))) (sym (c .before .before .before .order-refusal .ensures) ∙ c .before .before .if1 .left) in
     (k .sent, k .lists, k .numbers, k .many, k .flagRoom, k .usedRoom)
 
 returns-2 : tie.Need-returns-2
 returns-2 c =
-    let a = c .before .before .before .before .before .before .before .before .before .before .before .before .before .before .before .before .args in
-    (record { refusal = sym (c .before .before .before .before .before .before .before .if1 .left) ∙ c .before .before .before .before .before .before .before .before .order-refusal .ensures; filledFlags = c .before .before .before .before .order-accepted .ensures .0; filledUsable = c .before .before .before .before .order-accepted .ensures .1 }, (whole-flags (piecesOf (now (a .numbers)) (now (a .times)) (now (a .lengths)) (now (a .mores)) (now (a .offsets))), flagged-as-given))
+    let r = c .before .before .before .before .before .before .before in
+    let k = r .before .before .before .before in
+    let a = k .before .before .before .before .before .args in
+    (record { refusal = sym (r .if1 .left) ∙ r .before .order-refusal .ensures; filledFlags = c .before .before .before .before .order-accepted .ensures .0; filledUsable = c .before .before .before .before .order-accepted .ensures .1 }, (whole-flags (piecesOf (now (a .numbers)) (now (a .times)) (now (a .lengths)) (now (a .mores)) (now (a .offsets))), flagged-as-given))
 
 pub order-spec : {M : Type 1} → statement M
 order-spec =

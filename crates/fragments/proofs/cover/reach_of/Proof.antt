@@ -1,42 +1,53 @@
--- `fragments::cover::reach_of` meets its contract. The loop's invariant: a pass takes the packet from `reach` to `next`, up to where it is covered;
--- so where the two are equal, the octet there is not covered. `reach` grows in each turn and fits 32 bits, so the measure is what they leave
--- above it. Assumes nothing.
-use Rattle.fragments.specs.Private.{Growth}
-use Rattle.fragments.specs.Pieces.{piecesOf}
+-- `fragments::cover::reach_of` meets its contract. The loop's invariant is `OnePass`: the packet is covered up to r, and none of the arrivals before m has
+-- the octet r. The measure is what is left of the run. Assumes nothing.
+use borrow.Author.Needs.{needs}
 use native.Mathlib.Omega.{arith}
-use Prim.Native.Nat.{ℕ, _-_, _<_}
-use mathlib.Core.Path.{_≡_}
+use Prim.Native.Nat.{_-_}
+use mathlib.Core.Path.{ap, _∙_}
+use mathlib.Core.List.{List}
+use lib.ListN.{length, getD}
+use denote.Ref.{now}
+use Rattle.fragments.specs.declared.Piece.{Piece}
+use Rattle.fragments.specs.Pieces.{piecesOf}
+use Rattle.fragments.specs.Private.{noPiece}
+use Rattle.fragments.proofs.Laws.{pieces-length}
+use Rattle.fragments.proofs.Coverage.{OnePass, pass-start, pass-next, pass-done}
 use Rattle.fragments.proofs.cover.reach_of.Statement.{statement}
 use Rattle.fragments.proofs.cover.reach_of.Tie as tie
 
--- reach₀ and next₀ are reach and next where the loop begins
+-- r₀ and m₀ are the values where the loop begins, r and m those at its head
 abbrev Inv-loop : tie.InvT-loop
-Inv-loop numbers times lengths mores offsets s from to reach₀ next₀ reach next = (next < 4294967296) × Growth (piecesOf numbers times lengths mores offsets) s reach next
+Inv-loop numbers times lengths mores offsets s run r₀ m₀ r m = OnePass (piecesOf numbers times lengths mores offsets) s run r m
 
 abbrev μ-loop : tie.MeasureT-loop
-μ-loop numbers times lengths mores offsets s from to reach₀ next₀ reach next = 4294967296 - reach
+μ-loop numbers times lengths mores offsets s run r₀ m₀ r m = length run - m
 
-reach-after-pass-requires : tie.Need-reach-after-pass-requires Inv-loop μ-loop
-reach-after-pass-requires c κs =
-    (c .before .before .before .before .before .pre .0, c .before .before .before .before .before .pre .1, λ (o : ℕ) (h : o < 0). absurd (omega arith))
+-- the start, from the loop
+abbrev start : tie.At-loop Inv-loop μ-loop → tie.Start Inv-loop μ-loop
+start c = c .before .before .before .before .before .before .before
+
+-- the arrivals
+abbrev pieces : tie.At-loop Inv-loop μ-loop → List Piece
+pieces c = let a = start c .args in piecesOf (now (a .numbers)) (now (a .times)) (now (a .lengths)) (now (a .mores)) (now (a .offsets))
 
 loop-holds : tie.Need-loop-holds Inv-loop μ-loop
-loop-holds c = (omega (arith, c .reach-after-pass .ok), c .reach-after-pass .ensures)
+loop-holds c = pass-start _ _ _ (c .before .before .before .before .before .before .pre .1)
 
-reach-after-pass-requires-2 : tie.Need-reach-after-pass-requires-2 Inv-loop μ-loop
-reach-after-pass-requires-2 c κs = (c .before .before .before .before .before .before .before .before .pre .0, c .before .before .before .before .before .before .before .before .pre .1, c .before .loop .inv .1 .covered)
-
-loop-less : tie.Need-loop-less Inv-loop μ-loop
-loop-less c = let i = c .before .before .loop .inv .0 in omega arith
+piece-at-requires : tie.Need-piece-at-requires Inv-loop μ-loop
+piece-at-requires c κs =
+    let l = c .before .before .before in
+    let a = start l .args in
+    (omega (arith, c .index-of .ensures, start l .pre .1 .inside (l .loop .m) (c .before .before .loop-test .taken), pieces-length (now (a .numbers)) (now (a .times)) (now (a .lengths)) (now (a .mores)) (now (a .offsets))), start l .pre .0)
 
 loop-again : tie.Need-loop-again Inv-loop μ-loop
-loop-again c = (omega (arith, c .reach-after-pass2 .ok), c .reach-after-pass2 .ensures)
+loop-again c =
+    let l = c .before .before .before .before .before in
+    let p = c .before .piece-at in
+    pass-next _ _ _ (start l .pre .1) (l .loop .r) (l .loop .m) _ (p .result) (c .before .before .before .before .loop-test .taken)
+    (p .ensures ∙ ap (λ i. getD (pieces l) i noPiece) (c .before .before .index-of .ensures)) (c .reach-after .ensures) (l .loop .inv)
 
 returns : tie.Need-returns Inv-loop μ-loop
-returns c =
-    let g = c .before .loop .inv .1 in
-    let e : c .before .loop .next ≡ c .before .loop .reach = omega (arith, g .least) in
-    rw e at g
+returns c = let l = c .before in pass-done _ _ _ (start l .pre .1) (l .loop .r) (l .loop .m) (c .loop-test .left) (l .loop .inv)
 
 pub reach-of-spec : {M : Type 1} → statement M
 reach-of-spec =
@@ -44,9 +55,11 @@ reach-of-spec =
     (tie.spec
     Inv-loop
     μ-loop
-    reach-after-pass-requires
     loop-holds
-    reach-after-pass-requires-2
-    loop-less
+    (λ c. search needs) (λ c. search needs)
+    (λ c κs. search needs)
+    piece-at-requires
+    (λ c κs. search needs)
+    (λ c. search needs) (λ c. search needs)
     loop-again
     returns)
