@@ -35,11 +35,11 @@
 #include <string.h>
 
 /* The version of this header and of the library that it was installed with. Names that are there stay within one major
- * version, and so do the layouts. */
-#define KRAKOBRAN_VERSION_MAJOR 1
-#define KRAKOBRAN_VERSION_MINOR 0
+ * version, and so do the layouts; before 1.0.0 they may change with the minor version. */
+#define KRAKOBRAN_VERSION_MAJOR 0
+#define KRAKOBRAN_VERSION_MINOR 9
 #define KRAKOBRAN_VERSION_PATCH 0
-#define KRAKOBRAN_VERSION "1.0.0"
+#define KRAKOBRAN_VERSION "0.9.0"
 
 /* Checks the size of a struct, by C11 or C++11. */
 #if defined(__cplusplus)
@@ -62,13 +62,16 @@ enum {
     KRAKOBRAN_LONG_LABEL = 3,      /* label over 64 octets */
     KRAKOBRAN_SENT_OUTSIDE = 4,    /* K is 0 or over 4,096 */
     KRAKOBRAN_MANY_ARRIVALS = 5,   /* over 4,096 arrivals */
-    KRAKOBRAN_NUMBER_OUTSIDE = 6,  /* sequence number outside 1 to K */
+    KRAKOBRAN_NUMBER_OUTSIDE = 6,  /* sequence number outside 1 to K; a short number over its width, or of which the number
+                                      found is outside 1 to K */
     KRAKOBRAN_TIME_BACK = 7,       /* arrival time over 1,000 below the greatest earlier time */
     KRAKOBRAN_OUTPUT_SHORT = 8,    /* lent output too short */
     KRAKOBRAN_ASKED_OUTSIDE = 9,   /* record outside 1 to A, or n outside 1 to 100 */
-    KRAKOBRAN_STATE_UNFIT = 10,    /* state unfit, or a reordered packet with no greater kept jump */
+    KRAKOBRAN_STATE_UNFIT = 10,    /* state of a receiver or of a meter unfit, or a reordered packet with no greater kept
+                                      jump */
     KRAKOBRAN_STATE_FULL = 11,     /* receiver, or stream of a meter, has accepted 4,096 arrivals */
-    KRAKOBRAN_LISTS_DIFFER = 12,   /* lists of arrivals that differ in length */
+    KRAKOBRAN_LISTS_DIFFER = 12,   /* lists of arrivals that differ in length: those of numbers and of times, or any two of the
+                                      lists of fragments */
     KRAKOBRAN_OCTET_OUTSIDE = 13,  /* a label octet outside hexadecimal 20 to 7E */
     KRAKOBRAN_LINE_MALFORMED = 14, /* a line not of the form, or a value over the field's range */
     KRAKOBRAN_RECORD_CUT = 15,     /* a length that is no multiple of 25 */

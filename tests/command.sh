@@ -2,69 +2,7 @@
 # Runs ./krakobran with each of its words on accepted and refused files, on what is no file and with bad arguments, and compares
 # standard output, standard error and the exit status with what is expected; runs every command of its text as printed; and
 # compares the words of refusals with those of docs/CALLS.md, and the man page with the text. A line for each case; status 1 if one fails.
-set -u
-
-root=$(cd -- "$(dirname -- "${BASH_SOURCE[0]}")/.." && pwd) || exit 2
-dir=$(mktemp -d) || exit 2
-trap 'rm -rf -- "$dir"' EXIT
-failed=0 run=0
-
-# NAME WRONG: a line for a case, which fails where something is wrong with it.
-verdict() {
-    run=$((run + 1))
-    if [ -n "$2" ]; then
-        failed=$((failed + 1))
-        printf 'FAILED %s%s\n' "$1" "$2"
-    else
-        printf 'passed %s\n' "$1"
-    fi
-}
-
-# NAME STATUS WORDS [ARGUMENT..]: runs the command on standard input, and holds its output to $dir/expected and its status to
-# STATUS. Standard error is empty where WORDS are, and else is one line that ends with them.
-try() {
-    local name=$1 status=$2 words=$3 wrong='' found
-    shift 3
-    "$root/krakobran" "$@" > "$dir/out" 2> "$dir/err"
-    found=$?
-    [ "$found" -eq "$status" ] || wrong+=", status $found and not $status"
-    cmp -s "$dir/out" "$dir/expected" || wrong+=", standard output: $(head -c 200 "$dir/out" | od -An -c | head -n 3)"
-    if [ -z "$words" ]; then
-        [ ! -s "$dir/err" ] || wrong+=", standard error: $(head -c 200 "$dir/err")"
-    else
-        [[ $(< "$dir/err") == krakobran:*"$words" ]] || wrong+=", standard error: $(head -c 200 "$dir/err")"
-        [ "$(wc -l < "$dir/err")" -eq 1 ] || wrong+=', not one line on standard error'
-    fi
-    verdict "$name" "$wrong"
-}
-
-# NAME FILE FILE: the files are the same.
-same() {
-    verdict "$1" "$(cmp "$2" "$3" 2>&1 | sed 's/^/, /')"
-}
-
-# The words of a refusal, from the table of docs/CALLS.md.
-words() {
-    sed -n "s/^| $1 | \(.*\) |\$/\1/p" "$root/docs/CALLS.md" | head -n 1
-}
-
-# Numbers as octets, of two, four and eight.
-two() { printf "$(printf '\\%03o' $(($1 >> 8 & 255)) $(($1 & 255)))"; }
-four() { two $(($1 >> 16)) && two "$1"; }
-eight() { four $(($1 >> 32)) && four "$1"; }
-
-# LABEL K [NUMBER TIME].. : a sample file, of payload sizes of 100.
-sample() {
-    local k=$2 i
-    two "${#1}" && printf '%s' "$1" && two "$k"
-    shift 2
-    for ((i = 0; i < k; i++)); do two 100; done
-    two $(($# / 2))
-    while [ $# -gt 0 ]; do
-        four "$1" && eight "$2"
-        shift 2
-    done
-}
+. "$(dirname -- "${BASH_SOURCE[0]}")/lib.sh" || exit 2
 
 # Files: the report's example, a damaged one, two links and one on which nothing arrived.
 example=$root/crates/report/stdin
@@ -77,8 +15,7 @@ damage="this is no sample file: $(words 1)"
 # The words of all refusals, the text, its parts and the man page.
 for n in {1..18}; do
     words "$n" > "$dir/expected"
-    bash -c '. "$1" && words "$2"' - "$root/tools/common.sh" "$n" > "$dir/out"
-    [ -s "$dir/expected" ] || echo 'no words in docs/CALLS.md' > "$dir/expected"
+    (eval "$(sed -n '/^words() {/,/^}/p' "$root/krakobran")" && words "$n") > "$dir/out"
     same "the words of refusal $n" "$dir/out" "$dir/expected"
 done
 "$root/tools/man.sh" < "$root/docs/krakobran.txt" > "$dir/page"
@@ -86,15 +23,37 @@ same 'the man page is that of the text' "$root/docs/krakobran.1" "$dir/page"
 cp "$root/docs/krakobran.txt" "$dir/expected"
 try 'help' 0 '' help
 try '--help' 0 '' --help
+try '-h' 0 '' -h
 printf '    help [WORD]\n        Prints this text, or its part on a command.\n        $ krakobran help\n        $ krakobran help import\n\n' > "$dir/expected"
 try 'help on a word' 0 '' help help
+try '--help after a word' 0 '' help --help
+try '--help before a word' 0 '' --help help
+for word in report import export check worse picture; do
+    "$krakobran" help "$word" > "$dir/expected"
+    try "$word --help" 0 '' "$word" --help
+    try "$word --help after its arguments" 0 '' "$word" x --help
+done
+printf 'krakobran %s\n' "$(sed -n 's/^#define KRAKOBRAN_VERSION "\(.*\)"$/\1/p' "$root/include/krakobran.h")" > "$dir/expected"
+try '--version' 0 '' --version
+for word in report import export check worse picture help; do try "$word --version" 0 '' "$word" --version; done
 : > "$dir/expected"
+try 'an option that there is not' 2 'there is no option --csv; see krakobran help' report --csv "$example"
+try 'a word after -- that is none' 2 'there is no command --help; see krakobran help' -- --help
 try 'help on no word' 2 'there is no command pictures; see krakobran help' help pictures
 
 # The report.
 cp "$root/crates/report/stdout" "$dir/expected"
 try 'a report' 0 '' report "$example"
 try 'a report of standard input' 0 '' report - < "$example"
+try 'a report without a file' 0 'no file is named; this is the report of an example' report
+cp "$example" "$dir/--help"
+cp "$example" "$dir/-a file; of 'two' words"
+cd "$dir" || exit 2
+try 'a file with the name of an option' 0 '' report -- --help
+try '-- before the word' 0 '' -- report "$example"
+try '-- before the word and after it' 0 '' -- report -- --help
+try 'a file with spaces in its name' 0 '' report "-a file; of 'two' words"
+cd "$root" || exit 2
 printf 'refused 1\n' > "$dir/expected"
 try 'no report' 1 "damaged: $damage" report "$dir/damaged"
 try 'no report of standard input' 1 "standard input: $damage" report - < "$dir/damaged"
@@ -138,17 +97,22 @@ try 'equal ratios' 0 '' worse "$dir/cable" "$dir/radio"
 try 'a damaged first sample' 1 "damaged: $damage" worse "$dir/damaged" "$dir/cable"
 try 'a damaged second sample' 1 "damaged: $damage" worse "$dir/cable" "$dir/damaged"
 
-# The check of a listing, where its script is there.
-if [ -x "$root/krakobran-check" ]; then
-    sed '6s/late/in/' "$root/crates/report/stdout" > "$dir/listing"
-    printf 'the listing is right\n' > "$dir/expected"
-    try 'a right listing' 0 '' check "$example" "$root/crates/report/stdout"
-    try 'a right listing on standard input' 0 '' check "$example" - < "$root/crates/report/stdout"
-    printf 'line 6 is wrong\n' > "$dir/expected"
-    try 'a wrong listing' 1 '' check "$example" "$dir/listing"
-    : > "$dir/expected"
-    try 'check of a missing listing' 1 'missing: there is no such file' check "$example" "$dir/missing"
-fi
+# The summary.
+cp "$root/crates/show_summary/stdout" "$dir/expected"
+try 'a summary' 0 '' summary "$root/crates/show_summary/stdin"
+try 'a summary of standard input' 0 '' summary - < "$root/crates/show_summary/stdin"
+: > "$dir/expected"
+try 'no summary' 1 "damaged: $damage" summary "$dir/damaged"
+
+# The check of a listing.
+sed '6s/late/in/' "$root/crates/report/stdout" > "$dir/listing"
+printf 'the listing is right\n' > "$dir/expected"
+try 'a right listing' 0 '' check "$example" "$root/crates/report/stdout"
+try 'a right listing on standard input' 0 '' check "$example" - < "$root/crates/report/stdout"
+printf 'line 6 is wrong\n' > "$dir/expected"
+try 'a wrong listing' 1 '' check "$example" "$dir/listing"
+: > "$dir/expected"
+try 'check of a missing listing' 1 'missing: there is no such file' check "$example" "$dir/missing"
 
 # The picture, and that of the documents.
 cp "$root/docs/picture.svg" "$dir/expected"
@@ -163,8 +127,7 @@ try 'a directory' 1 'this is a directory' picture "$dir"
 try 'a missing second file' 1 'missing: there is no such file' worse "$dir/cable" "$dir/missing"
 try 'no word' 2 'usage: krakobran WORD [ARGUMENT..]; see krakobran help'
 try 'another word' 2 'there is no command reports; see krakobran help' reports "$dir/cable"
-try 'report of nothing' 2 'usage: krakobran report FILE' report
-try 'report of two files' 2 'usage: krakobran report FILE' report "$dir/cable" "$dir/radio"
+try 'report of two files' 2 'usage: krakobran report [FILE]' report "$dir/cable" "$dir/radio"
 try 'import without its kind' 2 'usage: krakobran import log|owamp K SIZE FILE' import 5 100 "$dir/log"
 try 'import of another kind' 2 'usage: krakobran import log|owamp K SIZE FILE' import records 5 100 "$dir/log"
 try 'import without a file' 2 'usage: krakobran import log|owamp K SIZE FILE' import log 5 100
@@ -173,6 +136,7 @@ try 'export of another kind' 2 'usage: krakobran export log|owamp FILE' export t
 try 'check of one file' 2 'usage: krakobran check FILE LISTING' check "$example"
 try 'worse of one file' 2 'usage: krakobran worse FILE FILE' worse "$dir/cable"
 try 'worse of standard input twice' 2 'only one of the two files can be standard input' worse - -
+try 'summary of two files' 2 'usage: krakobran summary FILE' summary "$dir/cable" "$dir/radio"
 try 'picture of two files' 2 'usage: krakobran picture FILE' picture "$dir/cable" "$dir/radio"
 try 'help on two words' 2 'usage: krakobran help [WORD]' help report import
 
@@ -181,15 +145,20 @@ try 'help on two words' 2 'usage: krakobran help [WORD]' help report import
 mkdir "$dir/folder"
 cp "$root/examples/supplier.log" "$dir/folder/supplier.log"
 cp "$dir/radio" "$dir/folder/other.sample"
-"$root/krakobran" import log 290 100 "$root/examples/supplier.log" > "$dir/folder/link.sample"
-"$root/krakobran" export owamp "$dir/folder/link.sample" > "$dir/folder/session.owp"
+"$krakobran" import log 290 100 "$root/examples/supplier.log" > "$dir/folder/link.sample"
+"$krakobran" export owamp "$dir/folder/link.sample" > "$dir/folder/session.owp"
 while IFS= read -r command; do
-    if [ ! -x "$root/krakobran-check" ] && [[ $command == 'krakobran check '* ]]; then continue; fi
     wrong=''
     (cd "$dir/folder" && PATH=$root:$PATH && set -o pipefail && eval "$command") > "$dir/out" 2> "$dir/err" || wrong=", status $?"
     [ ! -s "$dir/err" ] || wrong+=", standard error: $(head -c 200 "$dir/err")"
     verdict "$command" "$wrong"
 done < <(sed -n 's/^ *\$ //p' "$root/docs/krakobran.txt")
 
-printf '%d passed, %d failed\n' $((run - failed)) "$failed"
-[ "$failed" -eq 0 ]
+# The completion knows the words of the text.
+sed -n '/^COMMANDS/,/^OPTIONS/s/^    \([a-z]*\)\( .*\)*$/\1/p' "$root/docs/krakobran.txt" | grep . | xargs > "$dir/expected"
+sed -n "s/.*help) list='\(.*\)'.*/\1/p" "$root/tools/completion.bash" > "$dir/out"
+same 'the words of the completion for bash' "$dir/out" "$dir/expected"
+sed -n 's/^commands=(\(.*\))$/\1/p' "$root/tools/completion.zsh" > "$dir/out"
+same 'the words of the completion for zsh' "$dir/out" "$dir/expected"
+
+finish

@@ -2,12 +2,7 @@
 # Runs the examples that `make` has built, in C, C++ and Python, and a program that is built against an installed library, and
 # compares what they print with what is expected. A line for each case; status 1 if one fails. What is missing on this machine is
 # named in a line of its own, and its case is left out.
-set -u
-
-root=$(cd -- "$(dirname -- "${BASH_SOURCE[0]}")/.." && pwd) || exit 2
-dir=$(mktemp -d) || exit 2
-trap 'rm -rf -- "$dir"' EXIT
-failed=0 run=0 left=0
+. "$(dirname -- "${BASH_SOURCE[0]}")/lib.sh" || exit 2
 CC=${CC:-cc} CXX=${CXX:-c++}
 
 # NAME STATUS COMMAND..: runs a command, and holds its output to $dir/expected and its status to STATUS.
@@ -18,21 +13,7 @@ try() {
     found=$?
     [ "$found" -eq "$status" ] || wrong+=", status $found and not $status"
     cmp -s "$dir/out" "$dir/expected" || wrong+=", output: $(head -c 400 "$dir/out")"
-    run=$((run + 1))
-    if [ -n "$wrong" ]; then
-        failed=$((failed + 1))
-        printf 'FAILED %s%s\n' "$name" "$wrong"
-    else
-        printf 'passed %s\n' "$name"
-    fi
-}
-
-# PROGRAM NAME: whether a program is there; if not, says what is left out.
-have() {
-    command -v "$1" > "$dir/which" && return
-    left=$((left + 1))
-    printf 'skipped %s: %s is not on the path\n' "$2" "$1"
-    return 1
+    verdict "$name" "$wrong"
 }
 
 # The receiver fed the list of feed.c, as docs/C.md has it.
@@ -97,5 +78,4 @@ if have pkg-config 'a program against the installed library'; then
     try 'the version of the pkg-config file' 0 pkg-config --modversion krakobran
 fi
 
-printf '%d passed, %d failed, %d left out\n' $((run - failed)) "$failed" "$left"
-[ "$failed" -eq 0 ]
+finish

@@ -1,50 +1,13 @@
 #!/usr/bin/env bash
-# Runs ./krakobran-import on accepted and refused logs and OWAMP records, on what is no file and with bad arguments, and
+# Runs `krakobran import` on accepted and refused logs and OWAMP records, on what is no file and with bad arguments, and
 # compares standard output, standard error and the exit status with what is expected. A line for each case; status 1 if one
 # fails.
-set -u
+. "$(dirname -- "${BASH_SOURCE[0]}")/lib.sh" || exit 2
 
-root=$(cd -- "$(dirname -- "${BASH_SOURCE[0]}")/.." && pwd) || exit 2
-dir=$(mktemp -d) || exit 2
-trap 'rm -rf -- "$dir"' EXIT
-failed=0 run=0
-
-# NAME STATUS WORDS [ARGUMENT..]: runs the script on standard input, and holds its output to $dir/expected and its status to
-# STATUS. Standard error is empty where WORDS are, and else is one line that ends with them.
-try() {
-    local name=$1 status=$2 words=$3 wrong='' found
-    shift 3
-    "$root/krakobran-import" "$@" > "$dir/out" 2> "$dir/err"
-    found=$?
-    [ "$found" -eq "$status" ] || wrong+=", status $found and not $status"
-    cmp -s "$dir/out" "$dir/expected" || wrong+=", standard output: $(head -c 200 "$dir/out" | od -An -c | head -n 3)"
-    if [ -z "$words" ]; then
-        [ ! -s "$dir/err" ] || wrong+=", standard error: $(head -c 200 "$dir/err")"
-    else
-        [[ $(< "$dir/err") == krakobran-import:*"$words" ]] || wrong+=", standard error: $(head -c 200 "$dir/err")"
-        [ "$(wc -l < "$dir/err")" -eq 1 ] || wrong+=', not one line on standard error'
-    fi
-    run=$((run + 1))
-    if [ -n "$wrong" ]; then
-        failed=$((failed + 1))
-        printf 'FAILED %s%s\n' "$name" "$wrong"
-    else
-        printf 'passed %s\n' "$name"
-    fi
-}
-
-# The words of a refusal, from the definitions.
-words() {
-    sed -n "s/^-- $1: //p" "$root/crates/rfc4737/specs/Refusals.antt"
-}
-
-# NAME REFUSAL PLACE ARGUMENT..: the input is refused at a line, if PLACE has one, with the arguments and a size of 100.
+# NAME REFUSAL PLACE KIND K: standard input is refused at a line, if PLACE has one, with a size of 100.
 refused() {
-    local name=$1 place=$3 words
-    words=$(words "$2")
-    shift 3
     : > "$dir/expected"
-    try "$name" 1 "$place${words:?no words}" "$@" 100
+    try "$1" 1 "$3$(words "$2")" import "$4" "$5" 100 -
 }
 
 # SEQUENCE SECONDS FRACTION: an OWAMP record by octets of its sequence number and receive time.
@@ -58,11 +21,11 @@ for r in '\1 \021\224' '\2 \021\224' '\3 \257\310'; do
     printf "\\0\\0\\0${r% *}\\0\\0\\0\\0\\0\\0${r#* }" >> "$dir/expected"
 done
 printf '1;4,5\n2;4.5\n3;45\n' > "$dir/log"
-try 'a log on standard input' 0 '' 3 100 < "$dir/log"
-try 'a log by its name' 0 '' 3 100 "$dir/log"
-try 'arguments with leading zeros' 0 '' 0003 0100 "$dir/log"
+try 'a log on standard input' 0 '' import log 3 100 - < "$dir/log"
+try 'a log by its name' 0 '' import log 3 100 "$dir/log"
+try 'arguments with leading zeros' 0 '' import log 0003 0100 "$dir/log"
 printf '\0\0\0\1\377\377\0\0' > "$dir/expected"
-try 'an empty log, and the greatest size' 0 '' 1 65535 < /dev/null
+try 'an empty log, and the greatest size' 0 '' import log 1 65535 - < /dev/null
 
 # OWAMP records: packets 2 and 1 in the order of their times, half a second apart, with a lost one of packet 8 between.
 printf '\0\0\0\2\0\144\0\144\0\2\0\0\0\1\0\0\0\0\0\0\0\0\0\0\0\2\0\0\0\0\0\7\241\40' > "$dir/expected"
@@ -71,55 +34,47 @@ printf '\0\0\0\2\0\144\0\144\0\2\0\0\0\1\0\0\0\0\0\0\0\0\0\0\0\2\0\0\0\0\0\7\241
     record 7 0 0
     record 0 2 0
 } > "$dir/records"
-try 'records on standard input' 0 '' records 2 100 < "$dir/records"
-try 'records by their name' 0 '' records 2 100 "$dir/records"
+try 'records on standard input' 0 '' import owamp 2 100 - < "$dir/records"
+try 'records by their name' 0 '' import owamp 2 100 "$dir/records"
 printf '\0\0\0\1\377\377\0\0' > "$dir/expected"
-try 'no record, and the greatest size' 0 '' records 1 65535 < /dev/null
-refused 'records, K of 0' 4 '' records 0 < "$dir/records"
-refused 'records, number K + 1' 6 '' records 1 < "$dir/records"
-refused 'records, one octet more' 15 '' records 0 < <(cat "$dir/records"; printf 1)
+try 'no record, and the greatest size' 0 '' import owamp 1 65535 - < /dev/null
+refused 'records, K of 0' 4 '' owamp 0 < "$dir/records"
+refused 'records, number K + 1' 6 '' owamp 1 < "$dir/records"
+refused 'records, one octet more' 15 '' owamp 0 < <(cat "$dir/records"; printf 1)
 : > "$dir/expected"
-try 'records, over 262144 octets' 1 'the input has over 262144 octets' records 1 100 < <(head -c 262145 /dev/zero)
+try 'records, over 262144 octets' 1 'the input has over 262144 octets' import owamp 1 100 - < <(head -c 262145 /dev/zero)
 
 # The report of a log, in one line of shell.
-run=$((run + 1))
-if "$root/krakobran-import" 5 100 < <(printf '%d;0,%03d\n' 1 10 2 20 4 40 5 50 3 70) | "$root/krakobran-report" /dev/stdin |
-    cmp -s - "$root/crates/report/stdout"; then
-    echo 'passed the report of a log'
-else
-    failed=$((failed + 1))
-    echo 'FAILED the report of a log'
-fi
+printf '%d;0,%03d\n' 1 10 2 20 4 40 5 50 3 70 | "$krakobran" import log 5 100 - | "$krakobran" report - > "$dir/out"
+same 'the report of a log' "$dir/out" "$root/crates/report/stdout"
 
 # 4,096 lines and more.
-refused '4097 lines' 5 'line 4097: ' 4096 < <(printf '%d;1\n' {1..4096} 1)
-refused '4097 lines, the last malformed' 14 'line 4097: ' 4096 < <(printf '%s;1\n' {1..4096} x)
+refused '4097 lines' 5 'line 4097: ' log 4096 < <(printf '%d;1\n' {1..4096} 1)
+refused '4097 lines, the last malformed' 14 'line 4097: ' log 4096 < <(printf '%s;1\n' {1..4096} x)
 
 # Refused logs.
-refused 'K of 0' 4 '' 0 < "$dir/log"
-refused 'K of 4097' 4 '' 4097 < "$dir/log"
-refused 'number K + 1' 6 'line 3: ' 2 < "$dir/log"
-refused 'a time less by 1001 microseconds' 7 'line 2: ' 2 < <(printf '1;5\n2;3,999\n')
-refused 'a time less by 1001 than the greatest' 7 'line 3: ' 2 < <(printf '1;2\n2;1,5\n1;0,999\n')
-refused 'a carriage return' 14 'line 1: ' 2 < <(printf '1;5\r\n')
-refused 'no last line feed' 14 'line 2: ' 2 < <(printf '1;5\n2;6')
-refused 'octet 0' 14 'line 1: ' 2 < <(printf '\0')
-try 'over 262144 octets' 1 'the input has over 262144 octets' 1 100 < <(head -c 262145 /dev/zero)
+refused 'K of 0' 4 '' log 0 < "$dir/log"
+refused 'K of 4097' 4 '' log 4097 < "$dir/log"
+refused 'number K + 1' 6 'line 3: ' log 2 < "$dir/log"
+refused 'a time less by 1001 microseconds' 7 'line 2: ' log 2 < <(printf '1;5\n2;3,999\n')
+refused 'a time less by 1001 than the greatest' 7 'line 3: ' log 2 < <(printf '1;2\n2;1,5\n1;0,999\n')
+refused 'a carriage return' 14 'line 1: ' log 2 < <(printf '1;5\r\n')
+refused 'no last line feed' 14 'line 2: ' log 2 < <(printf '1;5\n2;6')
+refused 'octet 0' 14 'line 1: ' log 2 < <(printf '\0')
+try 'over 262144 octets' 1 'the input has over 262144 octets' import log 1 100 - < <(head -c 262145 /dev/zero)
 
 # What is no file, and bad usage.
-try 'a missing file' 1 'there is no such file' 1 100 "$dir/missing"
-try 'a directory' 1 'this is a directory' 1 100 "$dir"
-try 'no arguments' 2 'usage: krakobran-import [records] K SIZE [FILE]'
-try 'one argument' 2 'usage: krakobran-import [records] K SIZE [FILE]' 1
-try 'four arguments' 2 'usage: krakobran-import [records] K SIZE [FILE]' 1 2 3 4
-try 'another word first' 2 'usage: krakobran-import [records] K SIZE [FILE]' record 1 2 3
-try 'the word records alone' 2 'usage: krakobran-import [records] K SIZE [FILE]' records
-try 'K that is no number' 2 'K is no number from 0 to 4294967295' 5x 100 < "$dir/log"
-try 'an empty K' 2 'K is no number from 0 to 4294967295' '' 100 < "$dir/log"
-try 'K with a sign' 2 'K is no number from 0 to 4294967295' -1 100 < "$dir/log"
-try 'K of 2^32 + 1' 2 'K is no number from 0 to 4294967295' 4294967297 100 < "$dir/log"
-try 'a size that is no number' 2 'the payload size is no number from 0 to 65535' 1 x < "$dir/log"
-try 'a size over 65535' 2 'the payload size is no number from 0 to 65535' 1 65536 < "$dir/log"
+try 'a missing file' 1 'there is no such file' import log 1 100 "$dir/missing"
+try 'a directory' 1 'this is a directory' import log 1 100 "$dir"
+for arguments in '' log 'log 5' 'log 5 100' 'log 5 100 a b' '5 100 a' 'records 5 100 a'; do
+    read -ra list <<< "$arguments"
+    try "bad usage: import $arguments" 2 'usage: krakobran import log|owamp K SIZE FILE' import "${list[@]}"
+done
+try 'K that is no number' 2 'K is no number from 0 to 4294967295' import log 5x 100 - < "$dir/log"
+try 'an empty K' 2 'K is no number from 0 to 4294967295' import log '' 100 - < "$dir/log"
+try 'K with a sign' 2 'K is no number from 0 to 4294967295' import log -1 100 - < "$dir/log"
+try 'K of 2^32 + 1' 2 'K is no number from 0 to 4294967295' import log 4294967297 100 - < "$dir/log"
+try 'a size that is no number' 2 'the payload size is no number from 0 to 65535' import log 1 x - < "$dir/log"
+try 'a size over 65535' 2 'the payload size is no number from 0 to 65535' import log 1 65536 - < "$dir/log"
 
-printf '%d passed, %d failed\n' $((run - failed)) "$failed"
-[ "$failed" -eq 0 ]
+finish

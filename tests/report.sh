@@ -1,17 +1,7 @@
 #!/usr/bin/env bash
-# Runs ./krakobran-report on the example, on accepted and refused files, and on what is no file, and compares standard
+# Runs `krakobran report` on the example, on accepted and refused files, and on what is no file, and compares standard
 # output, standard error and the exit status with what is expected. A line for each case; status 1 if one fails.
-set -u
-
-root=$(cd -- "$(dirname -- "${BASH_SOURCE[0]}")/.." && pwd) || exit 2
-dir=$(mktemp -d) || exit 2
-trap 'rm -rf -- "$dir"' EXIT
-failed=0 run=0
-
-# Numbers as octets, of two, four and eight.
-two() { printf "$(printf '\\%03o' $(($1 >> 8 & 255)) $(($1 & 255)))"; }
-four() { two $(($1 >> 16)) && two "$1"; }
-eight() { four $(($1 >> 32)) && four "$1"; }
+. "$(dirname -- "${BASH_SOURCE[0]}")/lib.sh" || exit 2
 
 # The example's octets: its label count, K, A, and the number and time of its last record are given.
 example() {
@@ -31,67 +21,28 @@ stepped() {
     two 0 && two 2 && printf '\000\144%.0s' {1..2} && two 2 && four 2 && eight 2000 && four 1 && eight "$1"
 }
 
-# The longest sample: every arrival is packet 1 at 0.
-longest() {
-    two 64 && printf 'x%.0s' {1..64}
-    two 4096 && printf '\000\144%.0s' {1..4096}
-    two 4096 && printf '\000\000\000\001\000\000\000\000\000\000\000\000%.0s' {1..4096}
-}
-
-# Its report.
-longest_report() {
-    printf 'sent 4096 arrivals 4096\n1 1 in 1 0\n'
-    printf '%d 1 copy 1\n' {2..4096}
-    printf 'end 1 0 4095 0 0 1\n'
-}
-
-# NAME STATUS WORDS [ARGUMENT..]: runs the script, and holds its output to $dir/expected and its status to STATUS. Standard
-# error is empty where WORDS are, and else ends with them.
-try() {
-    local name=$1 status=$2 words=$3 wrong='' found
-    shift 3
-    "$root/krakobran-report" "$@" > "$dir/out" 2> "$dir/err"
-    found=$?
-    [ "$found" -eq "$status" ] || wrong+=", status $found and not $status"
-    cmp -s "$dir/out" "$dir/expected" || wrong+=", standard output: $(head -c 200 "$dir/out")"
-    if [ -z "$words" ]; then
-        [ ! -s "$dir/err" ] || wrong+=", standard error: $(head -c 200 "$dir/err")"
-    else
-        [[ $(< "$dir/err") == krakobran-report:*"$words" ]] || wrong+=", standard error: $(head -c 200 "$dir/err")"
-    fi
-    run=$((run + 1))
-    if [ -n "$wrong" ]; then
-        failed=$((failed + 1))
-        printf 'FAILED %s%s\n' "$name" "$wrong"
-    else
-        printf 'passed %s\n' "$name"
-    fi
-}
-
 # NAME REFUSAL: the file of standard input is refused, with the words of the table of docs/CALLS.md.
 refused() {
-    local words
-    words=$(sed -n "s/^| $2 | \(.*\) |\$/\1/p" "$root/docs/CALLS.md" | head -n 1)
     cat > "$dir/file"
     printf 'refused %d\n' "$2" > "$dir/expected"
-    try "$1" 1 "${words:?no words in docs/CALLS.md}" "$dir/file"
+    try "$1" 1 "$(words "$2")" report "$dir/file"
 }
 
 # The example, embedded and as a file, and the longest sample.
 cp "$root/crates/report/stdout" "$dir/expected"
-try 'the embedded example' 0 ''
+try 'the embedded example' 0 'no file is named; this is the report of an example' report
 example 0 5 5 3 70 > "$dir/file"
-try 'the example as a file' 0 '' "$dir/file"
+try 'the example as a file' 0 '' report "$dir/file"
 labelled ' ~' > "$dir/file"
-try 'the example with a label of 20 and 7E' 0 '' "$dir/file"
+try 'the example with a label of 20 and 7E' 0 '' report "$dir/file"
 for t in '2000 0' '1999 -1' '1000 -1000'; do
     stepped "${t% *}" > "$dir/file"
     printf 'sent 2 arrivals 2\n1 2 in 1 1\n2 1 late 2 1 %d 100 1\nend 2 1 0 1 1 0\n' "${t#* }" > "$dir/expected"
-    try "a late packet of 2000 at ${t% *}" 0 '' "$dir/file"
+    try "a late packet of 2000 at ${t% *}" 0 '' report "$dir/file"
 done
 longest > "$dir/longest"
 longest_report > "$dir/expected"
-try "the longest sample, of $(wc -c < "$dir/longest") octets" 0 '' "$dir/longest"
+try "the longest sample, of $(wc -c < "$dir/longest") octets" 0 '' report "$dir/longest"
 
 # Refused files: the example is 76 octets long.
 refused 'an empty file' 1 < /dev/null
@@ -114,9 +65,8 @@ refused '1000000 octets of 0' 4 < <(head -c 1000000 /dev/zero)
 
 # What is no file, and bad usage.
 : > "$dir/expected"
-try 'a missing file' 1 'there is no such file' "$dir/missing"
-try 'a directory' 1 'this is a directory' "$dir"
-try 'two files' 2 'usage: krakobran-report [FILE]' "$dir/file" "$dir/file"
+try 'a missing file' 1 'there is no such file' report "$dir/missing"
+try 'a directory' 1 'this is a directory' report "$dir"
+try 'two files' 2 'usage: krakobran report [FILE]' report "$dir/file" "$dir/file"
 
-printf '%d passed, %d failed\n' $((run - failed)) "$failed"
-[ "$failed" -eq 0 ]
+finish

@@ -90,33 +90,37 @@ fn compare_files<'a>(first: &'a [u8], second: &'a [u8]) {
     write_ratio(b"second ", metrics::counts(second).counts);
 }
 
-// Reads the file that an argument names, and answers how many octets it has, or as many as are lent where it has more. One that
-// can't be opened has none.
-fn read_argument(place: usize, out: &mut [u8]) -> usize {
+// Reads two open files, and compares them.
+fn compare_open(first: i32, second: i32) {
+    let mut one = [0u8; INPUT_OCTETS];
+    let m = io::read_full(first, &mut one);
+    let mut other = [0u8; INPUT_OCTETS];
+    let n = io::read_full(second, &mut other);
+    compare_files(&one[..m], &other[..n]);
+}
+
+// Opens the file that the argument at a place names; returns a negative number if it can't be opened.
+fn open_named(place: usize) -> i32 {
     let mut path = io::buffer();
     let n = os::arg(place, &mut path);
-    let fd = os::open_read(&path[..n]);
-    if fd < 0 {
-        return 0;
-    }
-    let octets = io::read_full(fd, out);
-    libc::close(fd);
-    octets
+    os::open_read(&path[..n])
 }
 
-// The first n octets: all where there are no more.
-fn first_octets(s: &[u8], n: usize) -> &[u8] {
-    if s.len() < n {
-        return s;
-    }
-    &s[0..n]
-}
-
-// Reads both samples, and compares them.
+// Takes the arguments, and compares.
 fn main() {
-    let mut first = [0u8; INPUT_OCTETS];
-    let mut second = [0u8; INPUT_OCTETS];
-    let m = read_argument(1, &mut first);
-    let n = read_argument(2, &mut second);
-    compare_files(first_octets(&first, m), first_octets(&second, n));
+    if os::arg_count() != 3 {
+        write_word(b"the arguments are the names of two sample files\n");
+        return;
+    }
+    let first = open_named(1);
+    if first < 0 {
+        write_word(b"the first sample can't be opened\n");
+        return;
+    }
+    let second = open_named(2);
+    if second < 0 {
+        write_word(b"the second sample can't be opened\n");
+        return;
+    }
+    compare_open(first, second);
 }

@@ -1,0 +1,4 @@
+-- Laws of the summary. Assumes nothing.
+mod Sizes
+mod Pieces
+mod Back

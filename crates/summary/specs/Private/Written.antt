@@ -1,0 +1,10 @@
+-- What the writer of a part of the text leaves. Assumes nothing.
+use Prim.Native.Nat.{ℕ, _+_}
+use mathlib.Core.Path.{_≡_}
+use mathlib.Core.List.{List, _++_}
+use lib.ListN.{length, take}
+
+-- the octets xs stand in `new` after the first `at` octets of `old`, and `next` is the offset after them
+pub record Written (at next : ℕ) (xs old new : List ℕ) : Type 0 where
+  pub place : next ≡ at + length xs
+  pub memory : take next new ≡ take at old ++ xs

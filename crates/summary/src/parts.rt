@@ -1,0 +1,75 @@
+// Parts of a text, each written at an offset of a buffer that has room for it. Each function returns the offset after its part.
+ghost use mathlib.Core.Path.{_≡_};
+ghost use mathlib.Core.List.{_++_};
+ghost use Prim.Native.Nat.{_+_, _≤_};
+ghost use lib.ListN.{length, take};
+ghost use Rattle.decimal.specs.Decimal.{decimalOf};
+ghost use Rattle.summary.specs.Text.{column, milliseconds, percent};
+ghost use Rattle.summary.specs.Private.Written.{Written};
+
+// Writes a word.
+pub(crate) fn write_word(out: &mut [u8], at: usize, word: &[u8]) -> usize
+    requires { ⌜ at + length (now word) ≤ length (now out) ⌝ }
+    ensures { λ r. ⌜ Written at r (now (word .entry)) (now (out .entry)) (now (out .exit)) × (r ≤ at + length (now (word .entry))) ⌝ }
+{
+    octets::put_octets(out, at, word);
+    at + word.len()
+}
+
+// Writes the first `n` octets of a word.
+fn write_first(out: &mut [u8], at: usize, word: &[u8], n: usize) -> usize
+    requires { ⌜ (n ≤ length (now word)) × (at + n ≤ length (now out)) ⌝ }
+    ensures { λ r. ⌜ Written at r (take n (now (word .entry))) (now (out .entry)) (now (out .exit)) × (r ≤ at + n) ⌝ }
+{
+    octets::put_octets(out, at, &word[..n]);
+    at + n
+}
+
+// Writes a number.
+pub(crate) fn write_number(out: &mut [u8], at: usize, v: u64) -> usize
+    requires { ⌜ at + 20 ≤ length (now out) ⌝ }
+    ensures { λ r. ⌜ Written at r (decimalOf v) (now (out .entry)) (now (out .exit)) × (r ≤ at + 20) ⌝ }
+{
+    at + decimal::put_decimal(out, at, v)
+}
+
+// Writes a number in a column of `width` octets.
+pub(crate) fn write_column(out: &mut [u8], at: usize, width: usize, v: u64) -> usize
+    requires { ⌜ (width ≤ 16) × (at + 36 ≤ length (now out)) ⌝ }
+    ensures { λ r. ⌜ Written at r (column width v) (now (out .entry)) (now (out .exit)) × (r ≤ at + 36) ⌝ }
+{
+    let digits = decimal::count(v);
+    if width <= digits {
+        return write_number(out, at, v);
+    }
+    let number = write_first(out, at, b"                ", width - digits);
+    write_number(out, number, v)
+}
+
+// Writes a time of microseconds as milliseconds, in a column.
+pub(crate) fn write_milliseconds(out: &mut [u8], at: usize, time: u64) -> usize
+    requires { ⌜ at + 100 ≤ length (now out) ⌝ }
+    ensures { λ r. ⌜ Written at r (milliseconds time) (now (out .entry)) (now (out .exit)) × (r ≤ at + 100) ⌝ }
+{
+    let point = write_column(out, at, 9, time / 1000);
+    let tenths = write_word(out, point, b".");
+    let hundredths = write_number(out, tenths, time / 100 % 10);
+    let thousandths = write_number(out, hundredths, time / 10 % 10);
+    let unit = write_number(out, thousandths, time % 10);
+    write_word(out, unit, b" ms")
+}
+
+// Writes the share that `part` is of `whole`, in percent.
+pub(crate) fn write_percent(out: &mut [u8], at: usize, part: u32, whole: u32) -> usize
+    requires { ⌜ at + 43 ≤ length (now out) ⌝ }
+    ensures { λ r. ⌜ Written at r (percent part whole) (now (out .entry)) (now (out .exit)) × (r ≤ at + 43) ⌝ }
+{
+    if whole == 0 {
+        return write_word(out, at, b"- %");
+    }
+    let tenths = (2000 * (part as u64) + whole as u64) / (2 * (whole as u64));
+    let point = write_number(out, at, tenths / 10);
+    let tenth = write_word(out, point, b".");
+    let unit = write_number(out, tenth, tenths % 10);
+    write_word(out, unit, b" %")
+}

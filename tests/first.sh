@@ -1,0 +1,108 @@
+#!/usr/bin/env bash
+# The first use of the command: runs it in checkouts of its own, with an `rt` that only copies the built program and notes that it
+# ran, and holds it to what it says, to one build for commands side by side, and to none where none can be.
+. "$(dirname -- "${BASH_SOURCE[0]}")/lib.sh" || exit 2
+
+# A checkout in a folder with a space in its name: the script, what it reads, and a source.
+checkout="$dir/a checkout"
+krakobran=$checkout/krakobran
+example=$root/crates/report/stdin
+mkdir -p "$checkout/docs" "$checkout/crates/report" "$dir/kit"
+cp "$root/krakobran" "$root/crates.txt" "$checkout"
+cp "$root/docs/krakobran.txt" "$checkout/docs"
+cp "$example" "$checkout/crates/report/stdin"
+
+# The kit: it takes a second, in which another one must not start.
+cat > "$dir/kit/rt" << EOF
+#!/usr/bin/env bash
+PATH=$PATH
+[ -e '$dir/refuse' ] && echo 'rt: sample NOT PROVED (exit 1, 1 s)' && exit 1
+mkdir '$dir/busy' 2> '$dir/which' || echo twice >> '$dir/builds'
+echo "\$*" >> '$dir/builds'
+echo 'rt: octets proved (1 s)'
+echo 'fn octets::number_at: proved'
+sleep 1
+mkdir -p target/bin
+cp '$root/target/bin/'"\$2" target/bin
+echo "rt: \$2 proved (1 s)"
+rmdir '$dir/busy'
+EOF
+chmod +x "$dir/kit/rt"
+
+# A path without the kit.
+bare=$dir/bare
+mkdir "$bare"
+for tool in bash env awk base64 cat dirname find flock head mkdir readlink sed touch tr; do ln -s "$(command -v "$tool")" "$bare/$tool"; done
+kit=$dir/kit:$bare
+
+# Not built, and no kit.
+: > "$dir/expected"
+path=$bare
+try 'not built, and no kit' 2 'the program is not built, and there is no rt on the path to build it with' report "$example"
+
+# The first run says what it does, and how far it is.
+PATH=$kit "$timeout" 60 "$krakobran" report "$example" > "$dir/out" 2> "$dir/err"
+found=$?
+total=$(sed -n 's/.*building it, \([0-9]*\) crates.*/\1/p' "$dir/err")
+{
+    echo "krakobran: target/bin/report is missing or older than its sources: proving and building it, $total crates, takes some minutes"
+    echo "krakobran: 1 of $total: octets proved (1 s)"
+    echo "krakobran: 2 of $total: report proved (1 s)"
+} > "$dir/progress"
+cp "$root/crates/report/stdout" "$dir/expected"
+same 'the first run says how far it is' "$dir/err" "$dir/progress"
+: > "$dir/err"
+judge 'the first run prints the report' 0 '' "$found"
+verdict 'the number of crates' "$([ "${total:-0}" -gt 5 ] || echo ", $total")"
+path=$kit
+try 'the second run builds nothing' 0 '' report "$example"
+
+# A source that is newer: built again with the kit, used as it is without.
+touch -d '+1 minute' "$checkout/crates/report/stdin"
+path=$bare
+try 'newer sources, and no kit' 0 '' report "$example"
+touch -d '-1 minute' "$checkout/target/bin/report"
+touch "$checkout/crates/report/stdin"
+: > "$dir/builds"
+PATH=$kit "$krakobran" report "$example" > "$dir/out" 2> "$dir/err"
+echo 'check report' > "$dir/expected"
+same 'newer sources are built again' "$dir/builds" "$dir/expected"
+
+# A program that is not proved is not run.
+touch -d '-1 minute' "$checkout/target/bin/report"
+touch "$checkout/crates/report/stdin" "$dir/refuse"
+: > "$dir/expected"
+PATH=$kit "$timeout" 60 "$krakobran" report "$example" > "$dir/out" 2> "$dir/full"
+found=$?
+tail -n 1 "$dir/full" > "$dir/err"
+judge 'a program that is not proved' 2 'the program was not proved and built' "$found"
+verdict 'what the kit says of it' "$(grep -q 'sample NOT PROVED' "$dir/full" || echo ", $(cat "$dir/full")")"
+rm "$dir/refuse"
+
+# Two commands in a pipe, and four of the same program side by side: one build at a time, and one of each program.
+rm -r "$checkout/target"
+: > "$dir/builds"
+printf '%d;0,%03d\n' 1 10 2 20 4 40 5 50 3 70 > "$dir/log"
+{ PATH=$kit "$krakobran" import log 5 100 "$dir/log" | PATH=$kit "$krakobran" report -; } > "$dir/out" 2> "$dir/err"
+same 'two commands in a pipe' "$dir/out" "$root/crates/report/stdout"
+rm -r "$checkout/target"
+for i in 1 2 3 4; do PATH=$kit "$krakobran" report "$example" > "$dir/out.$i" 2> "$dir/err.$i" & done
+wait
+for i in 1 2 3 4; do same "command $i of four" "$dir/out.$i" "$root/crates/report/stdout"; done
+sort "$dir/builds" > "$dir/out"
+printf 'check import_log\ncheck report\ncheck report\n' > "$dir/expected"
+same 'one build of each program, one at a time' "$dir/out" "$dir/expected"
+
+# A checkout that can't be written: a built program runs; one that is to be built is not.
+chmod -R a-w "$checkout"
+cp "$root/crates/report/stdout" "$dir/expected"
+path=$kit
+try 'a checkout that is only read' 0 '' report "$example"
+chmod -R u+w "$checkout"
+rm -r "$checkout/target"
+: > "$checkout/target"
+: > "$dir/expected"
+path=$kit
+try 'a checkout in which nothing can be built' 2 "target: it can't be written" report "$example"
+
+finish

@@ -1,0 +1,15 @@
+#compdef krakobran
+# Completion of krakobran for zsh: the word, the kind of import and export, and else the names of files.
+local -a commands
+commands=(report summary import export check worse picture help)
+if (( CURRENT == 2 )); then
+    compadd -- $commands --help --version
+elif [[ $words[CURRENT] == --* ]]; then
+    compadd -- --help --version
+elif (( CURRENT == 3 )) && [[ $words[2] == (import|export) ]]; then
+    compadd -- log owamp
+elif (( CURRENT == 3 )) && [[ $words[2] == help ]]; then
+    compadd -- $commands
+else
+    _files
+fi
