@@ -36,12 +36,13 @@ use Rattle.receiver.proofs.Demand3.{outcome-fit, late-answered}
 use Rattle.meter.specs.declared.Meter.{Meter}
 use Rattle.meter.specs.declared.MeterStepAnswer.{MeterStepAnswer}
 use Rattle.meter.specs.declared.MeterStartAnswer.{MeterStartAnswer}
-use Rattle.meter.specs.Streams.{Side, one, two, sideOf, receiverOf, streamIn, withStream, withReceiver}
-use Rattle.meter.specs.Step.{meterStep, notStarted, startOn, meterStart}
+use Rattle.meter.specs.Streams.{Side, one, two, sideOf, receiverOf, streamIn, withStream}
+use Rattle.meter.specs.Step.{meterStep, notStarted, startOn}
 use Rattle.meter.specs.Account.{Call, arrives, starts, streamNumberOf, Reply, said, started, Part, freshPart, partAfter, replyIn, Account, withPart, accountAfter, meterAccountOf, accountReply}
 use Rattle.meter.specs.Demand3.{metAfter, replyOf, meterAfter, meterReply, refusalSaid, streamNumbers, Agrees, MeterDemand3}
-use Rattle.meter.proofs.CallsByStream.{stepFor, startFor, accountFor, replyFor}
-use Rattle.meter.proofs.Carries.{CarriesPart, Carries, carries-fit, receiverThen, carries-step, carries-after, new-carries, carries-started}
+use Rattle.meter.proofs.CallsByStream.{accountFor, replyFor}
+use Rattle.meter.proofs.Meters.{step-fit, step-by, start-by}
+use Rattle.meter.proofs.Carries.{CarriesPart, Carries, carries-fit, carries-step, carries-after, new-carries, carries-started}
 
 -- ---- one call
 
@@ -56,30 +57,23 @@ same-part s account = λ i t. same s t i
     same two two = refl
 
 module _ (account : Account) (m : Meter) (g : Carries account m) where
-  -- an arrival on a stream
-  step-agrees : (s : Side) (a : Arrival) → stepFor (some s) m (a .number) (a .time)
-      ≡ record {
-        outcome = outcomeIn (account s .window) (account s .sent) (account s .accepted) a;
-        state = withReceiver s (receiverThen account m g s a) m;
-      }
-  step-agrees s a = rw (carries-fit account m g) (carries-step account m g s a)
-
-  arrival-reply : (o : Option Side) (n : ℕ) (a : Arrival)
-      → said (stepFor o m (a .number) (a .time) .outcome) ≡ replyFor o account (arrives n a)
+  arrival-reply : (n : ℕ) (a : Arrival) → replyOf m (arrives n a) ≡ replyFor (sideOf n) account (arrives n a)
   unfolding replyIn
-  arrival-reply none n a = refl
-  arrival-reply (some s) n a = ap (λ (x : MeterStepAnswer). said (x .outcome)) (step-agrees s a)
+  arrival-reply n a =
+      step-by m n (a .number) (a .time) (carries-fit account m g) (λ o d. said (d .outcome) ≡ replyFor o account (arrives n a)) refl
+      (λ s. ap (λ (d : MeterStepAnswer). said (d .outcome)) (carries-step account m g s a))
 
-  arrival-carries : (o : Option Side) (n : ℕ) (a : Arrival) → Carries (accountFor o account (arrives n a)) (stepFor o m (a .number) (a .time) .state)
+  arrival-carries : (n : ℕ) (a : Arrival) → Carries (accountFor (sideOf n) account (arrives n a)) (metAfter m (arrives n a))
   unfolding partAfter
-  arrival-carries none n a = g
-  arrival-carries (some s) n a =
-      subst (λ (x : MeterStepAnswer). Carries (accountFor (some s) account (arrives n a)) (x .state)) (sym (step-agrees s a)) (carries-after account m g s a)
+  arrival-carries n a =
+      step-by m n (a .number) (a .time) (carries-fit account m g) (λ o d. Carries (accountFor o account (arrives n a)) (d .state)) g
+      (λ s. subst (λ (d : MeterStepAnswer). Carries (accountFor (some s) account (arrives n a)) (d .state)) (sym (carries-step account m g s a))
+      (carries-after account m g s a))
 
-  start-on : (s : Side) (k : ℕ) → startFor (some s) m k
+  start-on : (s : Side) (k : ℕ) → startOn s m k
       ≡ cond (outside 1 sentMost k) (notStarted sentOutside m) (record { refusal = 0; state = withStream s (streamIn (madeFor k)) m })
   unfolding startOn freshOf
-  start-on s k = rw (carries-fit account m g) (go (outside 1 sentMost k))
+  start-on s k = go (outside 1 sentMost k)
     where
       go : (t : Bool)
           → cond {A = MeterStartAnswer} (eqb (inCase t sentOutside) 0) (record { refusal = 0; state = withStream s (streamIn (madeFor (cond t 1 k))) m })
@@ -88,37 +82,38 @@ module _ (account : Account) (m : Meter) (g : Carries account m) where
       go true = refl
       go false = refl
 
-  start-reply : (o : Option Side) (n k : ℕ) → started (startFor o m k .refusal) ≡ replyFor o account (starts n k)
+  start-reply : (n k : ℕ) → replyOf m (starts n k) ≡ replyFor (sideOf n) account (starts n k)
   unfolding replyIn
-  start-reply none n k = refl
-  start-reply (some s) n k = rw (start-on s k) (go (outside 1 sentMost k))
+  start-reply n k =
+      start-by m n k (carries-fit account m g) (λ o d. started (d .refusal) ≡ replyFor o account (starts n k)) refl
+      (λ s. ap (λ (d : MeterStartAnswer). started (d .refusal)) (start-on s k) ∙ go s (outside 1 sentMost k))
     where
-      go : (t : Bool)
+      go : (s : Side) (t : Bool)
           → started (cond {A = MeterStartAnswer} t (notStarted sentOutside m) (record { refusal = 0; state = withStream s (streamIn (madeFor k)) m }) .refusal)
           ≡ started (inCase t sentOutside)
-      go true = refl
-      go false = refl
+      go s true = refl
+      go s false = refl
 
-  start-carries : (o : Option Side) (n k : ℕ) → Carries (accountFor o account (starts n k)) (startFor o m k .state)
+  start-carries : (n k : ℕ) → Carries (accountFor (sideOf n) account (starts n k)) (metAfter m (starts n k))
   unfolding partAfter
-  start-carries none n k = g
-  start-carries (some s) n k = rw (start-on s k) (go (outside 1 sentMost k) refl)
+  start-carries n k =
+      start-by m n k (carries-fit account m g) (λ o d. Carries (accountFor o account (starts n k)) (d .state)) g
+      (λ s. subst (λ (d : MeterStartAnswer). Carries (accountFor (some s) account (starts n k)) (d .state)) (sym (start-on s k))
+      (go s (outside 1 sentMost k) refl))
     where
-      go : (t : Bool) → outside 1 sentMost k ≡ t
+      go : (s : Side) (t : Bool) → outside 1 sentMost k ≡ t
           → Carries (withPart s (cond t (account s) (freshPart k)) account)
           (cond {A = MeterStartAnswer} t (notStarted sentOutside m) (record { refusal = 0; state = withStream s (streamIn (madeFor k)) m }) .state)
-      go true e = subst (λ (acc : Account). Carries acc m) (sym (same-part s account)) g
-      go false e = let w = between 1 sentMost k e in carries-started account m g s k (w .0) (w .1)
+      go s true e = subst (λ (acc : Account). Carries acc m) (sym (same-part s account)) g
+      go s false e = let w = between 1 sentMost k e in carries-started account m g s k (w .0) (w .1)
 
   call-reply : (c : Call) → replyOf m c ≡ replyFor (sideOf (streamNumberOf c)) account c
-  unfolding meterStep meterStart
-  call-reply (arrives n a) = arrival-reply (sideOf n) n a
-  call-reply (starts n k) = start-reply (sideOf n) n k
+  call-reply (arrives n a) = arrival-reply n a
+  call-reply (starts n k) = start-reply n k
 
   call-carries : (c : Call) → Carries (accountFor (sideOf (streamNumberOf c)) account c) (metAfter m c)
-  unfolding meterStep meterStart
-  call-carries (arrives n a) = arrival-carries (sideOf n) n a
-  call-carries (starts n k) = start-carries (sideOf n) n k
+  call-carries (arrives n a) = arrival-carries n a
+  call-carries (starts n k) = start-carries n k
 
 -- ---- all calls
 
@@ -155,9 +150,11 @@ never-unfit account (some s) (starts n k) = go (outside 1 sentMost k)
 noted-agrees : (earlier : List Call) (n : ℕ) (a : Arrival) (s : Side) → sideOf n ≡ some s
     → meterStep (meterAfter earlier) n (a .number) (a .time) .outcome .noted
     ≡ outcomeIn (meterAccountOf earlier s .window) (meterAccountOf earlier s .sent) (meterAccountOf earlier s .accepted) a .noted
-unfolding meterStep
 noted-agrees earlier n a s e =
-    rw e (ap (λ (x : MeterStepAnswer). x .outcome .noted) (step-agrees (meterAccountOf earlier) (meterAfter earlier) (calls-carry earlier) s a))
+    let account = meterAccountOf earlier in
+    let m = meterAfter earlier in
+    let g = calls-carry earlier in
+    ap (λ (d : MeterStepAnswer). d .outcome .noted) (sym (step-fit m n (a .number) (a .time) s e (carries-fit account m g)) ∙ carries-step account m g s a)
 
 -- what a stream holds after the calls
 stream-agrees : (s : Side) (calls : List Call) → Agrees s calls

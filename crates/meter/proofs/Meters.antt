@@ -7,7 +7,7 @@
 -- the step's answer, own and beside are the jumps that a stream and its neighbour keep, and t and u are outcomes of tests.
 -- Assumes nothing.
 use Prim.Native.Nat.{ℕ, zero, suc, _+_, _-_, _≤_, _<_, min, max}
-use mathlib.Core.Path.{_≡_, refl, sym, ap, _∙_}
+use mathlib.Core.Path.{_≡_, refl, sym, ap, subst, _∙_}
 use mathlib.Core.Bool.{Bool, true, false, cond, _&&_, true≢false}
 use mathlib.Core.List.{List, []}
 use mathlib.Core.Option.{Option, none, some}
@@ -37,7 +37,6 @@ use Rattle.meter.specs.declared.MeterStartAnswer.{MeterStartAnswer}
 use Rattle.meter.specs.Streams.{Side, one, two, sideOf, other, shared, mostKept, freeBeside, takesPlace, facing, receiverOf, streamIn, withStream, withReceiver, keptIn, free}
 use Rattle.meter.specs.Private.{fewKept, wholeMeter}
 use Rattle.meter.specs.Step.{fitOnMeter, meterFit, notStepped, stepOn, meterStep, notStarted, startOn, meterStart}
-use Rattle.meter.proofs.CallsByStream.{stepFor, startFor}
 use Rattle.meter.proofs.PlacesFacing.{put-back, facing-back}
 use Rattle.meter.proofs.KeptJumps.{takes}
 
@@ -183,9 +182,18 @@ module _ (m : Meter) (n number time : ℕ) where
   unfolding meterStep
   step-unfit s e f = rw (e, f)
 
-  step-fit : (s : Side) → sideOf n ≡ some s → meterFit m ≡ true → stepOn s m number time ≡ meterStep m n number time
+  pub step-fit : (s : Side) → sideOf n ≡ some s → meterFit m ≡ true → stepOn s m number time ≡ meterStep m n number time
   unfolding meterStep
   step-fit s e f = rw (e, f)
+
+  -- what holds of the refusal on no stream, and of the step on each, holds of the step of a fit meter, by the stream of its number
+  pub step-by : meterFit m ≡ true → (P : Option Side → MeterStepAnswer → Type 0) → P none (notStepped noStream m)
+      → ((s : Side) → P (some s) (stepOn s m number time)) → P (sideOf n) (meterStep m n number time)
+  step-by f P nowhere on = go (sideOf n) refl
+    where
+      go : (o : Option Side) → sideOf n ≡ o → P o (meterStep m n number time)
+      go none e = subst (P none) (step-nowhere e) nowhere
+      go (some s) e = subst (P (some s)) (step-fit s e f) (on s)
 
   -- a stream that is unfit refuses its step by itself, and so does the meter then
   unfit-refused : (s : Side) → fit (receiverOf s m) ≡ false → stepOn s m number time ≡ notStepped stateUnfit m
@@ -223,19 +231,21 @@ module _ (m : Meter) (n number time : ℕ) where
   step-beside s e k b = step-unfit s e (sym (rw (k, b) at (fit-beside m s)))
 
   -- a refused arrival leaves an equal meter
-  pub step-refused : (meterStep m n number time .outcome .refusal ≡ 0 → ⊥) → meterStep m n number time .state ≡ m
-  unfolding meterStep stepOn
-  step-refused = go (sideOf n)
-    where
-      on : (s : Side) (t : Bool) → (cond t (stepOn s m number time) (notStepped stateUnfit m) .outcome .refusal ≡ 0 → ⊥)
-          → cond t (stepOn s m number time) (notStepped stateUnfit m) .state ≡ m
-      on s true h =
-          ap (λ (r : Receiver). withReceiver s r m) (refused-equal (takesPlace (keptIn s m) (free m)) (receiverOf s m) number time h) ∙ put-back s m
-      on s false h = refl
+  abbrev Leaves : MeterStepAnswer → Type 0
+  Leaves d = (d .outcome .refusal ≡ 0 → ⊥) → d .state ≡ m
 
-      go : (o : Option Side) → (stepFor o m number time .outcome .refusal ≡ 0 → ⊥) → stepFor o m number time .state ≡ m
-      go none h = refl
-      go (some s) h = on s (meterFit m) h
+  on-leaves : (s : Side) → Leaves (stepOn s m number time)
+  unfolding stepOn
+  on-leaves s h =
+      ap (λ (r : Receiver). withReceiver s r m) (refused-equal (takesPlace (keptIn s m) (free m)) (receiverOf s m) number time h) ∙ put-back s m
+
+  pub step-refused : (meterStep m n number time .outcome .refusal ≡ 0 → ⊥) → meterStep m n number time .state ≡ m
+  step-refused = go (sideOf n) refl (meterFit m) refl
+    where
+      go : (o : Option Side) → sideOf n ≡ o → (t : Bool) → meterFit m ≡ t → Leaves (meterStep m n number time)
+      go none e t f = subst Leaves (step-nowhere e) (λ h. refl)
+      go (some s) e true f = subst Leaves (step-fit s e f) (on-leaves s)
+      go (some s) e false f = subst Leaves (step-unfit s e f) (λ h. refl)
 
 -- ---- the cases of a start
 
@@ -247,6 +257,19 @@ module _ (m : Meter) (n k : ℕ) where
   pub start-unfit : (s : Side) → sideOf n ≡ some s → meterFit m ≡ false → notStarted stateUnfit m ≡ meterStart m n k
   unfolding meterStart
   start-unfit s e f = rw (e, f)
+
+  start-fit : (s : Side) → sideOf n ≡ some s → meterFit m ≡ true → startOn s m k ≡ meterStart m n k
+  unfolding meterStart
+  start-fit s e f = rw (e, f)
+
+  -- the start of a fit meter, by the stream of its number
+  pub start-by : meterFit m ≡ true → (P : Option Side → MeterStartAnswer → Type 0) → P none (notStarted noStream m)
+      → ((s : Side) → P (some s) (startOn s m k)) → P (sideOf n) (meterStart m n k)
+  start-by f P nowhere on = go (sideOf n) refl
+    where
+      go : (o : Option Side) → sideOf n ≡ o → P o (meterStart m n k)
+      go none e = subst (P none) (start-nowhere e) nowhere
+      go (some s) e = subst (P (some s)) (start-fit s e f) (on s)
 
   module _ (s : Side) (e : sideOf n ≡ some s) (f : meterFit m ≡ true) where
     -- K is refused
@@ -261,21 +284,22 @@ module _ (m : Meter) (n k : ℕ) where
     start-done h = rw (e, f, h)
 
   -- a refused start leaves an equal meter
-  pub start-refused : (meterStart m n k .refusal ≡ 0 → ⊥) → meterStart m n k .state ≡ m
-  unfolding meterStart startOn
-  start-refused = go (sideOf n)
+  abbrev StartLeaves : MeterStartAnswer → Type 0
+  StartLeaves d = (d .refusal ≡ 0 → ⊥) → d .state ≡ m
+
+  on-start-leaves : (s : Side) → StartLeaves (startOn s m k)
+  unfolding startOn
+  on-start-leaves s = fresh (freshOf k) (eqb (freshOf k .refusal) 0)
     where
-      fresh : (s : Side) (r : FreshAnswer) (t : Bool)
-          → (cond {A = MeterStartAnswer} t (record { refusal = 0; state = withStream s (streamIn (r .state)) m }) (notStarted (r .refusal) m) .refusal ≡ 0 → ⊥)
-          → cond {A = MeterStartAnswer} t (record { refusal = 0; state = withStream s (streamIn (r .state)) m }) (notStarted (r .refusal) m) .state ≡ m
-      fresh s r true h = absurd (h refl)
-      fresh s r false h = refl
+      fresh : (r : FreshAnswer) (t : Bool)
+          → StartLeaves (cond {A = MeterStartAnswer} t (record { refusal = 0; state = withStream s (streamIn (r .state)) m }) (notStarted (r .refusal) m))
+      fresh r true h = absurd (h refl)
+      fresh r false h = refl
 
-      on : (s : Side) (t : Bool) → (cond t (startOn s m k) (notStarted stateUnfit m) .refusal ≡ 0 → ⊥)
-          → cond t (startOn s m k) (notStarted stateUnfit m) .state ≡ m
-      on s true h = fresh s (freshOf k) (eqb (freshOf k .refusal) 0) h
-      on s false h = refl
-
-      go : (o : Option Side) → (startFor o m k .refusal ≡ 0 → ⊥) → startFor o m k .state ≡ m
-      go none h = refl
-      go (some s) h = on s (meterFit m) h
+  pub start-refused : (meterStart m n k .refusal ≡ 0 → ⊥) → meterStart m n k .state ≡ m
+  start-refused = go (sideOf n) refl (meterFit m) refl
+    where
+      go : (o : Option Side) → sideOf n ≡ o → (t : Bool) → meterFit m ≡ t → StartLeaves (meterStart m n k)
+      go none e t f = subst StartLeaves (start-nowhere e) (λ h. refl)
+      go (some s) e true f = subst StartLeaves (start-fit s e f) (on-start-leaves s)
+      go (some s) e false f = subst StartLeaves (start-unfit s e f) (λ h. refl)

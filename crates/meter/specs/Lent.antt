@@ -2,6 +2,7 @@
 use Prim.Native.Nat.{ℕ}
 use mathlib.Core.Path.{_≡_}
 use Rattle.receiver.specs.declared.Outcome.{Outcome}
+use Rattle.receiver.specs.Outcomes.{refusedOutcome}
 use Rattle.meter.specs.declared.Meter.{Meter}
 use Rattle.meter.specs.Step.{meterStep, meterStart}
 
@@ -13,9 +14,9 @@ AsMeterStep m n number time outcome after =
     × (after ≡ meterStep m n number time .state)
     × ((outcome .refusal ≡ 0 → ⊥) → after ≡ m)
 
--- the same of a fresh start
-abbrev pub AsMeterStart : Meter → ℕ → ℕ → ℕ → Meter → Type 0
-AsMeterStart m n k refusal after =
-    (refusal ≡ meterStart m n k .refusal)
+-- the same of a fresh start: the outcome has the start's refusal, 0 for none, and notes nothing
+abbrev pub AsMeterStart : Meter → ℕ → ℕ → Outcome → Meter → Type 0
+AsMeterStart m n k outcome after =
+    (outcome ≡ refusedOutcome (meterStart m n k .refusal))
     × (after ≡ meterStart m n k .state)
-    × ((refusal ≡ 0 → ⊥) → after ≡ m)
+    × ((outcome .refusal ≡ 0 → ⊥) → after ≡ m)

@@ -5,6 +5,7 @@ use mathlib.Core.Bool.{Bool, _&&_}
 use lib.Dec.{leb}
 use Rattle.receiver.specs.declared.Stream.{Stream}
 use Rattle.receiver.specs.declared.Places.{Places}
+use Rattle.receiver.specs.Outcomes.{refusedOutcome}
 use Rattle.meter.specs.declared.Meter.{Meter}
 use Rattle.meter.specs.declared.MeterStepAnswer.{MeterStepAnswer}
 use Rattle.meter.specs.declared.MeterStartAnswer.{MeterStartAnswer}
@@ -25,7 +26,6 @@ abbrev pub meterAnswerOf : StreamsStep → List ℕ → List ℕ → Places → 
 meterAnswerOf a marks₁ marks₂ places =
     record { outcome = a .outcome; state = wholeMeter (a .first) (a .second) marks₁ marks₂ places }
 
--- the same of a start: all that is said is the refusal
-abbrev pub startAnswerOf : StreamsStep → List ℕ → List ℕ → Places → MeterStartAnswer
-startAnswerOf a marks₁ marks₂ places =
-    record { refusal = a .outcome .refusal; state = wholeMeter (a .first) (a .second) marks₁ marks₂ places }
+-- a start's answer in the form of a step's: the outcome has the refusal and notes nothing
+abbrev pub startAsStep : MeterStartAnswer → MeterStepAnswer
+startAsStep d = record { outcome = refusedOutcome (d .refusal); state = d .state }

@@ -18,7 +18,7 @@ ghost use lib.ListN.{replicate};
 ghost use Rattle.meter.specs.Streams.{shared, mostKept, streamIn};
 ghost use Rattle.meter.specs.Step.{newMeter, meterFit, meterStep, meterStart};
 ghost use Rattle.meter.specs.Lent.{AsMeterStep, AsMeterStart};
-ghost use Rattle.meter.specs.Private.{fewKept, wholeMeter, meterAnswerOf, startAnswerOf};
+ghost use Rattle.meter.specs.Private.{fewKept, wholeMeter, meterAnswerOf, startAsStep};
 ghost use Rattle.receiver.specs.Outcomes.{refusedOutcome};
 ghost use Rattle.receiver.specs.Marks.{markWords};
 ghost use Rattle.receiver.specs.Parts.{placesOf};
@@ -330,8 +330,8 @@ fn restart<'a>(
     stream: u32,
     k: u32,
 ) -> StreamsStep
-    ensures { λ a. ⌜ startAnswerOf a (now (marks1 .exit)) (now (marks2 .exit)) (placesOf (now (positions .exit)) (now (numbers .exit)) (now (times .exit)))
-        ≡ meterStart (wholeMeter first second (now (marks1 .entry)) (now (marks2 .entry)) (placesOf (now (positions .entry)) (now (numbers .entry)) (now (times .entry)))) stream k ⌝ }
+    ensures { λ a. ⌜ meterAnswerOf a (now (marks1 .exit)) (now (marks2 .exit)) (placesOf (now (positions .exit)) (now (numbers .exit)) (now (times .exit)))
+        ≡ startAsStep (meterStart (wholeMeter first second (now (marks1 .entry)) (now (marks2 .entry)) (placesOf (now (positions .entry)) (now (numbers .entry)) (now (times .entry)))) stream k) ⌝ }
 {
     if outside(1, 2, stream as u64) {
         return answered(refusal::NO_STREAM, first, second);
@@ -373,7 +373,7 @@ pub fn step_in_place(m: &mut Meter, stream: u32, number: u32, time: u64) -> Outc
 
 // Starts a stream of the borrowed meter afresh in place; returns an outcome with the refusal of `Meter::start` that notes nothing.
 pub fn start_in_place(m: &mut Meter, stream: u32, k: u32) -> Outcome
-    ensures { λ outcome. ⌜ AsMeterStart (now (m .entry)) stream k (outcome .refusal) (now (m .exit)) ⌝ }
+    ensures { λ outcome. ⌜ AsMeterStart (now (m .entry)) stream k outcome (now (m .exit)) ⌝ }
 {
     let a = restart(
         m.first.stream,

@@ -30,10 +30,11 @@ use Rattle.receiver.specs.Step.{stepRefusal, outcomeOf, stepWith, stepOf}
 use Rattle.receiver.specs.Account.{accountOf}
 use Rattle.receiver.specs.Demand3.{stateAfter, outcomeAfter, receiverOutcomes}
 use Rattle.receiver.proofs.Fits.{stream-false}
+use Rattle.receiver.proofs.StepCases.{as-step}
 use Rattle.receiver.proofs.Demand3.{next-after, demand3}
 use Rattle.shortnumbers.specs.Number.{rangeOf, shortOf, Near, numberFound}
 use Rattle.shortnumbers.specs.InTurn.{greatestOf, inTurn}
-use Rattle.shortnumbers.specs.Steps.{greatestBy, shortStep, shortStateAfter, shortOutcomeAfter, shortOutcomes, withFound, arrivalsFound, Demand3Reads, shortened, greatestAccepted, TrueByReceiver, EveryStep}
+use Rattle.shortnumbers.specs.Steps.{greatestBy, shortStep, AsShortStep, shortStateAfter, shortOutcomeAfter, shortOutcomes, withFound, arrivalsFound, Demand3Reads, shortened, greatestAccepted, TrueByReceiver, EveryStep}
 use Rattle.shortnumbers.proofs.Numbers.{Even, even-width, only, exact}
 use Rattle.shortnumbers.proofs.InTurn.{turn-true}
 
@@ -61,6 +62,12 @@ step-found r s short time g n e f = go (ltb (sentMost + 1) (s .stream .next)) re
     go true q = same-unfit s n (numberFound r (greatestBy s) short) time (ltb-true (sentMost + 1) (s .stream .next) q)
     go false q =
         ap (λ (m : ℕ). stepOf s m time) (f ∙ ap (λ (x : ℕ). numberFound r x short) (e (ltb-false (sentMost + 1) (s .stream .next) q)))
+
+-- an answer that is the step's is as the contract of a step in place says
+pub as-short-step : (r : ℕ) (s : Receiver) (short time : ℕ) (d : StepAnswer) → d ≡ shortStep r s short time
+    → AsShortStep r s short time (d .outcome) (d .state)
+unfolding shortStep
+as-short-step r s short time d e = as-step s (numberFound r (greatestBy s) short) time d e
 
 -- ---- NextExp less 1 is the greatest number
 

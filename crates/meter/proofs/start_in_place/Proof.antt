@@ -14,9 +14,10 @@ use Rattle.receiver.proofs.LentStruct.{meets}
 use Rattle.receiver.proofs.Outcome as S
 use Rattle.receiver.proofs.Outcome.Laws as S′
 use Rattle.meter.specs.declared.Meter.{Meter}
-use Rattle.meter.specs.declared.MeterStartAnswer.{MeterStartAnswer}
+use Rattle.meter.specs.declared.MeterStepAnswer.{MeterStepAnswer}
 use Rattle.meter.specs.Step.{meterStart}
 use Rattle.meter.specs.Lent.{AsMeterStart}
+use Rattle.meter.specs.Private.{startAsStep}
 use Rattle.meter.proofs.Meters.{start-refused}
 use Rattle.meter.proofs.LentMeter.{walk}
 use Rattle.meter.proofs.Meter as R
@@ -29,12 +30,12 @@ use Rattle.meter.proofs.start_in_place.Statement as stated
 use Rattle.meter.proofs.start_in_place.Code as code
 
 -- an answer that is the start's is as the contract says
-as-start : (h : Meter) (stream k : ℕ) (d : MeterStartAnswer) → d ≡ meterStart h stream k → AsMeterStart h stream k (d .refusal) (d .state)
+as-start : (h : Meter) (stream k : ℕ) (d : MeterStepAnswer) → d ≡ startAsStep (meterStart h stream k) → AsMeterStart h stream k (d .outcome) (d .state)
 as-start h stream k d e = (
-  ap (λ (p : MeterStartAnswer). p .refusal) e,
-  ap (λ (p : MeterStartAnswer). p .state) e,
-  λ refusal. ap (λ (p : MeterStartAnswer). p .state) e
-      ∙ start-refused h stream k (λ none. refusal (ap (λ (p : MeterStartAnswer). p .refusal) e ∙ none)),
+  ap (λ (p : MeterStepAnswer). p .outcome) e,
+  ap (λ (p : MeterStepAnswer). p .state) e,
+  λ refusal. ap (λ (p : MeterStepAnswer). p .state) e
+      ∙ start-refused h stream k (λ none. refusal (ap (λ (p : MeterStepAnswer). p .outcome .refusal) e ∙ none)),
 )
 
 pub start-in-place-spec : {M : Type 1} → stated.statement M
@@ -45,11 +46,11 @@ start-in-place-spec 𝓤 H 𝓜 𝓖 𝓡 =
     let 𝓣 = tablesOf 𝓤 H 𝓜 (tables 𝓤 H 𝓜 𝓡 code.env) in
     entered 𝓤 H (tripleOf 𝓤 H A f.signature (f.spec 𝓤 H A (𝓜 .mem) (𝓡 .run))) (𝓣 .C) (𝓣 .Λ) #f code.function
     (code.unfolded 𝓤 H 𝓜 𝓡)
-    (meets 𝓤 H A R.the-row S.the-row (w32 ∷ w32 ∷ []) (λ h ns s. AsMeterStart h (ns .0) (ns .1 .0) (s .refusal)) W 𝓣
+    (meets 𝓤 H A R.the-row S.the-row (w32 ∷ w32 ∷ []) (λ h ns. AsMeterStart h (ns .0) (ns .1 .0)) W 𝓣
     code.function (LL.makes S.the-type S′.the-plain 𝓤 H A) (f.clauses 𝓤 H A (𝓜 .mem) (𝓡 .run))
     (λ κs a g s h e. factI 𝓤 _ (emp 𝓤) e)
     (walk 𝓤 H A W 𝓣 (w32 ∷ w32 ∷ []) (restart.clauses 𝓤 H A (𝓜 .mem) (𝓡 .run)) restart-def.name
     (cited 𝓤 H (tripleOf 𝓤 H A restart.signature (restart.spec 𝓤 H A (𝓜 .mem) (𝓡 .run))) 𝓜 𝓡 code.env restart-def.name
     restart-def.routine code.calls-meter·restart (restart-thm.met 𝓤 H 𝓜 𝓖 𝓡))
-    (λ κs a. tt) (λ κs a. id⊢ 𝓤 _) (λ h ns s. AsMeterStart h (ns .0) (ns .1 .0) (s .refusal))
+    (λ κs a. tt) (λ κs a. id⊢ 𝓤 _) (λ h ns. AsMeterStart h (ns .0) (ns .1 .0))
     (λ κs h ns p₁ p₂ p₃ p₄ p₅ γ₁ γ₂ γ₃ γ₄ γ₅ a e. fact-mono 𝓤 _ _ (as-start h (ns .0) (ns .1 .0) _)) _))

@@ -4,17 +4,10 @@ use mathlib.Core.List.{[], _∷_}
 use mir.Syntax.{w32, w64}
 use base.Logic.{emp, id⊢}
 use contract.Monad.{factI, fact-mono}
-use contract.Running.{givenOf, tables, tablesOf}
-use denote.Struct.Laws as LL
-use denote.Triple.Spec.{tripleOf}
-use denote.Triple.Table.{entered, cited}
+use contract.Running.{tablesOf}
 use Rattle.receiver.specs.Lent.{AsStep}
 use Rattle.receiver.proofs.StepCases.{as-step}
-use Rattle.receiver.proofs.LentStruct.{meets}
-use Rattle.receiver.proofs.LentReceiver.{walk}
-use Rattle.receiver.proofs.Receiver as R
-use Rattle.receiver.proofs.Outcome as S
-use Rattle.receiver.proofs.Outcome.Laws as S′
+use Rattle.receiver.proofs.LentReceiver.{in-place}
 use Rattle.receiver.proofs.advance.advance as advance
 use Rattle.receiver.proofs.advance.advance.Symbol as advance-def
 use Rattle.receiver.proofs.advance.advance.Met as advance-thm
@@ -26,16 +19,7 @@ use Rattle.receiver.proofs.step_in_place.Code as code
 pub step-in-place-spec : {M : Type 1} → stated.statement M
 unfolding code.routine tablesOf
 step-in-place-spec 𝓤 H 𝓜 𝓖 𝓡 =
-    let A = 𝓖 .A in
-    let W = givenOf 𝓤 H 𝓜 𝓖 in
-    let 𝓣 = tablesOf 𝓤 H 𝓜 (tables 𝓤 H 𝓜 𝓡 code.env) in
-    entered 𝓤 H (tripleOf 𝓤 H A f.signature (f.spec 𝓤 H A (𝓜 .mem) (𝓡 .run))) (𝓣 .C) (𝓣 .Λ) #f code.function
-    (code.unfolded 𝓤 H 𝓜 𝓡)
-    (meets 𝓤 H A R.the-row S.the-row (w32 ∷ w64 ∷ []) (λ h ns. AsStep h (ns .0) (ns .1 .0)) W 𝓣
-    code.function (LL.makes S.the-type S′.the-plain 𝓤 H A) (f.clauses 𝓤 H A (𝓜 .mem) (𝓡 .run))
-    (λ κs a g s h e. factI 𝓤 _ (emp 𝓤) e)
-    (walk 𝓤 H A W 𝓣 (w32 ∷ w64 ∷ []) (advance.clauses 𝓤 H A (𝓜 .mem) (𝓡 .run)) advance-def.name
-    (cited 𝓤 H (tripleOf 𝓤 H A advance.signature (advance.spec 𝓤 H A (𝓜 .mem) (𝓡 .run))) 𝓜 𝓡 code.env advance-def.name
-    advance-def.routine code.calls-receiver·advance·advance (advance-thm.met 𝓤 H 𝓜 𝓖 𝓡))
-    (λ κs a. tt) (λ κs a. id⊢ 𝓤 _) (λ h ns. AsStep h (ns .0) (ns .1 .0))
-    (λ κs h ns p₁ p₂ p₃ p₄ γ₁ γ₂ γ₃ γ₄ a e. fact-mono 𝓤 _ _ (as-step h (ns .0) (ns .1 .0) _)) _))
+    in-place 𝓤 H 𝓜 𝓖 𝓡 code.env (w32 ∷ w64 ∷ []) (advance.clauses 𝓤 H (𝓖 .A) (𝓜 .mem) (𝓡 .run)) advance-def.name advance-def.routine
+    code.calls-receiver·advance·advance (advance-thm.met 𝓤 H 𝓜 𝓖 𝓡) (λ κs a. tt) (λ κs a. id⊢ 𝓤 _) (λ h ns. AsStep h (ns .0) (ns .1 .0))
+    (λ κs h ns p₁ p₂ p₃ p₄ γ₁ γ₂ γ₃ γ₄ a e. fact-mono 𝓤 _ _ (as-step h (ns .0) (ns .1 .0) _))
+    (f.clauses 𝓤 H (𝓖 .A) (𝓜 .mem) (𝓡 .run)) (λ κs a g s h e. factI 𝓤 _ (emp 𝓤) e) #f _ (code.unfolded 𝓤 H 𝓜 𝓡)

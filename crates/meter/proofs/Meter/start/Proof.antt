@@ -5,6 +5,7 @@ use mathlib.Core.Path.{_≡_, ap, _∙_}
 use borrow.Author.Needs.{needs}
 use Rattle.meter.specs.declared.Meter.{Meter}
 use Rattle.meter.specs.declared.MeterStartAnswer.{MeterStartAnswer}
+use Rattle.meter.specs.declared.MeterStepAnswer.{MeterStepAnswer}
 use Rattle.meter.specs.Step.{meterStart}
 use Rattle.meter.proofs.Meters.{start-refused}
 use Rattle.meter.proofs.Meter.start.Statement.{statement}
@@ -20,7 +21,8 @@ returns : tie.Need-returns
 returns c =
     let call = c .before .before in
     let lent = call .before .before .before .before .before in
-    carries (lent .before .before .before .before .before .before .args .self) _ _ _ (call .restart .ensures)
+    carries (lent .before .before .before .before .before .before .args .self) _ _ _
+    (ap (λ (d : MeterStepAnswer). record { refusal = d .outcome .refusal; state = d .state }) (call .restart .ensures))
 
 pub start-spec : {M : Type 1} → statement M
 start-spec = tie.close (tie.spec (λ c κs. search needs) returns)
