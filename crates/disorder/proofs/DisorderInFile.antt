@@ -3,14 +3,14 @@
 -- arrival is a first one the table of packets tells (`firsts-seen`). And with sizes of 1 the total is the sum of byte offsets
 -- (`sums-offsets`), since each arrival's packet has one of the sizes.
 -- Here fs are the first arrivals, a the next one, p how many there are, how many of their pairs are wrong and a number that none is
--- above, d the decoded file, y its layout, i the records before, n the number of record i + 1, and a prime marks the tree after it.
+-- above, k the greatest number for which the tree has a place, d the decoded file, y its layout, i the records before, n the number of record i + 1, and a prime marks the tree after it.
 -- Assumes nothing.
 use mathlib.Core.Path.{_≡_, refl, sym, ap, _∙_}
 use mathlib.Core.Bool.{Bool, true, false, cond}
 use mathlib.Core.List.{List, [], _∷_, _++_}
 use Prim.Native.Nat.{ℕ, _+_, _-_, _≤_, _<_}
 use native.Mathlib.Omega.{arith}
-use lib.ListN.{length, getD, set, replicate, getD-replicate, length-append}
+use lib.ListN.{length, getD, set, replicate, length-replicate, getD-replicate, length-append}
 use lib.Seq.{take-all}
 use borrow.Author.Tests.{lt-ltb, le-ltb}
 use Rattle.rfc4737.specs.declared.Arrival.{Arrival}
@@ -58,25 +58,24 @@ sums-offsets d y h ones = sum-wrong (sizeOf d) (sampleArrivals d) (sizes-one d y
 -- ---- the pairs, one first arrival after the other
 
 -- of none
-pub paired-start : (d : Decoded) → PairTree (firsts (before d 0)) (replicate (sentMost + 1) 0) (record { count = 0; wrong = 0; greatest = 0 })
+pub paired-start : (k : ℕ) (d : Decoded) → PairTree k (firsts (before d 0)) (replicate (k + 1) 0) (record { count = 0; wrong = 0; greatest = 0 })
 unfolding firsts wrongPairs pairs count byteOffset
-paired-start d = record { places = refl; summed = summed-none _ (sentMost + 1) (λ i. refl); count = refl; whole = refl; wrong = refl; small = omega arith; above = λ s h. refl }
+paired-start k d = record { places = length-replicate (k + 1) 0; summed = summed-none _ (k + 1) (λ i. refl); count = refl; whole = refl; wrong = refl; small = omega arith; above = λ s h. refl }
 
 -- the sums are small
 ones-few : (fs : List Arrival) (s : ℕ) → byteOffset (λ _. 1) fs s ≤ length fs
 ones-few fs s = omega (arith, offset-le (λ _. 1) 1 (λ _. omega arith) fs s)
 
 -- the tree gives how many have a number up to one, and with those above it all
-pub lower-sum : (fs : List Arrival) (tree : List ℕ) (p : Pairs) → PairTree fs tree p → p .count < arrivalsMost → (number : ℕ) → number ≤ sentMost
+pub lower-sum : (k : ℕ) (fs : List Arrival) (tree : List ℕ) (p : Pairs) → PairTree k fs tree p → p .count < arrivalsMost → (number : ℕ) → number < length tree
     → sumTo tree number + byteOffset (λ _. 1) fs number ≡ p .count
-lower-sum fs tree p k few number high =
-    sum-summed _ tree (k .summed) number (omega (arith, k .places)) (omega (arith, k .whole)) ∙ sym (k .whole)
+lower-sum k fs tree p h few number inside = sum-summed _ tree (h .summed) number inside (omega (arith, h .whole)) ∙ sym (h .whole)
 
 -- of one more: w are the wrong pairs then, and g a number that none is above
-pub paired-more : (fs : List Arrival) (a : Arrival) (tree tree′ : List ℕ) (p : Pairs) → 1 ≤ a .number → p .count < arrivalsMost → PairTree fs tree p
+pub paired-more : (k : ℕ) (fs : List Arrival) (a : Arrival) (tree tree′ : List ℕ) (p : Pairs) → 1 ≤ a .number → p .count < arrivalsMost → PairTree k fs tree p
     → Added (a .number) 1 tree tree′ → (w g : ℕ) → w ≡ p .wrong + byteOffset (λ _. 1) fs (a .number) → p .greatest ≤ g → a .number ≤ g
-    → PairTree (fs ++ (a ∷ [])) tree′ (record { count = p .count + 1; wrong = w; greatest = g })
-paired-more fs a tree tree′ p low few h added w g is up own =
+    → PairTree k (fs ++ (a ∷ [])) tree′ (record { count = p .count + 1; wrong = w; greatest = g })
+paired-more k fs a tree tree′ p low few h added w g is up own =
     let more = length-append fs (a ∷ []) in
     record {
       places = added .places ∙ h .places;
@@ -87,7 +86,7 @@ paired-more fs a tree tree′ p low few h added w g is up own =
       whole = sym (offset-more (λ _. 1) fs 0 a ∙ rw (lt-ltb 0 (a .number) low, ← h .whole));
       wrong = omega (arith, wrong-more fs a, h .wrong, is);
       small = omega (arith, h .small, is, ones-few fs (a .number), h .count, few);
-      above = λ s k. offset-more (λ _. 1) fs s a ∙ rw (le-ltb s (a .number) (omega (arith, own, k)), h .above s (omega (arith, up, k)));
+      above = λ s q. offset-more (λ _. 1) fs s a ∙ rw (le-ltb s (a .number) (omega (arith, own, q)), h .above s (omega (arith, up, q)));
     }
 
 -- the table of the packets that have arrived before record i + 1
@@ -115,8 +114,8 @@ firsts-seen d y i h seen f n is high =
     ∙ rw (f .at n high, ← has-firsts n (before d i), is)
 
 -- all pairs
-pub disorder-end : (d : Decoded) (y : Layout) (i : ℕ) → FileLayout d y → y .arrivals ≤ i → (tree : List ℕ) (p : Pairs) → PairTree (firsts (before d i)) tree p
+pub disorder-end : (d : Decoded) (y : Layout) (i : ℕ) → FileLayout d y → y .arrivals ≤ i → (k : ℕ) (tree : List ℕ) (p : Pairs) → PairTree k (firsts (before d i)) tree p
     → p .wrong ≡ disorderOf d
 unfolding disorderOf
-disorder-end d y i h end tree p k =
-    k .wrong ∙ ap (λ (l : List Arrival). wrongPairs (firsts l)) (take-all i (sampleArrivals d) (omega (arith, arrivals-laid d y h)))
+disorder-end d y i h end k tree p t =
+    t .wrong ∙ ap (λ (l : List Arrival). wrongPairs (firsts l)) (take-all i (sampleArrivals d) (omega (arith, arrivals-laid d y h)))

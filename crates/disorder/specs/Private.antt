@@ -4,15 +4,15 @@ use mathlib.Core.List.{List}
 use Prim.Native.Nat.{ℕ, _+_, _*_, _≤_, _<_}
 use lib.ListN.{length}
 use Rattle.rfc4737.specs.declared.Arrival.{Arrival}
-use Rattle.rfc4737.specs.Judge.{sentMost, arrivalsMost}
+use Rattle.rfc4737.specs.Judge.{arrivalsMost}
 use Rattle.rfc4737.specs.Extent.{byteOffset}
 use Rattle.disorder.specs.Disorder.{wrongPairs}
 use Rattle.sums.specs.Tree.{Summed}
 use Rattle.disorder.specs.declared.pairs.Pairs.{Pairs}
 
--- a tree and the pairs of some first arrivals
-pub record PairTree (fs : List Arrival) (tree : List ℕ) (p : Pairs) : Type 0 where
-  pub places : length tree ≡ sentMost + 1
+-- a tree with a place for each of k packets, and the pairs of some first arrivals
+pub record PairTree (k : ℕ) (fs : List Arrival) (tree : List ℕ) (p : Pairs) : Type 0 where
+  pub places : length tree ≡ k + 1
   pub summed : Summed (byteOffset (λ _. 1) fs) tree
   pub count : p .count ≡ length fs
   pub whole : p .count ≡ byteOffset (λ _. 1) fs 0
@@ -22,6 +22,7 @@ pub record PairTree (fs : List Arrival) (tree : List ℕ) (p : Pairs) : Type 0 w
 
 -- of fewer than 4,096
 pub record FewPairs (tree : List ℕ) (p : Pairs) : Type 0 where
+  pub k : ℕ
   pub fs : List Arrival
-  pub paired : PairTree fs tree p
+  pub paired : PairTree k fs tree p
   pub few : p .count < arrivalsMost

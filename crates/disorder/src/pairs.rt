@@ -2,9 +2,9 @@
 ghost use mathlib.Core.Path.{_≡_};
 ghost use mathlib.Core.Bool.{cond};
 ghost use mathlib.Core.List.{List, [], _∷_, _++_};
-ghost use Prim.Native.Nat.{_≤_};
+ghost use Prim.Native.Nat.{ℕ, _+_, _≤_, _<_};
+ghost use lib.ListN.{length, replicate};
 ghost use Rattle.rfc4737.specs.declared.Arrival.{Arrival};
-ghost use Rattle.rfc4737.specs.Judge.{sentMost};
 ghost use Rattle.sample.specs.Decode.{decode};
 ghost use Rattle.metrics.specs.Records.{FileLayout};
 ghost use Rattle.disorder.specs.Sample.{disorderOf};
@@ -36,9 +36,9 @@ fn no_pairs() -> Pairs
 // Of one arrival more, whose packet has arrived or not: it is in a wrong pair with each greater number. The tree is not asked
 // for a number above all before it.
 fn pairs_after(counts: &mut [u32], arrived: bool, number: u32, p: Pairs) -> Pairs
-    requires { ⌜ (1 ≤ number) × (number ≤ sentMost) × FewPairs (now counts) p ⌝ }
-    ensures { λ r. ⌜ ((fs : List Arrival) (a : Arrival) → a .number ≡ number → PairTree fs (now (counts .entry)) p
-        → PairTree (cond arrived fs (fs ++ (a ∷ []))) (now (counts .exit)) r) ⌝ }
+    requires { ⌜ (1 ≤ number) × (number < length (now counts)) × FewPairs (now counts) p ⌝ }
+    ensures { λ r. ⌜ ((k : ℕ) (fs : List Arrival) (a : Arrival) → a .number ≡ number → PairTree k fs (now (counts .entry)) p
+        → PairTree k (cond arrived fs (fs ++ (a ∷ []))) (now (counts .exit)) r) ⌝ }
 {
     if arrived {
         return p;
@@ -60,12 +60,11 @@ fn pairs_after(counts: &mut [u32], arrived: bool, number: u32, p: Pairs) -> Pair
     }
 }
 
-// The total of disorder of a sample.
-pub(crate) fn disorder_of(file: &[u8], y: Layout) -> u32
-    requires { ⌜ FileLayout (decode (now file)) y ⌝ }
+// The total of disorder of a sample, by a tree of zeros with a place for each packet number.
+fn disorder_in(file: &[u8], y: Layout, counts: &mut [u32]) -> u32
+    requires { ⌜ FileLayout (decode (now file)) y × (now counts ≡ replicate (y .sent + 1) 0) ⌝ }
     ensures { λ r. ⌜ r ≡ disorderOf (decode (now (file .entry))) ⌝ }
 {
-    let mut counts = [0u32; PLACES];
     let mut seen = [false; PLACES];
     let mut p = no_pairs();
     let mut i: u32 = 0;
@@ -73,9 +72,20 @@ pub(crate) fn disorder_of(file: &[u8], y: Layout) -> u32
         let number = sample::arrival(file, y, i).number;
         let at = number as usize;
         let arrived = seen[at];
-        p = pairs_after(&mut counts, arrived, number, p);
+        p = pairs_after(counts, arrived, number, p);
         seen[at] = true;
         i += 1;
     }
     p.wrong
+}
+
+// The total of disorder of a sample. The tree ends at K, so that few packets take few steps.
+pub(crate) fn disorder_of(file: &[u8], y: Layout) -> u32
+    requires { ⌜ FileLayout (decode (now file)) y ⌝ }
+    ensures { λ r. ⌜ r ≡ disorderOf (decode (now (file .entry))) ⌝ }
+{
+    let mut counts = [0u32; PLACES];
+    let places = y.sent as usize + 1;
+    let tree = &mut counts[..places];
+    disorder_in(file, y, tree)
 }

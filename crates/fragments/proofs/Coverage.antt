@@ -2,7 +2,7 @@
 -- that order; r is covered up to, and none of the first j has the octet r (`OnePass`). The next one, a, takes r to its end if it has the octet r
 -- (`pass-next`): an earlier one starts no later than a, so by r, and does not have r, so it ends by r and has no later octet (`no-later`).
 -- All are passed in the end, and no other arrival is of the packet (`pass-done`). The search for a last fragment that ends by r goes through them from
--- the end (`Unended`).
+-- the end (`Unended`). A whole packet among them settles it (`whole-found`).
 -- Here l are the arrivals, s is the packet, o an octet, r the reach, d an earlier arrival, j and m places in the run. Assumes nothing.
 use Prim.Native.Nat.{ℕ, _+_, _-_, _≤_, _<_}
 use native.Mathlib.Omega.{arith}
@@ -13,11 +13,11 @@ use borrow.Author.Tests.{lt-ltb, ltb-true, ltb-false, le-leb, leb-true, eqb-true
 use lib.Dec.{leb, ltb, eqb}
 use lib.ListN.{length, getD}
 use Rattle.fragments.specs.declared.Piece.{Piece}
-use Rattle.fragments.specs.Pieces.{any, isLast, pieceStart, pieceEnd}
-use Rattle.fragments.specs.Usable.{hasOctet, complete}
+use Rattle.fragments.specs.Pieces.{any, isLast, isWhole, pieceStart, pieceEnd}
+use Rattle.fragments.specs.Usable.{hasOctet, everyBelow, covered, complete}
 use Rattle.fragments.specs.Private.{noPiece, Cover, Reach, endsBy}
 use Rattle.fragments.specs.Places.{Run}
-use Rattle.fragments.proofs.Laws.{both, any-at, any-none, octet-of, ends-of, complete-ends}
+use Rattle.fragments.proofs.Laws.{both, every-below, any-at, any-none, octet-of, ends-of, complete-ends}
 
 octet-facts : (s o : ℕ) (a : Piece) → hasOctet s o a ≡ true → (a .number ≡ s) × ((pieceStart a ≤ o) × (o < pieceEnd a))
 unfolding hasOctet
@@ -140,3 +140,14 @@ module _ (l : List Piece) (s : ℕ) (run : List ℕ) where
     pub ends-none : (r m : ℕ) → m ≤ 0 → Unended r m → Reach l s r → false ≡ complete l s
     ends-none r m h u g =
         sym (complete-ends l s r g ∙ none-passes (endsBy s r) (λ a n. ends-of s r a n) (λ k n. ends-own s r (pieceIn k) (w .own k n) ∙ u .passed k (omega arith) n))
+
+    -- a whole packet is complete by itself
+    pub whole-found : (m : ℕ) (a : Piece) → m < length run → a ≡ pieceIn m → isWhole a ≡ true → true ≡ complete l s
+    unfolding complete covered
+    whole-found m a h e q =
+        let f = both (isLast (pieceIn m)) (eqb (pieceIn m .offset) 0) (ap isWhole (sym e) ∙ q) in
+        let z : pieceIn m .offset ≡ 0 = eqb-true (pieceIn m .offset) 0 (f .1) in
+        let c : everyBelow (pieceEnd (pieceIn m)) (λ (o : ℕ). any (hasOctet s o) l) ≡ true =
+        every-below (pieceEnd (pieceIn m)) (λ (o : ℕ). any (hasOctet s o) l)
+        (λ o g. any-at (hasOctet s o) l (getD run m 0) noPiece (w .inside m h) (octet-has s o (pieceIn m) (w .own m h) (omega (arith, z)) g)) in
+        sym (any-at (λ (b : Piece). eqb (b .number) s && (isLast b && covered l s (pieceEnd b))) l (getD run m 0) noPiece (w .inside m h) (rw (eq-eqb (pieceIn m .number) s (w .own m h), f .0, c)))

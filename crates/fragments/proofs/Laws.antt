@@ -64,6 +64,12 @@ below-reach p r h k (suc n) = go (below-reach p r h k n) (leb (suc n) r) refl
         rw (b, le-leb n r (omega arith), h n g)
     go b false e = rw b (past (leb n r) refl (omega (arith, leb-false (suc n) r e)))
 
+-- a test that all numbers below n pass
+pub every-below : (n : ℕ) (p : ℕ → Bool) → ((o : ℕ) → o < n → p o ≡ true) → everyBelow n p ≡ true
+unfolding everyBelow
+every-below zero p h = refl
+every-below (suc n) p h = rw (every-below n p (λ o g. h o (omega arith)), h n (omega arith))
+
 -- packet s is complete exactly if one of its arrivals with no more to come ends by its first uncovered octet
 pub complete-ends : (l : List Piece) (s r : ℕ) → Reach l s r → complete l s ≡ any (endsBy s r) l
 unfolding complete covered endsBy

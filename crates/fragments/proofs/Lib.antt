@@ -2,7 +2,6 @@
 pub mod Laws
 pub mod Judged
 pub mod Numbers
-pub mod Few
 pub mod Groups
 pub mod Coverage
 pub mod Runs

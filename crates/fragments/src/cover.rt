@@ -1,12 +1,15 @@
 // How far a packet's arrivals cover it, and whether it is complete.
 ghost use mathlib.Core.Path.{_≡_};
 ghost use mathlib.Core.Bool.{cond, _&&_};
+ghost use Prim.Native.Nat.{_<_};
 ghost use lib.Dec.{leb, ltb};
+ghost use lib.ListN.{length};
 ghost use Rattle.fragments.specs.Pieces.{piecesIn, isLast, pieceStart, pieceEnd};
 ghost use Rattle.fragments.specs.Usable.{complete};
 ghost use Rattle.fragments.specs.Private.{Lists, Reach};
 ghost use Rattle.fragments.specs.Places.{Run};
 use crate::Piece;
+use crate::arrival::is_whole;
 use crate::arrival::piece_at;
 use crate::arrival::piece_end;
 use crate::tables::index_of;
@@ -58,8 +61,8 @@ fn ends_by(r: u32, a: Piece) -> bool
     piece_end(a) <= r
 }
 
-// Whether packet s is complete; `run` has the places of its arrivals. The search for a last fragment begins at the end.
-pub(crate) fn complete(
+// Whether packet s is complete: a last fragment ends by its first octet that is not covered. The search for it begins at the end.
+fn ends_covered(
     numbers: &[u32],
     times: &[u64],
     lengths: &[u16],
@@ -82,4 +85,25 @@ pub(crate) fn complete(
         }
     }
     false
+}
+
+// Whether packet s is complete; `run` has the places of its arrivals, one at least. A whole packet is complete by itself.
+pub(crate) fn complete(
+    numbers: &[u32],
+    times: &[u64],
+    lengths: &[u16],
+    mores: &[u8],
+    offsets: &[u16],
+    s: u32,
+    run: &[u16],
+) -> bool
+    requires { ⌜ Lists (now numbers) (now times) (now lengths) (now mores) (now offsets)
+        × Run (piecesIn numbers times lengths mores offsets) s (now run) × (0 < length (now run)) ⌝ }
+    ensures { λ r. ⌜ r ≡ complete (piecesIn (numbers .entry) (times .entry) (lengths .entry) (mores .entry) (offsets .entry)) s ⌝ }
+{
+    let first = piece_at(numbers, times, lengths, mores, offsets, index_of(run[0]));
+    if is_whole(first) {
+        return true;
+    }
+    ends_covered(numbers, times, lengths, mores, offsets, s, run)
 }

@@ -4,6 +4,7 @@ pub mod Reading
 pub mod InTurn
 pub mod Paired
 pub mod Sorting
+mod Reversing
 pub mod Converted
 pub mod Answers
 pub mod Accepted

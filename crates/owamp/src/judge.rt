@@ -19,6 +19,7 @@ use rfc4737::refusal::NUMBER_OUTSIDE;
 use rfc4737::refusal::RECORD_CUT;
 use rfc4737::refusal::SECONDS_OVER;
 use rfc4737::refusal::SENT_OUTSIDE;
+use rfc4737::time::next_reference;
 use sample::Layout;
 
 // The greatest number of 32 bits.
@@ -97,19 +98,17 @@ fn judge_time(time: u64) -> u32
     0
 }
 
-// The arrivals of an accepted file in turn, each by 18.
+// The arrivals of an accepted file by 18: some time is refused exactly if the greatest is.
 pub(crate) fn judge_seconds(file: &[u8], found: Layout) -> u32
     requires { ⌜ (found ≡ layoutOf (decode (now file))) × (found .refusal ≡ 0) ⌝ }
     ensures { λ r. ⌜ r ≡ judgeSeconds (arrivalsOfFile (now (file .entry))) ⌝ }
 {
     let count = found.arrivals;
+    let mut greatest: u64 = 0;
     let mut i: u32 = 0;
     while i < count {
-        let refusal = judge_time(sample::arrival(file, found, i).time);
-        if refusal != 0 {
-            return refusal;
-        }
+        greatest = next_reference(greatest, sample::arrival(file, found, i).time);
         i += 1;
     }
-    0
+    judge_time(greatest)
 }

@@ -38,7 +38,7 @@ pub struct RecordsImport {
 }
 
 // Imports the records of K sent packets: fills the lists of numbers and times from their start, in the order of the receive
-// times as recorded. With a refusal they stay as they were. Cost: O(A) in order, O(A log A) at most.
+// times as recorded. With a refusal they stay as they were. Cost: O(A) in order or reversed, O(A log A) at most.
 pub fn import(records: &[u8], k: u32, numbers: &mut [u32], times: &mut [u64]) -> RecordsImport
     ensures { λ r. ⌜ RecordsImportedFrom k (now (records .entry)) (now (numbers .entry)) (now (times .entry)) r (now (numbers .exit)) (now (times .exit)) ⌝ }
     ensures order { λ _. ⌜ OnlyOne timeOf (recordsArrivals (now (records .entry))) ⌝ }

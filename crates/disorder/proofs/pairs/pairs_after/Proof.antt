@@ -3,7 +3,8 @@
 -- (`lower-sum`). Nothing wraps, as there are fewer than 4,096 so far. The places in the code are after the test for the greatest (t), after the
 -- tree was asked (s), and the start. q are the pairs so far. Assumes nothing.
 use mathlib.Core.Path.{_≡_, sym, ap, _∙_}
-use Prim.Native.Nat.{_+_, _-_, _≤_}
+use Prim.Native.Nat.{_+_, _-_, _≤_, _<_}
+use lib.ListN.{length}
 use native.Mathlib.Omega.{arith}
 use denote.Ref.{now}
 use borrow.Author.Needs.{needs}
@@ -30,7 +31,7 @@ start-s s = s .before .before .before .before .before .before
 -- ---- the needs
 
 returns : tie.Need-returns
-returns c = λ fs a e h. rw (c .if1 .taken) h
+returns c = λ k fs a e h. rw (c .if1 .taken) h
 
 add-t10 : tie.Need-add-t10
 add-t10 c = omega (arith, start-t (above c) .pre .2 .few)
@@ -40,12 +41,12 @@ returns-2 c =
     let t = above c in
     let p = start-t t .pre in
     let q = start-t t .args .p in
-    λ fs a e h.
+    λ k fs a e h.
     let up : q .greatest ≤ a .number = omega (arith, e, t .if2 .taken) in
     let own : a .number ≤ a .number = omega arith in
     let is : q .wrong ≡ q .wrong + byteOffset (λ _. 1) fs (a .number) = omega (arith, h .above (a .number) up) in
     rw (t .before .before .if1 .left, ← e)
-    (paired-more fs a _ _ _ (rw (← e) at (p .0)) (p .2 .few) h (rw (← e) at (c .before .before .before .add .ensures)) (q .wrong) (a .number) is up own)
+    (paired-more k fs a _ _ _ (rw (← e) at (p .0)) (p .2 .few) h (rw (← e) at (c .before .before .before .add .ensures)) (q .wrong) (a .number) is up own)
 
 add-t16 : tie.Need-add-t16
 add-t16 c = omega (arith, start-s (asked c) .pre .2 .few)
@@ -54,7 +55,7 @@ sub-t17 : tie.Need-sub-t17
 sub-t17 c =
     let s = asked (c .before) in
     let k = start-s s .pre .2 in
-    omega (arith, s .sum-to .ensures .0, lower-sum _ _ _ (k .paired) (k .few) (start-s s .args .number) (start-s s .pre .1))
+    omega (arith, s .sum-to .ensures .0, lower-sum _ _ _ _ (k .paired) (k .few) (start-s s .args .number) (start-s s .pre .1))
 
 add-t18 : tie.Need-add-t18
 add-t18 c = let k = start-s (asked (c .before .before)) .pre .2 in omega (arith, k .few, k .paired .small)
@@ -65,14 +66,15 @@ returns-3 c =
     let p = start-s s .pre in
     let q = start-s s .args .p in
     let tree = now (start-s s .args .counts) in
-    λ fs a e h.
+    λ k fs a e h.
     let up : q .greatest ≤ q .greatest = omega arith in
     let own : a .number ≤ q .greatest = omega (arith, e, s .before .before .if2 .left) in
     let w = q .wrong + (q .count - s .sum-to .result) in
+    let inside : a .number < length tree = omega (arith, e, p .1) in
     let lower : s .sum-to .result ≡ sumTo tree (a .number) = s .sum-to .ensures .0 ∙ ap (sumTo tree) (sym e) in
-    let is : w ≡ q .wrong + byteOffset (λ _. 1) fs (a .number) = omega (arith, lower, lower-sum fs tree q h (p .2 .few) (a .number) (rw (← e) at (p .1))) in
+    let is : w ≡ q .wrong + byteOffset (λ _. 1) fs (a .number) = omega (arith, lower, lower-sum k fs tree q h (p .2 .few) (a .number) inside) in
     rw (s .before .before .before .before .if1 .left)
-    (paired-more fs a _ _ _ (rw (← e) at (p .0)) (p .2 .few) h (rw (← e) at (c .before .before .before .before .before .add2 .ensures)) w (q .greatest) is up own)
+    (paired-more k fs a _ _ _ (rw (← e) at (p .0)) (p .2 .few) h (rw (← e) at (c .before .before .before .before .before .add2 .ensures)) w (q .greatest) is up own)
 
 pub pairs-after-spec : {M : Type 1} → statement M
 pairs-after-spec =

@@ -109,7 +109,7 @@ note-run-spec =
     Inv-loop
     μ-loop
     returns
-    (λ c κs. search needs)
+    (λ c κs. let p = entry c .pre in (p .0, p .1, omega (arith, c .if1 .left)))
     (λ c κs. search needs)
     (λ c. omega (arith, c .before .before .before .if1 .left))
     (λ c κs. search needs)

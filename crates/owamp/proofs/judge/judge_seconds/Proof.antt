@@ -1,23 +1,53 @@
--- `owamp::judge::judge_seconds` meets its contract. The loop's invariant: the first refusal of all arrivals is that of those from i on. The
--- arrival read at i is the sample's, so its refusal is the one at i (`found`): it settles it, or the rest decides (`turn-stop`, `turn-next`).
--- The measure is the number of arrivals left. Assumes nothing.
+-- `owamp::judge::judge_seconds` meets its contract. The loop's invariant: the first refusal of all arrivals is that of the greatest time so far or, if
+-- there is none, of the arrivals from i on. The arrival read at i is the sample's (`found`), and the refusals of two times one after the other are
+-- that of the greater one (`greater`). The measure is the number of arrivals left.
+-- Here g and t are times, rs refusals. Assumes nothing.
 use borrow.Author.Needs.{needs}
+use borrow.Author.Tests.{ltb-true, ltb-false}
 use native.Mathlib.Omega.{arith}
-use Prim.Native.Nat.{ℕ, _-_, _≤_}
+use native.Mathlib.Numerals.{add-one}
+use Prim.Native.Nat.{ℕ, suc, _+_, _-_, _≤_, _<_}
+use mathlib.Core.Bool.{Bool, true, false, cond}
 use mathlib.Core.Path.{_≡_, refl, sym, ap, _∙_}
-use mathlib.Core.List.{List, map}
-use lib.ListN.{length, getD, drop, length-map, List·getD-map}
+use mathlib.Core.List.{List, [], _∷_, map}
+use lib.Dec.{ltb}
+use lib.ListN.{length, getD, drop, length-map, List·getD-map, drop-of-length-le}
+use lib.Seq.{drop-cons}
 use denote.Ref.{now}
-use Rattle.octets.proofs.Memory.{taken}
 use Rattle.rfc4737.specs.declared.Arrival.{Arrival}
-use Rattle.owamp.specs.Judge.{judgeTime, judgeSeconds}
+use Rattle.rfc4737.specs.Times.{nextReference}
+use Rattle.rfc4737.specs.Refusals.{inCase, firstOf, secondsOver}
+use Rattle.rfc4737.proofs.Due.{first-one}
+use Rattle.owamp.specs.Clock.{writtenSeconds}
+use Rattle.owamp.specs.Judge.{secondsMost, judgeTime, judgeSeconds}
 use Rattle.owamp.specs.Calls.{arrivalsOfFile}
 use Rattle.sample.specs.Places.{noArrival}
-use Rattle.rfc4737.specs.Refusals.{firstOf}
-use Rattle.rfc4737.proofs.JudgedInTurn.{turn-stop, turn-next, turn-done}
 use Rattle.owamp.proofs.Writing.{found-many}
 use Rattle.owamp.proofs.judge.judge_seconds.Statement.{statement}
 use Rattle.owamp.proofs.judge.judge_seconds.Tie as tie
+
+-- ---- the greater of two times
+
+-- a time that is not refused is not below one that is
+apart : (g t : ℕ) → g ≤ t → ltb secondsMost (writtenSeconds g) ≡ true → ltb secondsMost (writtenSeconds t) ≡ false → ⊥
+apart g t h p q = omega (arith, h, ltb-true secondsMost (writtenSeconds g) p, ltb-false secondsMost (writtenSeconds t) q)
+
+greater : (g t : ℕ) (rs : List ℕ) → firstOf (judgeTime g ∷ judgeTime t ∷ rs) ≡ firstOf (judgeTime (nextReference g t) ∷ rs)
+unfolding judgeTime nextReference
+greater g t rs = go (ltb g t) refl (ltb secondsMost (writtenSeconds g)) refl (ltb secondsMost (writtenSeconds t)) refl
+  where
+    go : (b : Bool) → ltb g t ≡ b → (x : Bool) → ltb secondsMost (writtenSeconds g) ≡ x → (y : Bool) → ltb secondsMost (writtenSeconds t) ≡ y
+        → firstOf (inCase x secondsOver ∷ inCase y secondsOver ∷ rs) ≡ firstOf (inCase (ltb secondsMost (writtenSeconds (cond b t g))) secondsOver ∷ rs)
+    go true p true q true r = rw r
+    go true p false q true r = rw r
+    go true p false q false r = rw r
+    go true p true q false r = let h : g ≤ t = omega (arith, ltb-true g t p) in absurd (apart g t h q r)
+    go false p true q true r = rw q
+    go false p true q false r = rw q
+    go false p false q false r = rw q
+    go false p false q true r = absurd (apart t g (ltb-false g t p) r q)
+
+-- ---- the needs
 
 -- one arrival by 18
 abbrev judgeArrival : Arrival → ℕ
@@ -27,12 +57,12 @@ judgeArrival a = judgeTime (a .time)
 abbrev refusals : List ℕ → List ℕ
 refusals file = map judgeArrival (arrivalsOfFile file)
 
--- i₀ is i where the loop begins
+-- greatest₀ and i₀ are the values where the loop begins, greatest and i those at its head
 abbrev Inv-loop : tie.InvT-loop
-Inv-loop file found count i₀ i = (i ≤ count) × (firstOf (refusals file) ≡ firstOf (drop i (refusals file)))
+Inv-loop file found count greatest₀ i₀ greatest i = (i ≤ count) × (firstOf (refusals file) ≡ firstOf (judgeTime greatest ∷ drop i (refusals file)))
 
 abbrev μ-loop : tie.MeasureT-loop
-μ-loop file found count i₀ i = count - i
+μ-loop file found count greatest₀ i₀ greatest i = count - i
 
 -- as many as the layout says
 many : (c : tie.At-loop Inv-loop μ-loop) → length (refusals (now (c .before .before .args .file))) ≡ c .before .before .args .found .arrivals
@@ -41,38 +71,40 @@ many c =
     length-map (arrivalsOfFile (now (a .args .file))) judgeArrival ∙ sym (found-many (now (a .args .file)) (a .args .found) (a .pre .0))
 
 -- the one at i is that of the arrival that was read
-found : (c : tie.After-judge-time Inv-loop μ-loop)
-    → c .judge-time .result ≡ getD (refusals (now (c .before .before .before .before .before .args .file))) (c .before .before .before .loop .i) (judgeArrival noArrival)
+found : (c : tie.After-arrival Inv-loop μ-loop)
+    → judgeArrival (c .arrival .result) ≡ getD (refusals (now (c .before .before .before .before .args .file))) (c .before .before .loop .i) (judgeArrival noArrival)
 found c =
-    let a = c .before .before .before .before .before in
-    let i = c .before .before .before .loop .i in
-    let f = now (a .args .file) in
-    c .judge-time .ensures
-    ∙ ap judgeArrival (c .before .arrival .ensures .1 (a .pre .0) (search needs))
-    ∙ sym (List·getD-map judgeArrival (arrivalsOfFile f) i noArrival)
+    let a = c .before .before .before .before in
+    let i = c .before .before .loop .i in
+    ap judgeArrival (c .arrival .ensures .1 (a .pre .0) (search needs)) ∙ sym (List·getD-map judgeArrival (arrivalsOfFile (now (a .args .file))) i noArrival)
 
 loop-holds : tie.Need-loop-holds Inv-loop μ-loop
+unfolding judgeTime
 loop-holds c = (search needs, refl)
+
+loop-again : tie.Need-loop-again Inv-loop μ-loop
+loop-again c =
+    let l = c .before .before .before in
+    let rs = refusals (now (l .before .before .args .file)) in
+    let i = l .loop .i in
+    let g = l .loop .greatest in
+    let h : i < length rs = omega (arith, many l, c .before .before .loop-test .taken) in (
+      search needs,
+      l .loop .inv .1
+          ∙ ap (λ (x : List ℕ). firstOf (judgeTime g ∷ x)) (drop-cons rs i (judgeArrival noArrival) h ∙ ap (λ (x : ℕ). x ∷ drop (suc i) rs) (sym (found (c .before))))
+          ∙ greater g (c .before .arrival .result .time) (drop (suc i) rs)
+          ∙ ap (λ (x : ℕ). firstOf (judgeTime x ∷ drop (suc i) rs)) (sym (c .next-reference .ensures))
+          ∙ ap (λ (x : ℕ). firstOf (judgeTime (c .next-reference .result) ∷ drop x rs)) (sym (add-one i)),
+    )
 
 returns : tie.Need-returns Inv-loop μ-loop
 unfolding judgeSeconds
 returns c =
-    let l = c .before .before .before .before in
-    let m = many l in
-    turn-stop (refusals (now (l .before .before .args .file))) (l .loop .i) (l .loop .inv .1) _ (omega arith) (found (c .before)) (c .if1 .taken)
-
-loop-again : tie.Need-loop-again Inv-loop μ-loop
-loop-again c =
-    let l = c .before .before .before .before in
-    let m = many l in
-    (search needs, turn-next (refusals (now (l .before .before .args .file))) (l .loop .i) (l .loop .inv .1) _ (omega arith) (found (c .before)) (c .if1 .left))
-
-returns-2 : tie.Need-returns-2 Inv-loop μ-loop
-unfolding judgeSeconds
-returns-2 c =
-    let l = c .before in
-    let m = many l in
-    turn-done (refusals (now (l .before .before .args .file))) (l .loop .i) (l .loop .inv .1) (omega arith)
+    let l = c .before .before in
+    let rs = refusals (now (l .before .before .args .file)) in
+    let h : length rs ≤ l .loop .i = omega (arith, many l, c .before .loop-test .left) in
+    c .judge-time .ensures
+    ∙ sym (l .loop .inv .1 ∙ ap (λ (x : List ℕ). firstOf (judgeTime (l .loop .greatest) ∷ x)) (drop-of-length-le rs h) ∙ first-one (judgeTime (l .loop .greatest)))
 
 pub judge-seconds-spec : {M : Type 1} → statement M
 judge-seconds-spec =
@@ -82,7 +114,7 @@ judge-seconds-spec =
     μ-loop
     loop-holds
     (λ c κs. search needs) (λ c κs. search needs)
-    returns
     (λ c. search needs) (λ c. search needs)
     loop-again
-    returns-2)
+    (λ c κs. search needs)
+    returns)
