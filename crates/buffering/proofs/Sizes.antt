@@ -1,27 +1,29 @@
 -- The search for the least size. A greater buffer accommodates no fewer, so a size that is too small shows all smaller ones to be
--- (`too-small`), and the bounds close in on the least size (`closer-high`, `closer-low`, `met`), of which there is one (`one-least`).
+-- (`too-small`), and the bounds close in on the least size (`closer-high`, `closer-low`, `met`), of which there is one (`one-least`): the
+-- definition's (`sizes-are-least`, `found-least`).
 -- Here m is the measure, l some answers, part and whole the share. Assumes nothing.
-use mathlib.Core.Path.{_≡_, refl, sym, _∙_}
+use mathlib.Core.Path.{_≡_, refl, sym, subst, _∙_}
 use mathlib.Core.Bool.{Bool, true, false, cond}
 use mathlib.Core.List.{List, [], _∷_}
-use Prim.Native.Nat.{ℕ, _+_, _*_, _≤_, _<_}
+use Prim.Native.Nat.{ℕ, zero, suc, _+_, _*_, _≤_, _<_}
 use native.Mathlib.Nat.{mul-add, mul-one, mul-zero, mul-le-mul-right, mul-le-mul-left}
 use native.Mathlib.Omega.{arith}
 use lib.Dec.{leb, ltb}
-use borrow.Author.Tests.{leb-false, ltb-true, ltb-false}
+use borrow.Author.Tests.{leb-true, leb-false, ltb-true, ltb-false}
 use Rattle.rfc4737.specs.declared.Answer.{Answer}
 use Rattle.rfc4737.specs.Arrivals.{count}
 use Rattle.rfc4737.specs.Answer.{answers}
 use Rattle.rfc4737.specs.Refusals.{outside, inCase, askedOutside}
 use Rattle.rfc4737.specs.Runs.{arrived}
-use Rattle.rfc4737.proofs.Due.{first-due}
+use Rattle.rfc4737.proofs.Due.{first-due, between}
 use Rattle.sample.specs.Decode.{Decoded, refused, accepted, decodedRefusal}
 use Rattle.metrics.specs.Sample.{answersOf}
+use Rattle.metrics.specs.Figures.{askedRefusal}
 use Rattle.rfc4737.specs.declared.Measure.{Measure}
 use Rattle.rfc4737.specs.Needs.{greatestNeed, accommodated}
 use Rattle.rfc4737.proofs.Needs.{accommodated-grows, all-in, some-out}
 use Rattle.buffering.specs.declared.Bounds.{Bounds}
-use Rattle.buffering.specs.Least.{Enough, Least, LeastIn, OneLeast, MoreIsNoWorse, AllIsGreatest}
+use Rattle.buffering.specs.Least.{firstEnough, leastSize, shareAnswers, sampleLeast, Enough, Least, SizesAreLeast, OneLeast, MoreIsNoWorse, AllIsGreatest}
 use Rattle.buffering.specs.Private.{Between}
 
 -- ---- the least size
@@ -83,22 +85,57 @@ all-is-greatest = record { all = λ m l n h. record { enough = rw (all-in m (gre
         let p : n * (accommodated m s l + 1) ≤ n * arrived l = mul-le-mul-left n k in
         omega (arith, e, p, mul-add n (accommodated m s l) 1, mul-one n)
 
+-- the first size from 0 on that is enough is the least: while the size asked is too small, the least is between the next one and the greatest
+-- need, so that the steps do not run out
+first-least : (m : Measure) (part whole : ℕ) (l : List Answer) (steps size : ℕ)
+    → Between m part whole l (record { low = size; high = size + steps }) → Least m part whole l (firstEnough m part whole l steps size)
+unfolding firstEnough
+first-least m part whole l zero size h = met m part whole l _ h (omega arith)
+first-least m part whole l (suc steps) size h =
+    go (leb (part * arrived l) (whole * accommodated m size l)) refl (first-least m part whole l steps (size + 1))
+  where
+    go : (t : Bool) → leb (part * arrived l) (whole * accommodated m size l) ≡ t
+        → (Between m part whole l (record { low = size + 1; high = size + 1 + steps }) → Least m part whole l (firstEnough m part whole l steps (size + 1)))
+        → Least m part whole l (cond t size (firstEnough m part whole l steps (size + 1)))
+    go true e more =
+        let q = leb-true (part * arrived l) (whole * accommodated m size l) e in
+        met m part whole l (record { low = size; high = size }) (closer-high m part whole l _ h size (omega arith) q) (omega arith)
+    go false e more =
+        let same : size + suc steps ≡ size + 1 + steps = omega arith in
+        more
+        (subst (λ (n : ℕ). Between m part whole l (record { low = size + 1; high = n })) same
+        (closer-low m part whole l _ h size (omega arith) (not-enough m part whole l size e)))
+
+pub sizes-are-least : SizesAreLeast
+unfolding leastSize
+sizes-are-least m part whole l h =
+    first-least m part whole l (greatestNeed m l) 0
+    (subst (λ (n : ℕ). Between m part whole l (record { low = 0; high = n })) (omega arith) (start m part whole l h))
+
+-- a least size is the definition's
+found-least : (m : Measure) (part whole : ℕ) (l : List Answer) (size : ℕ) → part ≤ whole → Least m part whole l size → size ≡ leastSize m part whole l
+found-least m part whole l size h found = one-least .same m part whole l size _ found (sizes-are-least m part whole l h)
+
 -- ---- the answer
 
--- of no first arrivals
-least-none : (m : Measure) (part whole : ℕ) → Least m part whole [] 0
-unfolding arrived accommodated count
-least-none m part whole = record { enough = rw (mul-zero part, mul-zero whole) (omega arith); least = λ s h. absurd (omega arith) }
+-- of no answers
+least-none : (m : Measure) (part whole : ℕ) → 0 ≡ leastSize m part whole []
+unfolding leastSize greatestNeed Rattle.rfc4737.specs.Needs.greatest firstEnough
+least-none m part whole = refl
 
 module _ (d : Decoded) (m : Measure) (part whole : ℕ) where
+  -- an answer by its parts
+  by-parts : (r size : ℕ) → r ≡ askedRefusal d 1 whole part → size ≡ leastSize m part whole (shareAnswers d part whole)
+      → record { refusal = r; size = size } ≡ sampleLeast d m part whole
+  unfolding sampleLeast
+  by-parts r size e f = λ i. record { refusal = e i; size = f i }
+
   -- with the file's own refusal
-  pub least-refused : (r : ℕ) → r ≡ decodedRefusal d → (r ≡ 0 → ⊥) → LeastIn d m part whole (record { refusal = r; size = 0 })
+  pub least-refused : (r : ℕ) → r ≡ decodedRefusal d → (r ≡ 0 → ⊥) → record { refusal = r; size = 0 } ≡ sampleLeast d m part whole
   unfolding answers Rattle.rfc4737.specs.Arrivals.each Rattle.rfc4737.specs.Arrivals.eachAfter
   least-refused r e n =
-      record {
-        refusal = e ∙ sym (first-due (decodedRefusal d) (inCase (outside 1 whole part) askedOutside ∷ []) (omega (arith, e, n)));
-        size = rw (none d (λ z. n (e ∙ z)) (outside 1 whole part)) (least-none m part whole);
-      }
+      by-parts r 0 (e ∙ sym (first-due (decodedRefusal d) (inCase (outside 1 whole part) askedOutside ∷ []) (omega (arith, e, n))))
+      (rw (none d (λ z. n (e ∙ z)) (outside 1 whole part)) (least-none m part whole))
     where
       none : (d : Decoded) → (decodedRefusal d ≡ 0 → ⊥) → (b : Bool) → cond b [] (answersOf d) ≡ []
       none d n true = refl
@@ -106,10 +143,10 @@ module _ (d : Decoded) (m : Measure) (part whole : ℕ) where
       none (accepted s) n false = absurd (n refl)
 
   -- with 9
-  pub least-outside : decodedRefusal d ≡ 0 → outside 1 whole part ≡ true → LeastIn d m part whole (record { refusal = 9; size = 0 })
-  least-outside z o = record { refusal = rw (z, o); size = rw o (least-none m part whole) }
+  pub least-outside : decodedRefusal d ≡ 0 → outside 1 whole part ≡ true → record { refusal = 9; size = 0 } ≡ sampleLeast d m part whole
+  least-outside z o = by-parts 9 0 (rw (z, o)) (rw o (least-none m part whole))
 
   -- with none
   pub least-found : decodedRefusal d ≡ 0 → outside 1 whole part ≡ false → (size : ℕ) → Least m part whole (answersOf d) size
-      → LeastIn d m part whole (record { refusal = 0; size = size })
-  least-found z o size h = record { refusal = rw (z, o); size = rw o h }
+      → record { refusal = 0; size = size } ≡ sampleLeast d m part whole
+  least-found z o size h = by-parts 0 size (rw (z, o)) (rw o (found-least m part whole (answersOf d) size (between 1 whole part o .1) h))

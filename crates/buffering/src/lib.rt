@@ -7,7 +7,7 @@ ghost use Rattle.sample.specs.Decode.{Decoded, decode};
 ghost use Rattle.metrics.specs.Sample.{answersOf};
 ghost use Rattle.rfc4737.specs.Needs.{greatestNeed};
 ghost use Rattle.metrics.specs.Figures.{sampleNeeds};
-ghost use Rattle.buffering.specs.Least.{LeastIn, OneLeast, MoreIsNoWorse, AllIsGreatest};
+ghost use Rattle.buffering.specs.Least.{sampleLeast, SizesAreLeast, OneLeast, MoreIsNoWorse, AllIsGreatest};
 ghost use Rattle.buffering.specs.Restoring.{RestoresFile, HoldsOffset, RestoresOrder};
 ghost use Rattle.buffering.specs.Private.{Between};
 use metrics::SampleNeeds;
@@ -71,10 +71,11 @@ fn narrowed(file: &[u8], measure: Measure, part: u32, whole: u32, b: Bounds) -> 
 // one for each binary digit of the greatest need, each O(A log K + K). What the size means for a receiver that restores order is carried
 // by `restores`.
 pub fn least(file: &[u8], measure: Measure, part: u32, whole: u32) -> SampleLeast
-    ensures { λ r. ⌜ LeastIn (decode (now (file .entry))) measure part whole r ⌝ }
+    ensures { λ r. ⌜ r ≡ sampleLeast (decode (now (file .entry))) measure part whole ⌝ }
     ensures restores { λ _. ⌜ RestoresFile (decode (now (file .entry))) ⌝ }
     ensures held { λ _. ⌜ HoldsOffset ⌝ }
     ensures order { λ _. ⌜ RestoresOrder ⌝ }
+    ensures least { λ _. ⌜ SizesAreLeast ⌝ }
     ensures one { λ _. ⌜ OneLeast ⌝ }
     ensures more { λ _. ⌜ MoreIsNoWorse ⌝ }
     ensures all { λ _. ⌜ AllIsGreatest ⌝ }

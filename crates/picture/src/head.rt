@@ -1,8 +1,15 @@
-// What stands around the frames: the title, the counts, the legend and the names of the axes.
+// The head of the picture: the label, the counts, and the table of the settings.
+use crate::settings::Settings;
+use crate::settings::Sizes;
+use crate::text::write_counted;
+use crate::text::write_milliseconds;
 use crate::text::write_number;
+use crate::text::write_percent;
+use crate::text::write_shape;
 use crate::text::write_word;
 use rfc4737::Counts;
 use sample::Layout;
+use sample::arrival;
 
 // Writes an octet of the label, as XML has it.
 fn write_octet(octet: u8) {
@@ -34,59 +41,106 @@ fn write_name(label: &[u8]) {
     }
 }
 
-// Writes the picture's size, title and background.
-pub(crate) fn write_title(label: &[u8]) {
+// Writes the picture's size, its colours by class, for light and for dark, and its background. The classes: i in order, l late, s stem
+// or join, b bar or triangle, c copy, w stair, n and t the settings for 95 in 100 and for all, a frame, g grid; m and e text that is
+// centred or ends at its place, h text over lines.
+fn write_style() {
     write_word(
-        b"<svg xmlns='http://www.w3.org/2000/svg' viewBox='0 0 1200 640' width='1200' height='640' role='img'>\n<title>",
+        b"</title>\n<style>\
+        text{font:13px sans-serif;fill:#333}.m{text-anchor:middle}.e{text-anchor:end}\
+        .h{paint-order:stroke;stroke:#fff;stroke-width:4px}.p,.h{stroke-linejoin:round}.p{fill:#fff}\
+        path{fill:none}.g{stroke:#ddd}.a{stroke:#333}.n,.t{stroke:#333;stroke-dasharray:2 3}.t{stroke-dasharray:8 4}\
+        .i,.l{stroke-linecap:round;stroke-width:5}.i,.w{stroke:#0072b2}.w{stroke-width:2}\
+        .l,.s{stroke:#d55e00}.s{stroke-opacity:.6}.b{fill:#d55e00}.c{stroke:#009e73;stroke-width:1.5}\n\
+        @media(prefers-color-scheme:dark){text{fill:#ddd}.h{stroke:#161616}.p{fill:#161616}.g{stroke:#3a3a3a}\
+        .a,.n,.t{stroke:#ccc}.i,.w{stroke:#56b4e9}.l,.s{stroke:#f5883a}.b{fill:#f5883a}.c{stroke:#2fd0a0}}\
+        </style>\n<path class='p' d='M0 0H1200V970H0z'/>\n",
+    );
+}
+
+// Writes the title: a long label in smaller letters, so that 64 of the widest fit.
+fn write_title(label: &[u8]) {
+    write_word(
+        b"<svg xmlns='http://www.w3.org/2000/svg' viewBox='0 0 1200 970' width='1200' height='970' role='img'>\n<title>",
     );
     write_name(label);
-    write_word(
-        b"</title>\n<path fill='#fff' d='M0 0H1200V640H0z'/>\n\
-        <g font-family='sans-serif' font-size='13' fill='#333'>\n\
-        <text x='80' y='42' font-size='18' font-weight='bold' xml:space='preserve'>",
-    );
+    write_style();
+    if label.len() <= 48 {
+        write_word(
+            b"<text x='80' y='40' style='font-size:18px;font-weight:bold' xml:space='preserve'>",
+        );
+    } else {
+        write_word(
+            b"<text x='80' y='40' style='font-size:14px;font-weight:bold' xml:space='preserve'>",
+        );
+    }
     write_name(label);
     write_word(b"</text>\n");
 }
 
-// Writes a number and the word after it.
-fn write_count(n: u32, word: &[u8]) {
-    write_number(n);
-    write_word(word);
-}
-
 // Writes the counts of the sample.
-pub(crate) fn write_counts(found: Layout, counts: Counts) {
-    write_word(b"<text x='80' y='68'>");
-    write_count(found.sent, b" sent, ");
-    write_count(found.arrivals, b" arrivals: ");
-    write_count(counts.inorder, b" in order, ");
-    write_count(counts.reordered, b" late, ");
-    write_count(counts.duplicates, b" copies</text>\n");
+fn write_counts(layout: Layout, counts: Counts) {
+    write_word(b"<text x='80' y='66'>");
+    write_counted(layout.sent, b" packet sent, ", b" packets sent, ");
+    write_counted(layout.arrivals, b" arrival: ", b" arrivals: ");
+    write_counted(counts.arrived, b" packet, ", b" packets, ");
+    write_counted(counts.duplicates, b" copy; ", b" copies; ");
+    write_counted(counts.reordered, b" packet late, ", b" packets late, ");
+    write_percent(counts.reordered, counts.arrived);
+    write_word(b"</text>\n");
 }
 
-// Writes the legend: each mark with its name.
-pub(crate) fn write_legend() {
-    write_word(
-        b"<path fill='none' stroke='#0072B2' stroke-linecap='round' stroke-width='10' d='M85 98h0'/>\
-        <text x='97' y='102.5'>in order</text>\n\
-        <path fill='#D55E00' d='M180 93l5 10h-10z'/><text x='192' y='102.5'>late</text>\n\
-        <path fill='none' stroke='#009E73' stroke-width='2.5' d='M245 93l10 10m0-10l-10 10'/>\
-        <text x='262' y='102.5'>copy</text>\n\
-        <path stroke='#D55E00' stroke-opacity='.7' d='M320 98h24'/>\
-        <text x='351' y='102.5'>from a late packet to its discontinuity</text>\n",
-    );
+// Writes a row of the table: the sizes of a setting.
+fn write_sizes(sizes: Sizes, y: u64) {
+    write_shape(b"<text class='e' x='410' y='A'>", y, 0, 0, 0);
+    write_milliseconds(sizes.time);
+    write_shape(b"</text><text class='e' x='530' y='A'>", y, 0, 0, 0);
+    write_number(sizes.packets);
+    write_shape(b"</text><text class='e' x='650' y='A'>", y, 0, 0, 0);
+    write_number(sizes.octets);
+    write_word(b"</text>\n");
 }
 
-// Writes both frames, and the names of their axes.
-pub(crate) fn write_frames() {
+// Writes the table of the settings.
+fn write_settings(settings: Settings) {
     write_word(
-        b"<text text-anchor='middle' x='465' y='618'>position among the first arrivals</text>\n\
-        <text text-anchor='middle' transform='translate(24 355)rotate(-90)'>sequence number</text>\n\
-        <path fill='none' stroke='#333' d='M80 132V570H858'/>\n\
-        <text x='935' y='102.5'>late packets by their extent</text>\
-        <text text-anchor='middle' x='1035' y='618'>extent</text>\n\
-        <g text-anchor='middle'><text x='1165' y='590'>over</text><text x='1165' y='605'>100</text></g>\n\
-        <path fill='none' stroke='#333' d='M935 132V570H1180'/>\n",
+        b"<text x='80' y='96'>to restore order</text><text class='e' x='410' y='96'>waiting time</text>\
+        <text class='e' x='530' y='96'>packets held</text><text class='e' x='650' y='96'>octets held</text>\n\
+        <path class='a' d='M80 102H650'/>\n\
+        <path class='n' d='M80 114H112'/><text x='122' y='118'>for 95 in 100</text>",
     );
+    write_sizes(settings.most, 1180);
+    write_word(b"<path class='t' d='M80 132H112'/><text x='122' y='136'>for all</text>");
+    write_sizes(settings.all, 1360);
+}
+
+// Whether an arrival is stamped before the one before it.
+fn steps_back(file: &[u8], layout: Layout) -> bool {
+    let mut last: u64 = 0;
+    for i in 0..layout.arrivals {
+        let time = arrival(file, layout, i).time;
+        if time < last {
+            return true;
+        }
+        last = time;
+    }
+    false
+}
+
+// Says what the settings leave out.
+fn write_notes(back: bool) {
+    write_word(b"<text x='680' y='118'>Packets that never arrived are not counted.</text>\n");
+    if back {
+        write_word(
+            b"<text x='680' y='136'>The clock steps back: the waiting times hold only for clocks that do not.</text>\n",
+        );
+    }
+}
+
+// Writes the head.
+pub(crate) fn write_head(file: &[u8], layout: Layout, settings: Settings) {
+    write_title(sample::label(file));
+    write_counts(layout, metrics::counts(file).counts);
+    write_settings(settings);
+    write_notes(steps_back(file, layout));
 }

@@ -1,102 +1,77 @@
-// The picture program: reads a sample on standard input, and draws its arrivals as SVG on standard output, or prints the one line
-// of a refused input. No sample has over 57,414 octets, so the first 57,415 decide of longer input.
+// The picture program: reads a sample on standard input, and draws it as SVG on standard output, or prints the one line of a refused
+// input. No sample has over 57,414 octets, so the first 57,415 decide of longer input.
 mod axes;
-mod frame;
+mod bars;
 mod head;
-mod marks;
-mod tally;
+mod late;
+mod numbers;
+mod panel;
+mod rows;
+mod settings;
+mod stairs;
 mod text;
 
-use axes::Axis;
-use axes::write_ticks;
-use frame::Scale;
-use frame::radius_for;
-use head::write_counts;
-use head::write_frames;
-use head::write_legend;
-use head::write_title;
+use head::write_head;
+use late::write_late_times;
 use libc::STDIN_FILENO;
-use marks::greatest;
-use marks::put_arrivals;
-use marks::write_layers;
-use rfc4737::judge::SENT_MOST;
+use metrics::record_rows;
+use numbers::write_numbers;
+use panel::Panel;
+use rfc4737::judge::ARRIVALS_MOST;
 use rfc4737::refusal::NONE;
 use sample::Layout;
-use tally::span_of;
-use tally::write_tally;
+use settings::Settings;
+use settings::settings_of;
+use stairs::write_stairs;
 use text::write_number;
 use text::write_word;
 
 // One octet more than the longest sample has.
 const INPUT_OCTETS: usize = sample::LONGEST + 1;
 
-// The places of each list: as many as a sample may have packets, and arrivals.
-const PLACES: usize = SENT_MOST as usize;
+// The places of the rows of all records: eight for each.
+const ROW_PLACES: usize = 8 * (ARRIVALS_MOST as usize);
 
-// One place more, for the positions from 1 on.
-const POSITIONS: usize = PLACES + 1;
+// The most arrivals of which sequence numbers are drawn over positions.
+const NUMBERED_MOST: u32 = 300;
 
-// Draws the arrivals by their figures.
-fn draw_arrivals(file: &[u8], found: Layout, flags: &[u8], positions: &mut [u32], extents: &[u32]) {
-    let mut numbers = [0u32; PLACES];
-    let mut firsts = [0u32; POSITIONS];
-    let last = span_of(greatest(positions));
-    put_arrivals(file, found, flags, positions, &mut numbers, &mut firsts);
-    let scale = Scale {
-        arrivals: found.arrivals,
-        positions: last,
-        numbers: span_of(greatest(&firsts)),
-        radius: radius_for(found.arrivals),
-    };
-    write_ticks(Axis::Positions, scale.positions);
-    write_ticks(Axis::Numbers, scale.numbers);
-    write_layers(scale, flags, positions, &numbers, extents, &firsts);
+// Draws the left side: late times, and below them sequence numbers if there are not too many.
+fn draw_left(file: &[u8], layout: Layout, rows: &[u64], settings: Settings) {
+    if NUMBERED_MOST < layout.arrivals {
+        write_late_times(Panel::TallLateTimes, file, layout, rows, settings);
+        return;
+    }
+    write_late_times(Panel::LateTimes, file, layout, rows, settings);
+    write_numbers(file, layout, rows);
 }
 
-// Sweeps over the arrivals, and draws them.
-fn draw_sweep(file: &[u8]) {
-    let mut table = [0u16; PLACES];
-    let mut flags = [0u8; PLACES];
-    let mut positions = [0u32; PLACES];
-    let mut extents = [0u32; PLACES];
-    let mut lates = [0u64; PLACES];
-    let found = sweep::sweep(
-        file,
-        &mut table,
-        &mut flags,
-        &mut positions,
-        &mut extents,
-        &mut lates,
-    );
-    draw_arrivals(file, found, &flags, &mut positions, &extents);
-    write_tally(file, greatest(&extents));
-}
-
-// Draws what stands above the frames.
-fn draw_head(file: &[u8], found: Layout) {
-    write_title(sample::label(file));
-    write_counts(found, metrics::counts(file).counts);
-    write_legend();
+// Draws the panels of a sample by the rows of its records.
+fn draw_panels(file: &[u8], settings: Settings) {
+    let mut rows = [0u64; ROW_PLACES];
+    let layout = record_rows(file, &mut rows);
+    draw_left(file, layout, &rows, settings);
+    write_stairs(file, settings);
+    bars::write_bars(&rows, layout.arrivals);
 }
 
 // Draws an accepted sample.
-fn draw(file: &[u8], found: Layout) {
-    draw_head(file, found);
-    draw_sweep(file);
-    write_frames();
-    write_word(b"</g>\n</svg>\n");
+fn draw(file: &[u8], layout: Layout) {
+    let settings = settings_of(file);
+    write_head(file, layout, settings);
+    draw_panels(file, settings);
+    write_word(b"</svg>\n");
 }
 
 // Draws a sample, or says that it is none.
 fn draw_input(file: &[u8]) {
-    let found = sample::check(file);
-    if found.refusal != NONE {
+    let layout = sample::check(file);
+    if layout.refusal != NONE {
         write_word(b"refused ");
-        write_number(found.refusal);
+        write_number(layout.refusal as u64);
         write_word(b"\n");
         return;
     }
-    draw(file, found);
+    draw(file, layout);
 }
 
 // Reads the input whole, and draws it.

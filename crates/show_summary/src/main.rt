@@ -1,20 +1,83 @@
-// The summary program: reads a sample on standard input, and prints its summary, or the one line of a refused input, on standard output. No
-// sample has over 57,414 octets, so the first 57,415 decide of longer input.
+// The summary program: reads a sample on standard input, and prints its summary, or the one line of a refused input, on standard output. With the
+// argument `json` the summary is an object of JSON; with the argument `all` the other figures of the whole sample follow it. No sample has over 57,414
+// octets, so the first 57,415 decide of longer input.
+ghost use Rattle.listing.specs.Lines.{refusedLine};
+ghost use Rattle.sample.specs.Decode.{decode, decodedRefusal};
+ghost use Rattle.sample.specs.Output.{Output};
+ghost use Rattle.show_summary.specs.Shown.{formText, shownText};
 use libc::STDIN_FILENO;
 use libc::STDOUT_FILENO;
 use rfc4737::refusal::NONE;
-use summary::SUMMARY_OCTETS;
+use rfc4737::refusal::OUTPUT_SHORT;
+use sample::WriteAnswer;
+use summary::ALL_OCTETS;
 
 // One octet more than the longest sample has.
 const INPUT_OCTETS: usize = sample::LONGEST + 1;
 
-// Puts the summary of an input, or the one line of a refused one, at the start of `out`, and returns how many octets it has.
-fn summarize(input: &[u8], out: &mut [u8]) -> usize {
-    let answer = summary::write(input, out);
-    if answer.refusal != NONE {
-        return listing::put_refused(out, 0, answer.refusal);
+// What the summary is written as.
+enum Form {
+    Text,
+    Json,
+    All,
+}
+
+// Writes the one line of a refused input at the start of `out`.
+fn refuse(refusal: u32, out: &mut [u8]) -> WriteAnswer
+    ensures { λ r. ⌜ Output 0 (refusedLine refusal) (now (out .entry)) r (now (out .exit)) ⌝ }
+{
+    let n = listing::put_refused(out, 0, refusal);
+    if out.len() < n {
+        return WriteAnswer {
+            refusal: OUTPUT_SHORT,
+            length: 0,
+        };
     }
-    answer.length as usize
+    WriteAnswer {
+        refusal: NONE,
+        length: n as u32,
+    }
+}
+
+// Writes the summary of a sample at the start of `out`.
+fn write_form(form: Form, input: &[u8], out: &mut [u8]) -> WriteAnswer
+    ensures { λ r. ⌜ Output (decodedRefusal (decode (now (input .entry)))) (formText form (decode (now (input .entry)))) (now (out .entry)) r (now (out .exit)) ⌝ }
+{
+    match form {
+        Form::Text => summary::write(input, out),
+        Form::Json => summary::write_json(input, out),
+        Form::All => summary::write_all(input, out),
+    }
+}
+
+// Writes the text of an input at the start of `out`.
+fn summarize(form: Form, input: &[u8], out: &mut [u8]) -> WriteAnswer
+    ensures { λ r. ⌜ Output 0 (shownText form (decode (now (input .entry)))) (now (out .entry)) r (now (out .exit)) ⌝ }
+{
+    let own = sample::check(input).refusal;
+    if own != NONE {
+        return refuse(own, out);
+    }
+    write_form(form, input, out)
+}
+
+// Whether two words are equal, of which the second has at most eight octets.
+fn is_word(word: &[u8], other: &[u8]) -> bool {
+    if word.len() != other.len() {
+        return false;
+    }
+    octets::number_at(word, 0, 8) == octets::number_at(other, 0, 8)
+}
+
+// The form that the argument names; any other is text.
+fn form_of(word: &[u8]) -> Form {
+    if is_word(word, b"json") {
+        return Form::Json;
+    }
+    if is_word(word, b"all") {
+        return Form::All;
+    }
+    Form::Text
 }
 
 // Writes the first n octets, which there are.
@@ -24,11 +87,14 @@ fn write_first(out: &[u8], n: usize) {
     }
 }
 
-// Reads the input whole, and prints its text.
+// Takes the argument, reads the input whole, and prints its text.
 fn main() {
+    let mut word = [0u8; 32];
     let mut input = [0u8; INPUT_OCTETS];
-    let mut out = [0u8; SUMMARY_OCTETS];
+    let mut out = [0u8; ALL_OCTETS];
+    let named = os::arg(1, &mut word);
+    let form = form_of(&word[..named]);
     let n = io::read_full(STDIN_FILENO, &mut input);
-    let length = summarize(&input[..n], &mut out);
+    let length = summarize(form, &input[..n], &mut out).length as usize;
     write_first(&out, length);
 }

@@ -1,4 +1,6 @@
 -- Laws of the summary. Assumes nothing.
-mod Sizes
 mod Pieces
 mod Back
+mod Escapes
+mod Sections
+mod Counted

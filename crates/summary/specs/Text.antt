@@ -6,25 +6,18 @@ use lib.Dec.{eqb}
 use lib.ListN.{length, replicate}
 use Rattle.octets.specs.Text.{ascii}
 use Rattle.decimal.specs.Decimal.{decimalOf}
+use Rattle.writing.specs.Parts.{joined}
 use Rattle.rfc4737.specs.declared.Answer.{Answer}
-use Rattle.rfc4737.specs.declared.Measure.{Measure}
-use Rattle.rfc4737.specs.Runs.{arrived, counts}
-use Rattle.rfc4737.specs.Ratios.{nReordered}
-use Rattle.rfc4737.specs.Times.{stepsBack}
 use Rattle.listing.specs.Words.{space}
 use Rattle.sample.specs.declared.WriteAnswer.{WriteAnswer}
 use Rattle.sample.specs.Output.{Output}
-use Rattle.sample.specs.Decode.{Decoded, sampleOf, decodedRefusal}
-use Rattle.metrics.specs.Sample.{sampleArrivals, answersOf}
-use Rattle.disorder.specs.Sample.{disorderOf}
-use Rattle.summary.specs.Sizes.{leastSize}
+use Rattle.sample.specs.Decode.{Decoded, decodedRefusal}
+use Rattle.metrics.specs.Sample.{answersOf}
+use Rattle.summary.specs.declared.figures.Figures.{Figures}
+use Rattle.summary.specs.declared.figures.Sizes.{Sizes}
+use Rattle.summary.specs.Figures.{figuresOf, sizesFor}
 
--- parts one after the other
-abbrev pub joined : List (List ℕ) → List ℕ
-joined [] = []
-joined (p ∷ ps) = p ++ joined ps
-
--- ---- figures
+-- ---- numbers
 
 -- a number in a column: spaces on its left up to a width
 unfoldable pub column : ℕ → ℕ → List ℕ
@@ -40,16 +33,15 @@ milliseconds t =
 abbrev pub tenths : ℕ → ℕ → ℕ
 tenths part whole = (2000 * part + whole) / (2 * whole)
 
--- a share in percent with one decimal; of nothing there is none
-unfoldable pub percent : ℕ → ℕ → List ℕ
-percent part whole =
-    cond (eqb whole 0) (ascii "- %")
-    (joined (decimalOf (tenths part whole / 10) ∷ ascii "." ∷ decimalOf (tenths part whole % 10) ∷ ascii " %" ∷ []))
+-- a share in percent with one decimal; of nothing there is none, which is written as `none`
+unfoldable pub percent : (none : List ℕ) → ℕ → ℕ → List ℕ
+percent none part whole =
+    cond (eqb whole 0) none (joined (decimalOf (tenths part whole / 10) ∷ ascii "." ∷ decimalOf (tenths part whole % 10) ∷ []))
 
 -- ---- lines
 
 -- K, how many of these packets arrived, and how many copies came besides
-unfoldable pub countsLine : ℕ → ℕ → ℕ → List ℕ
+unfoldable pub countsLine : (sent arrived copies : ℕ) → List ℕ
 countsLine sent arrived copies =
     joined
     (decimalOf sent ∷ ascii " packets sent, " ∷ decimalOf arrived ∷ ascii " arrived, " ∷ decimalOf copies ∷ ascii " copies besides\n" ∷ [])
@@ -57,28 +49,23 @@ countsLine sent arrived copies =
 -- how many of those that arrived are of a kind
 unfoldable pub shareLine : List ℕ → ℕ → ℕ → List ℕ
 shareLine name part whole =
-    joined (name ∷ decimalOf part ∷ ascii " of " ∷ decimalOf whole ∷ ascii ", " ∷ percent part whole ∷ ascii "\n" ∷ [])
-
--- the least sizes for so many in 100 of those that arrived: waiting time, packets and octets
-unfoldable pub sizesLine : List Answer → List ℕ → ℕ → List ℕ
-sizesLine l name part =
     joined
-    (name
-    ∷ milliseconds (leastSize Measure.Time part 100 l)
-    ∷ column 16 (leastSize Measure.Packets part 100 l)
-    ∷ column 15 (leastSize Measure.Octets part 100 l)
-    ∷ ascii "\n"
-    ∷ [])
+    (name ∷ decimalOf part ∷ ascii " of " ∷ decimalOf whole ∷ ascii ", " ∷ percent (ascii "-") part whole ∷ ascii " %\n" ∷ [])
+
+-- the least sizes for a share: waiting time, packets and octets
+unfoldable pub sizesLine : List ℕ → Sizes → List ℕ
+sizesLine share s =
+    joined (share ∷ milliseconds (s .time) ∷ column 16 (s .packets) ∷ column 15 (s .octets) ∷ ascii "\n" ∷ [])
 
 -- the rows of the table of the least sizes: for 50, 90, 95 and 99 in 100 of those that arrived, and for all
 unfoldable pub rowLines : List Answer → List ℕ
 rowLines l =
     joined
-    (sizesLine l (ascii "     50 %") 50
-    ∷ sizesLine l (ascii "     90 %") 90
-    ∷ sizesLine l (ascii "     95 %") 95
-    ∷ sizesLine l (ascii "     99 %") 99
-    ∷ sizesLine l (ascii "      all") 100
+    (sizesLine (ascii "     50 %") (sizesFor l 50)
+    ∷ sizesLine (ascii "     90 %") (sizesFor l 90)
+    ∷ sizesLine (ascii "     95 %") (sizesFor l 95)
+    ∷ sizesLine (ascii "     99 %") (sizesFor l 99)
+    ∷ sizesLine (ascii "      all") (sizesFor l 100)
     ∷ [])
 
 -- the table
@@ -90,17 +77,25 @@ needsLines l =
     ∷ ascii "\nPackets held is an extent, which can be more than a receiver has to hold. Packets that never arrived are not counted.\n"
     ∷ [])
 
--- what the waiting times hold for, where the clock steps back
-unfoldable pub clockLine : Bool → List ℕ
-clockLine back = cond back (ascii "The clock steps back in this sample; the waiting times hold only for clocks that do not.\n") []
+-- a line that stands only where something is so
+unfoldable pub lineIf : Bool → List ℕ → List ℕ
+lineIf b line = cond b line []
+
+-- what the sizes hold for: packets and octets held where no packet is lost, waiting times where the clock does not step back
+unfoldable pub limitLines : (lost back : Bool) → List ℕ
+limitLines lost back =
+    joined
+    (lineIf lost (ascii "Packets were lost in this sample; packets and octets held are told for samples without loss, and a receiver can hold more.\n")
+    ∷ lineIf back (ascii "The clock steps back in this sample; the waiting times hold only for clocks that do not.\n")
+    ∷ [])
 
 -- the reordered ratio, and the degrees of n-reordering for n = 1 and 3
-unfoldable pub ratioLines : List Answer → List ℕ
-ratioLines l =
+unfoldable pub ratioLines : (reordered reordered1 reordered3 arrived : ℕ) → List ℕ
+ratioLines reordered reordered1 reordered3 arrived =
     joined
-    (shareLine (ascii "\nReordered (late): ") (counts l .reordered) (arrived l)
-    ∷ shareLine (ascii "1-reordered: ") (nReordered 1 l) (arrived l)
-    ∷ shareLine (ascii "3-reordered: ") (nReordered 3 l) (arrived l)
+    (shareLine (ascii "\nReordered (late): ") reordered arrived
+    ∷ shareLine (ascii "1-reordered: ") reordered1 arrived
+    ∷ shareLine (ascii "3-reordered: ") reordered3 arrived
     ∷ [])
 
 -- the total of disorder
@@ -109,15 +104,20 @@ disorderLine n = joined (ascii "Total of disorder: " ∷ decimalOf n ∷ ascii "
 
 -- ---- the summary
 
-unfoldable pub summaryText : Decoded → List ℕ
-summaryText d =
+-- of these figures, and of the answers that the least sizes are of
+unfoldable pub textOf : Figures → List Answer → List ℕ
+textOf f l =
     joined
-    (countsLine (length (sampleOf d .sizes)) (arrived (answersOf d)) (counts (answersOf d) .duplicates)
-    ∷ needsLines (answersOf d)
-    ∷ clockLine (stepsBack 0 (sampleArrivals d))
-    ∷ ratioLines (answersOf d)
-    ∷ disorderLine (disorderOf d)
+    (countsLine (f .sent) (f .arrived) (f .copies)
+    ∷ needsLines l
+    ∷ limitLines (f .lost) (f .back)
+    ∷ ratioLines (f .reordered) (f .reordered1) (f .reordered3) (f .arrived)
+    ∷ disorderLine (f .disorder)
     ∷ [])
+
+-- of a decoded file
+unfoldable pub summaryText : Decoded → List ℕ
+summaryText d = textOf (figuresOf d) (answersOf d)
 
 -- the octets that suffice for any summary
 abbrev pub summaryOctets : ℕ

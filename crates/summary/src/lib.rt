@@ -1,48 +1,87 @@
-// The summary of a sample: its counts, what a receiver that restores order needs of its buffer, and its ratios, as text.
+// The summary of a sample: its counts, what a receiver that restores order needs of its buffer, and its ratios, as text and as JSON; and the
+// other figures of the whole sample.
 ghost use mathlib.Core.Path.{_≡_};
 ghost use Prim.Native.Nat.{_≤_};
 ghost use lib.ListN.{length};
 ghost use Rattle.sample.specs.Decode.{decode};
-ghost use Rattle.summary.specs.Sizes.{SizesAreLeast};
+ghost use Rattle.sample.specs.Output.{Output};
+ghost use Rattle.summary.specs.All.{allText, allOctets, AllTo};
+ghost use Rattle.summary.specs.Json.{summaryJson, SummaryJsonTo};
 ghost use Rattle.summary.specs.Text.{summaryText, summaryOctets, SummaryTo};
 
+mod all;
 mod clock;
+mod figures;
+mod json;
 mod lines;
 mod parts;
 
+use all::write_more;
+use json::write_object;
 use lines::write_text;
 use rfc4737::refusal::NONE;
 use rfc4737::refusal::OUTPUT_SHORT;
 use sample::WriteAnswer;
 
-// The octets that suffice for any summary.
+// The octets that suffice for any summary, as text and as JSON.
 pub const SUMMARY_OCTETS: usize = 2048;
+
+// The octets that suffice for the summary and the other figures of any sample.
+pub const ALL_OCTETS: usize = 200_704;
+
+// Copies a text to the start of `out` if nothing was refused and `out` has room for it.
+fn hand_over(refusal: u32, text: &[u8], out: &mut [u8]) -> WriteAnswer
+    requires { ⌜ length (now text) ≤ allOctets ⌝ }
+    ensures { λ r. ⌜ Output refusal (now (text .entry)) (now (out .entry)) r (now (out .exit)) ⌝ }
+{
+    if refusal != NONE {
+        return WriteAnswer { refusal, length: 0 };
+    }
+    if out.len() < text.len() {
+        return WriteAnswer {
+            refusal: OUTPUT_SHORT,
+            length: 0,
+        };
+    }
+    octets::put_octets(out, 0, text);
+    WriteAnswer {
+        refusal: NONE,
+        length: text.len() as u32,
+    }
+}
 
 // Writes the summary of a sample at the start of `out` if `out` has room for it, as SUMMARY_OCTETS octets have for any. With a
 // refusal, the file's own or 8, `out` stays as it was. Cost: fifteen searches by `buffering::least`, and seven passes over the file.
 pub fn write(file: &[u8], out: &mut [u8]) -> WriteAnswer
     ensures { λ r. ⌜ SummaryTo (decode (now (file .entry))) (now (out .entry)) r (now (out .exit)) ⌝ }
     ensures room { λ _. ⌜ length (summaryText (decode (now (file .entry)))) ≤ summaryOctets ⌝ }
-    ensures least { λ _. ⌜ SizesAreLeast ⌝ }
 {
     let layout = sample::check(file);
     let mut text = [0u8; SUMMARY_OCTETS];
     let n = write_text(file, layout, &mut text);
-    if layout.refusal != NONE {
-        return WriteAnswer {
-            refusal: layout.refusal,
-            length: 0,
-        };
-    }
-    if out.len() < n {
-        return WriteAnswer {
-            refusal: OUTPUT_SHORT,
-            length: 0,
-        };
-    }
-    octets::put_octets(out, 0, &text[..n]);
-    WriteAnswer {
-        refusal: NONE,
-        length: n as u32,
-    }
+    hand_over(layout.refusal, &text[..n], out)
+}
+
+// Writes the summary of a sample as one object of JSON and a line feed, under the same rules and at the same cost.
+pub fn write_json(file: &[u8], out: &mut [u8]) -> WriteAnswer
+    ensures { λ r. ⌜ SummaryJsonTo (decode (now (file .entry))) (now (out .entry)) r (now (out .exit)) ⌝ }
+    ensures room { λ _. ⌜ length (summaryJson (decode (now (file .entry)))) ≤ summaryOctets ⌝ }
+{
+    let layout = sample::check(file);
+    let mut text = [0u8; SUMMARY_OCTETS];
+    let n = write_object(file, layout, &mut text);
+    hand_over(layout.refusal, &text[..n], out)
+}
+
+// Writes the summary of a sample and the other figures of the whole sample, under the same rules; ALL_OCTETS octets have room for any. Cost:
+// besides, a pass over the file for each extent to 100, each n to 10, and each record, whose gap it finds: O(A (A + K)).
+pub fn write_all(file: &[u8], out: &mut [u8]) -> WriteAnswer
+    ensures { λ r. ⌜ AllTo (decode (now (file .entry))) (now (out .entry)) r (now (out .exit)) ⌝ }
+    ensures room { λ _. ⌜ length (allText (decode (now (file .entry)))) ≤ allOctets ⌝ }
+{
+    let layout = sample::check(file);
+    let mut text = [0u8; ALL_OCTETS];
+    let summary = write_text(file, layout, &mut text);
+    let n = write_more(file, layout, &mut text, summary);
+    hand_over(layout.refusal, &text[..n], out)
 }

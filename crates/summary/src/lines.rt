@@ -5,25 +5,18 @@ ghost use lib.ListN.{length};
 ghost use Rattle.sample.specs.Decode.{decode};
 ghost use Rattle.metrics.specs.Sample.{answersOf};
 ghost use Rattle.metrics.specs.Records.{FileLayout};
-ghost use Rattle.summary.specs.Sizes.{leastSize};
-ghost use Rattle.summary.specs.Text.{countsLine, shareLine, sizesLine, rowLines, needsLines, clockLine, ratioLines, disorderLine, summaryText};
-ghost use Rattle.summary.specs.Private.Written.{Written};
-use crate::clock::steps_back;
+ghost use Rattle.summary.specs.Figures.{sizesFor};
+ghost use Rattle.summary.specs.Text.{countsLine, shareLine, sizesLine, rowLines, needsLines, lineIf, limitLines, ratioLines, disorderLine, summaryText};
+ghost use Rattle.writing.specs.Parts.{Written};
+use crate::figures::Sizes;
+use crate::figures::figures_of;
+use crate::figures::sizes_for;
 use crate::parts::write_column;
 use crate::parts::write_milliseconds;
 use crate::parts::write_number;
 use crate::parts::write_percent;
 use crate::parts::write_word;
-use rfc4737::Measure;
 use sample::Layout;
-
-// The least size for `part` in 100 of the first arrivals.
-fn size_for(file: &[u8], measure: Measure, part: u32) -> u64
-    requires { ⌜ (1 ≤ part) × (part ≤ 100) ⌝ }
-    ensures { λ r. ⌜ r ≡ leastSize measure part 100 (answersOf (decode (now (file .entry)))) ⌝ }
-{
-    buffering::least(file, measure, part, 100).size
-}
 
 // Writes the line of the counts.
 fn write_counts(out: &mut [u8], at: usize, sent: u32, arrived: u32, copies: u32) -> usize
@@ -40,30 +33,40 @@ fn write_counts(out: &mut [u8], at: usize, sent: u32, arrived: u32, copies: u32)
 
 // Writes a line that says how many of the first arrivals are of a kind.
 fn write_share(out: &mut [u8], at: usize, name: &[u8], part: u32, whole: u32) -> usize
-    requires { ⌜ at + (length (now name) + 90) ≤ length (now out) ⌝ }
+    requires { ⌜ at + (length (now name) + 92) ≤ length (now out) ⌝ }
     ensures { λ r. ⌜ Written at r (shareLine (now (name .entry)) part whole) (now (out .entry)) (now (out .exit))
-        × (r ≤ at + (length (now (name .entry)) + 90)) ⌝ }
+        × (r ≤ at + (length (now (name .entry)) + 92)) ⌝ }
 {
     let one = write_word(out, at, name);
     let two = write_number(out, one, part as u64);
     let three = write_word(out, two, b" of ");
     let four = write_number(out, three, whole as u64);
     let five = write_word(out, four, b", ");
-    let six = write_percent(out, five, part, whole);
-    write_word(out, six, b"\n")
+    let six = write_percent(out, five, b"-", part, whole);
+    write_word(out, six, b" %\n")
 }
 
-// Writes the line of the least sizes for `part` in 100 of the first arrivals.
-fn write_sizes(out: &mut [u8], at: usize, file: &[u8], name: &[u8], part: u32) -> usize
-    requires { ⌜ (at + (length (now name) + 173) ≤ length (now out)) × (1 ≤ part) × (part ≤ 100) ⌝ }
-    ensures { λ r. ⌜ Written at r (sizesLine (answersOf (decode (now (file .entry)))) (now (name .entry)) part) (now (out .entry)) (now (out .exit))
+// Writes the line of the least sizes for a share.
+fn write_sizes(out: &mut [u8], at: usize, share: &[u8], sizes: Sizes) -> usize
+    requires { ⌜ at + (length (now share) + 173) ≤ length (now out) ⌝ }
+    ensures { λ r. ⌜ Written at r (sizesLine (now (share .entry)) sizes) (now (out .entry)) (now (out .exit))
+        × (r ≤ at + (length (now (share .entry)) + 173)) ⌝ }
+{
+    let one = write_word(out, at, share);
+    let two = write_milliseconds(out, one, sizes.time);
+    let three = write_column(out, two, 16, sizes.packets);
+    let four = write_column(out, three, 15, sizes.octets);
+    write_word(out, four, b"\n")
+}
+
+// Writes the row of the table of the least sizes for `share` in 100 of the first arrivals.
+fn write_row(out: &mut [u8], at: usize, file: &[u8], name: &[u8], share: u32) -> usize
+    requires { ⌜ (at + (length (now name) + 173) ≤ length (now out)) × (1 ≤ share) × (share ≤ 100) ⌝ }
+    ensures { λ r. ⌜ Written at r (sizesLine (now (name .entry)) (sizesFor (answersOf (decode (now (file .entry)))) share)) (now (out .entry)) (now (out .exit))
         × (r ≤ at + (length (now (name .entry)) + 173)) ⌝ }
 {
-    let one = write_word(out, at, name);
-    let two = write_milliseconds(out, one, size_for(file, Measure::Time, part));
-    let three = write_column(out, two, 16, size_for(file, Measure::Packets, part));
-    let four = write_column(out, three, 15, size_for(file, Measure::Octets, part));
-    write_word(out, four, b"\n")
+    let sizes = sizes_for(file, share);
+    write_sizes(out, at, name, sizes)
 }
 
 // Writes the rows of the table of the least sizes.
@@ -71,11 +74,11 @@ fn write_rows(out: &mut [u8], at: usize, file: &[u8]) -> usize
     requires { ⌜ at + 910 ≤ length (now out) ⌝ }
     ensures { λ r. ⌜ Written at r (rowLines (answersOf (decode (now (file .entry))))) (now (out .entry)) (now (out .exit)) × (r ≤ at + 910) ⌝ }
 {
-    let one = write_sizes(out, at, file, b"     50 %", 50);
-    let two = write_sizes(out, one, file, b"     90 %", 90);
-    let three = write_sizes(out, two, file, b"     95 %", 95);
-    let four = write_sizes(out, three, file, b"     99 %", 99);
-    write_sizes(out, four, file, b"      all", 100)
+    let one = write_row(out, at, file, b"     50 %", 50);
+    let two = write_row(out, one, file, b"     90 %", 90);
+    let three = write_row(out, two, file, b"     95 %", 95);
+    let four = write_row(out, three, file, b"     99 %", 99);
+    write_row(out, four, file, b"      all", 100)
 }
 
 // Writes the table of the least sizes.
@@ -96,38 +99,51 @@ fn write_needs(out: &mut [u8], at: usize, file: &[u8]) -> usize
     )
 }
 
-// Writes the line that says what the waiting times hold for, where the clock steps back.
-fn write_clock(out: &mut [u8], at: usize, back: bool) -> usize
-    requires { ⌜ at + 120 ≤ length (now out) ⌝ }
-    ensures { λ r. ⌜ Written at r (clockLine back) (now (out .entry)) (now (out .exit)) × (r ≤ at + 120) ⌝ }
+// Writes a line where `due` is true, else nothing.
+fn write_if(out: &mut [u8], at: usize, due: bool, line: &[u8]) -> usize
+    requires { ⌜ at + length (now line) ≤ length (now out) ⌝ }
+    ensures { λ r. ⌜ Written at r (lineIf due (now (line .entry))) (now (out .entry)) (now (out .exit)) × (r ≤ at + length (now (line .entry))) ⌝ }
 {
-    if back {
-        return write_word(
-            out,
-            at,
-            b"The clock steps back in this sample; the waiting times hold only for clocks that do not.\n",
-        );
+    if due {
+        return write_word(out, at, line);
     }
     at
 }
 
-// Writes the lines of the ratios.
-fn write_ratios(out: &mut [u8], at: usize, file: &[u8]) -> usize
-    requires { ⌜ at + 320 ≤ length (now out) ⌝ }
-    ensures { λ r. ⌜ Written at r (ratioLines (answersOf (decode (now (file .entry))))) (now (out .entry)) (now (out .exit)) × (r ≤ at + 320) ⌝ }
+// Writes the lines that say what the sizes hold for, where packets were lost and where the clock steps back.
+fn write_limits(out: &mut [u8], at: usize, lost: bool, back: bool) -> usize
+    requires { ⌜ at + 220 ≤ length (now out) ⌝ }
+    ensures { λ r. ⌜ Written at r (limitLines lost back) (now (out .entry)) (now (out .exit)) × (r ≤ at + 220) ⌝ }
 {
-    let counts = metrics::counts(file).counts;
-    let one = write_share(
+    let one = write_if(
         out,
         at,
-        b"\nReordered (late): ",
-        counts.reordered,
-        counts.arrived,
+        lost,
+        b"Packets were lost in this sample; packets and octets held are told for samples without loss, and a receiver can hold more.\n",
     );
-    let first = metrics::n_reordered(file, 1);
-    let two = write_share(out, one, b"1-reordered: ", first.reordered, counts.arrived);
-    let third = metrics::n_reordered(file, 3);
-    write_share(out, two, b"3-reordered: ", third.reordered, counts.arrived)
+    write_if(
+        out,
+        one,
+        back,
+        b"The clock steps back in this sample; the waiting times hold only for clocks that do not.\n",
+    )
+}
+
+// Writes the lines of the ratios.
+fn write_ratios(
+    out: &mut [u8],
+    at: usize,
+    reordered: u32,
+    reordered1: u32,
+    reordered3: u32,
+    arrived: u32,
+) -> usize
+    requires { ⌜ at + 330 ≤ length (now out) ⌝ }
+    ensures { λ r. ⌜ Written at r (ratioLines reordered reordered1 reordered3 arrived) (now (out .entry)) (now (out .exit)) × (r ≤ at + 330) ⌝ }
+{
+    let one = write_share(out, at, b"\nReordered (late): ", reordered, arrived);
+    let two = write_share(out, one, b"1-reordered: ", reordered1, arrived);
+    write_share(out, two, b"3-reordered: ", reordered3, arrived)
 }
 
 // Writes the line of the total of disorder.
@@ -145,12 +161,17 @@ pub(crate) fn write_text(file: &[u8], layout: Layout, out: &mut [u8]) -> usize
     requires { ⌜ FileLayout (decode (now file)) layout × (2048 ≤ length (now out)) ⌝ }
     ensures { λ r. ⌜ Written 0 r (summaryText (decode (now (file .entry)))) (now (out .entry)) (now (out .exit)) × (r ≤ 2048) ⌝ }
 {
-    let counts = metrics::counts(file).counts;
-    let back = steps_back(file, layout);
-    let disorder = disorder::total(file).total;
-    let one = write_counts(out, 0, layout.sent, counts.arrived, counts.duplicates);
+    let figures = figures_of(file, layout);
+    let one = write_counts(out, 0, figures.sent, figures.arrived, figures.copies);
     let two = write_needs(out, one, file);
-    let three = write_clock(out, two, back);
-    let four = write_ratios(out, three, file);
-    write_disorder(out, four, disorder)
+    let three = write_limits(out, two, figures.lost, figures.back);
+    let four = write_ratios(
+        out,
+        three,
+        figures.reordered,
+        figures.reordered1,
+        figures.reordered3,
+        figures.arrived,
+    );
+    write_disorder(out, four, figures.disorder)
 }

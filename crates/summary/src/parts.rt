@@ -5,7 +5,7 @@ ghost use Prim.Native.Nat.{_+_, _≤_};
 ghost use lib.ListN.{length, take};
 ghost use Rattle.decimal.specs.Decimal.{decimalOf};
 ghost use Rattle.summary.specs.Text.{column, milliseconds, percent};
-ghost use Rattle.summary.specs.Private.Written.{Written};
+ghost use Rattle.writing.specs.Parts.{Written};
 
 // Writes a word.
 pub(crate) fn write_word(out: &mut [u8], at: usize, word: &[u8]) -> usize
@@ -59,17 +59,16 @@ pub(crate) fn write_milliseconds(out: &mut [u8], at: usize, time: u64) -> usize
     write_word(out, unit, b" ms")
 }
 
-// Writes the share that `part` is of `whole`, in percent.
-pub(crate) fn write_percent(out: &mut [u8], at: usize, part: u32, whole: u32) -> usize
-    requires { ⌜ at + 43 ≤ length (now out) ⌝ }
-    ensures { λ r. ⌜ Written at r (percent part whole) (now (out .entry)) (now (out .exit)) × (r ≤ at + 43) ⌝ }
+// Writes the share that `part` is of `whole`, in percent; of nothing there is none, which is written as `none`.
+pub(crate) fn write_percent(out: &mut [u8], at: usize, none: &[u8], part: u32, whole: u32) -> usize
+    requires { ⌜ at + (length (now none) + 41) ≤ length (now out) ⌝ }
+    ensures { λ r. ⌜ Written at r (percent (now (none .entry)) part whole) (now (out .entry)) (now (out .exit)) × (r ≤ at + (length (now (none .entry)) + 41)) ⌝ }
 {
     if whole == 0 {
-        return write_word(out, at, b"- %");
+        return write_word(out, at, none);
     }
     let tenths = (2000 * (part as u64) + whole as u64) / (2 * (whole as u64));
     let point = write_number(out, at, tenths / 10);
     let tenth = write_word(out, point, b".");
-    let unit = write_number(out, tenth, tenths % 10);
-    write_word(out, unit, b" %")
+    write_number(out, tenth, tenths % 10)
 }

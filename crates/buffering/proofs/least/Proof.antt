@@ -13,10 +13,10 @@ use Rattle.sample.specs.Decode.{decode, decodedRefusal}
 use Rattle.metrics.specs.Sample.{answersOf}
 use Rattle.metrics.specs.declared.SampleNeeds.{SampleNeeds}
 use Rattle.metrics.specs.Figures.{sampleNeeds}
-use Rattle.buffering.specs.Least.{OneLeast, MoreIsNoWorse, AllIsGreatest}
+use Rattle.buffering.specs.Least.{SizesAreLeast, OneLeast, MoreIsNoWorse, AllIsGreatest}
 use Rattle.buffering.specs.Restoring.{RestoresFile, HoldsOffset, RestoresOrder}
 use Rattle.buffering.specs.Private.{Between}
-use Rattle.buffering.proofs.Sizes.{start, met, one-least, more-is-no-worse, all-is-greatest, least-refused, least-outside, least-found}
+use Rattle.buffering.proofs.Sizes.{start, met, sizes-are-least, one-least, more-is-no-worse, all-is-greatest, least-refused, least-outside, least-found}
 use Rattle.buffering.proofs.Restored.{restores}
 use Rattle.buffering.proofs.Held.{holds-offset}
 use Rattle.buffering.proofs.InOrder.{restores-order}
@@ -37,10 +37,10 @@ told x f e = ap (λ (y : SampleNeeds). y .refusal) e
 
 -- what is carried besides the answer
 carries : (c : tie.After-greatest-needs Inv-loop μ-loop)
-    → RestoresFile (decode (now (c .before .before .args .file))) × (HoldsOffset × (RestoresOrder × (OneLeast × (MoreIsNoWorse × AllIsGreatest))))
+    → RestoresFile (decode (now (c .before .before .args .file))) × (HoldsOffset × (RestoresOrder × (SizesAreLeast × (OneLeast × (MoreIsNoWorse × AllIsGreatest)))))
 carries c =
     let file = now (c .before .before .args .file) in
-    (restores file (below-fits w8 file (c .before .shared-slice-known .given)), (holds-offset, (restores-order, (one-least, (more-is-no-worse, all-is-greatest)))))
+    (restores file (below-fits w8 file (c .before .shared-slice-known .given)), (holds-offset, (restores-order, (sizes-are-least, (one-least, (more-is-no-worse, all-is-greatest))))))
 
 returns : tie.Need-returns Inv-loop μ-loop
 returns c =

@@ -1,9 +1,9 @@
--- `picture::head::write_label` is safe and ends. Invariant: i-end is the length of the label, so that octet i is there. Measure: its
--- octets that are left.
-use borrow.Author.Needs.{needs}
+-- `picture::head::write_label` is safe and ends. Invariant: i-end is the length of the label, so that octet i is there. Measure: its octets
+-- that are left. Assumes nothing.
 use Prim.Native.Nat.{_-_}
 use mathlib.Core.Path.{_≡_}
 use lib.ListN.{length}
+use borrow.Author.Needs.{needs}
 use Rattle.picture.proofs.head.write_label.Statement.{statement}
 use Rattle.picture.proofs.head.write_label.Tie as tie
 
@@ -13,4 +13,5 @@ write-label-spec =
     (tie.spec
     (λ label _ i-end _. i-end ≡ length label)
     (λ _ _ i-end i. i-end - i)
-    (search needs) (search needs) (search needs) (search needs) (search needs) (search needs) (search needs))
+    (λ c. search needs) (λ c. search needs) (λ c κs. search needs) (λ c. search needs) (λ c. search needs) (λ c. search needs)
+    (λ c. search needs))

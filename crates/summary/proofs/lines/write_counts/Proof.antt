@@ -2,7 +2,7 @@
 -- Here e1 and so on are the parts, s the start. Assumes nothing.
 use native.Mathlib.Omega.{arith}
 use Rattle.summary.specs.Text.{countsLine}
-use Rattle.summary.proofs.Pieces.{nothing, then}
+use Rattle.writing.proofs.Parts.{nothing, then}
 use borrow.Author.Needs.{needs}
 use Rattle.summary.proofs.lines.write_counts.Statement.{statement}
 use Rattle.summary.proofs.lines.write_counts.Tie as tie

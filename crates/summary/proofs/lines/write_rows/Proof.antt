@@ -2,7 +2,7 @@
 -- Here e1 and so on are the parts, s the start. Assumes nothing.
 use native.Mathlib.Omega.{arith}
 use Rattle.summary.specs.Text.{rowLines}
-use Rattle.summary.proofs.Pieces.{nothing, then}
+use Rattle.writing.proofs.Parts.{nothing, then}
 use borrow.Author.Needs.{needs}
 use Rattle.summary.proofs.lines.write_rows.Statement.{statement}
 use Rattle.summary.proofs.lines.write_rows.Tie as tie
@@ -16,12 +16,12 @@ returns c =
     let e2 = e3 .before .before .before .before .before in
     let e1 = e2 .before .before .before .before .before in
     let s = e1 .before .before .before .before .before in (
-      then (e1 .write-sizes .ensures .0)
-          (then (e2 .write-sizes2 .ensures .0)
-          (then (e3 .write-sizes3 .ensures .0)
-          (then (e4 .write-sizes4 .ensures .0)
-          (then (e5 .write-sizes5 .ensures .0) (nothing _ _))))),
-      omega (arith, e1 .write-sizes .ensures .1, e2 .write-sizes2 .ensures .1, e3 .write-sizes3 .ensures .1, e4 .write-sizes4 .ensures .1, e5 .write-sizes5 .ensures .1),
+      then (e1 .write-row .ensures .0)
+          (then (e2 .write-row2 .ensures .0)
+          (then (e3 .write-row3 .ensures .0)
+          (then (e4 .write-row4 .ensures .0)
+          (then (e5 .write-row5 .ensures .0) (nothing _ _))))),
+      omega (arith, e1 .write-row .ensures .1, e2 .write-row2 .ensures .1, e3 .write-row3 .ensures .1, e4 .write-row4 .ensures .1, e5 .write-row5 .ensures .1),
     )
 
 pub write-rows-spec : {M : Type 1} → statement M

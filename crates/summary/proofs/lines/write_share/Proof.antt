@@ -1,8 +1,8 @@
 -- `summary::lines::write_share` meets its contract: the parts are written one after the other (`then`).
--- Here e1 and so on are the parts, s the start. Assumes nothing.
+-- Here e1 and so on are the calls. Assumes nothing.
 use native.Mathlib.Omega.{arith}
 use Rattle.summary.specs.Text.{shareLine}
-use Rattle.summary.proofs.Pieces.{nothing, then}
+use Rattle.writing.proofs.Parts.{nothing, then}
 use borrow.Author.Needs.{needs}
 use Rattle.summary.proofs.lines.write_share.Statement.{statement}
 use Rattle.summary.proofs.lines.write_share.Tie as tie
@@ -12,12 +12,11 @@ unfolding shareLine
 returns c =
     let e7 = c .before .before in
     let e6 = e7 .before .before .before .before .before in
-    let e5 = e6 .before .before .before .before in
+    let e5 = e6 .before .before .before .before .before in
     let e4 = e5 .before .before .before .before .before in
     let e3 = e4 .before .before .before .before in
     let e2 = e3 .before .before .before .before .before in
-    let e1 = e2 .before .before .before .before in
-    let s = e1 .before .before .before .before in (
+    let e1 = e2 .before .before .before .before in (
       then (e1 .write-word .ensures .0)
           (then (e2 .write-number .ensures .0)
           (then (e3 .write-word2 .ensures .0)
@@ -33,4 +32,4 @@ write-share-spec =
     tie.close
     (tie.spec
     (λ c κs. search needs) (λ c κs. search needs) (λ c. search needs) (λ c κs. search needs) (λ c κs. search needs) (λ c. search needs)
-    (λ c κs. search needs) (λ c κs. search needs) (λ c. search needs) (λ c κs. search needs) (λ c. search needs) returns)
+    (λ c κs. search needs) (λ c. search needs) (λ c κs. search needs) (λ c. search needs) (λ c κs. search needs) (λ c. search needs) returns)

@@ -1,7 +1,8 @@
 -- `summary::parts::write_column` meets its contract: a number that fills its column is written alone (`column-full`), another after the spaces
 -- that its digits leave (`column-spaces`). Assumes nothing.
 use native.Mathlib.Omega.{arith}
-use Rattle.summary.proofs.Pieces.{then, named, column-full, column-spaces}
+use Rattle.writing.proofs.Parts.{then, named}
+use Rattle.summary.proofs.Pieces.{column-full, column-spaces}
 use borrow.Author.Needs.{needs}
 use Rattle.summary.proofs.parts.write_column.Statement.{statement}
 use Rattle.summary.proofs.parts.write_column.Tie as tie

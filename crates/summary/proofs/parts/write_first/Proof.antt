@@ -2,7 +2,7 @@
 use native.Mathlib.Omega.{arith}
 use mathlib.Core.Path.{sym}
 use lib.Seq.{length-take-le}
-use Rattle.summary.proofs.Pieces.{first-put}
+use Rattle.writing.proofs.Parts.{first-put}
 use borrow.Author.Needs.{needs}
 use Rattle.summary.proofs.parts.write_first.Statement.{statement}
 use Rattle.summary.proofs.parts.write_first.Tie as tie

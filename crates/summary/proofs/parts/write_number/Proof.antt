@@ -5,7 +5,7 @@ use Prim.Native.Nat.{_≤_}
 use lib.ListN.{length}
 use Rattle.decimal.specs.Decimal.{decimalOf}
 use Rattle.decimal.proofs.Laws.{at-most-20}
-use Rattle.summary.proofs.Pieces.{part-put}
+use Rattle.writing.proofs.Parts.{part-put}
 use borrow.Author.Needs.{needs}
 use Rattle.summary.proofs.parts.write_number.Statement.{statement}
 use Rattle.summary.proofs.parts.write_number.Tie as tie

@@ -1,6 +1,6 @@
 -- `summary::parts::write_word` meets its contract: the word is put where there is room (`part-put`). Assumes nothing.
 use native.Mathlib.Omega.{arith}
-use Rattle.summary.proofs.Pieces.{part-put}
+use Rattle.writing.proofs.Parts.{part-put}
 use borrow.Author.Needs.{needs}
 use Rattle.summary.proofs.parts.write_word.Statement.{statement}
 use Rattle.summary.proofs.parts.write_word.Tie as tie

@@ -1,0 +1,2 @@
+-- Where the panels of the picture stand. Assumes nothing.
+pub mod Panels

@@ -1,0 +1,2 @@
+-- What the summary program prints. Assumes nothing.
+pub mod Shown

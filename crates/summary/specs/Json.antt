@@ -1,0 +1,138 @@
+-- The summary of a sample as one object of JSON (RFC 8259) and a line feed. Times are microseconds, shares and percents are in 100, and
+-- where nothing arrived a percent is null. Assumes nothing.
+use Prim.Native.Nat.{ℕ}
+use mathlib.Core.Bool.{Bool, cond, _||_}
+use mathlib.Core.List.{List, [], _∷_}
+use lib.Dec.{eqb}
+use Rattle.octets.specs.Text.{ascii}
+use Rattle.decimal.specs.Decimal.{decimalOf}
+use Rattle.rfc4737.specs.declared.Answer.{Answer}
+use Rattle.sample.specs.declared.WriteAnswer.{WriteAnswer}
+use Rattle.sample.specs.Output.{Output}
+use Rattle.sample.specs.Format.{itemOctets}
+use Rattle.sample.specs.Decode.{Decoded, sampleOf, decodedRefusal}
+use Rattle.metrics.specs.Sample.{answersOf}
+use Rattle.summary.specs.declared.figures.Figures.{Figures}
+use Rattle.summary.specs.declared.figures.Sizes.{Sizes}
+use Rattle.summary.specs.Figures.{figuresOf, sizesFor}
+use Rattle.writing.specs.Parts.{joined}
+use Rattle.summary.specs.Text.{percent}
+
+-- ---- parts
+
+-- the octets that a string of JSON has a backslash before
+abbrev pub quote : ℕ
+quote = 0x22
+
+abbrev pub backslash : ℕ
+backslash = 0x5C
+
+-- an octet of a label in a string of JSON
+unfoldable pub escapedOctet : ℕ → List ℕ
+escapedOctet o = cond (eqb o quote || eqb o backslash) (backslash ∷ o ∷ []) (o ∷ [])
+
+-- a label in a string of JSON
+abbrev pub escaped : List ℕ → List ℕ
+escaped label = itemOctets escapedOctet label
+
+-- a member with a number; its name has what stands before it, and the colon
+unfoldable pub numberMember : List ℕ → ℕ → List ℕ
+numberMember name n = joined (name ∷ decimalOf n ∷ [])
+
+-- a member with true or false
+unfoldable pub flagMember : List ℕ → Bool → List ℕ
+flagMember name b = joined (name ∷ cond b (ascii "true") (ascii "false") ∷ [])
+
+-- ---- members
+
+-- the start, and the label
+unfoldable pub labelMember : List ℕ → List ℕ
+labelMember label = joined (ascii "{\"label\":\"" ∷ escaped label ∷ ascii "\"" ∷ [])
+
+-- K, how many of these packets arrived, and how many copies came besides
+unfoldable pub countsMembers : (sent arrived copies : ℕ) → List ℕ
+countsMembers sent arrived copies =
+    joined
+    (numberMember (ascii ",\"sent\":") sent
+    ∷ numberMember (ascii ",\"arrived\":") arrived
+    ∷ numberMember (ascii ",\"copies\":") copies
+    ∷ [])
+
+-- the least sizes for a share
+unfoldable pub sizesObject : List ℕ → ℕ → Sizes → List ℕ
+sizesObject start share s =
+    joined
+    (numberMember start share
+    ∷ numberMember (ascii ",\"waiting_time_us\":") (s .time)
+    ∷ numberMember (ascii ",\"packets_held\":") (s .packets)
+    ∷ numberMember (ascii ",\"octets_held\":") (s .octets)
+    ∷ ascii "}"
+    ∷ [])
+
+-- for 50, 90, 95 and 99 in 100 of those that arrived, and for all
+unfoldable pub sizesObjects : List Answer → List ℕ
+sizesObjects l =
+    joined
+    (sizesObject (ascii "{\"share_percent\":") 50 (sizesFor l 50)
+    ∷ sizesObject (ascii ",{\"share_percent\":") 90 (sizesFor l 90)
+    ∷ sizesObject (ascii ",{\"share_percent\":") 95 (sizesFor l 95)
+    ∷ sizesObject (ascii ",{\"share_percent\":") 99 (sizesFor l 99)
+    ∷ sizesObject (ascii ",{\"share_percent\":") 100 (sizesFor l 100)
+    ∷ [])
+
+-- the array of them
+unfoldable pub sizesMember : List Answer → List ℕ
+sizesMember l = joined (ascii ",\"least_sizes\":[" ∷ sizesObjects l ∷ ascii "]" ∷ [])
+
+-- what the sizes hold for: packets and octets held where no packet is lost, waiting times where the clock does not step back
+unfoldable pub limitMembers : (lost back : Bool) → List ℕ
+limitMembers lost back =
+    joined (flagMember (ascii ",\"packets_lost\":") lost ∷ flagMember (ascii ",\"clock_steps_back\":") back ∷ [])
+
+-- how many of those that arrived are of a kind
+unfoldable pub shareMember : List ℕ → ℕ → ℕ → List ℕ
+shareMember name part whole =
+    joined
+    (name
+    ∷ decimalOf part
+    ∷ ascii ",\"of\":"
+    ∷ decimalOf whole
+    ∷ ascii ",\"percent\":"
+    ∷ percent (ascii "null") part whole
+    ∷ ascii "}"
+    ∷ [])
+
+-- the reordered ratio, and the degrees of n-reordering for n = 1 and 3
+unfoldable pub ratioMembers : (reordered reordered1 reordered3 arrived : ℕ) → List ℕ
+ratioMembers reordered reordered1 reordered3 arrived =
+    joined
+    (shareMember (ascii ",\"reordered\":{\"packets\":") reordered arrived
+    ∷ shareMember (ascii ",\"reordered_1\":{\"packets\":") reordered1 arrived
+    ∷ shareMember (ascii ",\"reordered_3\":{\"packets\":") reordered3 arrived
+    ∷ [])
+
+-- the total of disorder, and the end
+unfoldable pub disorderMember : ℕ → List ℕ
+disorderMember n = joined (numberMember (ascii ",\"disorder_pairs\":") n ∷ ascii "}\n" ∷ [])
+
+-- ---- the object
+
+-- of a label, these figures, and the answers that the least sizes are of
+unfoldable pub objectOf : List ℕ → Figures → List Answer → List ℕ
+objectOf label f l =
+    joined
+    (labelMember label
+    ∷ countsMembers (f .sent) (f .arrived) (f .copies)
+    ∷ sizesMember l
+    ∷ limitMembers (f .lost) (f .back)
+    ∷ ratioMembers (f .reordered) (f .reordered1) (f .reordered3) (f .arrived)
+    ∷ disorderMember (f .disorder)
+    ∷ [])
+
+-- of a decoded file
+unfoldable pub summaryJson : Decoded → List ℕ
+summaryJson d = objectOf (sampleOf d .label) (figuresOf d) (answersOf d)
+
+-- the call's answer, and the lent octets after it: those of the object
+abbrev pub SummaryJsonTo : Decoded → List ℕ → WriteAnswer → List ℕ → Type 0
+SummaryJsonTo d old answer new = Output (decodedRefusal d) (summaryJson d) old answer new

@@ -1,0 +1,2 @@
+-- Laws of the definitions of specs/, for the proofs of the crates that write texts. Assumes nothing.
+pub mod Parts
