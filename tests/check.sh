@@ -10,9 +10,36 @@ listing() {
         echo 'the listing is right' > "$dir/expected"
         try "$1" 0 '' check "$3" "$dir/listing"
     else
-        echo "line $2 is wrong" > "$dir/expected"
+        {
+            echo "line $2 is wrong"
+            shown 'the listing has: ' "$2" "$dir/listing"
+            "$krakobran" report "$3" > "$dir/right"
+            shown 'the sample gives: ' "$2" "$dir/right"
+        } > "$dir/expected"
         try "$1" 1 '' check "$3" "$dir/listing"
     fi
+}
+
+# WORDS LINE FILE: a line of a file as `check` shows it.
+shown() {
+    local octets octet ended text='' n=0
+    ended=$(tr -cd '\n' < "$3" | wc -c)
+    octets=$(sed -n "$2p" "$3" | tr -d '\n' | head -c 121 | od -An -v -tu1)
+    for octet in $octets; do
+        n=$((n + 1))
+        if [ "$n" -gt 120 ]; then
+            text+=' ..'
+        elif [ "$octet" -lt 32 ] || [ "$octet" -gt 126 ]; then
+            text+=$(printf '\\x%02X' "$octet")
+        else
+            text+=$(printf "\\$(printf %o "$octet")_")
+            text=${text%_}
+        fi
+    done
+    if [ "$2" -gt "$ended" ] && [ "$n" -le 120 ]; then
+        [ "$n" -eq 0 ] && text='no such line' || text+=' (no line feed)'
+    fi
+    printf '%s%s\n' "$1" "$text"
 }
 
 # NAME REFUSAL: the sample of standard input is refused, with the words of the table of docs/CALLS.md, and the listing is not looked at.
@@ -45,6 +72,22 @@ listing 'a leading zero' 6 "$sample" < <(sed '6s/ 30 / 030 /' "$report")
 listing 'the listing twice over' 8 "$sample" < <(cat "$report" "$report")
 listing 'the listing of another sample' 1 "$sample" < "$dir/long"
 listing 'the line of a refused sample' 1 "$sample" < <(echo 'refused 6')
+listing 'octets that cannot be printed' 1 "$sample" < <(printf 'sent 5\t\0\177\377\033 arrivals 5\n')
+listing 'a line of 120 octets' 1 "$sample" < <(printf 'x%.0s' {1..120} && echo)
+listing 'a line of 121 octets' 1 "$sample" < <(printf 'x%.0s' {1..121} && echo)
+listing 'an empty line' 2 "$sample" < <(head -n 1 "$report" && echo)
+
+# Both lines of a wrong listing, in full.
+printf 'line 6 is wrong\nthe listing has: 5 3 late 5 2 31 200 2\\x0D\nthe sample gives: 5 3 late 5 2 30 200 2\n' > "$dir/expected"
+sed '6s/ 30 \(.*\)/ 31 \1\r/' "$report" > "$dir/listing"
+try 'both lines' 1 '' check "$sample" "$dir/listing"
+printf 'line 7 is wrong\nthe listing has: end 5 1 0 1 16 0 (no line feed)\nthe sample gives: end 5 1 0 1 16 0\n' > "$dir/expected"
+head -c 100 "$report" > "$dir/listing"
+try 'a line feed that is missing' 1 '' check "$sample" "$dir/listing"
+printf 'line 8 is wrong\nthe listing has: more\nthe sample gives: no such line\n' > "$dir/expected"
+try 'a line that the sample does not give' 1 '' check "$sample" - < <(cat "$report" && echo more)
+printf 'line 7 is wrong\nthe listing has: no such line\nthe sample gives: end 5 1 0 1 16 0\n' > "$dir/expected"
+try 'a line that the listing does not have' 1 '' check "$sample" - < <(head -n 6 "$report")
 
 # Long listings: 262,144 octets are the most that one can have.
 listing 'the listing of the longest sample' 0 "$dir/longest" < "$dir/long"

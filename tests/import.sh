@@ -10,6 +10,12 @@ refused() {
     try "$1" 1 "$3$(words "$2")" import "$4" "$5" 100 -
 }
 
+# NAME LINE WORDS: of the log of standard input, for K of 2, a line is refused with what is wrong with it.
+malformed() {
+    : > "$dir/expected"
+    try "$1" 1 "line $2: $3" import log 2 100 -
+}
+
 # SEQUENCE SECONDS FRACTION: an OWAMP record by octets of its sequence number and receive time.
 record() {
     printf "\\0\\0\\0\\$1************\\0\\0\\0\\$2\\$3\\0\\0\\0*"
@@ -50,7 +56,7 @@ same 'the report of a log' "$dir/out" "$root/crates/report/stdout"
 
 # 4,096 lines and more.
 refused '4097 lines' 5 'line 4097: ' log 4096 < <(printf '%d;1\n' {1..4096} 1)
-refused '4097 lines, the last malformed' 14 'line 4097: ' log 4096 < <(printf '%s;1\n' {1..4096} x)
+try '4097 lines, the last malformed' 1 'line 4097: it begins with no digit, as a header does' import log 4096 100 - < <(printf '%s;1\n' {1..4096} x)
 
 # Refused logs.
 refused 'K of 0' 4 '' log 0 < "$dir/log"
@@ -58,9 +64,51 @@ refused 'K of 4097' 4 '' log 4097 < "$dir/log"
 refused 'number K + 1' 6 'line 3: ' log 2 < "$dir/log"
 refused 'a time less by 1001 microseconds' 7 'line 2: ' log 2 < <(printf '1;5\n2;3,999\n')
 refused 'a time less by 1001 than the greatest' 7 'line 3: ' log 2 < <(printf '1;2\n2;1,5\n1;0,999\n')
-refused 'a carriage return' 14 'line 1: ' log 2 < <(printf '1;5\r\n')
-refused 'no last line feed' 14 'line 2: ' log 2 < <(printf '1;5\n2;6')
-refused 'octet 0' 14 'line 1: ' log 2 < <(printf '\0')
+
+# What is wrong with a line.
+windows='a carriage return stands in it, as in a Windows file'
+no_form='it is not a sequence number, a semicolon and a time in milliseconds'
+malformed 'a carriage return' 1 "$windows" < <(printf '1;5\r\n')
+malformed 'a carriage return after decimals' 2 "$windows" < <(printf '1;5\n2;5,5\r\n')
+malformed 'a carriage return alone' 1 "$windows" < <(printf '\r\n')
+malformed 'a carriage return after the number' 1 "$windows" < <(printf '1\r2')
+malformed 'a byte order mark' 1 'it begins with a byte order mark' < <(printf '\357\273\2771;5\n')
+malformed 'two octets of a byte order mark' 1 'it begins with no digit, as a header does' < <(printf '\357\2731;5\n')
+malformed 'a header' 1 'it begins with no digit, as a header does' < <(printf 'number;time\n1;5\n')
+malformed 'octet 0' 1 'it begins with no digit, as a header does' < <(printf '\0')
+malformed 'a space before the number' 2 'it begins with no digit, as a header does' < <(printf '1;5\n 2;5\n')
+malformed 'an empty line' 2 'it is empty' < <(printf '1;5\n\n2;5\n')
+malformed 'no last line feed' 2 'no line feed ends it' < <(printf '1;5\n2;6')
+malformed 'no last line feed, after the number' 2 'no line feed ends it' < <(printf '1;5\n2')
+malformed 'no last line feed, after the comma' 1 'no line feed ends it' < <(printf '1;5,')
+malformed 'four decimals' 1 'its time has more than three decimals' < <(printf '1;5,0000\n')
+malformed 'four decimals after a point' 2 'its time has more than three decimals' < <(printf '1;5\n2;5.1234\n')
+malformed 'a number of 2^32' 1 'its sequence number is over 4294967295' < <(printf '4294967296;5\n')
+malformed 'a time of 2^64 microseconds' 1 'its time is over 18446744073709551.615 milliseconds' < <(printf '1;18446744073709551,616\n')
+malformed 'a time of 30 digits' 1 'its time is over 18446744073709551.615 milliseconds' < <(printf '1;100000000000000000000000000000\n')
+malformed 'no semicolon' 1 "$no_form" < <(printf '1,5\n')
+malformed 'no time' 1 "$no_form" < <(printf '1;\n')
+malformed 'no decimals' 1 "$no_form" < <(printf '1;5,\n')
+malformed 'a third field' 2 "$no_form" < <(printf '1;5\n2;6;7\n')
+malformed 'octet 0 after the time' 1 "$no_form" < <(printf '1;5\0\n')
+
+# The label.
+{ two 5 && printf 'radio' && printf '\0\1\0\144\0\0'; } > "$dir/expected"
+try 'a label' 0 '' import log --label radio 1 100 - < /dev/null
+try 'a label before the word' 0 '' --label radio import log 1 100 - < /dev/null
+try 'a label after an equals sign' 0 '' import log 1 100 --label=radio - < /dev/null
+try 'a label of records' 0 '' import owamp --label radio 1 100 - < /dev/null
+{ two 64 && printf 'x%.0s' {1..64} && printf '\0\1\0\144\0\0'; } > "$dir/expected"
+try 'a label of 64 octets' 0 '' import log --label "$(printf 'x%.0s' {1..64})" 1 100 - < /dev/null
+{ two 9 && printf -- '--label k' && printf '\0\1\0\144\0\0'; } > "$dir/expected"
+try 'a label that begins as an option' 0 '' import log --label '--label k' 1 100 - < /dev/null
+: > "$dir/expected"
+try 'a label of 65 octets' 1 "$(words 3)" import log --label "$(printf 'x%.0s' {1..65})" 1 100 - < /dev/null
+try 'a label of 9000 octets' 1 "$(words 3)" import log --label "$(printf 'x%.0s' {1..9000})" 1 100 - < /dev/null
+try 'a label with a tabulator' 1 "$(words 13)" import log --label $'a\tb' 1 100 - < /dev/null
+try 'a refused log before a refused label' 1 "line 1: it is empty" import log --label $'a\tb' 1 100 - < <(echo)
+try 'no text after --label' 2 'a text must follow --label' import log 1 100 - --label
+try '--label of another command' 2 '--label is no option of report; see krakobran help' report --label radio - < /dev/null
 try 'over 262144 octets' 1 'the input has over 262144 octets' import log 1 100 - < <(head -c 262145 /dev/zero)
 
 # What is no file, and bad usage.
@@ -68,7 +116,7 @@ try 'a missing file' 1 'there is no such file' import log 1 100 "$dir/missing"
 try 'a directory' 1 'this is a directory' import log 1 100 "$dir"
 for arguments in '' log 'log 5' 'log 5 100' 'log 5 100 a b' '5 100 a' 'records 5 100 a'; do
     read -ra list <<< "$arguments"
-    try "bad usage: import $arguments" 2 'usage: krakobran import log|owamp K SIZE FILE' import "${list[@]}"
+    try "bad usage: import $arguments" 2 'usage: krakobran import log|owamp [--label TEXT] K SIZE FILE' import "${list[@]}"
 done
 try 'K that is no number' 2 'K is no number from 0 to 4294967295' import log 5x 100 - < "$dir/log"
 try 'an empty K' 2 'K is no number from 0 to 4294967295' import log '' 100 - < "$dir/log"

@@ -59,11 +59,11 @@ have() {
     return 1
 }
 
-# The words of a refusal, from the table of docs/CALLS.md, up to a semicolon.
+# The words of a refusal, from the table of docs/CALLS.md.
 words() {
     local found
     found=$(sed -n "s/^| $1 | \(.*\) |\$/\1/p" "$root/docs/CALLS.md" | head -n 1)
-    printf '%s\n' "${found:-no words in docs/CALLS.md}" | sed 's/;.*//'
+    printf '%s\n' "${found:-no words in docs/CALLS.md}"
 }
 
 # Numbers as octets, of two, four and eight.

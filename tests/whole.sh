@@ -47,8 +47,10 @@ for word in report import picture; do
     judge "$word, a file size limit" 1 "$full" "$?"
 done
 
-# A reader that goes away ends the command silently, as it does cat.
-timeout 60 "$krakobran" picture "$dir/longest" 2> "$dir/err" | head -c 5 > "$dir/out"
+# A reader that goes away ends the command silently, as it does cat. This picture is longer than what a pipe holds.
+paste -d ';' <(seq 4096 -1 1) <(seq 4096) > "$dir/backwards"
+"$krakobran" import log 4096 100 "$dir/backwards" > "$dir/reversed"
+timeout 60 "$krakobran" picture "$dir/reversed" 2> "$dir/err" | head -c 5 > "$dir/out"
 found=${PIPESTATUS[0]}
 printf '<svg ' > "$dir/expected"
 judge 'a reader that goes away' 141 '' "$found"
@@ -58,7 +60,7 @@ judge 'a reader that goes away' 141 '' "$found"
 : > "$dir/expected"
 (trap '' PIPE && exec timeout 60 "$krakobran" import log x 100 "$dir/longest" > "$dir/out" 2> "$dir/err")
 judge 'bad usage, a broken pipe ignored' 2 'K is no number from 0 to 4294967295' "$?"
-(trap '' PIPE && exec timeout 60 "$krakobran" picture "$dir/longest" 2> "$dir/err") | head -c 5 > "$dir/out"
+(trap '' PIPE && exec timeout 60 "$krakobran" picture "$dir/reversed" 2> "$dir/err") | head -c 5 > "$dir/out"
 found=${PIPESTATUS[0]}
 printf '<svg ' > "$dir/expected"
 judge 'a reader that goes away, a broken pipe ignored' 1 "$full" "$found"
@@ -113,7 +115,7 @@ sys.exit(process.wait())' "$dir/input" "$krakobran" "$@" > "$dir/out" 2> "$dir/e
     cp "$example" "$dir/input"
     socket check - "$listing"
     judge 'check, the sample from a socket' 0 '' "$?"
-    printf 'the first is worse, which has no label\nfirst 1/5\nsecond 0/1\n' > "$dir/expected"
+    printf 'standard input is worse: 1/5 = 20.00 %%; %s (%s): 0/1 = 0.00 %%\n' "$dir/longest" "$(printf 'x%.0s' {1..64})" > "$dir/expected"
     socket worse - "$dir/longest"
     judge 'worse, the first from a socket' 0 '' "$?"
 fi

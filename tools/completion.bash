@@ -3,13 +3,15 @@ _krakobran() {
     local current=${COMP_WORDS[COMP_CWORD]} word=${COMP_WORDS[1]-} list=
     COMPREPLY=()
     if [ "$COMP_CWORD" -eq 1 ]; then
-        list='report summary import export check worse picture help --help --version'
+        list='report summary import export check worse picture follow help --help --version'
     elif [[ $current == --* ]]; then
         list='--help --version'
+        [ "$word" != summary ] || list+=' --json --all'
+        [ "$word" != import ] || list+=' --label'
     elif [ "$COMP_CWORD" -eq 2 ]; then
         case $word in
             import | export) list='log owamp' ;;
-            help) list='report summary import export check worse picture help' ;;
+            help) list='report summary import export check worse picture follow help' ;;
         esac
     fi
     [ -z "$list" ] || mapfile -t COMPREPLY < <(compgen -W "$list" -- "$current")

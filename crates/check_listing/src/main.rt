@@ -1,6 +1,8 @@
-// The checking program: its arguments are the names of a sample file and of a listing. It prints one line: that the listing is
-// right, the number of its first wrong line, or the refusal of the sample. No sample has over 57,414 octets and no sample's
+// The checking program: its arguments are the names of a sample file and of a listing. It prints that the listing is right; or the
+// number of its first wrong line, what stands there and what the sample gives; or the refusal of the sample in words. No sample has over 57,414 octets and no sample's
 // listing over 262,144, so one octet more than these decides of longer files.
+mod shown;
+
 ghost use mathlib.Core.Path.{_≡_};
 ghost use mathlib.Core.List.{List};
 ghost use Prim.Native.Nat.{ℕ, _+_};
@@ -13,6 +15,9 @@ use checker::Verdict;
 use libc::STDOUT_FILENO;
 use listing::LISTING_OCTETS;
 use rfc4737::refusal::NONE;
+use shown::write_line;
+use shown::write_word;
+use text_lines::line_of;
 
 // One octet more than the longest sample has.
 const SAMPLE_ROOM: usize = sample::LONGEST + 1;
@@ -27,33 +32,56 @@ fn check_start(file: &[u8], start: &[u8]) -> SampleVerdict
     checker::check(file, start)
 }
 
-// Writes a word.
-fn write_word(word: &[u8]) {
-    io::write_all(STDOUT_FILENO, word);
-}
-
-// Writes the verdict.
-fn write_verdict(verdict: Verdict) {
-    match verdict {
-        Verdict::Agrees => write_word(b"the listing is right\n"),
-        Verdict::WrongLine(n) => {
-            write_word(b"line ");
-            io::print_decimal(STDOUT_FILENO, n as u64);
-            write_word(b" is wrong\n");
-        }
+// Writes the first n octets, which there are.
+fn write_first(out: &[u8], n: usize) {
+    if n <= out.len() {
+        io::write_all(STDOUT_FILENO, &out[0..n]);
     }
 }
 
-// Writes what was found.
-fn write_sample_verdict(found: SampleVerdict) {
+// Writes the line of a refusal, in words.
+fn write_refusal(refusal: u32) {
+    write_word(b"refused ");
+    io::print_decimal(STDOUT_FILENO, refusal as u64);
+    write_word(b": ");
+    let mut words = [0u8; refusals::OCTETS];
+    let written = refusals::words(refusal, &mut words);
+    write_first(&words, written.length as usize);
+    write_word(b"\n");
+}
+
+// Writes line n of the sample's own listing, counted from 0.
+fn write_right_line(file: &[u8], n: usize) {
+    let mut out = [0u8; LISTING_OCTETS];
+    let length = metrics::listing(file, &mut out).length as usize;
+    if length <= out.len() {
+        write_line(b"the sample gives: ", line_of(&out[0..length], n));
+    }
+}
+
+// Writes that line n is wrong, counted from 1, and both lines.
+fn write_wrong_line(file: &[u8], start: &[u8], n: u32) {
+    write_word(b"line ");
+    io::print_decimal(STDOUT_FILENO, n as u64);
+    write_word(b" is wrong\n");
+    if 0 < n {
+        write_line(b"the listing has: ", line_of(start, n as usize - 1));
+        write_right_line(file, n as usize - 1);
+    }
+}
+
+// Writes what was found of a sample and the start of a listing.
+fn write_verdict(file: &[u8], start: &[u8]) {
+    let found = check_start(file, start);
     if found.refusal != NONE {
-        write_word(b"refused ");
-        io::print_decimal(STDOUT_FILENO, found.refusal as u64);
-        write_word(b"\n");
+        write_refusal(found.refusal);
         return;
     }
     let verdict = found.verdict;
-    write_verdict(verdict);
+    match verdict {
+        Verdict::Agrees => write_word(b"the listing is right\n"),
+        Verdict::WrongLine(n) => write_wrong_line(file, start, n),
+    }
 }
 
 // Reads two open files, the first as a sample and the second as a listing, and checks.
@@ -62,7 +90,7 @@ fn check_files(sample: i32, listing: i32) {
     let m = io::read_full(sample, &mut file);
     let mut start = [0u8; LISTING_ROOM];
     let n = io::read_full(listing, &mut start);
-    write_sample_verdict(check_start(&file[..m], &start[..n]));
+    write_verdict(&file[..m], &start[..n]);
 }
 
 // Opens the file that the argument at a place names; the answer is negative where it can't be.

@@ -1,5 +1,5 @@
 // The export program: reads a sample on standard input, and writes its arrivals on standard output, as a text log where the
-// argument is `log`, and as OWAMP records where it is `owamp`. Of a sample that is refused it writes the one line `refused N`
+// argument is `log`, and as OWAMP records where it is `owamp`. Of a sample that is refused it writes the one line `refused N: WORDS`
 // instead, which is neither: a line of a log begins with a digit, and a record with the octet 0.
 mod log;
 
@@ -40,14 +40,23 @@ fn put_arrivals(kind: Kind, file: &[u8], out: &mut [u8]) -> WriteAnswer {
     }
 }
 
+// Writes the line of a refusal, in words.
+fn write_refusal(refusal: u32) {
+    write_word(b"refused ");
+    io::print_decimal(STDOUT_FILENO, refusal as u64);
+    write_word(b": ");
+    let mut words = [0u8; refusals::OCTETS];
+    let written = refusals::words(refusal, &mut words);
+    write_first(&words, written.length as usize);
+    write_word(b"\n");
+}
+
 // Writes a sample's arrivals, or the refusal.
 fn write_arrivals(kind: Kind, file: &[u8]) {
     let mut out = [0u8; OUTPUT_OCTETS];
     let written = put_arrivals(kind, file, &mut out);
     if written.refusal != 0 {
-        write_word(b"refused ");
-        io::print_decimal(STDOUT_FILENO, written.refusal as u64);
-        write_word(b"\n");
+        write_refusal(written.refusal);
         return;
     }
     write_first(&out, written.length as usize);

@@ -1,8 +1,8 @@
 -- The sample file of a log or of records. Lists of 4,096 places are long enough, so the refusal of an import is the input's own (`log-refusal`,
 -- `records-refusal`); where nothing is refused it has been accepted, K is in its range, and the first places hold its arrivals, since they were
 -- written over the start (`log-holds`, `records-hold`). What is answered: the input's refusal (`convert-refused`), or that of the sample's
--- writer, which with no label and K sizes of one size refuses nothing of its own where nothing of K and the lists is, and writes the file of
--- the sample (`convert-written`).
+-- writer, which of K sizes of one size refuses nothing but the label where nothing of K and the lists is refused (`label-decides`), and writes
+-- the file of the sample (`convert-written`).
 -- Here k is K, y the answer of the import, f that it is so, numbers′ and times′ the lists after it; l are the arrivals, out and out′ the lent
 -- octets before and after. Assumes nothing.
 use Prim.Native.Nat.{ℕ, zero, suc, _≤_}
@@ -14,17 +14,16 @@ use Rattle.octets.specs.Memory.{over}
 use Rattle.octets.proofs.Memory.{over-first}
 use Rattle.rfc4737.specs.declared.Arrival.{Arrival}
 use Rattle.rfc4737.specs.Judge.{arrivalsMost, numbersOf, timesOf, arrivalsFrom, refusalOfLists}
-use Rattle.rfc4737.specs.Refusals.{outside}
+use Rattle.rfc4737.specs.Refusals.{firstOf}
 use Rattle.rfc4737.proofs.Pairs.{arrivals-back}
-use Rattle.sample.specs.Format.{Sample, fileOf}
-use Rattle.sample.specs.Judge.{someUnshown, sampleRefusal}
+use Rattle.sample.specs.Format.{fileOf}
+use Rattle.sample.specs.Judge.{judgeLabel, judgeOctets, sampleRefusal}
 use Rattle.sample.specs.Calls.{WrittenTo}
 use Rattle.sample.specs.Output.{Output, ifNone}
 use Rattle.sample.proofs.Output.{output-refused}
 use Rattle.sample.specs.declared.WriteAnswer.{WriteAnswer}
 use Rattle.textlog.specs.Decode.{logArrivals, judgeLog}
 use Rattle.textlog.specs.Calls.{LogImportedFrom}
-use Rattle.textlog.specs.RoundTrip.{sampleWith}
 use Rattle.textlog.specs.declared.LogImport.{LogImport}
 use Rattle.textlog.proofs.Accepted.{accepted-log, accepted-lists}
 use Rattle.textlog.proofs.Answers.{import-room}
@@ -33,7 +32,7 @@ use Rattle.owamp.specs.Calls.{importedArrivals, RecordsImportedFrom}
 use Rattle.owamp.specs.declared.RecordsImport.{RecordsImport}
 use Rattle.owamp.proofs.Accepted.{accepted-lists as records-accepted}
 use Rattle.owamp.proofs.Answers.{none-refused, import-room as records-room}
-use Rattle.import_log.specs.Convert.{ConvertedTo, Holds}
+use Rattle.import_log.specs.Convert.{labelledSample, convertRefusal, ConvertedTo, Holds}
 
 -- ---- what is imported
 
@@ -89,22 +88,31 @@ module _ (k : ℕ) (os numbers times : List ℕ) (y : RecordsImport) (numbers′
 
 -- ---- what is answered
 
--- with no label, nothing is refused where nothing of K and the lists is
-label-none : (sizes numbers times : List ℕ) → refusalOfLists (length sizes) numbers times ≡ 0 → sampleRefusal [] sizes numbers times ≡ 0
-unfolding sampleRefusal outside someUnshown
-label-none sizes numbers times e = rw e
+-- of the refusals in their order, a last one that is not due
+last-none : (a b : ℕ) → firstOf (a ∷ b ∷ 0 ∷ []) ≡ firstOf (a ∷ b ∷ [])
+last-none zero zero = refl
+last-none zero (suc b) = refl
+last-none (suc a) b = refl
+
+-- where nothing of the input, of K and of the lists is refused, the label decides
+label-decides : (refusal : ℕ) (label sizes numbers times : List ℕ) → refusal ≡ 0 → refusalOfLists (length sizes) numbers times ≡ 0
+    → sampleRefusal label sizes numbers times ≡ convertRefusal refusal label
+unfolding sampleRefusal convertRefusal
+label-decides refusal label sizes numbers times z e = rw (e, z) (last-none (judgeLabel (length label)) (judgeOctets label))
 
 -- the input is refused
-pub convert-refused : (refusal : ℕ) (s : Sample) (out : List ℕ) → (refusal ≡ 0 → ⊥)
-    → ConvertedTo refusal s out (record { refusal = refusal; length = 0 }) out
-convert-refused refusal s out z = output-refused refusal (fileOf s) out refusal refl z
+pub convert-refused : (refusal : ℕ) (label : List ℕ) (k size : ℕ) (l : List Arrival) (out : List ℕ) → (refusal ≡ 0 → ⊥)
+    → ConvertedTo refusal label k size l out (record { refusal = refusal; length = 0 }) out
+unfolding convertRefusal
+convert-refused zero label k size l out z = absurd (z refl)
+convert-refused (suc r) label k size l out z = output-refused (suc r) (fileOf (labelledSample label k size l)) out (suc r) refl z
 
--- its sample is written, or there is no room
-pub convert-written : (k size refusal : ℕ) (l : List Arrival) (out : List ℕ) (written : WriteAnswer) (out′ : List ℕ) {sizes numbers times : List ℕ}
+-- its sample is written, or its label is refused, or there is no room
+pub convert-written : (k size refusal : ℕ) (l : List Arrival) (label out : List ℕ) (written : WriteAnswer) (out′ : List ℕ) {sizes numbers times : List ℕ}
     → refusal ≡ 0 → refusalOfLists k (numbersOf l) (timesOf l) ≡ 0
-    → sizes ≡ replicate k size → numbers ≡ numbersOf l → times ≡ timesOf l → WrittenTo [] sizes numbers times out written out′
-    → ConvertedTo refusal (sampleWith k size l) out written out′
-convert-written k size refusal l out written out′ z j es en et w =
-    let own = (λ i. sampleRefusal [] (es i) (en i) (et i)) ∙ label-none (replicate k size) (numbersOf l) (timesOf l) (rw (length-replicate k size) j) ∙ sym z in
-    let file = (λ i. fileOf (record { label = []; sizes = es i; arrivals = arrivalsFrom (en i) (et i) })) ∙ ap (λ (x : List Arrival). fileOf (sampleWith k size x)) (arrivals-back l) in
+    → sizes ≡ replicate k size → numbers ≡ numbersOf l → times ≡ timesOf l → WrittenTo label sizes numbers times out written out′
+    → ConvertedTo refusal label k size l out written out′
+convert-written k size refusal l label out written out′ z j es en et w =
+    let own = (λ i. sampleRefusal label (es i) (en i) (et i)) ∙ label-decides refusal label (replicate k size) (numbersOf l) (timesOf l) z (rw (length-replicate k size) j) in
+    let file = (λ i. fileOf (record { label = label; sizes = es i; arrivals = arrivalsFrom (en i) (et i) })) ∙ ap (λ (x : List Arrival). fileOf (labelledSample label k size x)) (arrivals-back l) in
     subst (λ (p : ℕ × List ℕ). Output (p .0) (p .1) out written out′) (λ i. (own i, file i)) w

@@ -1,9 +1,8 @@
-// A text log or OWAMP records made into a sample file: no label, K payload sizes of one size, and the arrivals.
+// A text log or OWAMP records made into a sample file: a label, K payload sizes of one size, and the arrivals.
 ghost use mathlib.Core.List.{List};
 ghost use mathlib.Core.Path.{_≡_};
 ghost use Rattle.rfc4737.specs.declared.Arrival.{Arrival};
 ghost use Rattle.textlog.specs.Decode.{judgeLog, logArrivals};
-ghost use Rattle.textlog.specs.RoundTrip.{sampleWith};
 ghost use Rattle.owamp.specs.Judge.{recordsRefusal};
 ghost use Rattle.owamp.specs.Calls.{importedArrivals};
 ghost use Rattle.import_log.specs.Convert.{Holds, ConvertedTo};
@@ -18,6 +17,7 @@ const PLACES: usize = ARRIVALS_MOST as usize;
 // refused.
 fn convert_lists(
     found: LogImport,
+    label: &[u8],
     k: u32,
     size: u16,
     numbers: &[u32],
@@ -25,7 +25,7 @@ fn convert_lists(
     out: &mut [u8],
 ) -> WriteAnswer
     requires { ⌜ (found .refusal ≡ 0 → (l : List Arrival) × Holds k (found .arrivals) (now numbers) (now times) l) ⌝ }
-    ensures { λ r. ⌜ ((l : List Arrival) → (found .refusal ≡ 0 → Holds k (found .arrivals) (now (numbers .entry)) (now (times .entry)) l) → ConvertedTo (found .refusal) (sampleWith k size l) (now (out .entry)) r (now (out .exit))) ⌝ }
+    ensures { λ r. ⌜ ((l : List Arrival) → (found .refusal ≡ 0 → Holds k (found .arrivals) (now (numbers .entry)) (now (times .entry)) l) → ConvertedTo (found .refusal) (now (label .entry)) k size l (now (out .entry)) r (now (out .exit))) ⌝ }
 {
     if found.refusal != 0 {
         return WriteAnswer {
@@ -36,22 +36,34 @@ fn convert_lists(
     let sizes = [size; PLACES];
     let sent = k as usize;
     let n = found.arrivals as usize;
-    sample::write(b"", &sizes[..sent], &numbers[..n], &times[..n], out)
+    sample::write(label, &sizes[..sent], &numbers[..n], &times[..n], out)
 }
 
 // Writes the sample file of a log from the start of `out`. With a refusal `out` stays as it was.
-pub(crate) fn convert_log(log: &[u8], k: u32, size: u16, out: &mut [u8]) -> WriteAnswer
-    ensures { λ r. ⌜ ConvertedTo (judgeLog k (now (log .entry)) .refusal) (sampleWith k size (logArrivals (now (log .entry)))) (now (out .entry)) r (now (out .exit)) ⌝ }
+pub(crate) fn convert_log(
+    log: &[u8],
+    label: &[u8],
+    k: u32,
+    size: u16,
+    out: &mut [u8],
+) -> WriteAnswer
+    ensures { λ r. ⌜ ConvertedTo (judgeLog k (now (log .entry)) .refusal) (now (label .entry)) k size (logArrivals (now (log .entry))) (now (out .entry)) r (now (out .exit)) ⌝ }
 {
     let mut numbers = [0u32; PLACES];
     let mut times = [0u64; PLACES];
     let found = textlog::import(log, k, &mut numbers, &mut times);
-    convert_lists(found, k, size, &numbers, &times, out)
+    convert_lists(found, label, k, size, &numbers, &times, out)
 }
 
 // The same of OWAMP records.
-pub(crate) fn convert_records(records: &[u8], k: u32, size: u16, out: &mut [u8]) -> WriteAnswer
-    ensures { λ r. ⌜ ConvertedTo (recordsRefusal k (now (records .entry))) (sampleWith k size (importedArrivals (now (records .entry)))) (now (out .entry)) r (now (out .exit)) ⌝ }
+pub(crate) fn convert_records(
+    records: &[u8],
+    label: &[u8],
+    k: u32,
+    size: u16,
+    out: &mut [u8],
+) -> WriteAnswer
+    ensures { λ r. ⌜ ConvertedTo (recordsRefusal k (now (records .entry))) (now (label .entry)) k size (importedArrivals (now (records .entry))) (now (out .entry)) r (now (out .exit)) ⌝ }
 {
     let mut numbers = [0u32; PLACES];
     let mut times = [0u64; PLACES];
@@ -60,5 +72,5 @@ pub(crate) fn convert_records(records: &[u8], k: u32, size: u16, out: &mut [u8])
         refusal: taken.refusal,
         arrivals: taken.arrivals,
     };
-    convert_lists(found, k, size, &numbers, &times, out)
+    convert_lists(found, label, k, size, &numbers, &times, out)
 }

@@ -7,12 +7,13 @@ use lib.Dec.{ltb}
 use lib.ListN.{length}
 use Rattle.octets.specs.Memory.{over}
 use Rattle.rfc4737.specs.Judge.{numbersOf, timesOf, arrivalsFrom, refusalOfLists}
-use Rattle.rfc4737.specs.Refusals.{inCase, firstOf, outputShort}
+use Rattle.rfc4737.specs.Refusals.{inCase, firstOf, outputShort, lineMalformed}
 use Rattle.sample.specs.Output.{ifNone, Output}
 use Rattle.sample.specs.declared.WriteAnswer.{WriteAnswer}
 use Rattle.textlog.specs.Form.{logOf}
-use Rattle.textlog.specs.Decode.{judgeLog, logArrivals}
+use Rattle.textlog.specs.Decode.{DecodedLine, malformed, arrived, judgeLog, logArrivals}
 use Rattle.textlog.specs.declared.LogImport.{LogImport}
+use Rattle.textlog.specs.declared.LogLine.{LogLine}
 
 -- ---- the importer
 
@@ -31,6 +32,13 @@ pub record LogImportedFrom (k : ℕ) (log numbers times : List ℕ) (answer : Lo
   pub arrivals : answer .arrivals ≡ ifNone (answer .refusal) (length (logArrivals log)) 0
   pub filledNumbers : numbers′ ≡ ifNone (answer .refusal) (over (numbersOf (logArrivals log)) numbers) numbers
   pub filledTimes : times′ ≡ ifNone (answer .refusal) (over (timesOf (logArrivals log)) times) times
+
+-- ---- one line
+
+-- the answer for a line by itself: the arrival that it decodes to, or 14
+abbrev pub logLine : DecodedLine → LogLine
+logLine malformed = record { refusal = lineMalformed; number = 0; time = 0 }
+logLine (arrived a) = record { refusal = 0; number = a .number; time = a .time }
 
 -- ---- the writer
 

@@ -3,8 +3,8 @@ ghost use mathlib.Core.Path.{_≡_};
 ghost use Rattle.octets.specs.Memory.{over};
 ghost use Rattle.octets.specs.Text.{lines};
 ghost use Rattle.rfc4737.specs.Judge.{numbersOf, timesOf};
-ghost use Rattle.textlog.specs.Decode.{judgeLines, judgeLog, logArrivals};
-ghost use Rattle.textlog.specs.Calls.{logListsShort, LogImportedFrom, LogWrittenTo};
+ghost use Rattle.textlog.specs.Decode.{decodeLine, judgeLines, judgeLog, logArrivals};
+ghost use Rattle.textlog.specs.Calls.{logListsShort, LogImportedFrom, LogWrittenTo, logLine};
 ghost use Rattle.textlog.specs.RoundTrip.{ExactLine, ExactLog, ImportedIsFit, LogReadAgain};
 ghost use Rattle.textlog.specs.Cases.{LinesReadAsGiven, LinesWrittenAsGiven};
 ghost use Rattle.textlog.specs.Private.{Fillable};
@@ -33,6 +33,14 @@ use writing::put_lines;
 pub struct LogImport {
     pub refusal: u32,
     pub arrivals: u32,
+}
+
+// What is read of one line: the refusal (0, or 14 for a line that is malformed), the sequence number and the time in microseconds, both 0
+// with a refusal.
+pub struct LogLine {
+    pub refusal: u32,
+    pub number: u32,
+    pub time: u64,
 }
 
 // What is found of a log: the refusal (0 for none), the number of arrivals, 0 with a refusal, and the number of the refused line, from
@@ -160,6 +168,34 @@ pub fn refused_line(log: &[u8], k: u32) -> u32
     ensures { λ r. ⌜ r ≡ judgeLog k (now (log .entry)) .line ⌝ }
 {
     judge_log(log, k).line
+}
+
+// The answer for a malformed line.
+fn malformed_line() -> LogLine
+    ensures { λ r. ⌜ r ≡ record { refusal = 14; number = 0; time = 0 } ⌝ }
+{
+    LogLine {
+        refusal: LINE_MALFORMED,
+        number: 0,
+        time: 0,
+    }
+}
+
+// Reads one line by itself, with the line feed that ends it.
+pub fn read_line(line: &[u8]) -> LogLine
+    ensures { λ r. ⌜ r ≡ logLine (decodeLine (now (line .entry))) ⌝ }
+{
+    let Reading::Read(number, time, end) = line_at(line, 0) else {
+        return malformed_line();
+    };
+    if end != line.len() {
+        return malformed_line();
+    }
+    LogLine {
+        refusal: 0,
+        number,
+        time,
+    }
 }
 
 // Writes the log of arrivals of K sent packets from the start of `out`. With a refusal `out` stays as it was.

@@ -1,102 +1,121 @@
-// The program that says which of two samples is the worse link: its arguments are their names. It prints which one has the greater
-// reordered ratio, its label, and the ratio of each as a fraction of whole numbers; or one line on the sample that is refused.
+// The program that says which of two samples is the worse link. Its arguments are the paths of two sample files, and the names that
+// it calls them by, which are the paths where none are given. It prints one line: which sample has the greater reordered ratio, with
+// name, label and ratio of each; or the sample that is refused.
+mod ratio;
+
 use libc::STDOUT_FILENO;
-use rfc4737::Counts;
+use ratio::write_number;
+use ratio::write_ratio;
+use ratio::write_word;
 use worse::Link;
 
 // One octet more than the longest sample has.
 const INPUT_OCTETS: usize = sample::LONGEST + 1;
 
-// Writes a word.
-fn write_word(word: &[u8]) {
-    io::write_all(STDOUT_FILENO, word);
+// Writes the first n octets, which there are.
+fn write_first(out: &[u8], n: usize) {
+    if n <= out.len() {
+        io::write_all(STDOUT_FILENO, &out[0..n]);
+    }
 }
 
-// Writes a word and a number.
-fn write_number(word: &[u8], n: u32) {
-    write_word(word);
-    io::print_decimal(STDOUT_FILENO, n as u64);
-}
-
-// Writes the reordered ratio of a sample by its counts.
-fn write_ratio(name: &[u8], counts: Counts) {
+// Writes the name of a sample, and its label if it has one.
+fn write_name(name: &[u8], file: &[u8]) {
     write_word(name);
-    if counts.arrived == 0 {
-        write_word(b"undefined, as nothing arrived, and counted as 0\n");
+    let label = sample::label(file);
+    if label.len() == 0 {
         return;
     }
-    write_number(b"", counts.reordered);
-    write_number(b"/", counts.arrived);
+    write_word(b" (");
+    write_word(label);
+    write_word(b")");
+}
+
+// Writes the reordered ratio of an accepted sample.
+fn write_sample_ratio(file: &[u8]) {
+    let counts = metrics::counts(file).counts;
+    write_ratio(counts.reordered, counts.arrived);
+}
+
+// Writes an accepted sample with its ratio.
+fn write_sample(name: &[u8], between: &[u8], file: &[u8]) {
+    write_name(name, file);
+    write_word(between);
+    write_sample_ratio(file);
+}
+
+// Writes that the first of two accepted samples is worse.
+fn write_worse(name: &[u8], file: &[u8], other_name: &[u8], other: &[u8]) {
+    write_sample(name, b" is worse: ", file);
+    write_word(b"; ");
+    write_sample(other_name, b": ", other);
     write_word(b"\n");
 }
 
-// Writes which of two accepted samples is the worse one. Neither is where each of two comparisons, with the samples in either order,
-// gives the first.
-fn write_link(link: Link, turned: Link) {
+// Writes that the ratios of two accepted samples are equal.
+fn write_equal(name: &[u8], file: &[u8], other_name: &[u8], other: &[u8]) {
+    write_word(b"the ratios are equal: ");
+    write_sample(name, b": ", file);
+    write_word(b"; ");
+    write_sample(other_name, b": ", other);
+    write_word(b"\n");
+}
+
+// Writes which of two accepted samples is the worse one. Their ratios are equal where each of two comparisons, with the samples in
+// either order, gives the first.
+fn write_comparison(name: &[u8], file: &[u8], other_name: &[u8], other: &[u8]) {
+    let link = worse::compare(file, other).link;
+    let turned = worse::compare(other, file).link;
     match link {
         Link::Refused => {}
-        Link::Second => write_word(b"the second is worse"),
+        Link::Second => write_worse(other_name, other, name, file),
         Link::First => match turned {
             Link::Refused => {}
-            Link::Second => write_word(b"the first is worse"),
-            Link::First => write_word(b"the ratios are equal, and the first is taken"),
+            Link::Second => write_worse(name, file, other_name, other),
+            Link::First => write_equal(name, file, other_name, other),
         },
     }
 }
 
-// Writes the label of that sample.
-fn write_label(label: &[u8]) {
-    if label.len() == 0 {
-        write_word(b", which has no label\n");
-        return;
-    }
-    write_word(b": ");
-    write_word(label);
-    write_word(b"\n");
-}
-
-// Writes what is found of two accepted samples.
-fn write_comparison<'a>(first: &'a [u8], second: &'a [u8]) {
-    let found = worse::compare(first, second);
-    let turned = worse::compare(second, first);
-    let link = found.link;
-    let other = turned.link;
-    write_link(link, other);
-    write_label(worse::worse(first, second));
-}
-
-// Writes the refusal of a sample, and whether there is one.
-fn write_refusal(name: &[u8], file: &[u8]) -> bool {
+// Writes the refusal of a sample in words, and returns whether there is one.
+fn write_refusal(which: &[u8], file: &[u8]) -> bool {
     let refusal = sample::check(file).refusal;
     if refusal == 0 {
         return false;
     }
-    write_word(name);
-    write_number(b" refused ", refusal);
+    write_word(which);
+    write_word(b" refused ");
+    write_number(refusal as u64);
+    write_word(b": ");
+    let mut words = [0u8; refusals::OCTETS];
+    let written = refusals::words(refusal, &mut words);
+    write_first(&words, written.length as usize);
     write_word(b"\n");
     true
 }
 
 // Compares two samples.
-fn compare_files<'a>(first: &'a [u8], second: &'a [u8]) {
-    if write_refusal(b"first", first) {
+fn compare_files(name: &[u8], file: &[u8], other_name: &[u8], other: &[u8]) {
+    if write_refusal(b"first", file) {
         return;
     }
-    if write_refusal(b"second", second) {
+    if write_refusal(b"second", other) {
         return;
     }
-    write_comparison(first, second);
-    write_ratio(b"first ", metrics::counts(first).counts);
-    write_ratio(b"second ", metrics::counts(second).counts);
+    write_comparison(name, file, other_name, other);
 }
 
-// Reads two open files, and compares them.
-fn compare_open(first: i32, second: i32) {
+// Reads two open files, and compares them; their names are the arguments at two places.
+fn compare_open(first: i32, second: i32, first_place: usize, second_place: usize) {
     let mut one = [0u8; INPUT_OCTETS];
     let m = io::read_full(first, &mut one);
     let mut other = [0u8; INPUT_OCTETS];
     let n = io::read_full(second, &mut other);
-    compare_files(&one[..m], &other[..n]);
+    let mut name = io::buffer();
+    let i = os::arg(first_place, &mut name);
+    let mut other_name = io::buffer();
+    let j = os::arg(second_place, &mut other_name);
+    compare_files(&name[..i], &one[..m], &other_name[..j], &other[..n]);
 }
 
 // Opens the file that the argument at a place names; returns a negative number if it can't be opened.
@@ -106,12 +125,8 @@ fn open_named(place: usize) -> i32 {
     os::open_read(&path[..n])
 }
 
-// Takes the arguments, and compares.
-fn main() {
-    if os::arg_count() != 3 {
-        write_word(b"the arguments are the names of two sample files\n");
-        return;
-    }
+// Opens both files, and compares them.
+fn compare_named(first_place: usize, second_place: usize) {
     let first = open_named(1);
     if first < 0 {
         write_word(b"the first sample can't be opened\n");
@@ -122,5 +137,19 @@ fn main() {
         write_word(b"the second sample can't be opened\n");
         return;
     }
-    compare_open(first, second);
+    compare_open(first, second, first_place, second_place);
+}
+
+// Takes the arguments, and compares.
+fn main() {
+    let words = os::arg_count();
+    if words == 3 {
+        compare_named(1, 2);
+        return;
+    }
+    if words == 5 {
+        compare_named(3, 4);
+        return;
+    }
+    write_word(b"the arguments are the paths of two sample files, and their names or none\n");
 }

@@ -1,0 +1,36 @@
+-- `follow::text::write_exact` meets its contract: the parts are written one after the other (`then`). Assumes nothing.
+use native.Mathlib.Omega.{arith}
+use Rattle.writing.proofs.Parts.{nothing, then}
+use Rattle.follow.specs.Text.{exactText}
+use borrow.Author.Needs.{needs}
+use Rattle.follow.proofs.text.write_exact.Statement.{statement}
+use Rattle.follow.proofs.text.write_exact.Tie as tie
+
+returns : tie.Need-returns
+unfolding exactText
+returns c =
+    let e4 = c .before .before in
+    let e3 = e4 .before .before .before .before .before in
+    let e2 = e3 .before .before .before .before in
+    let e1 = e2 .before .before .before .before .before in (
+      then (e1 .write-field .ensures .0)
+          (then (e2 .write-word .ensures .0)
+          (then (e3 .write-late .ensures .0)
+          (then (e4 .write-word2 .ensures .0) (nothing _ _)))),
+      omega (arith, e1 .write-field .ensures .1, e2 .write-word .ensures .1, e3 .write-late .ensures .1, e4 .write-word2 .ensures .1),
+    )
+
+pub write-exact-spec : {M : Type 1} → statement M
+write-exact-spec =
+    tie.close
+    (tie.spec
+    (λ c. search needs)
+    (λ c. search needs)
+    (λ c κs. search needs)
+    (λ c. search needs)
+    (λ c κs. search needs)
+    (λ c κs. search needs)
+    (λ c. search needs)
+    (λ c κs. search needs)
+    (λ c. search needs)
+    returns)

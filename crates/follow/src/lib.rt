@@ -1,0 +1,72 @@
+// What a receiver says of the lines of a text log, one line at a time, as text.
+ghost use mathlib.Core.Path.{_≡_};
+ghost use Prim.Native.Nat.{_≤_};
+ghost use lib.ListN.{length};
+ghost use Rattle.textlog.specs.Decode.{decodeLine};
+ghost use Rattle.textlog.specs.Calls.{logLine};
+ghost use Rattle.follow.specs.Text.{lineOctets};
+ghost use Rattle.follow.specs.Follow.{followed, followedText, FollowedTo};
+
+mod parts;
+mod text;
+
+use receiver::Outcome;
+use receiver::Receiver;
+use receiver::ReceiverAnswer;
+use receiver::StepAnswer;
+use rfc4737::refusal::OUTPUT_SHORT;
+use text::write_line;
+use textlog::LogLine;
+use textlog::read_line;
+
+// The octets that suffice for the text of any line.
+pub const LINE_OCTETS: usize = 256;
+
+// The answer for a line: its refusal (0 for none), the octets of its text, and the receiver after it.
+pub struct FollowAnswer {
+    pub refusal: u32,
+    pub length: u32,
+    pub state: Receiver,
+}
+
+// Steps the receiver by the arrival of a line; a line that is refused leaves it as it was.
+fn step_line(state: Receiver, read: LogLine) -> StepAnswer
+    ensures { λ r. ⌜ r ≡ followed state read ⌝ }
+{
+    if read.refusal != 0 {
+        let outcome = Outcome {
+            refusal: read.refusal,
+            noted: ReceiverAnswer::InOrder(0),
+        };
+        return StepAnswer { outcome, state };
+    }
+    state.step(read.number, read.time)
+}
+
+// Reads one line, steps the receiver by its arrival, and writes what is said of it at the start of `out`, of which LINE_OCTETS octets
+// suffice. A malformed line is refused with 14. Refused, the receiver stays as it was. Where `out` has no room for the text, which is
+// refused with 8, both stay as they were.
+pub fn line(state: Receiver, line: &[u8], out: &mut [u8]) -> FollowAnswer
+    ensures { λ r. ⌜ FollowedTo state (logLine (decodeLine (now (line .entry)))) (now (out .entry)) r (now (out .exit)) ⌝ }
+    ensures room { λ _. ⌜ length (followedText state (logLine (decodeLine (now (line .entry))))) ≤ lineOctets ⌝ }
+{
+    let read = read_line(line);
+    let step = step_line(state, read);
+    let outcome = step.outcome;
+    let after = step.state;
+    let mut text = [0u8; LINE_OCTETS];
+    let n = write_line(&mut text, read, outcome);
+    if out.len() < n {
+        return FollowAnswer {
+            refusal: OUTPUT_SHORT,
+            length: 0,
+            state,
+        };
+    }
+    octets::put_octets(out, 0, &text[..n]);
+    FollowAnswer {
+        refusal: outcome.refusal,
+        length: n as u32,
+        state: after,
+    }
+}

@@ -1,0 +1,2 @@
+-- The lines of the table, computed.
+mod Cases

@@ -1,0 +1,2 @@
+-- Laws of what is refused of a number.
+mod Asked

@@ -1,0 +1,2 @@
+-- The words of the refusals: the definitions that contracts cite.
+pub mod Words

@@ -1,0 +1,2 @@
+-- Lines of a text: the definitions that contracts cite.
+pub mod Line

@@ -1,0 +1,42 @@
+// Lines of a text: the line of a number, as a part of the text.
+ghost use mathlib.Core.Path.{_≡_};
+ghost use Prim.Native.Nat.{_+_, _≤_};
+ghost use lib.ListN.{length, drop};
+ghost use Rattle.text_lines.specs.Line.{lineOf, FirstLineEnds};
+
+// The offset after the line that begins at `at`: after its line feed, or the end of the text.
+fn line_end(text: &[u8], at: usize) -> usize
+    requires { ⌜ at ≤ length (now text) ⌝ }
+    ensures { λ r. ⌜ FirstLineEnds (now (text .entry)) at r ⌝ }
+{
+    let mut end = at;
+    while end < text.len() {
+        if text[end] == b'\n' {
+            return end + 1;
+        }
+        end += 1;
+    }
+    end
+}
+
+// The offset where line n begins, counted from 0; the end of the text where there is none.
+fn line_start(text: &[u8], n: usize) -> usize
+    ensures { λ r. ⌜ (r ≤ length (now (text .entry))) × (lineOf n (now (text .entry)) ≡ lineOf 0 (drop r (now (text .entry)))) ⌝ }
+{
+    let mut at = 0;
+    let mut left = n;
+    while 0 < left {
+        at = line_end(text, at);
+        left -= 1;
+    }
+    at
+}
+
+// Line n of a text, counted from 0, with the line feed that ends it; nothing where there is none. Cost: O(n + octets).
+pub fn line_of(text: &[u8], n: usize) -> &[u8]
+    ensures { λ r. ⌜ now r ≡ lineOf n (now (text .entry)) ⌝ }
+{
+    let start = line_start(text, n);
+    let end = line_end(text, start);
+    &text[start..end]
+}

@@ -1,0 +1,75 @@
+#!/usr/bin/env bash
+# Runs `krakobran follow` on logs, as a file, a pipe and lines that come late, on what can't be read or written, and with bad arguments,
+# and compares standard output, standard error and the exit status with what is expected. A line for each case; status 1 if one fails.
+. "$(dirname -- "${BASH_SOURCE[0]}")/lib.sh" || exit 2
+
+# The words of a refusal, whole.
+refusal() {
+    printf 'refused %d: %s\n' "$1" "$(sed -n "s/^| $1 | \(.*\) |\$/\1/p" "$root/docs/CALLS.md" | head -n 1)"
+}
+
+cp -- "$root/crates/follow_log/stdin" "$dir/log"
+cp -- "$root/crates/follow_log/stdout" "$dir/expected"
+try 'a log by its name' 0 '' follow 5 "$dir/log"
+try 'a log on standard input' 0 '' follow 5 < "$dir/log"
+try 'a log on standard input by its sign' 0 '' follow 5 - < "$dir/log"
+
+echo 'accepted 0, in order 0, reordered 0, copies 0, closed runs 0, open run 0' > "$dir/expected"
+try 'an empty log' 0 '' follow 1 - < /dev/null
+
+# A line that is longer than what is held of it is refused once, and the next one is read.
+{
+    refusal 14
+    echo '1 at 2500 us: in order, jump 0'
+    echo 'accepted 1, in order 1, reordered 0, copies 0, closed runs 0, open run 1'
+} > "$dir/expected"
+try 'a line of 5000 octets' 0 '' follow 1 - < <(head -c 4999 /dev/zero | tr '\0' 1; printf '\n1;2,5\n')
+
+# Beyond the window.
+{
+    for ((i = 1; i <= 65; i++)); do echo "$((2 * i)) at ${i}000 us: in order, jump 1"; done
+    echo '1 at 66000 us: late by more than 64 packets, beyond the window'
+    echo '3 at 66500 us: late by 65 packets, 64500 us'
+    echo '129 at 65500 us: late by 3 packets, 500 us'
+    echo 'accepted 68, in order 65, reordered 3, copies 0, closed runs 3, open run 0'
+} > "$dir/expected"
+try 'beyond the window' 0 '' follow 130 - < <(for ((i = 1; i <= 65; i++)); do echo "$((2 * i));$i"; done; printf '1;66\n3;66.5\n129;65.5\n')
+
+# 4,096 arrivals are accepted; the line after them is told once.
+{
+    echo '1 at 1000 us: in order, jump 0'
+    for ((i = 2; i <= 4096; i++)); do echo '1 at 1000 us: copy'; done
+    for i in 1 2; do printf '1 at 1000 us: %s\n' "$(refusal 11)"; done
+    echo 'accepted 4096, in order 1, reordered 0, copies 4095, closed runs 0, open run 1'
+} > "$dir/expected"
+try '4098 arrivals' 0 'takes no more; to go on, start a new follow at line 4097' follow 1 - < <(for ((i = 0; i < 4098; i++)); do echo '1;1'; done)
+
+# A line is printed when its line feed comes.
+mkfifo "$dir/in" "$dir/said"
+exec 5<> "$dir/in" 6<> "$dir/said"
+PATH=$path "$timeout" 60 "$krakobran" follow 2 "$dir/in" > "$dir/said" 5>&- 6>&- &
+printf '1;1\n2;' >&5
+IFS= read -r -t 60 first <&6
+printf '3\n' >&5
+IFS= read -r -t 60 second <&6
+exec 5>&-
+wait "$!"
+verdict 'lines that come late' "$([ "$first, $second" = '1 at 1000 us: in order, jump 0, 2 at 3000 us: in order, jump 0' ] || echo ", $first, $second")"
+exec 6<&-
+
+: > "$dir/expected"
+try 'K of 0' 1 'K is 0 or over 4,096' follow 0 "$dir/log"
+try 'K of 4097' 1 'K is 0 or over 4,096' follow 4097 "$dir/log"
+try 'K that is no number' 1 'K is 0 or over 4,096' follow x "$dir/log"
+try 'no such file' 1 'there is no such file' follow 5 "$dir/none"
+try 'a directory' 1 'this is a directory' follow 5 "$dir"
+try 'standard input is a directory' 1 "it can't be read" follow 5 < "$dir"
+try 'standard input is closed' 1 'it is closed' follow 5 <&-
+try 'no K' 2 'usage: krakobran follow K [FILE]' follow
+try 'two files' 2 'usage: krakobran follow K [FILE]' follow 5 "$dir/log" "$dir/log"
+
+PATH=$path "$timeout" 60 "$krakobran" follow 5 "$dir/log" > /dev/full 2> "$dir/err"
+status=$?
+: > "$dir/out"
+judge 'a full disk' 1 "standard output: the result can't be written whole" "$status"
+finish
