@@ -1,5 +1,5 @@
-/* Prints what the library says of a sample file: label, counts, reordered ratio, total of disorder, and the listing.
- * `figures FILE` reads a file, `figures` standard input. */
+/* Prints what the library says of a sample file: label, counts, reordered ratio, total of disorder, what a receiver that
+ * restores order needs, and the report. `figures FILE` reads a file, `figures` standard input. */
 
 #include <inttypes.h>
 #include <stdio.h>
@@ -7,23 +7,33 @@
 
 /* One octet more than the longest sample, so that a longer file is seen to be one. */
 static uint8_t file[KRAKOBRAN_FILE_OCTETS + 1];
-static uint8_t listing[KRAKOBRAN_LISTING_OCTETS];
+static uint8_t report[KRAKOBRAN_REPORT_OCTETS];
 
-/* Prints the figures of an accepted file. */
+/* Prints the figures of an accepted file: no call over it is refused, since each has the room that suffices and asks for no
+ * record. */
 static void print_figures(size_t octets) {
-    krakobran_label_part label = krakobran_label(file, octets);
-    krakobran_sample_counts counts = krakobran_counts(file, octets);
-    krakobran_ratios_figures ratios = krakobran_ratios(file, octets);
-    krakobran_write_answer written = krakobran_listing(file, octets, listing, sizeof listing);
+    krakobran_part label;
+    krakobran_counts_figures counts;
+    krakobran_ratios_figures ratios;
+    krakobran_needs needs;
+    uint64_t total, length;
+    krakobran_sample_label(file, octets, &label);
+    krakobran_counts(file, octets, &counts);
+    krakobran_ratios(file, octets, &ratios);
+    krakobran_disorder(file, octets, &total);
+    krakobran_greatest_needs(file, octets, &needs);
+    krakobran_report_write(file, octets, report, sizeof report, &length);
     printf("label \"%.*s\"\n", (int)label.length, (const char *)file + label.start);
-    printf("L %" PRIu32 ", reordered %" PRIu32 ", duplicates %" PRIu32 ", in order %" PRIu32 "\n", counts.arrived,
+    printf("L %" PRIu64 ", reordered %" PRIu64 ", duplicates %" PRIu64 ", in order %" PRIu64 "\n", counts.arrived,
            counts.reordered, counts.duplicates, counts.inorder);
     if (ratios.known)
         printf("reordered ratio %.4f\n", krakobran_double(ratios.reordered));
     else
         printf("reordered ratio undefined\n");
-    printf("total of disorder %" PRIu32 "\n", krakobran_disorder(file, octets).total);
-    fwrite(listing, 1, written.length, stdout);
+    printf("total of disorder %" PRIu64 "\n", total);
+    printf("needs %" PRIu64 " packets, %" PRIu64 " octets, %" PRIu64 " microseconds\n", needs.packets, needs.octets,
+           needs.time);
+    fwrite(report, 1, length, stdout);
 }
 
 int main(int argc, char **argv) {
@@ -33,9 +43,10 @@ int main(int argc, char **argv) {
         return 2;
     }
     size_t octets = fread(file, 1, sizeof file, input);
-    krakobran_layout found = krakobran_check(file, octets);
-    if (found.refusal != KRAKOBRAN_NONE) {
-        fprintf(stderr, "refused %" PRIu32 "\n", found.refusal);
+    krakobran_layout layout;
+    uint64_t refusal = krakobran_sample_check(file, octets, &layout);
+    if (refusal != KRAKOBRAN_NONE) {
+        fprintf(stderr, "refused %" PRIu64 "\n", refusal);
         return 1;
     }
     print_figures(octets);

@@ -1,60 +1,57 @@
 /* Krakobran: packet reordering after RFC 4737, measured on a sample file or arrival by arrival.
  *
- * Every function takes all input there is. An answer carries a refusal, which is KRAKOBRAN_NONE or one of the
- * numbers below; with a refusal every other part of the answer is as the comment at its struct says, lent memory is
- * untouched, and a receiver or a meter comes back equal. At each function stand the refusals that it may give, in
- * the order in which they are looked for: the first that is due is given. "The file's" are those of
- * krakobran_check, in its order.
+ * Every function is total: it takes any input, and ends. Its parameters are pointers, lengths of 64 bits and integers.
+ * It returns its refusal, KRAKOBRAN_NONE or one of the numbers below, and writes its answer to memory that the caller
+ * lends: figures to a struct of uint64_t, lists and text from the start of a list. No struct is passed or returned by
+ * value, so that this text is the same for every machine.
  *
- * What a caller holds to:
- * - A list is a pointer and its number of places, not of octets. Where that number is 0 the pointer may be NULL, as
- *   that of an empty std::vector; elsewhere it is not. A pointer to a receiver or a meter is never NULL.
- * - Each pointer is aligned for its type, and what a call writes to does not overlap anything else that is passed to
- *   it.
+ * With a refusal every figure is 0, for the figures are the answer; lists, text, receivers and meters are untouched. At each
+ * function stand the refusals that it may return, in the order in which they are looked for: the first that applies is
+ * returned. "The file's" are those of krakobran_sample_check, in its order.
+ *
+ * What a caller holds to, since no function can check it:
+ * - A list is a pointer and its number of places, not of octets, as a uint64_t on every machine. The places are all there, so
+ *   no length exceeds the machine's memory; one that does is not refused, and the call reads or writes beyond the list.
+ * - A pointer may be NULL only beside a length of 0, as that of an empty std::vector is. A pointer to figures, to a receiver
+ *   or to a meter is never NULL.
+ * - Each pointer is aligned for its type.
+ * - What a call writes to overlaps nothing else that is passed to it. What it only reads may overlap.
  *
  * What a caller may rely on:
- * - No function allocates, keeps a pointer, or has a state of its own, so all may be called from many threads. memcpy
- *   and memset are all that the library needs.
- * - A call needs at most KRAKOBRAN_STACK_OCTETS of stack, beside what it is handed and hands back.
- * - Numbers in structs and lists are in the machine's order; a sample file is the same on every machine.
- * - Every field of an answer is set. Octets that pad a struct are not: compare fields, not memory. krakobran_receiver
- *   and krakobran_meter have no such octets, so what is saved of them as memory holds nothing of the stack, and the
- *   same calls give the same memory.
- * - The library is for x86-64 with the System V calling convention, as ELF (Linux, the BSDs), and for no other
- *   machine. */
+ * - No function allocates, keeps a pointer, or has a state of its own. So all may be called from many threads, each with
+ *   memory of its own to write to.
+ * - KRAKOBRAN_STACK_OCTETS octets of stack suffice for any call.
+ * - Every call sets every figure. In a list or text it writes what it says and leaves the places after that as they were.
+ * - Every struct has the same layout on every machine, and none is padded. So each may be compared, saved and loaded as memory,
+ *   and the same calls give the same memory. Its numbers are in the machine's order of octets.
+ * - A sample file, a log, a record, a report and a summary are the same octets on every machine.
+ *
+ * What is assumed of a machine:
+ * - An octet is an unsigned char, and a uint64_t is aligned to 8 octets, which leaves out i386. C11 and C++11 check this here.
+ * - A double is an IEEE 754 binary64, and division rounds to nearest. A program that sets another rounding mode changes
+ *   the ratios, and nothing else.
+ * - The library's code has lengths of 64 bits on every machine, also where a pointer has 32.
+ * - There are memcpy, memset and memmove, and, where the processor has no instruction for them, the compiler's own
+ *   functions for the division of 64-bit integers and for doubles. */
 
 #ifndef KRAKOBRAN_H
 #define KRAKOBRAN_H
 
-#if !defined(__x86_64__) || defined(__ILP32__) || defined(_WIN32) || defined(__APPLE__)
-#error "libkrakobran is built for x86-64 with the System V calling convention, as ELF"
-#endif
-
 #include <stddef.h>
 #include <stdint.h>
-#include <string.h>
 
 /* The version of this header and of the library that it was installed with. Names that are there stay within one major
  * version, and so do the layouts; before 1.0.0 they may change with the minor version. */
 #define KRAKOBRAN_VERSION_MAJOR 0
-#define KRAKOBRAN_VERSION_MINOR 9
+#define KRAKOBRAN_VERSION_MINOR 10
 #define KRAKOBRAN_VERSION_PATCH 0
-#define KRAKOBRAN_VERSION "0.9.0"
-
-/* Checks the size of a struct, by C11 or C++11. */
-#if defined(__cplusplus)
-#define KRAKOBRAN_SIZE(type, octets) static_assert(sizeof(type) == (octets), #type " has another size")
-#elif defined(__STDC_VERSION__) && __STDC_VERSION__ >= 201112L
-#define KRAKOBRAN_SIZE(type, octets) _Static_assert(sizeof(type) == (octets), #type " has another size")
-#else
-#define KRAKOBRAN_SIZE(type, octets) struct krakobran_unchecked
-#endif
+#define KRAKOBRAN_VERSION "0.10.0"
 
 #ifdef __cplusplus
 extern "C" {
 #endif
 
-/* Refusals: the numbers given back instead of an answer. */
+/* Refusals: the numbers returned where there is no answer. */
 enum {
     KRAKOBRAN_NONE = 0,            /* no refusal */
     KRAKOBRAN_ENDS_EARLY = 1,      /* the file ends before a count or a section does */
@@ -66,18 +63,19 @@ enum {
                                       found is outside 1 to K */
     KRAKOBRAN_TIME_BACK = 7,       /* arrival time over 1,000 below the greatest earlier time */
     KRAKOBRAN_OUTPUT_SHORT = 8,    /* lent output too short */
-    KRAKOBRAN_ASKED_OUTSIDE = 9,   /* record outside 1 to A, or n outside 1 to 100 */
+    KRAKOBRAN_ASKED_OUTSIDE = 9,   /* record outside 1 to A, n outside 1 to 100, or a share whose part is outside 1 to its
+                                      whole; a measure that is none */
     KRAKOBRAN_STATE_UNFIT = 10,    /* state of a receiver or of a meter unfit, or a reordered packet with no greater kept
                                       jump */
-    KRAKOBRAN_STATE_FULL = 11,     /* receiver, or stream of a meter, has accepted 4,096 arrivals */
+    KRAKOBRAN_STATE_FULL = 11,     /* receiver has accepted 4,096 arrivals; or a stream of a meter has */
     KRAKOBRAN_LISTS_DIFFER = 12,   /* lists of arrivals that differ in length: those of numbers and of times, or any two of the
                                       lists of fragments */
     KRAKOBRAN_OCTET_OUTSIDE = 13,  /* a label octet outside hexadecimal 20 to 7E */
     KRAKOBRAN_LINE_MALFORMED = 14, /* a line not of the form, or a value over the field's range */
     KRAKOBRAN_RECORD_CUT = 15,     /* a length that is no multiple of 25 */
     KRAKOBRAN_NO_STREAM = 16,      /* a stream other than 1 or 2 */
-    KRAKOBRAN_FRAGMENT_UNFIT = 17, /* a fragment of length 0, of a length with more to come that is no multiple of 8, or
-                                      with an end over 65,535 */
+    KRAKOBRAN_FRAGMENT_UNFIT = 17, /* a fragment of length 0, one with more to come and a length no multiple of 8, or one whose
+                                      end is over 65,535 */
     KRAKOBRAN_SECONDS_OVER = 18    /* a written time whose seconds don't fit 32 bits */
 };
 
@@ -92,22 +90,31 @@ enum {
     KRAKOBRAN_BEYOND_BEFORE = 5     /* reordered, its discontinuity dropped; stamped before the oldest kept jump */
 };
 
-/* Sizes. */
+/* Measures of a buffer. */
 enum {
-    KRAKOBRAN_LABEL_MOST = 64,         /* octets of a label, at most */
-    KRAKOBRAN_SENT_MOST = 4096,        /* sent packets of a sample (K), at most */
-    KRAKOBRAN_ARRIVALS_MOST = 4096,    /* arrivals of a sample (A), at most */
-    KRAKOBRAN_FILE_OCTETS = 57414,     /* octets of the longest sample file */
-    KRAKOBRAN_RECORD_OCTETS = 25,      /* octets of an OWAMP packet record */
-    KRAKOBRAN_TALLY_PLACES = 101,      /* places of an extent tally */
-    KRAKOBRAN_TABLE_PLACES = 4096,     /* places of the table that a sweep needs */
-    KRAKOBRAN_DEGREE_MOST = 100,       /* the greatest n of a degree of n-reordering */
-    KRAKOBRAN_LISTING_OCTETS = 262144, /* octets that suffice for any listing */
-    KRAKOBRAN_PACKETS = 4096,          /* packets a receiver is made for at most, and arrivals it accepts */
-    KRAKOBRAN_WINDOW = 64,             /* jumps that a receiver keeps, and places that the streams of a meter share */
-    KRAKOBRAN_MOST_KEPT = 48,          /* jumps that one stream of a meter keeps, at most */
-    KRAKOBRAN_BACK_MOST = 1000,        /* how far below the greatest earlier time an arrival may be stamped */
-    KRAKOBRAN_STACK_OCTETS = 40960     /* octets of stack that suffice for any call */
+    KRAKOBRAN_MEASURE_PACKETS = 0, /* packets held: the extent */
+    KRAKOBRAN_MEASURE_OCTETS = 1,  /* octets held: the byte offset */
+    KRAKOBRAN_MEASURE_TIME = 2     /* microseconds waited: the late time, 0 if the packet is stamped before its discontinuity */
+};
+
+/* Limits (MOST), and lengths of lists in places, octets or numbers. */
+enum {
+    KRAKOBRAN_LABEL_MOST = 64,            /* octets of a label, at most */
+    KRAKOBRAN_SENT_MOST = 4096,           /* sent packets (K) of a sample, a receiver or a stream, at most */
+    KRAKOBRAN_ARRIVALS_MOST = 4096,       /* arrivals of a sample (A), at most, and those that a receiver or a stream accepts */
+    KRAKOBRAN_TIME_BACK_MOST = 1000,      /* microseconds by which an arrival may be stamped before the greatest earlier time */
+    KRAKOBRAN_DEGREE_MOST = 100,          /* the greatest n of a degree of n-reordering */
+    KRAKOBRAN_KEPT_MOST = 48,             /* jumps that one stream of a meter keeps, at most */
+    KRAKOBRAN_WINDOW_PLACES = 64,         /* jumps that a receiver keeps, and places that the streams of a meter share */
+    KRAKOBRAN_TALLY_PLACES = 101,         /* places of an extent tally */
+    KRAKOBRAN_SWEEP_TABLE_PLACES = 4096,  /* places of the table that a sweep needs */
+    KRAKOBRAN_ROW_NUMBERS = 8,            /* numbers in the row of a record */
+    KRAKOBRAN_FILE_OCTETS = 57414,        /* octets of the longest sample file */
+    KRAKOBRAN_OWAMP_RECORD_OCTETS = 25,   /* octets of an OWAMP packet record */
+    KRAKOBRAN_REPORT_OCTETS = 262144,     /* octets that suffice for any report */
+    KRAKOBRAN_SUMMARY_OCTETS = 2048,      /* octets that suffice for any summary */
+    KRAKOBRAN_WORDS_OCTETS = 128,         /* octets that suffice for the words of any refusal */
+    KRAKOBRAN_STACK_OCTETS = 40960        /* octets of stack that suffice for any call */
 };
 
 /* ---- the sample file
@@ -121,262 +128,249 @@ enum {
  *     2               A, the number of arrivals, 0 to 4,096
  *     12 for each     sequence number (4 octets, 1 to K) and arrival time (8 octets), in the order of arrival
  *
- * and none after. Times are in microseconds from any moment. krakobran_write makes the file of lists,
- * krakobran_read the lists of a file. */
+ * and none after. Times are in microseconds from any moment. krakobran_sample_write makes the file of lists,
+ * krakobran_sample_read the lists of a file. */
 
-/* What is found in a file: octets of the label, K and A; 0 with a refusal. */
+/* What is found in a file: octets of the label, K and A. */
 typedef struct {
-    uint32_t refusal;
-    uint32_t label;
-    uint32_t sent;
-    uint32_t arrivals;
+    uint64_t label;
+    uint64_t sent;
+    uint64_t arrivals;
 } krakobran_layout;
-KRAKOBRAN_SIZE(krakobran_layout, 16);
 
-/* Where the label begins in the file, and its octets: an accepted label begins at 2, also an empty one; 0 and 0 with a
- * refusal, which start tells apart from an empty label. */
+/* A part of a file: the offset of its first octet, and its octets. A label starts at 2, also an empty one. */
 typedef struct {
-    uint32_t start;
-    uint32_t length;
-} krakobran_label_part;
-KRAKOBRAN_SIZE(krakobran_label_part, 8);
-
-/* What was written: its octets; 0 with a refusal. */
-typedef struct {
-    uint32_t refusal;
-    uint32_t length;
-} krakobran_write_answer;
-KRAKOBRAN_SIZE(krakobran_write_answer, 8);
+    uint64_t start;
+    uint64_t length;
+} krakobran_part;
 
 /* Checks a sample file. Refusals, as the file is read: 1, 3, 1 and 13 of the label; 1, 4 and 1 of the sent packets;
  * 1, 5 and 1 of the arrivals; 2; then the arrivals in turn, each by 6 and by 7. */
-krakobran_layout krakobran_check(const uint8_t *file, size_t octets);
+uint64_t krakobran_sample_check(const uint8_t *file, uint64_t octets, krakobran_layout *layout);
 
 /* Reads a sample file into lists of payload sizes, sequence numbers and arrival times, from their start. Refusals: the
  * file's; 8 if sizes have fewer than K places, or numbers or times fewer than A. */
-krakobran_layout krakobran_read(const uint8_t *file, size_t octets, uint16_t *sizes, size_t size_places,
-                                uint32_t *numbers, size_t number_places, uint64_t *times, size_t time_places);
+uint64_t krakobran_sample_read(const uint8_t *file, uint64_t octets, uint16_t *sizes, uint64_t size_places,
+                               uint32_t *numbers, uint64_t number_places, uint64_t *times, uint64_t time_places,
+                               krakobran_layout *layout);
 
-/* The label of a sample file, as a part of the file. It has no refusal: start is 0 where the file's is due. */
-krakobran_label_part krakobran_label(const uint8_t *file, size_t octets);
+/* Finds the label of a sample file, as a part of the file. Refusals: the file's. */
+uint64_t krakobran_sample_label(const uint8_t *file, uint64_t octets, krakobran_part *part);
 
-/* Writes the sample file of a label and lists from the start of out. Refusals: 3; 13; 4, by the list of sizes; 5,
- * by the list of numbers; 12 if that of times has another length; the arrivals in turn, each by 6 and by 7; 8. */
-krakobran_write_answer krakobran_write(const uint8_t *label, size_t label_octets, const uint16_t *sizes, size_t sent,
-                                  const uint32_t *numbers, size_t number_count, const uint64_t *times,
-                                  size_t time_count, uint8_t *out, size_t room);
+/* Writes the sample file of a label and lists from the start of out, and the number of its octets to length. Refusals: 3;
+ * 13; 4, by the list of sizes; 5, by the list of numbers; 12 if that of times has another length; the arrivals in turn,
+ * each by 6 and by 7; 8. */
+uint64_t krakobran_sample_write(const uint8_t *label, uint64_t label_octets, const uint16_t *sizes, uint64_t sent,
+                                const uint32_t *numbers, uint64_t number_count, const uint64_t *times,
+                                uint64_t time_count, uint8_t *out, uint64_t room, uint64_t *length);
 
-/* The first refusal that is due of K and lists of numbers and times, as the writer's are: 4, by sent; 5, by the list of
- * numbers; 12; the arrivals in turn, each by 6 and by 7; KRAKOBRAN_NONE if none is. */
-uint32_t krakobran_refusal_of_lists(uint64_t sent, const uint32_t *numbers, size_t number_count, const uint64_t *times,
-                                    size_t time_count);
+/* Checks K and lists of numbers and times, as the writer does. Refusals: 4, by sent; 5, by the list of numbers; 12; the
+ * arrivals in turn, each by 6 and by 7. */
+uint64_t krakobran_lists_check(uint64_t sent, const uint32_t *numbers, uint64_t number_count, const uint64_t *times,
+                               uint64_t time_count);
 
-/* ---- text logs */
+/* ---- text logs
+ *
+ * Each line of a log is a number, a semicolon, milliseconds with at most three decimals after a comma or a point, and a
+ * line feed. */
 
-/* What was imported: the number of arrivals, 0 with a refusal. */
-typedef struct {
-    uint32_t refusal;
-    uint32_t arrivals;
-} krakobran_log_import;
-KRAKOBRAN_SIZE(krakobran_log_import, 8);
+/* Imports the text log of K sent packets into lists of sequence numbers and arrival times in microseconds, from their start,
+ * and writes their number to arrivals. Lists of KRAKOBRAN_ARRIVALS_MOST places suffice for any log. Refusals: 4; the lines
+ * in turn, each by 14, by 5 if it is line 4,097, by 6 and by 7; 8. */
+uint64_t krakobran_log_import(const uint8_t *log, uint64_t octets, uint32_t sent, uint32_t *numbers,
+                              uint64_t number_places, uint64_t *times, uint64_t time_places, uint64_t *arrivals);
 
-/* Imports the text log of K sent packets into lists of sequence numbers and arrival times in microseconds, from
- * their start. Each line is a number, a semicolon, milliseconds with at most three decimals after a comma or a
- * point, and a line feed. Lists of KRAKOBRAN_ARRIVALS_MOST places suffice for any log. Refusals: 4; the lines in
- * turn, each by 14, by 5 if it is line 4,097, by 6 and by 7; 8. */
-krakobran_log_import krakobran_import_text(const uint8_t *log, size_t octets, uint32_t sent, uint32_t *numbers,
-                                         size_t number_places, uint64_t *times, size_t time_places);
+/* Finds the first line of the text log of K sent packets that is refused, and writes its number, from 1, to line; 0 where no
+ * line is refused, or K itself is. It has no refusal of its own, and takes no lists. */
+void krakobran_log_refused_line(const uint8_t *log, uint64_t octets, uint32_t sent, uint64_t *line);
 
-/* The number of the first line of the text log of K sent packets that is refused, from 1; 0 where no line is, as where K
- * itself is refused. It has no refusal, and takes no lists. */
-uint32_t krakobran_refused_line(const uint8_t *log, size_t octets, uint32_t sent);
+/* Writes the text log of arrivals of K sent packets from the start of out, three decimals after a comma, and the number of its
+ * octets to length. Refusals: those of krakobran_lists_check; 8. */
+uint64_t krakobran_log_write(uint32_t sent, const uint32_t *numbers, uint64_t number_count, const uint64_t *times,
+                             uint64_t time_count, uint8_t *out, uint64_t room, uint64_t *length);
 
-/* Writes the text log of arrivals of K sent packets from the start of out: three decimals after a comma. Refusals:
- * those of krakobran_refusal_of_lists; 8. */
-krakobran_write_answer krakobran_write_text(uint32_t sent, const uint32_t *numbers, size_t number_count,
-                                       const uint64_t *times, size_t time_count, uint8_t *out, size_t room);
+/* ---- OWAMP packet records: RFC 4656, section 3.9, KRAKOBRAN_OWAMP_RECORD_OCTETS each */
 
-/* ---- OWAMP packet records */
+/* Imports the records of K sent packets into lists of sequence numbers and arrival times in microseconds, from their start
+ * and in the order of the receive times, and writes their number to arrivals; lost packets are left out. Lists of
+ * KRAKOBRAN_ARRIVALS_MOST places suffice for any records. Refusals: 15; 4; 5, by the records that are not lost; 6, in the
+ * order of the records; 8. */
+uint64_t krakobran_owamp_import(const uint8_t *records, uint64_t octets, uint32_t sent, uint32_t *numbers,
+                                uint64_t number_places, uint64_t *times, uint64_t time_places, uint64_t *arrivals);
 
-/* What was imported: the number of arrivals, 0 with a refusal. */
-typedef struct {
-    uint32_t refusal;
-    uint32_t arrivals;
-} krakobran_records_import;
-KRAKOBRAN_SIZE(krakobran_records_import, 8);
-
-/* Imports the OWAMP packet records (RFC 4656, section 3.9, 25 octets each) of K sent packets into lists of sequence
- * numbers and arrival times in microseconds, from their start and in the order of the receive times; lost packets
- * are left out. Lists of KRAKOBRAN_ARRIVALS_MOST places suffice for any records. Refusals: 15; 4; 5, by the records
- * that are not lost; 6, in the order of the records; 8. */
-krakobran_records_import krakobran_import_records(const uint8_t *records, size_t octets, uint32_t sent, uint32_t *numbers,
-                                           size_t number_places, uint64_t *times, size_t time_places);
-
-/* Writes the records of a sample file's arrivals from the start of out, KRAKOBRAN_RECORD_OCTETS for each. A time is
+/* Writes the records of a sample file's arrivals from the start of out, and the number of their octets to length. A time is
  * written one second later, its fraction rounded down; the send time is 0. Refusals: the file's; 18; 8. */
-krakobran_write_answer krakobran_write_records(const uint8_t *file, size_t octets, uint8_t *out, size_t room);
+uint64_t krakobran_owamp_write(const uint8_t *file, uint64_t octets, uint8_t *out, uint64_t room, uint64_t *length);
 
 /* ---- figures of a sample file
  *
- * Refusals: the file's; then 9 where a record or an n is asked for. */
+ * Refusals: the file's; then those that stand at a function. A record is counted from 1 over all arrivals. */
 
-/* The answer for a record: its case; the record of the first copy if a duplicate; the position if not, and the jump
- * size if in order; extent, byte offset, largest n and the amount of the late time if reordered. What a case does not
- * have is 0, and with a refusal all is. */
+/* The figures of a record: its case; position, if it is a first arrival; jump size, if in order; extent, amount of the late
+ * time, byte offset and largest n, if reordered; the record of the first copy, if a duplicate. What a case does not have is
+ * 0. */
 typedef struct {
-    uint32_t refusal;
-    uint32_t kind;
-    uint32_t first;
-    uint32_t position;
-    uint32_t jump;
-    uint32_t extent;
-    uint32_t offset;
-    uint32_t largest;
+    uint64_t kind;
+    uint64_t position;
+    uint64_t jump;
+    uint64_t extent;
     uint64_t late;
-} krakobran_answer_figures;
-KRAKOBRAN_SIZE(krakobran_answer_figures, 40);
+    uint64_t offset;
+    uint64_t largest;
+    uint64_t first;
+} krakobran_row;
 
-/* The runs of in-order packets: closed ones, the sum of the squares of their lengths, and the open one's length. */
+/* First arrivals (L), reordered packets, duplicates, in-order packets; and the runs of in-order packets: closed ones, the sum
+ * of the squares of their lengths, and the open one's length. */
 typedef struct {
-    uint32_t closed;
-    uint32_t squares;
-    uint32_t current;
-} krakobran_runs;
-KRAKOBRAN_SIZE(krakobran_runs, 12);
+    uint64_t arrived;
+    uint64_t reordered;
+    uint64_t duplicates;
+    uint64_t inorder;
+    uint64_t closed;
+    uint64_t squares;
+    uint64_t current;
+} krakobran_counts_figures;
 
-/* First arrivals (L), reordered packets, duplicates, in-order packets, and runs; 0 with a refusal. */
+/* Whether a record has a gap (1) or none (0), and the gap in positions. A discontinuity is discovered by the first reordered
+ * arrival that has it as its own. It has a gap exactly if its neighbour before in position was discovered by an earlier
+ * reordered arrival; the gap is the difference of their positions. */
 typedef struct {
-    uint32_t refusal;
-    uint32_t arrived;
-    uint32_t reordered;
-    uint32_t duplicates;
-    uint32_t inorder;
-    krakobran_runs runs;
-} krakobran_sample_counts;
-KRAKOBRAN_SIZE(krakobran_sample_counts, 32);
-
-/* How many extents are e, at place e from 1 to 100, and at place 0 how many are greater; 0 with a refusal. */
-typedef struct {
-    uint32_t refusal;
-    uint32_t places[KRAKOBRAN_TALLY_PLACES];
-} krakobran_sample_tally;
-KRAKOBRAN_SIZE(krakobran_sample_tally, 408);
-
-/* Whether a record has a gap (1) or none (0), and the gap in positions; 0 and 0 with a refusal. A discontinuity is
- * discovered by the first reordered arrival that has it as its own. It has a gap exactly if its neighbour before in
- * position was discovered by an earlier reordered arrival; the gap is the difference of their positions. */
-typedef struct {
-    uint32_t refusal;
-    uint32_t known;
-    uint32_t positions;
+    uint64_t known;
+    uint64_t positions;
 } krakobran_gap_figures;
-KRAKOBRAN_SIZE(krakobran_gap_figures, 12);
 
-/* The two counts of a degree of n-reordering: n-reordered packets, and first arrivals (L); 0 with a refusal. */
+/* The two counts of a degree of n-reordering: n-reordered packets, and first arrivals (L). */
 typedef struct {
-    uint32_t refusal;
-    uint32_t reordered;
-    uint32_t arrived;
+    uint64_t reordered;
+    uint64_t arrived;
 } krakobran_degree_counts;
-KRAKOBRAN_SIZE(krakobran_degree_counts, 12);
 
-/* Whether a ratio is known (1) or undefined (0), and the bits of the double; 0 and 0 with a refusal. */
+/* Whether a ratio is known (1) or undefined (0), as it is of no arrivals; and the bits of the double. */
 typedef struct {
-    uint32_t refusal;
-    uint32_t known;
+    uint64_t known;
     uint64_t bits;
 } krakobran_degree_figures;
-KRAKOBRAN_SIZE(krakobran_degree_figures, 16);
 
-/* The reordered ratio and the degrees of n-reordering for n = 1 and n = 3, as `krakobran_degree_figures` has one. */
+/* The same of three: the reordered ratio, and the degrees of n-reordering for n = 1 and n = 3. */
 typedef struct {
-    uint32_t refusal;
-    uint32_t known;
+    uint64_t known;
     uint64_t reordered;
     uint64_t degree1;
     uint64_t degree3;
 } krakobran_ratios_figures;
-KRAKOBRAN_SIZE(krakobran_ratios_figures, 32);
 
-/* The double of these bits. */
+/* The worse of two samples: 1 for the first and 2 for the second, and its label as a part of it. */
+typedef struct {
+    uint64_t link;
+    uint64_t start;
+    uint64_t length;
+} krakobran_worse_link;
+
+/* Returns the double of these bits. */
 static inline double krakobran_double(uint64_t bits) {
     double value;
-    memcpy(&value, &bits, sizeof value);
+    const unsigned char *from = (const unsigned char *)&bits;
+    unsigned char *to = (unsigned char *)&value;
+    for (size_t i = 0; i < sizeof value; i++)
+        to[i] = from[i];
     return value;
 }
 
-/* The answer for a record, counted from 1 over all arrivals. 9 for a record outside 1 to A. */
-krakobran_answer_figures krakobran_answer(const uint8_t *file, size_t octets, uint32_t record);
+/* The figures of a record. 9 for a record outside 1 to A. */
+uint64_t krakobran_answer(const uint8_t *file, uint64_t octets, uint32_t record, krakobran_row *row);
+
+/* The figures of every record, in one pass: fills a list of rows from its start. Its length is given in numbers,
+ * KRAKOBRAN_ROW_NUMBERS for each row. 8 if it has fewer rows than A. */
+uint64_t krakobran_rows(const uint8_t *file, uint64_t octets, krakobran_row *rows, uint64_t numbers);
 
 /* The counts of a sample. */
-krakobran_sample_counts krakobran_counts(const uint8_t *file, size_t octets);
+uint64_t krakobran_counts(const uint8_t *file, uint64_t octets, krakobran_counts_figures *counts);
 
-/* The extent tally of a sample. */
-krakobran_sample_tally krakobran_tally(const uint8_t *file, size_t octets);
+/* The extent tally of a sample, KRAKOBRAN_TALLY_PLACES numbers: at place e from 1 to 100 how many extents are e, at place 0
+ * how many are greater. */
+uint64_t krakobran_tally(const uint8_t *file, uint64_t octets, uint32_t tally[KRAKOBRAN_TALLY_PLACES]);
 
-/* The gap of a record. 9 as for an answer. */
-krakobran_gap_figures krakobran_gap(const uint8_t *file, size_t octets, uint32_t record);
+/* The gap of a record. 9 for a record outside 1 to A. */
+uint64_t krakobran_gap(const uint8_t *file, uint64_t octets, uint32_t record, krakobran_gap_figures *gap);
 
-/* How many packets are n-reordered, and of how many, n from 1 to 100; else 9. */
-krakobran_degree_counts krakobran_n_reordered(const uint8_t *file, size_t octets, uint32_t n);
+/* How many packets are n-reordered, and of how many. 9 for n outside 1 to KRAKOBRAN_DEGREE_MOST. */
+uint64_t krakobran_n_reordered(const uint8_t *file, uint64_t octets, uint32_t n, krakobran_degree_counts *counts);
 
-/* The degree of n-reordering, n from 1 to 100, else 9: the one count over the other. */
-krakobran_degree_figures krakobran_degree(const uint8_t *file, size_t octets, uint32_t n);
+/* The degree of n-reordering: the one count over the other. 9 for n outside 1 to KRAKOBRAN_DEGREE_MOST. */
+uint64_t krakobran_degree(const uint8_t *file, uint64_t octets, uint32_t n, krakobran_degree_figures *degree);
 
-/* The ratio figures of a sample. */
-krakobran_ratios_figures krakobran_ratios(const uint8_t *file, size_t octets);
-
-/* The total of disorder; 0 with a refusal. */
-typedef struct {
-    uint32_t refusal;
-    uint32_t total;
-} krakobran_sample_disorder;
-KRAKOBRAN_SIZE(krakobran_sample_disorder, 8);
+/* The ratios of a sample. */
+uint64_t krakobran_ratios(const uint8_t *file, uint64_t octets, krakobran_ratios_figures *ratios);
 
 /* The total of disorder of a sample: how many pairs of its first arrivals came in the wrong order. It is the least
  * number of exchanges of neighbouring first arrivals that puts them in rising order. */
-krakobran_sample_disorder krakobran_disorder(const uint8_t *file, size_t octets);
+uint64_t krakobran_disorder(const uint8_t *file, uint64_t octets, uint64_t *total);
 
-/* What is found of two samples: which is the worse one, 1 for the first and 2 for the second, and where its label
- * begins in it and its octets; all 0 with a refusal. */
-typedef struct {
-    uint32_t refusal;
-    uint32_t link;
-    uint32_t start;
-    uint32_t length;
-} krakobran_worse_link;
-KRAKOBRAN_SIZE(krakobran_worse_link, 16);
+/* One sweep over a sample: fills four lists from their start with the case of every record, its position, extent and the amount
+ * of its late time; what a record does not have is 0. The table has at least KRAKOBRAN_SWEEP_TABLE_PLACES places and may hold
+ * anything; those are 0 afterwards. 8 if the table has fewer, or a list fewer than A. */
+uint64_t krakobran_sweep(const uint8_t *file, uint64_t octets, uint16_t *table, uint64_t table_places, uint8_t *kinds,
+                         uint64_t kind_places, uint32_t *positions, uint64_t position_places, uint32_t *extents,
+                         uint64_t extent_places, uint64_t *lates, uint64_t late_places);
 
 /* Of two samples the one with the greater reordered ratio; equal ratios give the first, and an undefined one counts
  * as 0. Refusals: the first file's; the second file's. */
-krakobran_worse_link krakobran_worse(const uint8_t *first, size_t first_octets, const uint8_t *second,
-                                     size_t second_octets);
+uint64_t krakobran_worse(const uint8_t *first, uint64_t first_octets, const uint8_t *second, uint64_t second_octets,
+                         krakobran_worse_link *worse);
 
-/* Writes the report of a sample from the start of out. Any report fits into KRAKOBRAN_LISTING_OCTETS places.
- * Refusals: the file's; 8 if this one does not fit. */
-krakobran_write_answer krakobran_listing(const uint8_t *file, size_t octets, uint8_t *out, size_t room);
+/* ---- waiting time and buffer
+ *
+ * A receiver that restores order waits for reordered packets, and holds those that came before them. What it needs of its
+ * buffer is told by a measure. A packet in order needs nothing, and a packet that never arrived is not counted. Refusals: the
+ * file's; then 9 for a measure that is none. */
 
-/* What is found of a listing: whether it agrees (1 or 0), and the number of its first wrong line, from 1; 0 where it agrees.
- * Both are 0 with a refusal. */
+/* The greatest extent, byte offset and late time of a sample; 0 where nothing is reordered. */
 typedef struct {
-    uint32_t refusal;
-    uint32_t agrees;
-    uint32_t line;
-} krakobran_verdict_figures;
-KRAKOBRAN_SIZE(krakobran_verdict_figures, 12);
+    uint64_t packets;
+    uint64_t octets;
+    uint64_t time;
+} krakobran_needs;
 
-/* Checks a listing: it agrees exactly if it is the report of the sample. A missing or extra line is wrong at its place,
- * and so is a last line without its line feed. Refusals: the file's, before the listing is looked at. */
-krakobran_verdict_figures krakobran_check_listing(const uint8_t *file, size_t octets, const uint8_t *listing,
-                                                  size_t listing_octets);
+/* How many first arrivals a buffer accommodates, and how many there are (L). */
+typedef struct {
+    uint64_t accommodated;
+    uint64_t arrived;
+} krakobran_accommodated_counts;
 
-/* One sweep over a sample: fills four lists from their start with the case of every record, its position, extent
- * and the amount of its late time; what a record does not have is 0. The table needs KRAKOBRAN_TABLE_PLACES places
- * and may hold anything; those are 0 afterwards. Refusals: the file's; 8 if the table has fewer, or a list fewer
- * than there are arrivals. */
-krakobran_layout krakobran_sweep(const uint8_t *file, size_t octets, uint16_t *table, size_t table_places,
-                                 uint8_t *cases, size_t case_places, uint32_t *positions, size_t position_places,
-                                 uint32_t *extents, size_t extent_places, uint64_t *lates, size_t late_places);
+/* What the packet that needs most needs, by each measure. */
+uint64_t krakobran_greatest_needs(const uint8_t *file, uint64_t octets, krakobran_needs *needs);
+
+/* How many first arrivals need no more than a buffer of this size has. */
+uint64_t krakobran_accommodated(const uint8_t *file, uint64_t octets, uint32_t measure, uint64_t size,
+                                krakobran_accommodated_counts *counts);
+
+/* The least size that accommodates at least part in whole of the first arrivals: 95 in 100, or 1 in 1 for all. 9 also for
+ * a part outside 1 to whole. */
+uint64_t krakobran_least_size(const uint8_t *file, uint64_t octets, uint32_t measure, uint32_t part, uint32_t whole,
+                              uint64_t *size);
+
+/* ---- texts of a sample: report and summary */
+
+/* Writes the report of a sample from the start of out, and the number of its octets to length. Any report fits into
+ * KRAKOBRAN_REPORT_OCTETS places. Refusals: the file's; 8 if this one does not fit. */
+uint64_t krakobran_report_write(const uint8_t *file, uint64_t octets, uint8_t *out, uint64_t room, uint64_t *length);
+
+/* Whether a report agrees (1 or 0), and the number of its first wrong line, from 1; 0 where it agrees. */
+typedef struct {
+    uint64_t agrees;
+    uint64_t line;
+} krakobran_verdict;
+
+/* Checks a report: it agrees exactly if krakobran_report_write writes it. A missing or extra line is wrong at its place, and so
+ * is a last line without its line feed. Refusals: the file's, before the report is looked at. */
+uint64_t krakobran_report_check(const uint8_t *file, uint64_t octets, const uint8_t *report, uint64_t report_octets,
+                                krakobran_verdict *verdict);
+
+/* Writes the summary of a sample from the start of out, and the number of its octets to length: counts, the least sizes for 50,
+ * 90, 95 and 99 in 100 of the first arrivals and for all, ratios, total of disorder. Any summary fits into
+ * KRAKOBRAN_SUMMARY_OCTETS places. Refusals: the file's; 8 if this one does not fit. */
+uint64_t krakobran_summary_write(const uint8_t *file, uint64_t octets, uint8_t *out, uint64_t room, uint64_t *length);
 
 /* ---- packets that are cut on the way
  *
@@ -385,15 +379,23 @@ krakobran_layout krakobran_sweep(const uint8_t *file, size_t octets, uint16_t *t
  * to come and offset 0 is a whole packet, any other is a fragment. Fills two lists from their start: flags,
  * KRAKOBRAN_IN_ORDER, KRAKOBRAN_REORDERED_AFTER (which here says no more than reordered) or KRAKOBRAN_DUPLICATE;
  * and usable, 1 if the arrival is no copy and its packet's arrivals cover every octet from 0 to the end of one with
- * no more to come, else 0. Gives back the refusal: 4, by sent; 5, by the list of numbers; 12 if any of the other
- * four has another length; the arrivals in turn, each by 6, by 17 and by 7; 8 if flags or usable have fewer places
- * than there are arrivals. */
-uint32_t krakobran_fragment_order(uint32_t sent, const uint32_t *numbers, size_t number_count, const uint64_t *times,
-                                  size_t time_count, const uint16_t *lengths, size_t length_count, const uint8_t *mores,
-                                  size_t more_count, const uint16_t *offsets, size_t offset_count, uint8_t *flags,
-                                  size_t flag_places, uint8_t *usable, size_t usable_places);
+ * no more to come, else 0. Refusals: 4, by sent; 5, by the list of numbers; 12 if any of the other four has another
+ * length; the arrivals in turn, each by 6, by 17 and by 7; 8 if flags or usable have fewer places than there are
+ * arrivals. */
+uint64_t krakobran_fragment_order(uint32_t sent, const uint32_t *numbers, uint64_t number_count, const uint64_t *times,
+                                  uint64_t time_count, const uint16_t *lengths, uint64_t length_count,
+                                  const uint8_t *mores, uint64_t more_count, const uint16_t *offsets,
+                                  uint64_t offset_count, uint8_t *flags, uint64_t flag_places, uint8_t *usable,
+                                  uint64_t usable_places);
 
 /* ---- the receiver */
+
+/* The runs of in-order packets: closed ones, the sum of the squares of their lengths, and the open one's length. */
+typedef struct {
+    uint32_t closed;
+    uint32_t squares;
+    uint32_t current;
+} krakobran_runs;
 
 /* The numbers that a step decides by: K, first arrivals (L), duplicates, in-order packets, the next expected
  * number, how many jumps are kept, the greatest time of the accepted arrivals, copies among them (0 for none), the
@@ -409,143 +411,210 @@ typedef struct {
     krakobran_runs runs;
     uint32_t dropped;
 } krakobran_stream;
-KRAKOBRAN_SIZE(krakobran_stream, 48);
 
 /* Position, number and time of each kept jump, the oldest first; the places after them are unused. */
 typedef struct {
-    uint16_t positions[KRAKOBRAN_WINDOW];
-    uint16_t numbers[KRAKOBRAN_WINDOW];
-    uint64_t times[KRAKOBRAN_WINDOW];
+    uint16_t positions[KRAKOBRAN_WINDOW_PLACES];
+    uint16_t numbers[KRAKOBRAN_WINDOW_PLACES];
+    uint64_t times[KRAKOBRAN_WINDOW_PLACES];
 } krakobran_places;
-KRAKOBRAN_SIZE(krakobran_places, 768);
 
 /* What a receiver holds: the numbers of its stream, a bit for each packet that has arrived (packet s: bit (s - 1) %
  * 64 of word (s - 1) / 64), and the places of the kept jumps. */
 typedef struct {
     krakobran_stream stream;
-    uint64_t marks[KRAKOBRAN_PACKETS / 64];
+    uint64_t marks[KRAKOBRAN_SENT_MOST / 64];
     krakobran_places places;
 } krakobran_receiver;
-KRAKOBRAN_SIZE(krakobran_receiver, 1328);
-
-/* A receiver at its start; with a refusal one for a single packet. */
-typedef struct {
-    uint32_t refusal;
-    krakobran_receiver state;
-} krakobran_fresh_answer;
-KRAKOBRAN_SIZE(krakobran_fresh_answer, 1336);
 
 /* What a receiver notes of an arrival: the case; the jump size if in order; extent and the amount of the late time if
  * reordered, exact ones or, beyond the window, those of the oldest kept jump: the true extent is greater, and of the
- * true late time they say nothing. What a case does not have is 0, and with a refusal all is. */
+ * true late time they say nothing. What a case does not have is 0. */
 typedef struct {
-    uint32_t kind;
-    uint32_t jump;
-    uint32_t extent;
+    uint64_t kind;
+    uint64_t jump;
+    uint64_t extent;
     uint64_t late;
-} krakobran_receiver_figures;
-KRAKOBRAN_SIZE(krakobran_receiver_figures, 24);
+} krakobran_noted;
 
-/* The answer of a step by value: what is noted, and the state after it. */
-typedef struct {
-    uint32_t refusal;
-    krakobran_receiver_figures noted;
-    krakobran_receiver state;
-} krakobran_step_figures;
-KRAKOBRAN_SIZE(krakobran_step_figures, 1360);
+/* Makes a receiver a fresh one for sent packets, whatever it held. Refusals: 4. */
+uint64_t krakobran_receiver_fresh(krakobran_receiver *receiver, uint32_t sent);
 
-/* The answer of a step by reference. */
-typedef struct {
-    uint32_t refusal;
-    krakobran_receiver_figures noted;
-} krakobran_outcome_figures;
-KRAKOBRAN_SIZE(krakobran_outcome_figures, 32);
-
-/* A fresh receiver for sent packets. Refusals: 4. */
-krakobran_fresh_answer krakobran_fresh(uint32_t sent);
-
-/* The answer to an arrival, and the state after it. Refusals: 10 for an unfit state; 11; 6; 7; 10 for a reordered
- * packet with no greater kept jump. A state that came from krakobran_fresh and steps is never unfit. */
-krakobran_step_figures krakobran_step(krakobran_receiver state, uint32_t number, uint64_t time);
-
-/* The same, with the new state left in the lent receiver: it is written where it stands, and nothing is copied. */
-krakobran_outcome_figures krakobran_step_lent(krakobran_receiver *state, uint32_t number, uint64_t time);
+/* Steps a receiver by an arrival. Refusals: 10 for an unfit state; 11; 6; 7; 10 for a reordered packet with no greater kept
+ * jump. A receiver that came from krakobran_receiver_fresh and steps is never unfit. With 11 it has accepted
+ * KRAKOBRAN_ARRIVALS_MOST arrivals, copies among them: its counts are final, and a fresh receiver takes the next ones. */
+uint64_t krakobran_receiver_step(krakobran_receiver *receiver, uint32_t number, uint64_t time, krakobran_noted *noted);
 
 /* ---- short sequence numbers
  *
  * A radio sends the lowest 8 or 10 bits of a number alone. The number found is the one with those bits that differs
  * from the greatest before (0 at the start) by at least minus half their range and less than half. */
 
-/* Fills a list with the numbers found of short ones of 8 or of 10 bits, of K sent packets, from its start. Gives
- * back the refusal: 4, by sent; 5, by the list of short numbers; 12 if that of times has another length; the
- * arrivals in turn, each by 6 (a short number over its width, or a number found outside 1 to K) and by 7; 8. */
-uint32_t krakobran_full_numbers_8(uint32_t sent, const uint16_t *shorts, size_t short_count, const uint64_t *times,
-                                  size_t time_count, uint32_t *numbers, size_t number_places);
-uint32_t krakobran_full_numbers_10(uint32_t sent, const uint16_t *shorts, size_t short_count, const uint64_t *times,
-                                   size_t time_count, uint32_t *numbers, size_t number_places);
+/* Fills a list with the numbers found of short ones of 8 or of 10 bits, of K sent packets, from its start. Refusals: 4, by
+ * sent; 5, by the list of short numbers; 12 if that of times has another length; the arrivals in turn, each by 6 (a short
+ * number over its width, or a number found outside 1 to K) and by 7; 8. */
+uint64_t krakobran_full_numbers_8(uint32_t sent, const uint16_t *shorts, uint64_t short_count, const uint64_t *times,
+                                  uint64_t time_count, uint32_t *numbers, uint64_t number_places);
+uint64_t krakobran_full_numbers_10(uint32_t sent, const uint16_t *shorts, uint64_t short_count, const uint64_t *times,
+                                   uint64_t time_count, uint32_t *numbers, uint64_t number_places);
 
-/* krakobran_step with the number found of a short one, the greatest before being the next expected number less 1.
- * Refusals: those of the step, 6 as for a list. */
-krakobran_step_figures krakobran_step_8(krakobran_receiver state, uint16_t number, uint64_t time);
-krakobran_step_figures krakobran_step_10(krakobran_receiver state, uint16_t number, uint64_t time);
-
-/* The same, with the new state left in the lent receiver, as by krakobran_step_lent. */
-krakobran_outcome_figures krakobran_step_8_lent(krakobran_receiver *state, uint16_t number, uint64_t time);
-krakobran_outcome_figures krakobran_step_10_lent(krakobran_receiver *state, uint16_t number, uint64_t time);
+/* Steps a receiver by the number found of a short one, the greatest before being the next expected number less 1. Refusals:
+ * those of krakobran_receiver_step, 6 as for a list. */
+uint64_t krakobran_receiver_step_8(krakobran_receiver *receiver, uint16_t number, uint64_t time,
+                                   krakobran_noted *noted);
+uint64_t krakobran_receiver_step_10(krakobran_receiver *receiver, uint16_t number, uint64_t time,
+                                    krakobran_noted *noted);
 
 /* ---- a meter: two streams that share the places of their kept jumps */
 
 /* What a stream has for itself: its numbers, and a bit for each packet that has arrived, as a receiver has them. */
 typedef struct {
     krakobran_stream stream;
-    uint64_t marks[KRAKOBRAN_PACKETS / 64];
+    uint64_t marks[KRAKOBRAN_SENT_MOST / 64];
 } krakobran_stream_state;
-KRAKOBRAN_SIZE(krakobran_stream_state, 560);
 
 /* What a meter holds: streams 1 and 2, and the places that they share. Stream 1 has the places from the first up,
  * stream 2 those from the last down, the oldest jump first; those between are free. A new jump takes a free place
- * if its stream keeps fewer than KRAKOBRAN_MOST_KEPT; else, or with no free place, its own oldest kept jump is
+ * if its stream keeps fewer than KRAKOBRAN_KEPT_MOST; else, or with no free place, its own oldest kept jump is
  * dropped for it. */
 typedef struct {
     krakobran_stream_state first;
     krakobran_stream_state second;
     krakobran_places places;
 } krakobran_meter;
+
+/* Makes a meter a new one, whatever it held: both streams fresh for a single packet, and all places free. It has no refusal. */
+void krakobran_meter_new(krakobran_meter *meter);
+
+/* Starts a stream afresh for sent packets; its places are free then. Refusals: 16; 10, which judges both streams, over
+ * KRAKOBRAN_KEPT_MOST jumps of one and over KRAKOBRAN_WINDOW_PLACES in all among it; 4. */
+uint64_t krakobran_meter_start(krakobran_meter *meter, uint32_t stream, uint32_t sent);
+
+/* Steps a stream by an arrival. Refusals: 16; 10 as for a start; then as a receiver's of the stream: 11, 6, 7, and 10 for
+ * a reordered packet with no greater kept jump. */
+uint64_t krakobran_meter_step(krakobran_meter *meter, uint32_t stream, uint32_t number, uint64_t time,
+                              krakobran_noted *noted);
+
+/* ---- the library itself */
+
+/* Writes the words of a refusal from the start of out, and the number of their octets to length. Those of any refusal fit into
+ * KRAKOBRAN_WORDS_OCTETS places. Refusals: 9 for a number that is no refusal, 0 among them; 8 if these do not fit. */
+uint64_t krakobran_refusal_words(uint64_t refusal, uint8_t *out, uint64_t room, uint64_t *length);
+
+/* Returns the version of the library: 1,000,000 for each major version, 1,000 for each minor one, and the patch. It has no
+ * refusal. */
+uint64_t krakobran_version(void);
+
+/* ---- layouts: what is assumed of a machine, the size of each struct and the offset of each field, checked by C11 and C++11 */
+
+#if defined(__cplusplus) && __cplusplus >= 201103L
+#define KRAKOBRAN_HOLDS(condition, text) static_assert(condition, text)
+#elif defined(__STDC_VERSION__) && __STDC_VERSION__ >= 201112L
+#define KRAKOBRAN_HOLDS(condition, text) _Static_assert(condition, text)
+#else
+#define KRAKOBRAN_HOLDS(condition, text) struct krakobran_unchecked
+#endif
+#define KRAKOBRAN_SIZE(type, octets) KRAKOBRAN_HOLDS(sizeof(type) == (octets), #type " has another size")
+#define KRAKOBRAN_AT(type, field, octets) \
+    KRAKOBRAN_HOLDS(offsetof(type, field) == (octets), #type "." #field " has another offset")
+
+struct krakobran_alignment {
+    uint8_t octet;
+    uint64_t number;
+};
+KRAKOBRAN_HOLDS(offsetof(struct krakobran_alignment, number) == 8, "a uint64_t is not aligned to 8 octets");
+KRAKOBRAN_SIZE(double, 8);
+
+KRAKOBRAN_SIZE(krakobran_layout, 24);
+KRAKOBRAN_AT(krakobran_layout, label, 0);
+KRAKOBRAN_AT(krakobran_layout, sent, 8);
+KRAKOBRAN_AT(krakobran_layout, arrivals, 16);
+KRAKOBRAN_SIZE(krakobran_part, 16);
+KRAKOBRAN_AT(krakobran_part, start, 0);
+KRAKOBRAN_AT(krakobran_part, length, 8);
+KRAKOBRAN_SIZE(krakobran_row, 8 * KRAKOBRAN_ROW_NUMBERS);
+KRAKOBRAN_AT(krakobran_row, kind, 0);
+KRAKOBRAN_AT(krakobran_row, position, 8);
+KRAKOBRAN_AT(krakobran_row, jump, 16);
+KRAKOBRAN_AT(krakobran_row, extent, 24);
+KRAKOBRAN_AT(krakobran_row, late, 32);
+KRAKOBRAN_AT(krakobran_row, offset, 40);
+KRAKOBRAN_AT(krakobran_row, largest, 48);
+KRAKOBRAN_AT(krakobran_row, first, 56);
+KRAKOBRAN_SIZE(krakobran_counts_figures, 56);
+KRAKOBRAN_AT(krakobran_counts_figures, arrived, 0);
+KRAKOBRAN_AT(krakobran_counts_figures, reordered, 8);
+KRAKOBRAN_AT(krakobran_counts_figures, duplicates, 16);
+KRAKOBRAN_AT(krakobran_counts_figures, inorder, 24);
+KRAKOBRAN_AT(krakobran_counts_figures, closed, 32);
+KRAKOBRAN_AT(krakobran_counts_figures, squares, 40);
+KRAKOBRAN_AT(krakobran_counts_figures, current, 48);
+KRAKOBRAN_SIZE(krakobran_gap_figures, 16);
+KRAKOBRAN_AT(krakobran_gap_figures, known, 0);
+KRAKOBRAN_AT(krakobran_gap_figures, positions, 8);
+KRAKOBRAN_SIZE(krakobran_degree_counts, 16);
+KRAKOBRAN_AT(krakobran_degree_counts, reordered, 0);
+KRAKOBRAN_AT(krakobran_degree_counts, arrived, 8);
+KRAKOBRAN_SIZE(krakobran_degree_figures, 16);
+KRAKOBRAN_AT(krakobran_degree_figures, known, 0);
+KRAKOBRAN_AT(krakobran_degree_figures, bits, 8);
+KRAKOBRAN_SIZE(krakobran_ratios_figures, 32);
+KRAKOBRAN_AT(krakobran_ratios_figures, known, 0);
+KRAKOBRAN_AT(krakobran_ratios_figures, reordered, 8);
+KRAKOBRAN_AT(krakobran_ratios_figures, degree1, 16);
+KRAKOBRAN_AT(krakobran_ratios_figures, degree3, 24);
+KRAKOBRAN_SIZE(krakobran_worse_link, 24);
+KRAKOBRAN_AT(krakobran_worse_link, link, 0);
+KRAKOBRAN_AT(krakobran_worse_link, start, 8);
+KRAKOBRAN_AT(krakobran_worse_link, length, 16);
+KRAKOBRAN_SIZE(krakobran_needs, 24);
+KRAKOBRAN_AT(krakobran_needs, packets, 0);
+KRAKOBRAN_AT(krakobran_needs, octets, 8);
+KRAKOBRAN_AT(krakobran_needs, time, 16);
+KRAKOBRAN_SIZE(krakobran_accommodated_counts, 16);
+KRAKOBRAN_AT(krakobran_accommodated_counts, accommodated, 0);
+KRAKOBRAN_AT(krakobran_accommodated_counts, arrived, 8);
+KRAKOBRAN_SIZE(krakobran_verdict, 16);
+KRAKOBRAN_AT(krakobran_verdict, agrees, 0);
+KRAKOBRAN_AT(krakobran_verdict, line, 8);
+KRAKOBRAN_SIZE(krakobran_noted, 32);
+KRAKOBRAN_AT(krakobran_noted, kind, 0);
+KRAKOBRAN_AT(krakobran_noted, jump, 8);
+KRAKOBRAN_AT(krakobran_noted, extent, 16);
+KRAKOBRAN_AT(krakobran_noted, late, 24);
+KRAKOBRAN_SIZE(krakobran_runs, 12);
+KRAKOBRAN_AT(krakobran_runs, closed, 0);
+KRAKOBRAN_AT(krakobran_runs, squares, 4);
+KRAKOBRAN_AT(krakobran_runs, current, 8);
+KRAKOBRAN_SIZE(krakobran_stream, 48);
+KRAKOBRAN_AT(krakobran_stream, sent, 0);
+KRAKOBRAN_AT(krakobran_stream, arrived, 4);
+KRAKOBRAN_AT(krakobran_stream, duplicates, 8);
+KRAKOBRAN_AT(krakobran_stream, inorder, 12);
+KRAKOBRAN_AT(krakobran_stream, next, 16);
+KRAKOBRAN_AT(krakobran_stream, kept, 20);
+KRAKOBRAN_AT(krakobran_stream, greatest, 24);
+KRAKOBRAN_AT(krakobran_stream, runs, 32);
+KRAKOBRAN_AT(krakobran_stream, dropped, 44);
+KRAKOBRAN_SIZE(krakobran_places, 768);
+KRAKOBRAN_AT(krakobran_places, positions, 0);
+KRAKOBRAN_AT(krakobran_places, numbers, 128);
+KRAKOBRAN_AT(krakobran_places, times, 256);
+KRAKOBRAN_SIZE(krakobran_receiver, 1328);
+KRAKOBRAN_AT(krakobran_receiver, stream, 0);
+KRAKOBRAN_AT(krakobran_receiver, marks, 48);
+KRAKOBRAN_AT(krakobran_receiver, places, 560);
+KRAKOBRAN_SIZE(krakobran_stream_state, 560);
+KRAKOBRAN_AT(krakobran_stream_state, stream, 0);
+KRAKOBRAN_AT(krakobran_stream_state, marks, 48);
 KRAKOBRAN_SIZE(krakobran_meter, 1888);
+KRAKOBRAN_AT(krakobran_meter, first, 0);
+KRAKOBRAN_AT(krakobran_meter, second, 560);
+KRAKOBRAN_AT(krakobran_meter, places, 1120);
 
-/* A meter after a fresh start of a stream. */
-typedef struct {
-    uint32_t refusal;
-    krakobran_meter state;
-} krakobran_meter_start_answer;
-KRAKOBRAN_SIZE(krakobran_meter_start_answer, 1896);
-
-/* The answer of a step on a stream by value: what is noted, and the meter after it. */
-typedef struct {
-    uint32_t refusal;
-    krakobran_receiver_figures noted;
-    krakobran_meter state;
-} krakobran_meter_step_figures;
-KRAKOBRAN_SIZE(krakobran_meter_step_figures, 1920);
-
-/* A new meter: both streams fresh for a single packet, and all places free. */
-krakobran_meter krakobran_meter_new(void);
-
-/* A stream started afresh for sent packets; its places are free then. Refusals in order: 16; 10, which judges both
- * streams, over KRAKOBRAN_MOST_KEPT jumps of one and over KRAKOBRAN_WINDOW in all among it; 4. */
-krakobran_meter_start_answer krakobran_meter_start(krakobran_meter meter, uint32_t stream, uint32_t sent);
-
-/* The answer to an arrival on a stream, and the meter after it. Refusals in order: 16; 10 as for a start; then as a
- * receiver's of the stream: 11, 6, 7, and 10 for a reordered packet with no greater kept jump. */
-krakobran_meter_step_figures krakobran_meter_step(krakobran_meter meter, uint32_t stream, uint32_t number, uint64_t time);
-
-/* The start, with the new state left in the lent meter: it is written where it stands. Gives back the refusal. */
-uint32_t krakobran_meter_start_lent(krakobran_meter *meter, uint32_t stream, uint32_t sent);
-
-/* The step, with the new state left in the lent meter: it is written where it stands. */
-krakobran_outcome_figures krakobran_meter_step_lent(krakobran_meter *meter, uint32_t stream, uint32_t number, uint64_t time);
-
+#undef KRAKOBRAN_HOLDS
 #undef KRAKOBRAN_SIZE
+#undef KRAKOBRAN_AT
 
 #ifdef __cplusplus
 }

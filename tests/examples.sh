@@ -1,5 +1,5 @@
 #!/usr/bin/env bash
-# Runs the examples that `make` has built, in C, C++ and Python, and a program that is built against an installed library, and
+# Runs the examples that `make` has built, in C, C++, Python and Rust, and a program that is built against an installed library, and
 # compares what they print with what is expected. A line for each case; status 1 if one fails. What is missing on this machine is
 # named in a line of its own, and its case is left out.
 . "$(dirname -- "${BASH_SOURCE[0]}")/lib.sh" || exit 2
@@ -21,8 +21,8 @@ fed() {
     sed -n '/^    1 at 10: /,/^    closed runs /s/^    //p' "$root/docs/C.md"
 }
 
-# The listing of the report's example.
-listed() {
+# The report of the example.
+reported() {
     cat "$root/crates/report/stdout"
 }
 
@@ -33,14 +33,26 @@ printf 'L 2, duplicates 0, in order 1\nclosed runs 1, sum of squares 1, open run
 try 'feed.c, from standard input' 0 "$root/target/feed" 2 < <(printf '2 0\n1 9\n3 9\n')
 echo 'refused 4' > "$dir/expected"
 try 'feed.c, K of 0' 1 "$root/target/feed" 0
+try 'feed.c, K of 2 to the 32 and 1' 1 "$root/target/feed" 4294967297
+{
+    printf '1 at 7: in order, jump size 0\n'
+    printf '1 at 7: duplicate\n%.0s' {2..4096}
+    printf '1 at 7: refused 11, the receiver is full; its counts:\n'
+    printf 'L 1, duplicates 4095, in order 1\nclosed runs 0, sum of squares 0, open run 1\n'
+    printf 'a fresh receiver takes this arrival and the next ones\n1 at 7: in order, jump size 0\n'
+    printf 'L 1, duplicates 0, in order 1\nclosed runs 0, sum of squares 0, open run 1\n'
+} > "$dir/expected"
+try 'feed.c, an arrival more than a receiver accepts' 0 "$root/target/feed" 1 < <(printf '1 7\n%.0s' {1..4097})
 
 {
     printf 'label ""\nL 5, reordered 1, duplicates 0, in order 4\nreordered ratio 0.2000\ntotal of disorder 2\n'
-    listed
+    printf 'needs 2 packets, 200 octets, 30 microseconds\n'
+    reported
 } > "$dir/expected"
 try 'figures.c, the example' 0 "$root/target/figures" "$root/crates/report/stdin"
 {
     printf 'label "cellar"\nL 0, reordered 0, duplicates 0, in order 0\nreordered ratio undefined\ntotal of disorder 0\n'
+    printf 'needs 0 packets, 0 octets, 0 microseconds\n'
     printf 'sent 1 arrivals 0\nend 0 0 0 0 0 0\n'
 } > "$dir/expected"
 try 'figures.c, a sample without arrivals' 0 "$root/target/figures" < <(printf '\0\6cellar\0\1\0\144\0\0')
@@ -54,13 +66,49 @@ if have "$CXX" 'vectors.cpp'; then
 fi
 
 if have python3 'counts.py'; then
+    export PYTHONPATH=$root/bindings/python PYTHONDONTWRITEBYTECODE=1
     {
         echo 'L 5, reordered 1, duplicates 0, in order 4'
-        listed
+        reported
     } > "$dir/expected"
-    try 'counts.py, the example' 0 python3 "$root/examples/counts.py" "$root/target/libkrakobran.so" "$root/crates/report/stdin"
+    try 'counts.py, the example' 0 python3 "$root/examples/counts.py" "$root/crates/report/stdin"
     echo 'refused 1' > "$dir/expected"
-    try 'counts.py, an empty file' 1 python3 "$root/examples/counts.py" "$root/target/libkrakobran.so" /dev/null
+    try 'counts.py, an empty file' 1 python3 "$root/examples/counts.py" /dev/null
+fi
+
+if have rustc 'counts.rs'; then
+    : > "$dir/expected"
+    try 'counts.rs, compiled' 0 rustc --edition 2021 -D warnings -O -L "$root/target" -l static=krakobran -o "$dir/counts" \
+        "$root/examples/counts.rs"
+    printf 'L 5, reordered 1, duplicates 0, in order 4
+closed runs 1, sum of squares 16, open run 0
+' > "$dir/expected"
+    try 'counts.rs, the example' 0 "$dir/counts" "$root/crates/report/stdin"
+    echo 'refused 1' > "$dir/expected"
+    try 'counts.rs, an empty file' 1 "$dir/counts" /dev/null
+fi
+
+# The header is one text for C99 to C17 and C++98 to C++17, without a warning; C11 and C++11 refuse one with a field out of its place.
+: > "$dir/expected"
+echo '#include "krakobran.h"' > "$dir/header.c"
+for standard in c99 c11 c17; do
+    try "the header, $standard" 0 "$CC" -std=$standard -Wall -Wextra -Wpedantic -Werror -I"$root/include" -fsyntax-only "$dir/header.c"
+done
+sed 's/^    uint64_t closed;$/    uint64_t exchanged;/; s/^    uint64_t squares;$/    uint64_t closed;/; s/exchanged/squares/' \
+    "$root/include/krakobran.h" > "$dir/krakobran.h"
+"$CC" -std=c11 -I"$dir" -fsyntax-only "$dir/header.c" > "$dir/out" 2>&1
+verdict 'the header with two fields exchanged' "$(grep -q 'counts_figures.closed has another offset' "$dir/out" || echo ', it is accepted')"
+rm "$dir/krakobran.h"
+if have "$CXX" 'the header in C++'; then
+    cp "$dir/header.c" "$dir/header.cpp"
+    for standard in c++98 c++11 c++17; do
+        try "the header, $standard" 0 "$CXX" -std=$standard -Wall -Wextra -Werror -I"$root/include" -fsyntax-only "$dir/header.cpp"
+    done
+fi
+if have nm 'the exports of the archive'; then
+    nm "$root/target/libkrakobran.a" 2>&1 | sed -n 's/^[0-9a-f]* T \(krakobran_.*\)/\1/p' | LC_ALL=C sort > "$dir/out"
+    sed -n 's/^\(uint64_t\|void\) \(krakobran_[a-z0-9_]*\)(.*/\2/p' "$root/include/krakobran.h" | LC_ALL=C sort > "$dir/expected"
+    same 'the archive exports what the header declares' "$dir/out" "$dir/expected"
 fi
 
 # Installed below a folder, and linked from there as an archive and as a shared object.

@@ -42,19 +42,22 @@ cat > "$dir/expected" << EOF
 ./lib/cmake/krakobran/krakobran-config.cmake
 ./lib/libkrakobran.a
 ./lib/libkrakobran.so
-./lib/libkrakobran.so.${version%%.*}
+./lib/libkrakobran.so.${version%.*}
 ./lib/libkrakobran.so.$version
 ./lib/pkgconfig/krakobran.pc
 ./libexec/krakobran/check_listing
 ./libexec/krakobran/example.sample
 ./libexec/krakobran/export_log
+./libexec/krakobran/follow_log
 ./libexec/krakobran/import_log
 ./libexec/krakobran/krakobran.txt
 ./libexec/krakobran/picture
 ./libexec/krakobran/report
+./libexec/krakobran/show_refusal
 ./libexec/krakobran/show_summary
 ./libexec/krakobran/worse_link
 ./share/bash-completion/completions/krakobran
+./share/krakobran/python/krakobran.py
 ./share/man/man1/krakobran.1
 ./share/zsh/site-functions/_krakobran
 EOF
@@ -108,13 +111,19 @@ same 'what is packed' "$dir/out" "$dir/expected"
 krakobran=$dir/unpacked/$name/bin/krakobran
 same_command 'unpacked'
 
-# The library from there, by pkg-config and by CMake.
+# The library from there, by pkg-config, from Python and by CMake.
 if have pkg-config 'the unpacked pkg-config file'; then
     read -ra flags <<< "$(PKG_CONFIG_PATH=$dir/unpacked/$name/lib/pkgconfig pkg-config --cflags --libs krakobran)"
     "${CC:-cc}" -o "$dir/feed" "$root/examples/feed.c" "${flags[@]}" -Wl,-rpath,"$dir/unpacked/$name/lib"
     "$dir/feed" > "$dir/out"
     "$root/target/feed" > "$dir/expected"
     same 'a program by the unpacked pkg-config file' "$dir/out" "$dir/expected"
+fi
+if have python3 'the unpacked binding for Python'; then
+    PYTHONPATH=$dir/unpacked/$name/share/krakobran/python PYTHONDONTWRITEBYTECODE=1 python3 "$root/examples/counts.py" "$example" \
+        > "$dir/out" 2>&1
+    { echo 'L 5, reordered 1, duplicates 0, in order 4' && cat "$root/crates/report/stdout"; } > "$dir/expected"
+    same 'a program by the unpacked binding for Python' "$dir/out" "$dir/expected"
 fi
 if have cmake 'the CMake package'; then
     mkdir "$dir/project"
@@ -135,9 +144,12 @@ EOF
         "$dir/project/build/feed_$kind" > "$dir/out"
         same "a program by CMake, krakobran::$kind" "$dir/out" "$dir/expected"
     done
-    sed -i "s/find_package(krakobran [0-9.]*/find_package(krakobran $((${version%%.*} + 1))/" "$dir/project/CMakeLists.txt"
-    cmake -S "$dir/project" -B "$dir/project/next" -DCMAKE_PREFIX_PATH="$dir/unpacked/$name" > "$dir/cmake" 2>&1
-    verdict 'CMake refuses the next major version' "$([ $? -ne 0 ] || echo ', it does not')"
+    # Another major version, and before 1.0.0 another minor version, is refused.
+    for other in $((${version%%.*} + 1)) 0.9 0.11; do
+        sed -i "s/find_package(krakobran [0-9.]*/find_package(krakobran $other/" "$dir/project/CMakeLists.txt"
+        cmake -S "$dir/project" -B "$dir/project/$other" -DCMAKE_PREFIX_PATH="$dir/unpacked/$name" > "$dir/cmake" 2>&1
+        verdict "CMake refuses version $other" "$([ $? -ne 0 ] || echo ', it does not')"
+    done
 fi
 
 # LDFLAGS reach the shared object.
@@ -155,7 +167,7 @@ complete_words krakobran re >> "$dir/out"
 complete_words krakobran import '' >> "$dir/out"
 complete_words krakobran report --v >> "$dir/out"
 complete_words krakobran report x >> "$dir/out"
-printf '%s\n' 'report summary import export check worse picture help --help --version' report 'log owamp' --version '' > "$dir/expected"
+printf '%s\n' 'report summary import export check worse picture follow help --help --version' report 'log owamp' --version '' > "$dir/expected"
 same 'the completion for bash' "$dir/out" "$dir/expected"
 if have zsh 'the completion for zsh'; then
     verdict 'the completion for zsh' "$(zsh -n "$root/tools/completion.zsh" 2>&1 | sed 's/^/, /')"

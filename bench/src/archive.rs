@@ -4,66 +4,54 @@
 use std::hint::black_box;
 
 use crate::boundary::{Meter, Place};
-use crate::checker::Checked;
-use crate::disorder::Total;
 use crate::receiver::Jumps;
-use crate::records::Records;
 use crate::reference::{
-    Answer, Answered, Counts, Degree, DegreeCounts, Figures, Fresh, Gap, LateTime, Ratios, Read, Receiver,
-    RecordAnswer, Step, Stepped, Tally, Written,
+    Answer, Answered, Counts, Degree, DegreeCounts, Figures, Gap, LateTime, Ratios, Read, Receiver, RecordAnswer, Step,
+    Tally, Written,
 };
-use crate::text::Imported;
-use crate::worse::Worse;
 
-const IN_ORDER: u32 = 0;
-const REORDERED_AFTER: u32 = 1;
-const REORDERED_BEFORE: u32 = 2;
-const DUPLICATE: u32 = 3;
-const BEYOND_AFTER: u32 = 4;
-const BEYOND_BEFORE: u32 = 5;
+const IN_ORDER: u64 = 0;
+const REORDERED_AFTER: u64 = 1;
+const REORDERED_BEFORE: u64 = 2;
+const DUPLICATE: u64 = 3;
+const BEYOND_AFTER: u64 = 4;
+const BEYOND_BEFORE: u64 = 5;
 
-/// The archive's structs.
+/// The archive's structs and functions.
 pub mod c {
     use crate::reference::Receiver;
 
-    #[repr(C)]
-    pub struct Layout {
-        pub refusal: u32,
-        pub label: u32,
-        pub sent: u32,
-        pub arrivals: u32,
-    }
+    /// What a figure holds before a call that sets it.
+    pub const LENT: u64 = 0xA7A7_A7A7_A7A7_A7A7;
 
-    #[repr(C)]
-    pub struct Part {
-        pub start: u32,
-        pub length: u32,
-    }
+    /// Answers: structs of figures that the caller lends.
+    macro_rules! figures {
+        ($($name:ident: $($field:ident)*;)*) => {$(
+            #[repr(C)]
+            #[derive(Clone, Copy, PartialEq, Eq, Debug)]
+            pub struct $name {
+                $(pub $field: u64,)*
+            }
 
-    #[repr(C)]
-    pub struct Written {
-        pub refusal: u32,
-        pub length: u32,
+            impl $name {
+                pub const LENT: $name = $name { $($field: LENT),* };
+            }
+        )*};
     }
-
-    #[repr(C)]
-    pub struct Answer {
-        pub refusal: u32,
-        pub kind: u32,
-        pub first: u32,
-        pub position: u32,
-        pub jump: u32,
-        pub extent: u32,
-        pub offset: u32,
-        pub largest: u32,
-        pub late: u64,
-    }
-
-    #[repr(C)]
-    pub struct Gap {
-        pub refusal: u32,
-        pub known: u32,
-        pub positions: u32,
+    figures! {
+        Layout: label sent arrivals;
+        Part: start length;
+        Row: kind position jump extent late offset largest first;
+        Counts: arrived reordered duplicates inorder closed squares current;
+        Gap: known positions;
+        DegreeCounts: reordered arrived;
+        Degree: known bits;
+        Ratios: known reordered degree1 degree3;
+        Worse: link start length;
+        Needs: packets octets time;
+        Accommodated: accommodated arrived;
+        Verdict: agrees line;
+        Noted: kind jump extent late;
     }
 
     #[repr(C)]
@@ -72,45 +60,6 @@ pub mod c {
         pub closed: u32,
         pub squares: u32,
         pub current: u32,
-    }
-
-    #[repr(C)]
-    pub struct Counts {
-        pub refusal: u32,
-        pub arrived: u32,
-        pub reordered: u32,
-        pub duplicates: u32,
-        pub inorder: u32,
-        pub runs: Runs,
-    }
-
-    #[repr(C)]
-    pub struct Tally {
-        pub refusal: u32,
-        pub places: [u32; 101],
-    }
-
-    #[repr(C)]
-    pub struct DegreeCounts {
-        pub refusal: u32,
-        pub reordered: u32,
-        pub arrived: u32,
-    }
-
-    #[repr(C)]
-    pub struct Degree {
-        pub refusal: u32,
-        pub known: u32,
-        pub bits: u64,
-    }
-
-    #[repr(C)]
-    pub struct Ratios {
-        pub refusal: u32,
-        pub known: u32,
-        pub reordered: u64,
-        pub degree1: u64,
-        pub degree3: u64,
     }
 
     #[repr(C)]
@@ -136,39 +85,11 @@ pub mod c {
     }
 
     #[repr(C)]
-    #[derive(Clone, Copy)]
+    #[derive(Clone, Copy, PartialEq, Eq, Debug)]
     pub struct State {
         pub stream: Stream,
         pub marks: [u64; Receiver::PACKETS / 64],
         pub places: Places,
-    }
-
-    #[repr(C)]
-    pub struct Started {
-        pub refusal: u32,
-        pub state: State,
-    }
-
-    #[repr(C)]
-    #[derive(Clone, Copy)]
-    pub struct Noted {
-        pub kind: u32,
-        pub jump: u32,
-        pub extent: u32,
-        pub late: u64,
-    }
-
-    #[repr(C)]
-    pub struct Stepped {
-        pub refusal: u32,
-        pub noted: Noted,
-        pub state: State,
-    }
-
-    #[repr(C)]
-    pub struct Said {
-        pub refusal: u32,
-        pub noted: Noted,
     }
 
     #[repr(C)]
@@ -186,71 +107,113 @@ pub mod c {
         pub places: Places,
     }
 
-    #[repr(C)]
-    pub struct MeterStarted {
-        pub refusal: u32,
-        pub state: Meter,
-    }
-
-    #[repr(C)]
-    pub struct MeterStepped {
-        pub refusal: u32,
-        pub noted: Noted,
-        pub state: Meter,
-    }
-
     #[rustfmt::skip]
     extern "C" {
-        pub fn krakobran_check(file: *const u8, octets: usize) -> Layout;
-        pub fn krakobran_read(
-            file: *const u8, octets: usize, sizes: *mut u16, size_places: usize, numbers: *mut u32, number_places: usize,
-            times: *mut u64, time_places: usize,
-        ) -> Layout;
-        pub fn krakobran_label(file: *const u8, octets: usize) -> Part;
-        pub fn krakobran_write(
-            label: *const u8, label_octets: usize, sizes: *const u16, sent: usize, numbers: *const u32,
-            number_count: usize, times: *const u64, time_count: usize, out: *mut u8, room: usize,
-        ) -> Written;
-        pub fn krakobran_refusal_of_lists(
-            sent: u64, numbers: *const u32, number_count: usize, times: *const u64, time_count: usize,
-        ) -> u32;
-        pub fn krakobran_answer(file: *const u8, octets: usize, record: u32) -> Answer;
-        pub fn krakobran_counts(file: *const u8, octets: usize) -> Counts;
-        pub fn krakobran_tally(file: *const u8, octets: usize) -> Tally;
-        pub fn krakobran_gap(file: *const u8, octets: usize, record: u32) -> Gap;
-        pub fn krakobran_n_reordered(file: *const u8, octets: usize, n: u32) -> DegreeCounts;
-        pub fn krakobran_degree(file: *const u8, octets: usize, n: u32) -> Degree;
-        pub fn krakobran_ratios(file: *const u8, octets: usize) -> Ratios;
-        pub fn krakobran_listing(file: *const u8, octets: usize, out: *mut u8, room: usize) -> Written;
-        pub fn krakobran_fresh(sent: u32) -> Started;
-        pub fn krakobran_step(state: State, number: u32, time: u64) -> Stepped;
-        pub fn krakobran_step_lent(state: *mut State, number: u32, time: u64) -> Said;
-        pub fn krakobran_meter_new() -> Meter;
-        pub fn krakobran_meter_start(meter: Meter, stream: u32, sent: u32) -> MeterStarted;
-        pub fn krakobran_meter_step(meter: Meter, stream: u32, number: u32, time: u64) -> MeterStepped;
-        pub fn krakobran_meter_start_lent(meter: *mut Meter, stream: u32, sent: u32) -> u32;
-        pub fn krakobran_meter_step_lent(meter: *mut Meter, stream: u32, number: u32, time: u64) -> Said;
+        pub fn krakobran_sample_check(file: *const u8, octets: u64, layout: *mut Layout) -> u64;
+        pub fn krakobran_sample_read(
+            file: *const u8, octets: u64, sizes: *mut u16, size_places: u64, numbers: *mut u32, number_places: u64,
+            times: *mut u64, time_places: u64, layout: *mut Layout,
+        ) -> u64;
+        pub fn krakobran_sample_label(file: *const u8, octets: u64, part: *mut Part) -> u64;
+        pub fn krakobran_sample_write(
+            label: *const u8, label_octets: u64, sizes: *const u16, sent: u64, numbers: *const u32, number_count: u64,
+            times: *const u64, time_count: u64, out: *mut u8, room: u64, length: *mut u64,
+        ) -> u64;
+        pub fn krakobran_lists_check(
+            sent: u64, numbers: *const u32, number_count: u64, times: *const u64, time_count: u64,
+        ) -> u64;
+        pub fn krakobran_log_import(
+            log: *const u8, octets: u64, sent: u32, numbers: *mut u32, number_places: u64, times: *mut u64,
+            time_places: u64, arrivals: *mut u64,
+        ) -> u64;
+        pub fn krakobran_log_refused_line(log: *const u8, octets: u64, sent: u32, line: *mut u64);
+        pub fn krakobran_log_write(
+            sent: u32, numbers: *const u32, number_count: u64, times: *const u64, time_count: u64, out: *mut u8,
+            room: u64, length: *mut u64,
+        ) -> u64;
+        pub fn krakobran_owamp_import(
+            records: *const u8, octets: u64, sent: u32, numbers: *mut u32, number_places: u64, times: *mut u64,
+            time_places: u64, arrivals: *mut u64,
+        ) -> u64;
+        pub fn krakobran_owamp_write(file: *const u8, octets: u64, out: *mut u8, room: u64, length: *mut u64) -> u64;
+        pub fn krakobran_answer(file: *const u8, octets: u64, record: u32, row: *mut Row) -> u64;
+        pub fn krakobran_rows(file: *const u8, octets: u64, rows: *mut Row, numbers: u64) -> u64;
+        pub fn krakobran_counts(file: *const u8, octets: u64, counts: *mut Counts) -> u64;
+        pub fn krakobran_tally(file: *const u8, octets: u64, tally: *mut u32) -> u64;
+        pub fn krakobran_gap(file: *const u8, octets: u64, record: u32, gap: *mut Gap) -> u64;
+        pub fn krakobran_n_reordered(file: *const u8, octets: u64, n: u32, counts: *mut DegreeCounts) -> u64;
+        pub fn krakobran_degree(file: *const u8, octets: u64, n: u32, degree: *mut Degree) -> u64;
+        pub fn krakobran_ratios(file: *const u8, octets: u64, ratios: *mut Ratios) -> u64;
+        pub fn krakobran_disorder(file: *const u8, octets: u64, total: *mut u64) -> u64;
+        pub fn krakobran_sweep(
+            file: *const u8, octets: u64, table: *mut u16, table_places: u64, kinds: *mut u8, kind_places: u64,
+            positions: *mut u32, position_places: u64, extents: *mut u32, extent_places: u64, lates: *mut u64,
+            late_places: u64,
+        ) -> u64;
+        pub fn krakobran_worse(
+            first: *const u8, first_octets: u64, second: *const u8, second_octets: u64, worse: *mut Worse,
+        ) -> u64;
+        pub fn krakobran_greatest_needs(file: *const u8, octets: u64, needs: *mut Needs) -> u64;
+        pub fn krakobran_accommodated(
+            file: *const u8, octets: u64, measure: u32, size: u64, counts: *mut Accommodated,
+        ) -> u64;
+        pub fn krakobran_least_size(
+            file: *const u8, octets: u64, measure: u32, part: u32, whole: u32, size: *mut u64,
+        ) -> u64;
+        pub fn krakobran_report_write(file: *const u8, octets: u64, out: *mut u8, room: u64, length: *mut u64) -> u64;
+        pub fn krakobran_report_check(
+            file: *const u8, octets: u64, report: *const u8, report_octets: u64, verdict: *mut Verdict,
+        ) -> u64;
+        pub fn krakobran_summary_write(file: *const u8, octets: u64, out: *mut u8, room: u64, length: *mut u64) -> u64;
+        pub fn krakobran_fragment_order(
+            sent: u32, numbers: *const u32, number_count: u64, times: *const u64, time_count: u64, lengths: *const u16,
+            length_count: u64, mores: *const u8, more_count: u64, offsets: *const u16, offset_count: u64,
+            flags: *mut u8, flag_places: u64, usable: *mut u8, usable_places: u64,
+        ) -> u64;
+        pub fn krakobran_full_numbers_8(
+            sent: u32, shorts: *const u16, short_count: u64, times: *const u64, time_count: u64, numbers: *mut u32,
+            number_places: u64,
+        ) -> u64;
+        pub fn krakobran_full_numbers_10(
+            sent: u32, shorts: *const u16, short_count: u64, times: *const u64, time_count: u64, numbers: *mut u32,
+            number_places: u64,
+        ) -> u64;
+        pub fn krakobran_receiver_fresh(receiver: *mut State, sent: u32) -> u64;
+        pub fn krakobran_receiver_step(receiver: *mut State, number: u32, time: u64, noted: *mut Noted) -> u64;
+        pub fn krakobran_receiver_step_8(receiver: *mut State, number: u16, time: u64, noted: *mut Noted) -> u64;
+        pub fn krakobran_receiver_step_10(receiver: *mut State, number: u16, time: u64, noted: *mut Noted) -> u64;
+        pub fn krakobran_version() -> u64;
+        pub fn krakobran_refusal_words(refusal: u64, out: *mut u8, room: u64, length: *mut u64) -> u64;
+        pub fn krakobran_meter_new(meter: *mut Meter);
+        pub fn krakobran_meter_start(meter: *mut Meter, stream: u32, sent: u32) -> u64;
+        pub fn krakobran_meter_step(meter: *mut Meter, stream: u32, number: u32, time: u64, noted: *mut Noted) -> u64;
     }
 }
 
-/// The pointer to a list as a caller in C may have it: NULL where there are no places.
+/// The pointer to a list as a caller in C may have it, NULL where there are no places, and the number of its places.
 #[inline(always)]
-pub fn pointer<T>(list: &[T]) -> *const T {
-    if list.is_empty() {
-        std::ptr::null()
-    } else {
-        list.as_ptr()
-    }
+pub fn given<T>(list: &[T]) -> (*const T, u64) {
+    (if list.is_empty() { std::ptr::null() } else { list.as_ptr() }, list.len() as u64)
 }
 
-/// The same to a list that is written to.
+/// The same of a list that is written to.
 #[inline(always)]
-pub fn pointer_mut<T>(list: &mut [T]) -> *mut T {
-    if list.is_empty() {
-        std::ptr::null_mut()
-    } else {
-        list.as_mut_ptr()
-    }
+pub fn lent<T>(list: &mut [T]) -> (*mut T, u64) {
+    (if list.is_empty() { std::ptr::null_mut() } else { list.as_mut_ptr() }, list.len() as u64)
+}
+
+/// A refusal or a figure that has 32 bits in the papers.
+#[inline(always)]
+pub fn narrow(figure: u64) -> u32 {
+    u32::try_from(figure).unwrap_or_else(|_| panic!("{figure:#x} has over 32 bits"))
+}
+
+/// What a call that fills one figure returns: the refusal, and the figure.
+#[inline(always)]
+pub fn one_figure(call: impl FnOnce(*mut u64) -> u64) -> (u32, u32) {
+    let mut figure = c::LENT;
+    let refusal = call(&mut figure);
+    (narrow(refusal), narrow(figure))
 }
 
 /// The archive's state of a receiver.
@@ -296,6 +259,14 @@ pub fn from_archive(state: &c::State) -> Receiver {
     }
 }
 
+/// The archive's state of a fresh receiver for K = 4,096. For measuring.
+pub fn fresh_state() -> c::State {
+    let mut state = to_archive(&Receiver::fresh(1).receiver);
+    // SAFETY: what is lent is a whole receiver.
+    assert_eq!(unsafe { c::krakobran_receiver_fresh(&mut state, Receiver::PACKETS as u32) }, 0);
+    state
+}
+
 /// A late time by its direction and its amount.
 fn late_time(after: bool, amount: u64) -> LateTime {
     if after {
@@ -309,36 +280,56 @@ fn late_time(after: bool, amount: u64) -> LateTime {
 pub fn noted(n: c::Noted) -> Step {
     match n {
         c::Noted { kind: DUPLICATE, jump: 0, extent: 0, late: 0 } => Step::Duplicate,
-        c::Noted { kind: IN_ORDER, jump, extent: 0, late: 0 } => Step::InOrder { jump },
+        c::Noted { kind: IN_ORDER, jump, extent: 0, late: 0 } => Step::InOrder { jump: narrow(jump) },
         c::Noted { kind: kind @ (REORDERED_AFTER | REORDERED_BEFORE), jump: 0, extent, late } => {
-            Step::Exact { extent, late_time: late_time(kind == REORDERED_AFTER, late) }
+            Step::Exact { extent: narrow(extent), late_time: late_time(kind == REORDERED_AFTER, late) }
         }
         c::Noted { kind: kind @ (BEYOND_AFTER | BEYOND_BEFORE), jump: 0, extent, late } => {
-            Step::Beyond { extent, late_time: late_time(kind == BEYOND_AFTER, late) }
+            Step::Beyond { extent: narrow(extent), late_time: late_time(kind == BEYOND_AFTER, late) }
         }
         c::Noted { kind, jump, extent, late } => panic!("noted {kind} {jump} {extent} {late}"),
     }
 }
 
-/// The answer for a record, likewise.
-fn answered(a: &c::Answer) -> Answer {
-    let late = [a.extent, a.offset, a.largest, a.late as u32, (a.late >> 32) as u32];
-    match a.kind {
-        DUPLICATE if a.position == 0 && a.jump == 0 && late == [0; 5] => Answer::Duplicate { first_record: a.first },
-        IN_ORDER if a.first == 0 && late == [0; 5] => Answer::InOrder { position: a.position, jump: a.jump },
-        REORDERED_AFTER | REORDERED_BEFORE if a.first == 0 && a.jump == 0 => Answer::Reordered {
-            position: a.position,
-            extent: a.extent,
-            late_time: late_time(a.kind == REORDERED_AFTER, a.late),
-            byte_offset: a.offset,
-            largest_n: a.largest,
+/// What a step over a lent state answers.
+#[inline(always)]
+pub fn stepped(call: impl FnOnce(*mut c::Noted) -> u64) -> Answered {
+    let mut n = c::Noted::LENT;
+    let refusal = call(&mut n);
+    Answered { refusal: narrow(refusal), answer: noted(n) }
+}
+
+/// The answer for a record, by the number of its case.
+pub fn answered(row: &c::Row) -> Answer {
+    match *row {
+        c::Row { kind: DUPLICATE, position: 0, jump: 0, extent: 0, late: 0, offset: 0, largest: 0, first } => {
+            Answer::Duplicate { first_record: narrow(first) }
+        }
+        c::Row { kind: IN_ORDER, position, jump, extent: 0, late: 0, offset: 0, largest: 0, first: 0 } => {
+            Answer::InOrder { position: narrow(position), jump: narrow(jump) }
+        }
+        c::Row {
+            kind: kind @ (REORDERED_AFTER | REORDERED_BEFORE),
+            position,
+            jump: 0,
+            extent,
+            late,
+            offset,
+            largest,
+            first: 0,
+        } => Answer::Reordered {
+            position: narrow(position),
+            extent: narrow(extent),
+            late_time: late_time(kind == REORDERED_AFTER, late),
+            byte_offset: narrow(offset),
+            largest_n: narrow(largest),
         },
-        kind => panic!("answer {kind}: {} {} {} {late:?}", a.first, a.position, a.jump),
+        row => panic!("{row:?}"),
     }
 }
 
 /// What is known, with what stands in its place else checked to be 0.
-fn known<T>(flag: u32, zeros: bool, value: T) -> Option<T> {
+fn known<T>(flag: u64, zeros: bool, value: T) -> Option<T> {
     match flag {
         0 if zeros => None,
         1 => Some(value),
@@ -347,130 +338,142 @@ fn known<T>(flag: u32, zeros: bool, value: T) -> Option<T> {
 }
 
 /// What is found in a file.
-fn found(l: &c::Layout) -> Read {
-    Read { refusal: l.refusal, label: l.label, sent: l.sent, arrivals: l.arrivals }
+fn found(call: impl FnOnce(*mut c::Layout) -> u64) -> Read {
+    let mut l = c::Layout::LENT;
+    let refusal = call(&mut l);
+    Read { refusal: narrow(refusal), label: narrow(l.label), sent: narrow(l.sent), arrivals: narrow(l.arrivals) }
+}
+
+/// What was written.
+fn written(call: impl FnOnce(*mut u64) -> u64) -> Written {
+    let (refusal, length) = one_figure(call);
+    Written { refusal, length }
 }
 
 /// The archive.
 pub struct Archive;
 
+// SAFETY, here and in the other files: each list is passed with the number of its places, and each lent struct is whole.
 impl Meter for Archive {
     #[inline(always)]
     fn check(&self, file: &[u8]) -> Read {
-        // SAFETY: the pointer has as many places as the number after it says; so below.
-        found(&unsafe { c::krakobran_check(pointer(file), file.len()) })
+        let (f, octets) = given(file);
+        found(|l| unsafe { c::krakobran_sample_check(f, octets, l) })
     }
     #[inline(always)]
     fn read(&self, file: &[u8], sizes: &mut [u16], numbers: &mut [u32], times: &mut [u64]) -> Read {
-        let (s, n, t) = (sizes.len(), numbers.len(), times.len());
-        found(&unsafe {
-            let (sizes, numbers, times) = (pointer_mut(sizes), pointer_mut(numbers), pointer_mut(times));
-            c::krakobran_read(pointer(file), file.len(), sizes, s, numbers, n, times, t)
-        })
+        let ((f, octets), (s, size_places)) = (given(file), lent(sizes));
+        let ((n, number_places), (t, time_places)) = (lent(numbers), lent(times));
+        found(|l| unsafe { c::krakobran_sample_read(f, octets, s, size_places, n, number_places, t, time_places, l) })
     }
     #[inline(always)]
     fn label(&self, file: &[u8]) -> Place {
-        let part = unsafe { c::krakobran_label(pointer(file), file.len()) };
-        Place { start: part.start as usize, length: part.length as usize }
+        let (f, octets) = given(file);
+        let mut part = c::Part::LENT;
+        let refusal = unsafe { c::krakobran_sample_label(f, octets, &mut part) };
+        Place { refusal: narrow(refusal), start: part.start as usize, length: part.length as usize }
     }
     #[inline(always)]
     fn write(&self, label: &[u8], sizes: &[u16], numbers: &[u32], times: &[u64], out: &mut [u8]) -> Written {
-        let (s, n, t, room) = (sizes.len(), numbers.len(), times.len(), out.len());
-        let w = unsafe {
-            let (sizes, numbers, times) = (pointer(sizes), pointer(numbers), pointer(times));
-            c::krakobran_write(pointer(label), label.len(), sizes, s, numbers, n, times, t, pointer_mut(out), room)
-        };
-        Written { refusal: w.refusal, length: w.length }
+        let ((l, octets), (s, sent), (n, number_count)) = (given(label), given(sizes), given(numbers));
+        let ((t, time_count), (o, room)) = (given(times), lent(out));
+        written(|w| unsafe {
+            c::krakobran_sample_write(l, octets, s, sent, n, number_count, t, time_count, o, room, w)
+        })
     }
     fn refusal_of_lists(&self, sent: u64, numbers: &[u32], times: &[u64]) -> u32 {
-        unsafe { c::krakobran_refusal_of_lists(sent, pointer(numbers), numbers.len(), pointer(times), times.len()) }
+        let ((n, number_count), (t, time_count)) = (given(numbers), given(times));
+        narrow(unsafe { c::krakobran_lists_check(sent, n, number_count, t, time_count) })
     }
     #[inline(always)]
     fn answer(&self, file: &[u8], record: u32) -> RecordAnswer {
-        let a = unsafe { c::krakobran_answer(pointer(file), file.len(), record) };
-        RecordAnswer { refusal: a.refusal, answer: answered(&a) }
+        let (f, octets) = given(file);
+        let mut row = c::Row::LENT;
+        let refusal = unsafe { c::krakobran_answer(f, octets, record, &mut row) };
+        RecordAnswer { refusal: narrow(refusal), answer: answered(&row) }
     }
     #[inline(always)]
     fn counts(&self, file: &[u8]) -> Counts {
-        let r = unsafe { c::krakobran_counts(pointer(file), file.len()) };
+        let (f, octets) = given(file);
+        let mut r = c::Counts::LENT;
+        let refusal = unsafe { c::krakobran_counts(f, octets, &mut r) };
         assert_eq!(r.arrived, r.inorder + r.reordered);
         Counts {
-            refusal: r.refusal,
-            first_arrivals: r.arrived,
-            reordered: r.reordered,
-            duplicates: r.duplicates,
-            closed_runs: r.runs.closed,
-            squares: r.runs.squares,
-            open_run: r.runs.current,
+            refusal: narrow(refusal),
+            first_arrivals: narrow(r.arrived),
+            reordered: narrow(r.reordered),
+            duplicates: narrow(r.duplicates),
+            closed_runs: narrow(r.closed),
+            squares: narrow(r.squares),
+            open_run: narrow(r.current),
         }
     }
     #[inline(always)]
     fn tally(&self, file: &[u8]) -> Tally {
-        let t = unsafe { c::krakobran_tally(pointer(file), file.len()) };
-        Tally { refusal: t.refusal, places: t.places }
+        let (f, octets) = given(file);
+        let mut places = [c::LENT as u32; 101];
+        let refusal = unsafe { c::krakobran_tally(f, octets, places.as_mut_ptr()) };
+        Tally { refusal: narrow(refusal), places }
     }
     #[inline(always)]
     fn gap(&self, file: &[u8], record: u32) -> Gap {
-        let g = unsafe { c::krakobran_gap(pointer(file), file.len(), record) };
-        Gap { refusal: g.refusal, gap: known(g.known, g.positions == 0, g.positions) }
+        let (f, octets) = given(file);
+        let mut g = c::Gap::LENT;
+        let refusal = unsafe { c::krakobran_gap(f, octets, record, &mut g) };
+        Gap { refusal: narrow(refusal), gap: known(g.known, g.positions == 0, narrow(g.positions)) }
     }
     #[inline(always)]
     fn n_reordered(&self, file: &[u8], n: u32) -> DegreeCounts {
-        let c = unsafe { c::krakobran_n_reordered(pointer(file), file.len(), n) };
-        DegreeCounts { refusal: c.refusal, reordered: c.reordered, first_arrivals: c.arrived }
+        let (f, octets) = given(file);
+        let mut d = c::DegreeCounts::LENT;
+        let refusal = unsafe { c::krakobran_n_reordered(f, octets, n, &mut d) };
+        DegreeCounts { refusal: narrow(refusal), reordered: narrow(d.reordered), first_arrivals: narrow(d.arrived) }
     }
     #[inline(always)]
     fn degree(&self, file: &[u8], n: u32) -> Degree {
-        let d = unsafe { c::krakobran_degree(pointer(file), file.len(), n) };
-        Degree { refusal: d.refusal, ratio: known(d.known, d.bits == 0, f64::from_bits(d.bits)) }
+        let (f, octets) = given(file);
+        let mut d = c::Degree::LENT;
+        let refusal = unsafe { c::krakobran_degree(f, octets, n, &mut d) };
+        Degree { refusal: narrow(refusal), ratio: known(d.known, d.bits == 0, f64::from_bits(d.bits)) }
     }
     #[inline(always)]
     fn ratios(&self, file: &[u8]) -> Ratios {
-        let r = unsafe { c::krakobran_ratios(pointer(file), file.len()) };
+        let (f, octets) = given(file);
+        let mut r = c::Ratios::LENT;
+        let refusal = unsafe { c::krakobran_ratios(f, octets, &mut r) };
         let bits = [r.reordered, r.degree1, r.degree3];
         let [reordered, degree_1, degree_3] = bits.map(f64::from_bits);
         Ratios {
-            refusal: r.refusal,
+            refusal: narrow(refusal),
             figures: known(r.known, bits == [0; 3], Figures { reordered, degree_1, degree_3 }),
         }
     }
     #[inline(always)]
     fn listing(&self, file: &[u8], out: &mut [u8]) -> Written {
-        let w = unsafe { c::krakobran_listing(pointer(file), file.len(), pointer_mut(out), out.len()) };
-        Written { refusal: w.refusal, length: w.length }
+        let ((f, octets), (o, room)) = (given(file), lent(out));
+        written(|w| unsafe { c::krakobran_report_write(f, octets, o, room, w) })
     }
     #[inline(always)]
-    fn fresh(&self, sent: u32) -> Fresh {
-        let s = unsafe { c::krakobran_fresh(sent) };
-        Fresh { refusal: s.refusal, receiver: from_archive(&s.state) }
-    }
-    #[inline(always)]
-    fn step(&self, receiver: Receiver, number: u32, time: u64) -> Stepped {
-        let s = unsafe { c::krakobran_step(to_archive(&receiver), number, time) };
-        Stepped { refusal: s.refusal, answer: noted(s.noted), receiver: from_archive(&s.state) }
-    }
-    #[inline(always)]
-    fn step_lent(&self, receiver: &mut Receiver, number: u32, time: u64) -> Answered {
+    fn fresh(&self, receiver: &mut Receiver, sent: u32) -> u32 {
         let mut state = to_archive(receiver);
-        let s = unsafe { c::krakobran_step_lent(&mut state, number, time) };
+        let refusal = unsafe { c::krakobran_receiver_fresh(&mut state, sent) };
         *receiver = from_archive(&state);
-        Answered { refusal: s.refusal, answer: noted(s.noted) }
+        narrow(refusal)
+    }
+    #[inline(always)]
+    fn step(&self, receiver: &mut Receiver, number: u32, time: u64) -> Answered {
+        let mut state = to_archive(receiver);
+        let answered = stepped(|n| unsafe { c::krakobran_receiver_step(&mut state, number, time, n) });
+        *receiver = from_archive(&state);
+        answered
     }
 
-    fn feed_by_value(&self, list: &[(u32, u64)]) -> u32 {
-        let mut state = unsafe { c::krakobran_fresh(Receiver::PACKETS as u32) }.state;
+    fn feed(&self, list: &[(u32, u64)]) -> u32 {
+        let mut state = fresh_state();
+        let mut noted = c::Noted::LENT;
         for &(number, time) in list {
-            let s = unsafe { c::krakobran_step(state, number, time) };
-            black_box((s.refusal, s.noted));
-            state = s.state;
-        }
-        state.stream.arrived
-    }
-
-    fn feed_lent(&self, list: &[(u32, u64)]) -> u32 {
-        let mut state = unsafe { c::krakobran_fresh(Receiver::PACKETS as u32) }.state;
-        for &(number, time) in list {
-            black_box(unsafe { c::krakobran_step_lent(&mut state, number, time) });
+            let refusal = unsafe { c::krakobran_receiver_step(&mut state, number, time, &mut noted) };
+            black_box((refusal, &noted));
         }
         state.stream.arrived
     }
@@ -491,32 +494,24 @@ pub fn layout() {
         )*};
     }
     table! {
-        "layout" c::Layout: refusal label sent arrivals;
-        "worse_link" Worse: refusal link start length;
-        "verdict_figures" Checked: refusal agrees line;
-        "sample_disorder" Total: refusal total;
-        "label_part" c::Part: start length;
-        "write_answer" c::Written: refusal length;
-        "log_import" Imported: refusal arrivals;
-        "records_import" Records: refusal arrivals;
+        "layout" c::Layout: label sent arrivals;
+        "part" c::Part: start length;
+        "row" c::Row: kind position jump extent late offset largest first;
+        "counts_figures" c::Counts: arrived reordered duplicates inorder closed squares current;
+        "gap_figures" c::Gap: known positions;
+        "degree_counts" c::DegreeCounts: reordered arrived;
+        "degree_figures" c::Degree: known bits;
+        "ratios_figures" c::Ratios: known reordered degree1 degree3;
+        "worse_link" c::Worse: link start length;
+        "needs" c::Needs: packets octets time;
+        "accommodated_counts" c::Accommodated: accommodated arrived;
+        "verdict" c::Verdict: agrees line;
+        "noted" c::Noted: kind jump extent late;
         "runs" c::Runs: closed squares current;
         "stream" c::Stream: sent arrived duplicates inorder next kept greatest runs dropped;
         "places" c::Places: positions numbers times;
         "receiver" c::State: stream marks places;
-        "fresh_answer" c::Started: refusal state;
-        "receiver_figures" c::Noted: kind jump extent late;
-        "step_figures" c::Stepped: refusal noted state;
-        "outcome_figures" c::Said: refusal noted;
         "stream_state" c::StreamState: stream marks;
         "meter" c::Meter: first second places;
-        "meter_start_answer" c::MeterStarted: refusal state;
-        "meter_step_figures" c::MeterStepped: refusal noted state;
-        "answer_figures" c::Answer: refusal kind first position jump extent offset largest late;
-        "sample_counts" c::Counts: refusal arrived reordered duplicates inorder runs;
-        "sample_tally" c::Tally: refusal places;
-        "gap_figures" c::Gap: refusal known positions;
-        "degree_counts" c::DegreeCounts: refusal reordered arrived;
-        "degree_figures" c::Degree: refusal known bits;
-        "ratios_figures" c::Ratios: refusal known reordered degree1 degree3;
     }
 }

@@ -5,13 +5,13 @@ use std::hint::black_box;
 
 use crate::archive::Archive;
 use crate::reference::{
-    self, Answered, Counts, Degree, DegreeCounts, Fresh, Gap, Ratios, Read, Receiver, RecordAnswer, Stepped, Tally,
-    Written,
+    self, Answered, Counts, Degree, DegreeCounts, Gap, Ratios, Read, Receiver, RecordAnswer, Tally, Written,
 };
 
-/// Where the label stands in the file.
+/// The refusal of a file, and where the label stands in it.
 #[derive(Clone, Copy, PartialEq, Eq, Debug)]
 pub struct Place {
+    pub refusal: u32,
     pub start: usize,
     pub length: usize,
 }
@@ -34,28 +34,17 @@ pub trait Meter {
     fn degree(&self, file: &[u8], n: u32) -> Degree;
     fn ratios(&self, file: &[u8]) -> Ratios;
     fn listing(&self, file: &[u8], out: &mut [u8]) -> Written;
-    fn fresh(&self, sent: u32) -> Fresh;
-    fn step(&self, receiver: Receiver, number: u32, time: u64) -> Stepped;
-    /// The step that leaves the new state in the lent receiver.
-    fn step_lent(&self, receiver: &mut Receiver, number: u32, time: u64) -> Answered;
+    /// Starts the lent receiver for K packets; refused, it is left as it was.
+    fn fresh(&self, receiver: &mut Receiver, sent: u32) -> u32;
+    /// Leaves the new state in the lent receiver.
+    fn step(&self, receiver: &mut Receiver, number: u32, time: u64) -> Answered;
 
-    /// Feeds a list by value to a fresh receiver for K = 4,096 and gives back its L. For measuring: a library whose
-    /// receiver has another layout than `Receiver` feeds its own here, so that no conversion is measured.
-    fn feed_by_value(&self, list: &[(u32, u64)]) -> u32 {
-        let mut receiver = self.fresh(Receiver::PACKETS as u32).receiver;
+    /// Feeds a list to a fresh receiver for K = 4,096 and returns its L. For measuring: a library whose receiver has another
+    /// layout than `Receiver` feeds its own here, so that no conversion is measured.
+    fn feed(&self, list: &[(u32, u64)]) -> u32 {
+        let mut receiver = Receiver::fresh(Receiver::PACKETS as u32).receiver;
         for &(number, time) in list {
-            let stepped = self.step(receiver, number, time);
-            black_box((stepped.refusal, stepped.answer));
-            receiver = stepped.receiver;
-        }
-        receiver.first_arrivals
-    }
-
-    /// The same with a lent receiver.
-    fn feed_lent(&self, list: &[(u32, u64)]) -> u32 {
-        let mut receiver = self.fresh(Receiver::PACKETS as u32).receiver;
-        for &(number, time) in list {
-            black_box(self.step_lent(&mut receiver, number, time));
+            black_box(self.step(&mut receiver, number, time));
         }
         receiver.first_arrivals
     }
@@ -67,8 +56,8 @@ pub const LIBRARY: Library = Archive;
 pub const LIBRARY_NAME: &str = "libkrakobran.a";
 
 /// The place of a part of a file, told by its address.
-pub fn place_of(part: &[u8], file: &[u8]) -> Place {
-    Place { start: part.as_ptr() as usize - file.as_ptr() as usize, length: part.len() }
+pub fn place_of(refusal: u32, part: &[u8], file: &[u8]) -> Place {
+    Place { refusal, start: part.as_ptr() as usize - file.as_ptr() as usize, length: part.len() }
 }
 
 /// The implementation in `reference`.
@@ -85,7 +74,8 @@ impl Meter for Reference {
     }
     #[inline(always)]
     fn label(&self, file: &[u8]) -> Place {
-        place_of(reference::label(file), file)
+        let label = reference::label(file);
+        place_of(label.err().unwrap_or(0), label.unwrap_or(&file[..0]), file)
     }
     #[inline(always)]
     fn write(&self, label: &[u8], sizes: &[u16], numbers: &[u32], times: &[u64], out: &mut [u8]) -> Written {
@@ -124,15 +114,11 @@ impl Meter for Reference {
         reference::listing(file, out)
     }
     #[inline(always)]
-    fn fresh(&self, sent: u32) -> Fresh {
-        Receiver::fresh(sent)
+    fn fresh(&self, receiver: &mut Receiver, sent: u32) -> u32 {
+        receiver.restart(sent)
     }
     #[inline(always)]
-    fn step(&self, receiver: Receiver, number: u32, time: u64) -> Stepped {
-        receiver.step(number, time)
-    }
-    #[inline(always)]
-    fn step_lent(&self, receiver: &mut Receiver, number: u32, time: u64) -> Answered {
+    fn step(&self, receiver: &mut Receiver, number: u32, time: u64) -> Answered {
         receiver.step_mut(number, time)
     }
 }
@@ -177,13 +163,10 @@ impl<E: reference::Engine> Meter for ByAnswers<E> {
     fn listing(&self, file: &[u8], out: &mut [u8]) -> Written {
         reference::listing_by::<E>(file, out)
     }
-    fn fresh(&self, sent: u32) -> Fresh {
-        Receiver::fresh(sent)
+    fn fresh(&self, receiver: &mut Receiver, sent: u32) -> u32 {
+        receiver.restart(sent)
     }
-    fn step(&self, receiver: Receiver, number: u32, time: u64) -> Stepped {
-        receiver.step(number, time)
-    }
-    fn step_lent(&self, receiver: &mut Receiver, number: u32, time: u64) -> Answered {
+    fn step(&self, receiver: &mut Receiver, number: u32, time: u64) -> Answered {
         receiver.step_mut(number, time)
     }
 }

@@ -174,15 +174,11 @@ fn table(run: &mut Run) {
 /// Feeds numbers at 10, 20, .. to a fresh receiver for K and to the account; the last answer.
 fn fed(run: &mut Run, name: &str, sent: u32, numbers: &[u32]) -> Answered {
     let mut receiver = Receiver::fresh(sent).receiver;
-    let mut lent = receiver.clone();
     let mut account = Account::new(sent);
     let mut last = Answered { refusal: 0, answer: Step::Duplicate };
     for (record, &number) in (1..).zip(numbers) {
-        let stepped = receiver.step(number, 10 * record);
-        receiver = stepped.receiver;
-        last = Answered { refusal: stepped.refusal, answer: stepped.answer };
+        last = receiver.step_mut(number, 10 * record);
         run.check(name, last == account.arrive(number, 10 * record));
-        run.check(name, lent.step_mut(number, 10 * record) == last && lent == receiver);
     }
     last
 }
@@ -536,7 +532,8 @@ fn mistakes(run: &mut Run) {
             let short = case.file.len() < 9000;
             compare::state(&Reference, &wrong, &state_case(SEED, index), seen).is_err()
                 || short && compare::sample(&Reference, &wrong, &case, &mut buffers, seen).is_err()
-                || Reference.fresh(index as u32 * 7) != wrong.fresh(index as u32 * 7)
+                || compare::fresh(&Reference, &wrong, &state_case(SEED, index).receiver, index as u32 * 7, seen)
+                    .is_err()
         });
         run.check(&format!("{mistake:?} found out"), found.is_some());
         if found > Some(latest.0) {

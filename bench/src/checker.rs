@@ -2,30 +2,27 @@
 
 use std::hint::black_box;
 
+use crate::archive::{c, given, narrow};
 use crate::compare::Seen;
 use crate::generate::{measured, sample_case, Order, Random};
-use crate::reference::{check, listing, report, LISTING_ROOM};
+use crate::reference::{check, listing_by, report, Swift, LISTING_ROOM};
 use crate::time::{calls, measure};
 
 /// The sample's refusal, whether the listing agrees (1 or 0), and the number of its first wrong line.
-#[repr(C)]
 #[derive(Clone, Copy, PartialEq, Eq, Debug)]
-pub struct Checked {
-    pub refusal: u32,
-    pub agrees: u32,
-    pub line: u32,
+struct Checked {
+    refusal: u32,
+    agrees: u32,
+    line: u32,
 }
 
 // The library's call.
 
-#[rustfmt::skip]
-extern "C" {
-    fn krakobran_check_listing(file: *const u8, octets: usize, listing: *const u8, listing_octets: usize) -> Checked;
-}
-
 fn by_library(file: &[u8], listing: &[u8]) -> Checked {
-    // SAFETY: each pointer has as many octets as the number after it says.
-    unsafe { krakobran_check_listing(file.as_ptr(), file.len(), listing.as_ptr(), listing.len()) }
+    let ((f, octets), (l, listing_octets)) = (given(file), given(listing));
+    let mut verdict = c::Verdict::LENT;
+    let refusal = unsafe { c::krakobran_report_check(f, octets, l, listing_octets, &mut verdict) };
+    Checked { refusal: narrow(refusal), agrees: narrow(verdict.agrees), line: narrow(verdict.line) }
 }
 
 // The reference.
@@ -110,7 +107,7 @@ pub fn time(orders: &[Order], amounts: &[usize]) {
             let [library, reference] = measure([
                 calls(|| by_library(black_box(f), black_box(&right))),
                 calls(|| {
-                    let length = listing(black_box(f), &mut out).length as usize;
+                    let length = listing_by::<Swift>(black_box(f), &mut out).length as usize;
                     by_reference(f, &out[..length], black_box(&right))
                 }),
             ]);

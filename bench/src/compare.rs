@@ -123,8 +123,9 @@ fn compare_sample(
     seen.call("check", found.refusal);
     read(left, right, case, seen)?;
     write(left, right, case, seen)?;
-    same("label", left.label(file), right.label(file))?;
-    seen.call("label", 0);
+    let label = left.label(file);
+    same("label", label, right.label(file))?;
+    seen.call("label", label.refusal);
     for &record in &case.records {
         let answer = left.answer(file, record);
         same(&format!("answer {record}"), answer, right.answer(file, record))?;
@@ -283,21 +284,28 @@ fn listing(
     }
 }
 
-pub fn fresh(left: &dyn Meter, right: &dyn Meter, sent: u32, seen: &mut Seen) -> Result<Receiver, String> {
-    let fresh = left.fresh(sent);
-    same(&format!("fresh {sent}"), &fresh, &right.fresh(sent))?;
-    seen.call("fresh", fresh.refusal);
-    Ok(fresh.receiver)
+/// A lent receiver, started afresh by both.
+pub fn fresh(
+    left: &dyn Meter,
+    right: &dyn Meter,
+    lent: &Receiver,
+    sent: u32,
+    seen: &mut Seen,
+) -> Result<Receiver, String> {
+    let (mut l, mut r) = (lent.clone(), lent.clone());
+    let refusal = left.fresh(&mut l, sent);
+    same(&format!("fresh {sent}"), (refusal, &l), (right.fresh(&mut r, sent), &r))?;
+    seen.call("fresh", refusal);
+    Ok(l)
 }
 
-/// Feeds both meters from a fresh receiver, by value and lent, and holds the answers to the account.
+/// Feeds both meters from a fresh receiver, and holds the answers to the account.
 pub fn arrivals(left: &dyn Meter, right: &dyn Meter, list: &ArrivalList, seen: &mut Seen) -> Result<(), String> {
     let mut account = Account::new(list.sent);
-    let mut receiver = fresh(left, right, list.sent, seen)?;
-    let mut lent = receiver.clone();
+    let mut receiver = fresh(left, right, &Receiver::fresh(1).receiver, list.sent, seen)?;
     for (index, &(number, time)) in list.arrivals.iter().enumerate() {
         let told = |text: String| format!("{text}K {} arrival {index} of {:?}", list.sent, list.arrivals);
-        let answered = one_step(left, right, &mut receiver, &mut lent, number, time, seen).map_err(told)?;
+        let answered = one_step(left, right, &mut receiver, number, time, seen).map_err(told)?;
         same("account", answered, account.arrive(number, time)).map_err(told)?;
         if receiver.jumps.dropped > 0 && matches!(answered.answer, Step::Exact { .. }) {
             seen.kind("step: exact after a drop");
@@ -309,32 +317,26 @@ pub fn arrivals(left: &dyn Meter, right: &dyn Meter, list: &ArrivalList, seen: &
     same("figures of the account", held, account.figures())
 }
 
-/// One step of each meter, by value from `receiver` and lent in `lent`; both go on with the left one's state.
+/// One step of each meter from `receiver`, which then holds the left one's state.
 fn one_step(
     left: &dyn Meter,
     right: &dyn Meter,
     receiver: &mut Receiver,
-    lent: &mut Receiver,
     number: u32,
     time: u64,
     seen: &mut Seen,
 ) -> Result<Answered, String> {
-    let l = left.step(receiver.clone(), number, time);
-    let r = right.step(receiver.clone(), number, time);
-    same("step", &l, &r)?;
-    let answered = Answered { refusal: l.refusal, answer: l.answer };
-    let mut other = lent.clone();
-    same("step lent", left.step_lent(lent, number, time), answered)?;
-    same("step lent, the state", &*lent, &l.receiver)?;
-    same("step lent", right.step_lent(&mut other, number, time), answered)?;
-    same("step lent, the state", &other, &l.receiver)?;
-    if l.refusal != 0 {
-        same("step refused", &l.receiver, &*receiver)?;
+    let (mut l, mut r) = (receiver.clone(), receiver.clone());
+    let answered = left.step(&mut l, number, time);
+    same("step", answered, right.step(&mut r, number, time))?;
+    same("step, the state", &l, &r)?;
+    if answered.refusal != 0 {
+        same("step refused", &l, &*receiver)?;
     }
-    seen.call("step", l.refusal);
-    match l.answer {
-        _ if l.refusal == 10 && !receiver.unfit() => seen.kind("step: no greater kept jump"),
-        _ if l.refusal != 0 => {}
+    seen.call("step", answered.refusal);
+    match answered.answer {
+        _ if answered.refusal == 10 && !receiver.unfit() => seen.kind("step: no greater kept jump"),
+        _ if answered.refusal != 0 => {}
         Step::Duplicate => seen.kind("step: duplicate"),
         Step::InOrder { jump: 0 } => seen.kind("step: in order"),
         Step::InOrder { .. } if receiver.jumps.kept == 64 => seen.kind("step: jump, the oldest dropped"),
@@ -344,18 +346,17 @@ fn one_step(
         Step::Beyond { late_time: LateTime::After(_), .. } => seen.kind("step: beyond, late after"),
         Step::Beyond { late_time: LateTime::Before(_), .. } => seen.kind("step: beyond, late before"),
     }
-    *receiver = l.receiver;
+    *receiver = l;
     Ok(answered)
 }
 
 /// A step from an arbitrary state, then some more from what came of it, which may be unfit.
 pub fn state(left: &dyn Meter, right: &dyn Meter, case: &StateCase, seen: &mut Seen) -> Result<(), String> {
     let mut receiver = case.receiver.clone();
-    let mut lent = receiver.clone();
     let mut number = case.number;
     for _ in 0..3 {
         let state = receiver.clone();
-        one_step(left, right, &mut receiver, &mut lent, number, case.time, seen)
+        one_step(left, right, &mut receiver, number, case.time, seen)
             .map_err(|text| format!("{text}{:?} number {number} time {} state {state:?}", case.kind, case.time))?;
         if receiver.unfit() && !state.unfit() {
             seen.kind("step: a fit state leaves an unfit one");

@@ -5,8 +5,8 @@ use std::cell::RefCell;
 
 use crate::boundary::{Meter, Place};
 use crate::reference::{
-    Answer, Answered, Counts, Degree, DegreeCounts, Figures, Fresh, Gap, LateTime, Ratios, Read, Receiver,
-    RecordAnswer, Step, Stepped, Tally, Written, LISTING_ROOM,
+    Answer, Answered, Counts, Degree, DegreeCounts, Figures, Gap, LateTime, Ratios, Read, Receiver, RecordAnswer, Step,
+    Tally, Written, LISTING_ROOM,
 };
 
 /// A wrong reading.
@@ -682,11 +682,11 @@ impl Meter for Definition {
 
     fn label(&self, file: &[u8]) -> Place {
         self.with(file, |known| match known {
-            Err(_) => Place { start: 0, length: 0 },
+            Err(refusal) => Place { refusal, start: 0, length: 0 },
             Ok((lists, _)) if lists.label.is_empty() && self.is(Mistake::EmptyLabelAtStart) => {
-                Place { start: 0, length: 0 }
+                Place { refusal: 0, start: 0, length: 0 }
             }
-            Ok((lists, _)) => Place { start: 2, length: lists.label.len() },
+            Ok((lists, _)) => Place { refusal: 0, start: 2, length: lists.label.len() },
         })
     }
 
@@ -794,32 +794,32 @@ impl Meter for Definition {
         })
     }
 
-    fn fresh(&self, sent: u32) -> Fresh {
+    fn fresh(&self, receiver: &mut Receiver, sent: u32) -> u32 {
         let refused = sent == 0 || sent > 4096;
-        let mut receiver = Receiver::fresh(1).receiver;
         if !refused || self.is(Mistake::FreshKeepsSent) {
+            *receiver = Receiver::fresh(1).receiver;
             receiver.sent = sent;
         }
-        Fresh { refusal: if refused { 4 } else { 0 }, receiver }
+        if refused {
+            4
+        } else {
+            0
+        }
     }
 
-    fn step(&self, receiver: Receiver, number: u32, time: u64) -> Stepped {
-        match self.step_of(&receiver, number, time) {
+    fn step(&self, receiver: &mut Receiver, number: u32, time: u64) -> Answered {
+        match self.step_of(receiver, number, time) {
             Err(refusal) => {
-                let mut receiver = receiver;
                 if self.is(Mistake::RefusedMarks) && (1..=4096).contains(&number) {
                     receiver.mark(number);
                 }
-                Stepped { refusal, answer: Step::InOrder { jump: 0 }, receiver }
+                Answered { refusal, answer: Step::InOrder { jump: 0 } }
             }
-            Ok((answer, receiver)) => Stepped { refusal: 0, answer, receiver },
+            Ok((answer, after)) => {
+                *receiver = after;
+                Answered { refusal: 0, answer }
+            }
         }
-    }
-
-    fn step_lent(&self, receiver: &mut Receiver, number: u32, time: u64) -> Answered {
-        let stepped = self.step(receiver.clone(), number, time);
-        *receiver = stepped.receiver;
-        Answered { refusal: stepped.refusal, answer: stepped.answer }
     }
 }
 

@@ -3,7 +3,9 @@
 use crate::boundary::{Meter, Reference, LIBRARY, LIBRARY_NAME};
 use crate::compare::{self, Buffers, Seen};
 use crate::generate::{arrival_list, sample_case, state_case};
-use crate::{checker, disorder, fragments, meter, records, shortnumbers, sweep, text, worse};
+use crate::{
+    checker, disorder, fragments, meter, needs, records, rows, shortnumbers, summary, sweep, text, words, worse,
+};
 
 /// How many generated inputs a run takes.
 pub struct Amounts {
@@ -27,8 +29,8 @@ pub fn all(left: &dyn Meter, right: &dyn Meter, seed: u64, amounts: &Amounts, se
         compare::state(left, right, &state_case(seed, index), seen)
             .map_err(|text| format!("state {index} of seed {seed}: {text}"))?;
     }
-    for sent in (0..=4098).chain([65_536, 65_537, u32::MAX]) {
-        compare::fresh(left, right, sent, seen)?;
+    for (sent, index) in (0..=4098).chain([65_536, 65_537, u32::MAX]).zip(0..) {
+        compare::fresh(left, right, &state_case(seed, index).receiver, sent, seen)?;
     }
     Ok(())
 }
@@ -41,6 +43,10 @@ pub fn run(seed: u64, amounts: &Amounts) -> bool {
         .and_then(|()| text::compare(seed, amounts.samples, &mut seen))
         .and_then(|()| records::compare(seed, amounts.samples, &mut seen))
         .and_then(|()| sweep::compare(seed, amounts.samples, &mut seen))
+        .and_then(|()| rows::compare(seed, amounts.samples, &mut seen))
+        .and_then(|()| needs::compare(seed, amounts.samples, &mut seen))
+        .and_then(|()| summary::compare(seed, amounts.samples, &mut seen))
+        .and_then(|()| words::compare(&mut seen))
         .and_then(|()| worse::compare(seed, amounts.samples, &mut seen))
         .and_then(|()| checker::compare(seed, amounts.samples, &mut seen))
         .and_then(|()| disorder::compare(seed, amounts.samples, &mut seen))

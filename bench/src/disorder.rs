@@ -2,29 +2,25 @@
 
 use std::hint::black_box;
 
-use crate::archive::pointer;
+use crate::archive::{c, given, one_figure};
 use crate::compare::Seen;
 use crate::generate::{measured, sample_case, Order};
 use crate::reference::{answer, check, number_and_time, Answer};
 use crate::time::{calls, measure};
 
 /// The refusal, and the total.
-#[repr(C)]
 #[derive(Clone, Copy, PartialEq, Eq, Debug)]
-pub struct Total {
-    pub refusal: u32,
-    pub total: u32,
+struct Total {
+    refusal: u32,
+    total: u32,
 }
 
 // The library's call.
 
-extern "C" {
-    fn krakobran_disorder(file: *const u8, octets: usize) -> Total;
-}
-
 fn by_library(file: &[u8]) -> Total {
-    // SAFETY: the pointer has as many octets as the number after it says.
-    unsafe { krakobran_disorder(pointer(file), file.len()) }
+    let (f, octets) = given(file);
+    let (refusal, total) = one_figure(|t| unsafe { c::krakobran_disorder(f, octets, t) });
+    Total { refusal, total }
 }
 
 // The reference.
@@ -66,6 +62,11 @@ fn by_reference(file: &[u8]) -> Total {
         count += 1;
     }
     Total { refusal: 0, total }
+}
+
+/// The total by the reference; 0 with a refusal.
+pub fn total(file: &[u8]) -> u32 {
+    by_reference(file).total
 }
 
 /// The sum of the byte offsets of a sample of which every payload size is 1.

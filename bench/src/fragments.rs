@@ -3,7 +3,7 @@
 
 use std::hint::black_box;
 
-use crate::archive::{pointer, pointer_mut};
+use crate::archive::{c, given, lent, narrow};
 use crate::compare::Seen;
 use crate::generate::{clock_step, number_outside, Random};
 use crate::reference::{ARRIVAL_COUNT, LISTS_DIFFER, MOST_ARRIVALS, MOST_BACK, MOST_SENT, NUMBER, OUTPUT_SHORT};
@@ -36,37 +36,13 @@ struct Lent {
 
 // The library's call.
 
-#[rustfmt::skip]
-extern "C" {
-    fn krakobran_fragment_order(
-        sent: u32, numbers: *const u32, number_count: usize, times: *const u64, time_count: usize, lengths: *const u16,
-        length_count: usize, mores: *const u8, more_count: usize, offsets: *const u16, offset_count: usize,
-        flags: *mut u8, flag_places: usize, usable: *mut u8, usable_places: usize,
-    ) -> u32;
-}
-
 fn by_library(sent: u32, l: &Lists, out: &mut Lent) -> u32 {
-    let [f, u] = [out.flags.len(), out.usable.len()];
-    // SAFETY: each pointer has as many places as the number after it says.
-    unsafe {
-        krakobran_fragment_order(
-            sent,
-            pointer(&l.numbers),
-            l.numbers.len(),
-            pointer(&l.times),
-            l.times.len(),
-            pointer(&l.lengths),
-            l.lengths.len(),
-            pointer(&l.mores),
-            l.mores.len(),
-            pointer(&l.offsets),
-            l.offsets.len(),
-            pointer_mut(&mut out.flags),
-            f,
-            pointer_mut(&mut out.usable),
-            u,
-        )
-    }
+    let ((n, numbers), (t, times), (z, lengths)) = (given(&l.numbers), given(&l.times), given(&l.lengths));
+    let ((m, mores), (o, offsets)) = (given(&l.mores), given(&l.offsets));
+    let ((f, flags), (u, usable)) = (lent(&mut out.flags), lent(&mut out.usable));
+    narrow(unsafe {
+        c::krakobran_fragment_order(sent, n, numbers, t, times, z, lengths, m, mores, o, offsets, f, flags, u, usable)
+    })
 }
 
 // The reference.

@@ -68,6 +68,8 @@ pub enum Order {
     Arbitrary,
     /// One after another of the above over parts of the sample.
     Mixed,
+    /// The second half, then the first; for measuring.
+    Halves,
 }
 
 pub const ORDERS: [Order; 10] = [
@@ -120,6 +122,10 @@ fn arranged(random: &mut Random, order: Order, low: u32, high: u32) -> Vec<u32> 
         }
         Order::Shuffled => random.shuffle(&mut numbers),
         Order::Reversed => numbers.reverse(),
+        Order::Halves => {
+            let half = numbers.len() / 2;
+            numbers.rotate_left(half);
+        }
         Order::Skips => {
             let step = random.pick(&[2, 2, 3, 5]);
             let offset = random.below(step as usize) as u32;
@@ -553,7 +559,7 @@ fn degrees(random: &mut Random) -> Vec<u32> {
 
 /// A sample for measuring: K and A are both `many`, sizes vary, times rise by 10.
 pub fn measured(order: Order, many: usize) -> Draft {
-    assert!(matches!(order, Order::InOrder | Order::Shuffled | Order::Reversed));
+    assert!(matches!(order, Order::InOrder | Order::Shuffled | Order::Reversed | Order::Halves));
     let random = &mut Random::new(4737, many as u64);
     Draft {
         label: vec![b'x'; MOST_LABEL],

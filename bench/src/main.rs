@@ -14,9 +14,9 @@ use bench::time::{self, Kind};
 const USAGE: &str = "\
 bench cases [samples [lists [states]]]         self-check of the reference
 bench diff [samples [lists [states [seed]]]]   library against reference, call by call
-bench time [TABLE..]                           library and reference measured: all tables, or listing, figures, others, text,
-                                               records, checker, sweep, disorder, fragments, steps, short, meter
-bench steps in-order|window library|reference value|lent TIMES
+bench time [TABLE..]                           library and reference measured: all tables, or listing, figures, degrees, others, text,
+                                               records, checker, sweep, rows, needs, summary, disorder, fragments, steps, short, meter
+bench steps in-order|window library|reference TIMES
                                                feeds 4,096 arrivals so many times, for counting instructions
 bench layout                                   sizes and offsets of the structs that the library is called with
 bench report                                   the report of the sample on standard input, by the reference
@@ -35,7 +35,7 @@ fn main() -> ExitCode {
         "cases" => cases::run(&amounts(5000, 400, 50_000)),
         "diff" => diff::run(amount(4, 1), &amounts(100_000, 2000, 300_000)),
         "time" => time::run(&arguments[1..]) || usage(),
-        "steps" => steps(word(1), word(2), word(3), amount(4, 1)),
+        "steps" => steps(word(1), word(2), amount(3, 1)),
         "layout" => {
             archive::layout();
             true
@@ -55,7 +55,7 @@ fn usage() -> bool {
     false
 }
 
-fn steps(kind: &str, meter: &str, way: &str, times: u64) -> bool {
+fn steps(kind: &str, meter: &str, times: u64) -> bool {
     let kind = match kind {
         "in-order" => Kind::InOrder,
         "window" => Kind::Window,
@@ -63,11 +63,9 @@ fn steps(kind: &str, meter: &str, way: &str, times: u64) -> bool {
     };
     let list = time::steps(kind, 4096);
     for _ in 0..times {
-        match (meter, way) {
-            ("library", "value") => black_box(LIBRARY.feed_by_value(&list)),
-            ("library", "lent") => black_box(LIBRARY.feed_lent(&list)),
-            ("reference", "value") => black_box(Reference.feed_by_value(&list)),
-            ("reference", "lent") => black_box(Reference.feed_lent(&list)),
+        match meter {
+            "library" => black_box(LIBRARY.feed(&list)),
+            "reference" => black_box(Reference.feed(&list)),
             _ => return usage(),
         };
     }

@@ -2,15 +2,12 @@
 //! them, lists of calls and states to compare the two on, and what a step costs.
 
 use std::hint::black_box;
-use std::mem::size_of;
 use std::ops::Range;
 
-use crate::archive::{c, noted, to_archive};
+use crate::archive::{c, narrow, stepped, to_archive};
 use crate::compare::Seen;
 use crate::generate::{clock_step, number_outside, state_case, Random};
-use crate::reference::{
-    Answered, LateTime, Receiver, Step, MOST_BACK, NUMBER, RECEIVER_FULL, RECEIVER_UNFIT, SENT_COUNT, TIME,
-};
+use crate::reference::{Answered, LateTime, Step, MOST_BACK, NUMBER, RECEIVER_FULL, RECEIVER_UNFIT, SENT_COUNT, TIME};
 use crate::time::{calls, measure, name, steps, KINDS};
 
 const NO_STREAM: u32 = 16;
@@ -129,8 +126,8 @@ fn found(s: &c::Stream, second: bool, p: &c::Places, number: u16) -> Option<(usi
 }
 
 /// All refusals are judged before the first write.
-#[inline(always)]
-fn advance(m: &mut c::Meter, stream: u32, number: u32, time: u64) -> Answered {
+#[inline(never)]
+fn step(m: &mut c::Meter, stream: u32, number: u32, time: u64) -> Answered {
     if !(1..=2).contains(&stream) {
         return refused(NO_STREAM);
     }
@@ -188,19 +185,6 @@ fn advance(m: &mut c::Meter, stream: u32, number: u32, time: u64) -> Answered {
     }
     s.greatest = s.greatest.max(time);
     Answered { refusal: 0, answer }
-}
-
-/// The step by pointer. Never inlined, so that handing over is measured.
-#[inline(never)]
-fn step(m: &mut c::Meter, stream: u32, number: u32, time: u64) -> Answered {
-    advance(m, stream, number, time)
-}
-
-/// The step by value, handed over by C's convention as an archive's is.
-#[inline(never)]
-#[allow(improper_ctypes_definitions)]
-extern "C" fn step_by_c(mut m: c::Meter, stream: u32, number: u32, time: u64) -> (Answered, c::Meter) {
-    (advance(&mut m, stream, number, time), m)
 }
 
 // The calls that are compared.
@@ -310,7 +294,8 @@ fn made(random: &mut Random, seed: u64, index: u64) -> c::Meter {
 /// The library against the reference: lists of calls from a new meter, with states spoiled in between, and calls from states
 /// that are made of two receivers'.
 pub fn compare(seed: u64, lists: u64, states: u64, seen: &mut Seen) -> Result<(), String> {
-    let given = unsafe { c::krakobran_meter_new() };
+    let mut given = made(&mut Random::new(seed, 1), seed, 1);
+    unsafe { c::krakobran_meter_new(&mut given) };
     if given != new() {
         return Err(format!("new meter\n left {given:?}\n"));
     }
@@ -351,41 +336,27 @@ fn list(random: &mut Random, mut m: c::Meter, seen: &mut Seen) -> Result<(), Str
     Ok(())
 }
 
-/// One call by value, lent, and of the reference; the state that comes of it.
+/// One call of the library and of the reference; the state that comes of it.
 fn one(m: c::Meter, call: Call, seen: &mut Seen) -> Result<c::Meter, String> {
     let (mut lent, mut right) = (m, m);
-    // SAFETY: what is lent is a whole meter; so below.
-    let (by_value, state, by_reference, given) = match call {
+    let (found, due) = match call {
         Call::Start { stream, sent } => {
-            let s = unsafe { c::krakobran_meter_start(m, stream, sent) };
-            let lent = unsafe { c::krakobran_meter_start_lent(&mut lent, stream, sent) };
-            seen.call("meter start", s.refusal);
-            (refused(s.refusal), s.state, refused(lent), refused(start(&mut right, stream, sent)))
+            let refusal = narrow(unsafe { c::krakobran_meter_start(&mut lent, stream, sent) });
+            seen.call("meter start", refusal);
+            (refused(refusal), refused(start(&mut right, stream, sent)))
         }
         Call::Step { stream, number, time } => {
-            let s = unsafe { c::krakobran_meter_step(m, stream, number, time) };
-            let said = unsafe { c::krakobran_meter_step_lent(&mut lent, stream, number, time) };
-            seen.call("meter step", s.refusal);
-            let by_value = Answered { refusal: s.refusal, answer: noted(s.noted) };
-            let by_reference = Answered { refusal: said.refusal, answer: noted(said.noted) };
-            let given = step(&mut right, stream, number, time);
-            kinds(&m, stream, given, seen);
-            (by_value, s.state, by_reference, given)
+            let found = stepped(|n| unsafe { c::krakobran_meter_step(&mut lent, stream, number, time, n) });
+            seen.call("meter step", found.refusal);
+            let due = step(&mut right, stream, number, time);
+            kinds(&m, stream, due, seen);
+            (found, due)
         }
     };
-    let told = |what: &str| {
-        Err(format!("{what} {call:?}\n left {by_value:?} {state:?}\nright {given:?} {right:?}\nbefore {m:?}\n"))
-    };
-    if (by_value, &state) != (given, &right) {
-        return told("by value");
+    if (found, &lent) != (due, &right) || due.refusal != 0 && lent != m {
+        return Err(format!("{call:?}\n left {found:?} {lent:?}\nright {due:?} {right:?}\nbefore {m:?}\n"));
     }
-    if (by_reference, &lent) != (given, &right) {
-        return told("lent");
-    }
-    if given.refusal != 0 && state != m {
-        return told("refused");
-    }
-    Ok(state)
+    Ok(lent)
 }
 
 /// Counts what is answered.
@@ -422,38 +393,18 @@ fn feed(list: &[(u32, u64)], mut one: impl FnMut(u32, u32, u64)) {
     }
 }
 
-/// Nanoseconds of a step where both streams are fed the same arrivals in turn, and the size of the state.
+/// Nanoseconds of a step where both streams are fed the same arrivals in turn, and of a start.
 pub fn time(amounts: &[usize]) {
-    println!(
-        "{:22} {:>5} {:>9} {:>9} {:>6} {:>9} {:>9} {:>6}",
-        "meter step, each", "A", "library", "ref. C", "ratio", "lib. lent", "ref. lent", "ratio"
-    );
+    println!("{:22} {:>5} {:>11} {:>11} {:>6}", "meter step, each", "A", "library", "reference", "ratio");
     for kind in KINDS {
         for &many in amounts {
             let list = steps(kind, many);
             let all = measure([
                 calls(|| {
-                    let mut m = started();
+                    let (mut m, mut noted) = (started(), c::Noted::LENT);
                     feed(&list, |stream, number, time| {
-                        let s = unsafe { c::krakobran_meter_step(m, stream, number, time) };
-                        black_box((s.refusal, s.noted));
-                        m = s.state;
-                    });
-                    m.second.stream.arrived
-                }),
-                calls(|| {
-                    let mut m = started();
-                    feed(&list, |stream, number, time| {
-                        let s = step_by_c(m, stream, number, time);
-                        black_box(s.0);
-                        m = s.1;
-                    });
-                    m.second.stream.arrived
-                }),
-                calls(|| {
-                    let mut m = started();
-                    feed(&list, |stream, number, time| {
-                        black_box(unsafe { c::krakobran_meter_step_lent(&mut m, stream, number, time) });
+                        let refusal = unsafe { c::krakobran_meter_step(&mut m, stream, number, time, &mut noted) };
+                        black_box((refusal, &noted));
                     });
                     m.second.stream.arrived
                 }),
@@ -465,25 +416,15 @@ pub fn time(amounts: &[usize]) {
                     m.second.stream.arrived
                 }),
             ]);
-            let [a, b, d, e] = all.map(|whole| whole / (2 * many) as f64);
-            let (by_value, lent) = (a / b, d / e);
-            println!("{:22} {many:5} {a:9.1} {b:9.1} {by_value:6.2} {d:9.1} {e:9.1} {lent:6.2}", name(kind));
+            let [a, b] = all.map(|whole| whole / (2 * many) as f64);
+            println!("{:22} {many:5} {a:11.1} {b:11.1} {:6.2}", name(kind), a / b);
         }
     }
-    let mut meters = [started(); 3];
-    let [a, b, d] = meters.each_mut();
-    let [by_value, lent, reference] = measure([
-        calls(|| {
-            *a = unsafe { c::krakobran_meter_start(*a, 1, PACKETS) }.state;
-            a.first.stream.arrived
-        }),
-        calls(|| unsafe { c::krakobran_meter_start_lent(b, 1, PACKETS) }),
-        calls(|| start(d, 1, PACKETS)),
+    let mut meters = [started(); 2];
+    let [a, b] = meters.each_mut();
+    let [library, reference] = measure([
+        calls(|| unsafe { c::krakobran_meter_start(a, 1, PACKETS) }),
+        calls(|| u64::from(start(b, 1, PACKETS))),
     ]);
-    println!(
-        "a start: by value {by_value:.1}, lent {lent:.1}, reference lent {reference:.1}, ratio {:.2}",
-        lent / reference
-    );
-    let (meter, two) = (size_of::<c::Meter>(), 2 * size_of::<Receiver>());
-    println!("a meter has {meter} octets; two receivers of plain Rust have {two}");
+    println!("{:22} {:5} {library:11.1} {reference:11.1} {:6.2}", "a start", "", library / reference);
 }

@@ -68,14 +68,6 @@ pub struct Answered {
     pub answer: Step,
 }
 
-/// What a step by value gives back.
-#[derive(Clone, PartialEq, Eq, Debug)]
-pub struct Stepped {
-    pub refusal: u32,
-    pub answer: Step,
-    pub receiver: Receiver,
-}
-
 #[derive(Clone, PartialEq, Eq, Debug)]
 pub struct Fresh {
     pub refusal: u32,
@@ -160,6 +152,15 @@ impl Receiver {
         Fresh { refusal: if fits { 0 } else { SENT_COUNT }, receiver }
     }
 
+    /// Starts afresh for K packets; refused, nothing changes.
+    pub fn restart(&mut self, sent: u32) -> u32 {
+        let fresh = Receiver::fresh(sent);
+        if fresh.refusal == 0 {
+            *self = fresh.receiver;
+        }
+        fresh.refusal
+    }
+
     pub fn unfit(&self) -> bool {
         let (k, l) = (self.sent, self.first_arrivals);
         !(1..=Self::PACKETS_32).contains(&k)
@@ -186,30 +187,9 @@ impl Receiver {
         self.marks[bit / 64] |= 1 << (bit % 64);
     }
 
-    /// The step by value. Never inlined, so that handing over is what is measured.
-    #[inline(never)]
-    pub fn step(mut self, number: u32, time: u64) -> Stepped {
-        let Answered { refusal, answer } = self.advance(number, time);
-        Stepped { refusal, answer, receiver: self }
-    }
-
-    /// The step by value, handed over by C's convention as an archive's is: the caller copies the state for the call.
-    #[inline(never)]
-    #[allow(improper_ctypes_definitions)]
-    pub extern "C" fn step_by_c(mut self, number: u32, time: u64) -> Stepped {
-        let Answered { refusal, answer } = self.advance(number, time);
-        Stepped { refusal, answer, receiver: self }
-    }
-
-    /// The step by pointer. Never inlined either.
+    /// The step by pointer; all refusals are judged before the first write. Never inlined, as an archive's cannot be.
     #[inline(never)]
     pub fn step_mut(&mut self, number: u32, time: u64) -> Answered {
-        self.advance(number, time)
-    }
-
-    /// All refusals are judged before the first write.
-    #[inline(always)]
-    fn advance(&mut self, number: u32, time: u64) -> Answered {
         if self.unfit() {
             return Answered::refused(RECEIVER_UNFIT);
         }

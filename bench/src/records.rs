@@ -3,7 +3,7 @@
 
 use std::hint::black_box;
 
-use crate::archive::{pointer, pointer_mut};
+use crate::archive::{c, given, lent, one_figure};
 use crate::compare::Seen;
 use crate::generate::{sample_case, Random};
 use crate::reference::{check, Written};
@@ -20,42 +20,25 @@ const RECORD_CUT: u32 = 15;
 const SECONDS_OVER: u32 = 18;
 
 /// What an import answers.
-#[repr(C)]
 #[derive(Clone, Copy, PartialEq, Eq, Debug)]
 pub struct Records {
     pub refusal: u32,
     pub arrivals: u32,
 }
 
-/// What a write answers, as C has it.
-#[repr(C)]
-struct CWritten {
-    refusal: u32,
-    length: u32,
-}
-
 // The library's calls.
 
-#[rustfmt::skip]
-extern "C" {
-    fn krakobran_import_records(
-        records: *const u8, octets: usize, sent: u32, numbers: *mut u32, number_places: usize, times: *mut u64,
-        time_places: usize,
-    ) -> Records;
-    fn krakobran_write_records(file: *const u8, octets: usize, out: *mut u8, room: usize) -> CWritten;
-}
-
 fn import_by_library(records: &[u8], sent: u32, numbers: &mut [u32], times: &mut [u64]) -> Records {
-    let (n, t) = (numbers.len(), times.len());
-    // SAFETY: each pointer has as many places as the number after it says; so below.
-    unsafe {
-        krakobran_import_records(pointer(records), records.len(), sent, pointer_mut(numbers), n, pointer_mut(times), t)
-    }
+    let ((r, octets), (n, number_places), (t, time_places)) = (given(records), lent(numbers), lent(times));
+    let (refusal, arrivals) =
+        one_figure(|a| unsafe { c::krakobran_owamp_import(r, octets, sent, n, number_places, t, time_places, a) });
+    Records { refusal, arrivals }
 }
 
 fn write_by_library(file: &[u8], out: &mut [u8]) -> Written {
-    let written = unsafe { krakobran_write_records(pointer(file), file.len(), pointer_mut(out), out.len()) };
-    Written { refusal: written.refusal, length: written.length }
+    let ((f, octets), (o, room)) = (given(file), lent(out));
+    let (refusal, length) = one_figure(|w| unsafe { c::krakobran_owamp_write(f, octets, o, room, w) });
+    Written { refusal, length }
 }
 
 // The reference.

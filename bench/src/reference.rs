@@ -2,7 +2,7 @@
 //! one pass where the order is kept, and one forward scan of the first arrivals for each reordered packet.
 //! The two faster engines at the end are for information.
 
-pub use crate::receiver::{Answered, Fresh, Jumps, LateTime, Receiver, Step, Stepped};
+pub use crate::receiver::{Answered, Fresh, Jumps, LateTime, Receiver, Step};
 
 // The refusals.
 /// The file ends before a count or a section does.
@@ -238,9 +238,9 @@ pub fn read(file: &[u8], sizes: &mut [u16], numbers: &mut [u32], times: &mut [u6
     Read::of(&sample)
 }
 
-/// The label as a part of the file; with a refusal, 1 to 7 or 13, the empty part at its start.
-pub fn label(file: &[u8]) -> &[u8] {
-    check(file).map_or(&file[..0], |sample| sample.label)
+/// The label as a part of the file, or the refusal.
+pub fn label(file: &[u8]) -> Result<&[u8], u32> {
+    check(file).map(|sample| sample.label)
 }
 
 /// Fills the octets of the file; those after are untouched.
@@ -401,7 +401,7 @@ pub fn counts(file: &[u8]) -> Counts {
     counter.0
 }
 
-// Figures that need a scan of the first arrivals for each reordered packet, each only of what it needs.
+// Figures of the reordered packets, each by what it needs and no more.
 
 /// Calls `late` for each reordered packet with the numbers of the first arrivals before it and its own;
 /// gives back how many first arrivals there are.
@@ -425,15 +425,46 @@ fn each_late(sample: &Sample, mut late: impl FnMut(&[u16], u16)) -> u32 {
     firsts.len() as u32
 }
 
+/// Calls `first` for each first arrival with its number and, if it is reordered, its extent and late time. By number the table has
+/// position and time of the jump that skipped it, which is its discontinuity: the earliest arrival with a greater number.
+#[inline(always)]
+pub fn each_first(sample: &Sample, mut first: impl FnMut(usize, Option<(u32, LateTime)>)) {
+    let mut skipped = [(0u32, 0u64); 4097];
+    let mut arrived = [false; 4097];
+    let (mut position, mut next) = (0, 1);
+    for arrival in sample.arrivals {
+        let (number, time) = number_and_time(arrival);
+        let number = number as usize;
+        if std::mem::replace(&mut arrived[number], true) {
+            continue;
+        }
+        position += 1;
+        if number >= next {
+            skipped[next..number].fill((position, time));
+            next = number + 1;
+            first(number, None);
+        } else {
+            let (from, since) = skipped[number];
+            first(number, Some((position - from, LateTime::since(since, time))));
+        }
+    }
+}
+
 /// The index of the earliest greater number; a reordered packet has one.
 #[inline(always)]
 fn earliest_above(numbers: &[u16], number: u16) -> usize {
     numbers.iter().position(|&n| n > number).unwrap_or(0)
 }
 
+/// The largest n, or `most` if that is less: so many arrivals are looked at.
+#[inline(always)]
+fn largest_n_to(numbers: &[u16], number: u16, most: u32) -> u32 {
+    numbers.iter().rev().take(most as usize).take_while(|&&n| n > number).count() as u32
+}
+
 #[inline(always)]
 fn largest_n(numbers: &[u16], number: u16) -> u32 {
-    numbers.iter().rev().take_while(|&&n| n > number).count() as u32
+    largest_n_to(numbers, number, u32::MAX)
 }
 
 #[inline(always)]
@@ -450,9 +481,10 @@ pub fn tally(file: &[u8]) -> Tally {
     match check(file) {
         Err(refusal) => Tally { refusal, places },
         Ok(sample) => {
-            each_late(&sample, |firsts, number| {
-                let extent = firsts.len() - earliest_above(firsts, number);
-                places[tally_place(extent as u32)] += 1;
+            each_first(&sample, |_, late| {
+                if let Some((extent, _)) = late {
+                    places[tally_place(extent)] += 1;
+                }
             });
             Tally { refusal: 0, places }
         }
@@ -519,16 +551,46 @@ fn check_degree(file: &[u8], n: u32) -> Result<Sample<'_>, u32> {
     check(file).and_then(|sample| judge((1..=MOST_DEGREE).contains(&n), OUTSIDE).map(|()| sample))
 }
 
+/// From this n on a stack is faster than a look at the n arrivals before.
+const DEEP: u32 = 8;
+
 pub fn n_reordered(file: &[u8], n: u32) -> DegreeCounts {
     match check_degree(file, n) {
         Err(refusal) => DegreeCounts::refused(refusal),
+        Ok(sample) if n >= DEEP => deeply_reordered(&sample, n),
         Ok(sample) => {
             let mut reordered = 0;
             let first_arrivals =
-                each_late(&sample, |firsts, number| reordered += u32::from(largest_n(firsts, number) >= n));
+                each_late(&sample, |firsts, number| reordered += u32::from(largest_n_to(firsts, number, n) >= n));
             DegreeCounts { refusal: 0, reordered, first_arrivals }
         }
     }
+}
+
+/// The same by a stack of the numbers that none later is below, each with its position: the greater arrivals right before a packet
+/// are those after the topmost smaller one.
+fn deeply_reordered(sample: &Sample, n: u32) -> DegreeCounts {
+    let mut marks = Marks::new();
+    let mut rising: Vec<(u16, u16)> = Vec::with_capacity(sample.arrivals.len());
+    let (mut position, mut reordered, mut next_expected) = (0, 0, 1);
+    for arrival in sample.arrivals {
+        let number = number_and_time(arrival).0;
+        if marks.mark(number) {
+            continue;
+        }
+        position += 1;
+        while rising.last().is_some_and(|top| u32::from(top.0) > number) {
+            rising.pop();
+        }
+        if number >= next_expected {
+            next_expected = number + 1;
+        } else {
+            let smaller = rising.last().map_or(0, |top| u32::from(top.1));
+            reordered += u32::from(position - 1 - smaller >= n);
+        }
+        rising.push((number as u16, position as u16));
+    }
+    DegreeCounts { refusal: 0, reordered, first_arrivals: position }
 }
 
 pub fn degree(file: &[u8], n: u32) -> Degree {
@@ -542,7 +604,7 @@ pub fn ratios(file: &[u8]) -> Ratios {
     };
     let (mut reordered, mut one, mut three) = (0, 0, 0);
     let whole = each_late(&sample, |firsts, number| {
-        let largest = largest_n(firsts, number);
+        let largest = largest_n_to(firsts, number, 3);
         reordered += 1;
         one += u32::from(largest >= 1);
         three += u32::from(largest >= 3);

@@ -2,10 +2,10 @@
 
 use std::hint::black_box;
 
-use crate::archive::{c, from_archive, noted, pointer, pointer_mut, to_archive};
+use crate::archive::{c, fresh_state, from_archive, given, lent, narrow, stepped, to_archive};
 use crate::compare::Seen;
 use crate::generate::{arrival_list, measured, sample_case, state_case, Draft, Order, Random};
-use crate::reference::{Receiver, Stepped, LISTS_DIFFER, MOST_ARRIVALS, MOST_BACK, MOST_SENT, OUTPUT_SHORT};
+use crate::reference::{Answered, Receiver, LISTS_DIFFER, MOST_ARRIVALS, MOST_BACK, MOST_SENT, OUTPUT_SHORT};
 use crate::reference::{ARRIVAL_COUNT, NUMBER, SENT_COUNT, TIME};
 use crate::time::{calls, measure};
 
@@ -18,52 +18,30 @@ enum Width {
 
 // The library's calls.
 
-#[rustfmt::skip]
-extern "C" {
-    fn krakobran_full_numbers_8(
-        sent: u32, shorts: *const u16, short_count: usize, times: *const u64, time_count: usize, numbers: *mut u32,
-        number_places: usize,
-    ) -> u32;
-    fn krakobran_full_numbers_10(
-        sent: u32, shorts: *const u16, short_count: usize, times: *const u64, time_count: usize, numbers: *mut u32,
-        number_places: usize,
-    ) -> u32;
-    fn krakobran_step_8(state: c::State, number: u16, time: u64) -> c::Stepped;
-    fn krakobran_step_10(state: c::State, number: u16, time: u64) -> c::Stepped;
-    fn krakobran_step_8_lent(state: *mut c::State, number: u16, time: u64) -> c::Said;
-    fn krakobran_step_10_lent(state: *mut c::State, number: u16, time: u64) -> c::Said;
-}
-
 fn list_by_library(width: Width, sent: u32, shorts: &[u16], times: &[u64], numbers: &mut [u32]) -> u32 {
     let call = match width {
-        Width::Eight => krakobran_full_numbers_8,
-        Width::Ten => krakobran_full_numbers_10,
+        Width::Eight => c::krakobran_full_numbers_8,
+        Width::Ten => c::krakobran_full_numbers_10,
     };
-    let room = numbers.len();
-    // SAFETY: each pointer has as many places as the number after it says.
-    unsafe { call(sent, pointer(shorts), shorts.len(), pointer(times), times.len(), pointer_mut(numbers), room) }
+    let ((s, short_count), (t, time_count), (n, room)) = (given(shorts), given(times), lent(numbers));
+    narrow(unsafe { call(sent, s, short_count, t, time_count, n, room) })
 }
 
-fn step_by_library(width: Width, receiver: &Receiver, short: u16, time: u64) -> Stepped {
-    let call = match width {
-        Width::Eight => krakobran_step_8,
-        Width::Ten => krakobran_step_10,
-    };
-    // SAFETY: the state is passed by value.
-    let s = unsafe { call(to_archive(receiver), short, time) };
-    Stepped { refusal: s.refusal, answer: noted(s.noted), receiver: from_archive(&s.state) }
+impl Width {
+    /// The library's step.
+    fn library(self) -> unsafe extern "C" fn(*mut c::State, u16, u64, *mut c::Noted) -> u64 {
+        match self {
+            Width::Eight => c::krakobran_receiver_step_8,
+            Width::Ten => c::krakobran_receiver_step_10,
+        }
+    }
 }
 
-/// The step that leaves the new state in the lent receiver.
-fn step_lent_by_library(width: Width, receiver: &Receiver, short: u16, time: u64) -> Stepped {
-    let call = match width {
-        Width::Eight => krakobran_step_8_lent,
-        Width::Ten => krakobran_step_10_lent,
-    };
+fn step_by_library(width: Width, receiver: &mut Receiver, short: u16, time: u64) -> Answered {
     let mut state = to_archive(receiver);
-    // SAFETY: what is lent is a whole receiver.
-    let s = unsafe { call(&mut state, short, time) };
-    Stepped { refusal: s.refusal, answer: noted(s.noted), receiver: from_archive(&state) }
+    let answered = stepped(|n| unsafe { width.library()(&mut state, short, time, n) });
+    *receiver = from_archive(&state);
+    answered
 }
 
 // The reference.
@@ -128,8 +106,8 @@ fn number_by(width: Width, receiver: &Receiver, short: u16) -> u32 {
 }
 
 /// The step with the number found.
-fn step_by_reference(width: Width, receiver: &Receiver, short: u16, time: u64) -> Stepped {
-    receiver.clone().step(number_by(width, receiver, short), time)
+fn step_by_reference(width: Width, receiver: &mut Receiver, short: u16, time: u64) -> Answered {
+    receiver.step_mut(number_by(width, receiver, short), time)
 }
 
 // The comparison.
@@ -205,54 +183,34 @@ fn list(random: &mut Random, width: Width, draft: &Draft, seen: &mut Seen) -> Re
 
 /// One step of both; the state that comes of it.
 fn step(width: Width, receiver: &Receiver, short: u16, time: u64, seen: &mut Seen) -> Result<Receiver, String> {
-    let left = step_by_library(width, receiver, short, time);
-    let right = step_by_reference(width, receiver, short, time);
+    let (mut after, mut due) = (receiver.clone(), receiver.clone());
+    let left = step_by_library(width, &mut after, short, time);
+    let right = step_by_reference(width, &mut due, short, time);
     seen.call("short step", left.refusal);
-    if left != right {
-        return Err(format!("short {short} time {time}\n left {left:?}\nright {right:?}\nbefore {receiver:?}\n"));
+    if (left, &after) != (right, &due) {
+        let texts = [format!("{left:?} {after:?}"), format!("{right:?} {due:?}")];
+        return Err(format!(
+            "short {short} time {time}\n left {}\nright {}\nbefore {receiver:?}\n",
+            texts[0], texts[1]
+        ));
     }
-    let lent = step_lent_by_library(width, receiver, short, time);
-    seen.call("short step lent", lent.refusal);
-    if lent != right {
-        return Err(format!("lent, short {short} time {time}\n left {lent:?}\nright {right:?}\nbefore {receiver:?}\n"));
-    }
-    Ok(left.receiver)
+    Ok(after)
 }
 
 // The measurement.
 
-/// Short numbers fed by value to a fresh receiver for K = 4,096; its L.
+/// Short numbers fed to a fresh receiver for K = 4,096; its L.
 fn feed_library(width: Width, shorts: &[u16], times: &[u64]) -> u32 {
-    let call = match width {
-        Width::Eight => krakobran_step_8,
-        Width::Ten => krakobran_step_10,
-    };
-    // SAFETY: states are passed by value.
-    let mut state = unsafe { c::krakobran_fresh(Receiver::PACKETS as u32) }.state;
+    let (call, mut state, mut noted) = (width.library(), fresh_state(), c::Noted::LENT);
     for (&short, &time) in shorts.iter().zip(times) {
-        let s = unsafe { call(state, short, time) };
-        black_box((s.refusal, s.noted));
-        state = s.state;
+        let refusal = unsafe { call(&mut state, short, time, &mut noted) };
+        black_box((refusal, &noted));
     }
     state.stream.arrived
 }
 
-/// The same to a receiver that is lent.
-fn feed_library_lent(width: Width, shorts: &[u16], times: &[u64]) -> u32 {
-    let call = match width {
-        Width::Eight => krakobran_step_8_lent,
-        Width::Ten => krakobran_step_10_lent,
-    };
-    // SAFETY: what is lent is a whole receiver.
-    let mut state = unsafe { c::krakobran_fresh(Receiver::PACKETS as u32) }.state;
-    for (&short, &time) in shorts.iter().zip(times) {
-        black_box(unsafe { call(&mut state, short, time) });
-    }
-    state.stream.arrived
-}
-
-/// The same by the reference, stepped by pointer.
-fn feed_reference_lent(width: Width, shorts: &[u16], times: &[u64]) -> u32 {
+/// The same by the reference.
+fn feed_reference(width: Width, shorts: &[u16], times: &[u64]) -> u32 {
     let mut receiver = Receiver::fresh(Receiver::PACKETS as u32).receiver;
     for (&short, &time) in shorts.iter().zip(times) {
         let number = number_by(width, &receiver, short);
@@ -261,19 +219,8 @@ fn feed_reference_lent(width: Width, shorts: &[u16], times: &[u64]) -> u32 {
     receiver.first_arrivals
 }
 
-/// The same by the reference, handed over by C's convention.
-fn feed_reference(width: Width, shorts: &[u16], times: &[u64]) -> u32 {
-    let mut receiver = Receiver::fresh(Receiver::PACKETS as u32).receiver;
-    for (&short, &time) in shorts.iter().zip(times) {
-        let number = number_by(width, &receiver, short);
-        let stepped = receiver.step_by_c(number, time);
-        black_box((stepped.refusal, stepped.answer));
-        receiver = stepped.receiver;
-    }
-    receiver.first_arrivals
-}
-
-/// Nanoseconds of a list call and of a step by value and lent, for arrivals in order: a number out of order by half the range or more would not be found.
+/// Nanoseconds of a list call and of a step, for arrivals in order: a number out of order by half the range or more would
+/// not be found.
 pub fn time(amounts: &[usize]) {
     println!("{:22} {:>5} {:>11} {:>11} {:>6}", "short numbers", "A", "library", "reference", "ratio");
     for width in [Width::Eight, Width::Ten] {
@@ -291,12 +238,8 @@ pub fn time(amounts: &[usize]) {
                 calls(|| feed_library(width, black_box(s), times)),
                 calls(|| feed_reference(width, black_box(s), times)),
             ]);
-            let lent = measure([
-                calls(|| feed_library_lent(width, black_box(s), times)),
-                calls(|| feed_reference_lent(width, black_box(s), times)),
-            ]);
-            let [each, each_lent] = [steps, lent].map(|whole| whole.map(|sum| sum / many as f64));
-            for (call, [library, reference]) in [("list", list), ("step", each), ("step lent", each_lent)] {
+            let each = steps.map(|sum| sum / many as f64);
+            for (call, [library, reference]) in [("list", list), ("step", each)] {
                 let (name, ratio) = (format!("{call}, {} bits", width.range().ilog2()), library / reference);
                 println!("{name:22} {many:5} {library:11.1} {reference:11.1} {ratio:6.2}");
             }

@@ -3,26 +3,16 @@
 
 use std::hint::black_box;
 
-use crate::archive::{pointer, pointer_mut};
+use crate::archive::{c, given, lent, narrow};
 use crate::boundary::{Meter, LIBRARY};
 use crate::compare::Seen;
 use crate::generate::{measured, sample_case, Order, Random};
-use crate::reference::{check, found, number_and_time, tally, Read, LISTING_ROOM};
+use crate::reference::{check, found, number_and_time, tally, LISTING_ROOM};
 use crate::time::{calls, measure};
 
 const PLACES: usize = 4096;
 const ARRIVED: u16 = 4097;
 const OUTPUT_SHORT: u32 = 8;
-
-/// What is found in a file.
-#[repr(C)]
-#[derive(Clone, Copy, PartialEq, Eq, Debug)]
-struct Layout {
-    refusal: u32,
-    label: u32,
-    sent: u32,
-    arrivals: u32,
-}
 
 /// What is lent: the table, and the lists of flags, positions, extents and late times.
 #[derive(Clone, PartialEq, Eq, Debug)]
@@ -49,34 +39,12 @@ impl Lent {
 
 // The library's call.
 
-#[rustfmt::skip]
-extern "C" {
-    fn krakobran_sweep(
-        file: *const u8, octets: usize, table: *mut u16, table_places: usize, flags: *mut u8, flag_places: usize,
-        positions: *mut u32, position_places: usize, extents: *mut u32, extent_places: usize, lates: *mut u64,
-        late_places: usize,
-    ) -> Layout;
-}
-
-fn by_library(file: &[u8], l: &mut Lent) -> Layout {
-    let [t, f, p, e, z] = [l.table.len(), l.flags.len(), l.positions.len(), l.extents.len(), l.lates.len()];
-    // SAFETY: each pointer has as many places as the number after it says.
-    unsafe {
-        krakobran_sweep(
-            pointer(file),
-            file.len(),
-            pointer_mut(&mut l.table),
-            t,
-            pointer_mut(&mut l.flags),
-            f,
-            pointer_mut(&mut l.positions),
-            p,
-            pointer_mut(&mut l.extents),
-            e,
-            pointer_mut(&mut l.lates),
-            z,
-        )
-    }
+/// The refusal.
+fn by_library(file: &[u8], l: &mut Lent) -> u32 {
+    let ((f, octets), (table, tables)) = (given(file), lent(&mut l.table));
+    let ((k, kinds), (p, positions)) = (lent(&mut l.flags), lent(&mut l.positions));
+    let ((e, extents), (z, lates)) = (lent(&mut l.extents), lent(&mut l.lates));
+    narrow(unsafe { c::krakobran_sweep(f, octets, table, tables, k, kinds, p, positions, e, extents, z, lates) })
 }
 
 // The reference.
@@ -114,23 +82,22 @@ fn pass(arrivals: &[[u8; 12]], table: &mut [u16; PLACES], l: [&mut [u32]; 2], fl
     }
 }
 
-fn by_reference(file: &[u8], l: &mut Lent) -> Layout {
-    let answer = |r: Read| Layout { refusal: r.refusal, label: r.label, sent: r.sent, arrivals: r.arrivals };
+fn by_reference(file: &[u8], l: &mut Lent) -> u32 {
     let sample = match check(file) {
         Ok(sample) => sample,
-        Err(refusal) => return answer(Read { refusal, ..Read::default() }),
+        Err(refusal) => return refusal,
     };
     let n = sample.arrivals.len();
     let lists = [l.flags.len(), l.positions.len(), l.extents.len(), l.lates.len()];
     if l.table.len() < PLACES || lists.iter().any(|&places| places < n) {
-        return answer(Read { refusal: OUTPUT_SHORT, ..Read::default() });
+        return OUTPUT_SHORT;
     }
     let table = l.table.first_chunk_mut::<PLACES>().unwrap();
     table.fill(0);
     let numbers = [&mut l.positions[..n], &mut l.extents[..n]];
     pass(sample.arrivals, table, numbers, &mut l.flags[..n], &mut l.lates[..n]);
     table.fill(0);
-    answer(Read::of(&sample))
+    0
 }
 
 // The comparison.
@@ -156,11 +123,11 @@ fn one(random: &mut Random, file: &[u8], records: &[u32], seen: &mut Seen) -> Re
     let mut right = left.clone();
     let a = by_library(file, &mut left);
     let b = by_reference(file, &mut right);
-    seen.call("sweep", a.refusal);
+    seen.call("sweep", a);
     if (a, &left) != (b, &right) {
         return Err(format!("left {a:?} {left:?}\nright {b:?} {right:?}\n"));
     }
-    if a.refusal == 0 {
+    if a == 0 {
         for &record in records {
             engines(file, record, &left)?;
         }

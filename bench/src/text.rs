@@ -3,7 +3,7 @@
 
 use std::hint::black_box;
 
-use crate::archive::{pointer, pointer_mut};
+use crate::archive::{c, given, lent, narrow, one_figure};
 use crate::compare::Seen;
 use crate::generate::{clock_step, Random};
 use crate::reference::MOST_BACK;
@@ -19,7 +19,6 @@ const LISTS_DIFFER: u32 = 12;
 const LINE_MALFORMED: u32 = 14;
 
 /// What an import answers.
-#[repr(C)]
 #[derive(Clone, Copy, PartialEq, Eq, Debug)]
 pub struct Imported {
     pub refusal: u32,
@@ -27,7 +26,6 @@ pub struct Imported {
 }
 
 /// What a write answers.
-#[repr(C)]
 #[derive(Clone, Copy, PartialEq, Eq, Debug)]
 pub struct Written {
     pub refusal: u32,
@@ -36,32 +34,25 @@ pub struct Written {
 
 // The library's calls.
 
-#[rustfmt::skip]
-extern "C" {
-    fn krakobran_import_text(
-        log: *const u8, octets: usize, sent: u32, numbers: *mut u32, number_places: usize, times: *mut u64,
-        time_places: usize,
-    ) -> Imported;
-    fn krakobran_refused_line(log: *const u8, octets: usize, sent: u32) -> u32;
-    fn krakobran_write_text(
-        sent: u32, numbers: *const u32, number_count: usize, times: *const u64, time_count: usize, out: *mut u8,
-        room: usize,
-    ) -> Written;
-}
-
 fn import_by_library(log: &[u8], sent: u32, numbers: &mut [u32], times: &mut [u64]) -> Imported {
-    let (n, t) = (numbers.len(), times.len());
-    // SAFETY: each pointer has as many places as the number after it says; so below.
-    unsafe { krakobran_import_text(pointer(log), log.len(), sent, pointer_mut(numbers), n, pointer_mut(times), t) }
+    let ((l, octets), (n, number_places), (t, time_places)) = (given(log), lent(numbers), lent(times));
+    let (refusal, arrivals) =
+        one_figure(|a| unsafe { c::krakobran_log_import(l, octets, sent, n, number_places, t, time_places, a) });
+    Imported { refusal, arrivals }
 }
 
 fn refused_line_by_library(log: &[u8], sent: u32) -> u32 {
-    unsafe { krakobran_refused_line(pointer(log), log.len(), sent) }
+    let (l, octets) = given(log);
+    let mut line = c::LENT;
+    unsafe { c::krakobran_log_refused_line(l, octets, sent, &mut line) };
+    narrow(line)
 }
 
 fn write_by_library(sent: u32, numbers: &[u32], times: &[u64], out: &mut [u8]) -> Written {
-    let (n, t) = (numbers.len(), times.len());
-    unsafe { krakobran_write_text(sent, pointer(numbers), n, pointer(times), t, pointer_mut(out), out.len()) }
+    let ((n, number_count), (t, time_count), (o, room)) = (given(numbers), given(times), lent(out));
+    let (refusal, length) =
+        one_figure(|w| unsafe { c::krakobran_log_write(sent, n, number_count, t, time_count, o, room, w) });
+    Written { refusal, length }
 }
 
 // The reference.

@@ -5,7 +5,7 @@ use std::hint::black_box;
 use crate::boundary::{Meter, Reference, LIBRARY, LIBRARY_NAME};
 use crate::generate::{measured, Order};
 use crate::reference::*;
-use crate::{checker, disorder, fragments, meter, records, shortnumbers, sweep, text};
+use crate::{checker, disorder, fragments, meter, needs, records, rows, shortnumbers, summary, sweep, text};
 
 const AMOUNTS: [usize; 3] = [256, 1024, 4096];
 const ORDERS: [Order; 3] = [Order::InOrder, Order::Shuffled, Order::Reversed];
@@ -64,14 +64,18 @@ pub fn measure<const N: usize>(mut columns: [Calls; N]) -> [f64; N] {
 }
 
 /// The tables in their order, each by its name.
-const TABLES: [(&str, fn()); 12] = [
+const TABLES: [(&str, fn()); 16] = [
     ("listing", || each(listings, "listing", ["lanes", "swift"])),
     ("figures", || each(figures, "figure", ["by answers", "swift"])),
+    ("degrees", degrees),
     ("others", || each(others, "other call", ["", ""])),
     ("text", || text::time(&AMOUNTS)),
     ("records", || records::time(&AMOUNTS)),
     ("checker", || checker::time(&ORDERS, &AMOUNTS)),
     ("sweep", || sweep::time(&ORDERS, &AMOUNTS)),
+    ("rows", || rows::time(&ORDERS, &AMOUNTS)),
+    ("needs", || needs::time(&ORDERS, &AMOUNTS)),
+    ("summary", || summary::time(&ORDERS, &AMOUNTS)),
     ("disorder", || disorder::time(&ORDERS, &AMOUNTS)),
     ("fragments", || fragments::time(&AMOUNTS)),
     ("steps", receiver_steps),
@@ -94,7 +98,7 @@ pub fn run(asked: &[String]) -> bool {
     true
 }
 
-/// The rows of each order and amount, below their names.
+/// The rows of each order and amount, below their names; where there are more columns, the ratio is to the least.
 fn each(rows: fn(Order, usize), call: &str, more: [&str; 2]) {
     let [c, d] = more;
     let names = format!("{call:22} {:>5} {:>11} {:>11} {:>6} {c:>11} {d:>11}", "A", "library", "reference", "ratio");
@@ -117,7 +121,7 @@ fn listings(order: Order, many: usize) {
         calls(|| listing_by::<Lanes>(black_box(f), c)),
         calls(|| listing_by::<Swift>(black_box(f), d)),
     ]);
-    let ratio = library / reference;
+    let ratio = library / reference.min(lanes).min(swift);
     let name = format!("{order:?}");
     println!("{name:22} {many:5} {library:11.0} {reference:11.0} {ratio:6.2} {lanes:11.0} {swift:11.0}");
 }
@@ -156,8 +160,29 @@ fn figures(order: Order, many: usize) {
         ),
     ];
     for (call, [library, reference, answers, swift]) in rows {
-        let (name, ratio) = (format!("{call} {order:?}"), library / reference);
+        let (name, ratio) = (format!("{call} {order:?}"), library / reference.min(answers).min(swift));
         println!("{name:22} {many:5} {library:11.0} {reference:11.0} {ratio:6.2} {answers:11.0} {swift:11.0}");
+    }
+}
+
+/// A row of library and reference.
+pub fn row(name: &str, many: usize, [library, reference]: [f64; 2]) {
+    println!("{name:30} {many:5} {library:11.0} {reference:11.0} {:6.2}", library / reference);
+}
+
+/// How many packets are n-reordered, in each order and with halves exchanged.
+fn degrees() {
+    println!("{:30} {:>5} {:>11} {:>11} {:>6}", "n-reordered", "A", "library", "reference", "ratio");
+    for order in ORDERS.into_iter().chain([Order::Halves]) {
+        for n in [3, 100] {
+            for many in AMOUNTS {
+                let file = measured(order, many).file();
+                let f = &file[..];
+                let all =
+                    measure([calls(|| LIBRARY.n_reordered(black_box(f), n)), calls(|| n_reordered(black_box(f), n))]);
+                row(&format!("n = {n} {order:?}"), many, all);
+            }
+        }
     }
 }
 
@@ -186,7 +211,10 @@ fn others(order: Order, many: usize) {
                 calls(|| write(black_box(&d.label), &d.sizes, &d.numbers, &d.times, ro)),
             ]),
         ),
-        ("label", measure([calls(|| LIBRARY.label(black_box(f))), calls(|| label(black_box(f)).len())])),
+        (
+            "label",
+            measure([calls(|| LIBRARY.label(black_box(f))), calls(|| label(black_box(f)).map(|label| label.len()))]),
+        ),
         (
             "answer, last record",
             measure([calls(|| LIBRARY.answer(black_box(f), last)), calls(|| answer(black_box(f), last))]),
@@ -203,28 +231,15 @@ fn others(order: Order, many: usize) {
 // The receiver.
 
 fn receiver_steps() {
-    println!(
-        "{:22} {:>5} {:>9} {:>9} {:>6} {:>9} {:>6} {:>9} {:>9} {:>6}",
-        "step, each", "A", "library", "ref. C", "ratio", "ref.", "ratio", "lib. lent", "ref. lent", "ratio"
-    );
+    println!("{:22} {:>5} {:>11} {:>11} {:>6}", "step, each", "A", "library", "reference", "ratio");
     for kind in KINDS {
         for many in AMOUNTS {
             let list = steps(kind, many);
-            let all = measure([
-                calls(|| LIBRARY.feed_by_value(&list)),
-                calls(|| feed_by_c(&list)),
-                calls(|| Reference.feed_by_value(&list)),
-                calls(|| LIBRARY.feed_lent(&list)),
-                calls(|| Reference.feed_lent(&list)),
-            ]);
-            let [a, b, c, d, e] = all.map(|whole| whole / many as f64);
-            let (by_c, by_rust, lent) = (a / b, a / c, d / e);
-            let name = name(kind);
-            println!("{name:22} {many:5} {a:9.1} {b:9.1} {by_c:6.2} {c:9.1} {by_rust:6.2} {d:9.1} {e:9.1} {lent:6.2}");
+            let all = measure([calls(|| LIBRARY.feed(&list)), calls(|| Reference.feed(&list))]);
+            let [a, b] = all.map(|whole| whole / many as f64);
+            println!("{:22} {many:5} {a:11.1} {b:11.1} {:6.2}", name(kind), a / b);
         }
     }
-    println!();
-    println!("a receiver has {} octets; {} when a step gives it back", size_of::<Receiver>(), size_of::<Stepped>());
 }
 
 /// Arrivals to feed: all in order; or each second packet, so that each is a jump and the window is full after 64, and
@@ -242,17 +257,6 @@ pub fn name(kind: Kind) -> &'static str {
         Kind::InOrder => "in order",
         Kind::Window => "window full",
     }
-}
-
-/// Feeds a list to the reference, by value and by C's convention, as `Meter::feed_by_value` does by Rust's.
-fn feed_by_c(list: &[(u32, u64)]) -> u32 {
-    let mut receiver = Receiver::fresh(Receiver::PACKETS as u32).receiver;
-    for &(number, time) in list {
-        let stepped = receiver.step_by_c(number, time);
-        black_box((stepped.refusal, stepped.answer));
-        receiver = stepped.receiver;
-    }
-    receiver.first_arrivals
 }
 
 /// A list of so many arrivals, for K = 4,096.

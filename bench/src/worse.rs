@@ -1,30 +1,27 @@
 //! Of two samples the one with the greater reordered ratio: the archive's call, and a plain Rust implementation beside it.
 
-use crate::archive::pointer;
+use crate::archive::{c, given, narrow};
 use crate::compare::Seen;
 use crate::generate::{sample_case, Random};
 use crate::reference::{check, counts};
 
 /// The refusal, the worse sample (1 or 2), and where its label begins in it and its octets; with a refusal all of these are 0.
-#[repr(C)]
 #[derive(Clone, Copy, PartialEq, Eq, Debug)]
-pub struct Worse {
-    pub refusal: u32,
-    pub link: u32,
-    pub start: u32,
-    pub length: u32,
+struct Worse {
+    refusal: u32,
+    link: u32,
+    start: u32,
+    length: u32,
 }
 
 // The library's call.
 
-#[rustfmt::skip]
-extern "C" {
-    fn krakobran_worse(first: *const u8, first_octets: usize, second: *const u8, second_octets: usize) -> Worse;
-}
-
 fn by_library(first: &[u8], second: &[u8]) -> Worse {
-    // SAFETY: each pointer has as many octets as the number after it says.
-    unsafe { krakobran_worse(pointer(first), first.len(), pointer(second), second.len()) }
+    let ((f, first_octets), (s, second_octets)) = (given(first), given(second));
+    let mut worse = c::Worse::LENT;
+    let refusal = unsafe { c::krakobran_worse(f, first_octets, s, second_octets, &mut worse) };
+    let c::Worse { link, start, length } = worse;
+    Worse { refusal: narrow(refusal), link: narrow(link), start: narrow(start), length: narrow(length) }
 }
 
 // The reference.

@@ -1,4 +1,4 @@
--- The walks that two functions share. Assumes nothing.
-pub mod HeldInLocal
-pub mod LocalStep
+-- The walks and laws that functions share. Assumes nothing.
+mod Measured
 mod PassedOn
+mod SteppedAndTold

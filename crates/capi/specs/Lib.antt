@@ -1,6 +1,11 @@
 -- What C is given for each answer. Assumes nothing.
-pub mod Verdicts
+pub mod Sample
+pub mod Imports
 pub mod Figures
-pub mod Label
-pub mod Link
+pub mod Sweep
+pub mod Worse
+pub mod Buffering
+pub mod Checker
 pub mod Outcomes
+pub mod Receiver
+pub mod Version

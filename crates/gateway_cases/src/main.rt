@@ -3,6 +3,7 @@
 use cases::MOST;
 use cases::print::write_number;
 use cases::print::write_word;
+use receiver::Outcome;
 use receiver::Receiver;
 use receiver::StepAnswer;
 use receiver_text::write_outcome;
@@ -12,13 +13,29 @@ ghost use Rattle.receiver.specs.Step.{stepOf};
 // As many arrivals as a receiver accepts.
 const ARRIVALS: u32 = MOST as u32;
 
+// Returns what is said, and the state.
+fn step_answer(outcome: Outcome, state: Receiver) -> StepAnswer
+    ensures { λ r. ⌜ r ≡ record { outcome = outcome; state = state } ⌝ }
+{
+    StepAnswer { outcome, state }
+}
+
 // An arrival fed by reference: the receiver is held in a local, which is lent to the gateway's step.
 fn by_reference(state: Receiver, number: u32, time: u64) -> StepAnswer
     ensures { λ r. ⌜ r ≡ stepOf state number time ⌝ }
 {
     let mut held = state;
     let outcome = gateway::step(&mut held, number, time);
-    capi::local_step::step_answer(outcome, held)
+    step_answer(outcome, held)
+}
+
+// An arrival fed in place: the receiver is held in a local, which is lent to the receiver's step in place.
+fn in_place(state: Receiver, number: u32, time: u64) -> StepAnswer
+    ensures { λ r. ⌜ r ≡ stepOf state number time ⌝ }
+{
+    let mut held = state;
+    let outcome = receiver::step_in_place(&mut held, number, time);
+    step_answer(outcome, held)
 }
 
 // Writes a line: by which way, what is said, and some of what the receiver holds.
@@ -56,7 +73,7 @@ fn thrice(state: Receiver) -> Three {
 fn feed(p: Three, number: u32, time: u64) -> Three {
     let a = by_reference(p.lent, number, time);
     let b = p.value.step(number, time);
-    let c = capi::local_step::local_step(p.place, number, time);
+    let c = in_place(p.place, number, time);
     write_number(b"", number as u64);
     write_number(b" at ", time);
     write_word(b"\n");

@@ -1,6 +1,5 @@
--- `gateway_cases::by_reference` meets its contract. Its MIR is the function of capi's LocalStep with the gateway's step as the callee: the
--- receiver is held in a local, which is lent to the step, and what is said and the state are put together by
--- `capi::local_step::step_answer`. LocalStep says that it meets the contract (`meets`). Assumes nothing.
+-- `gateway_cases::by_reference` meets its contract. Its MIR is the function of LocalStep with the gateway's step as the callee.
+-- Assumes nothing.
 use mathlib.Core.List.{[], _∷_}
 use base.Logic.{id⊢}
 use contract.Running.{givenOf, tables, tablesOf}
@@ -15,10 +14,10 @@ use Rattle.receiver.proofs.Outcome.Laws as S′
 use Rattle.gateway.proofs.step.Symbol as step-def
 use Rattle.gateway.proofs.step.Symbol.{name as #step}
 use Rattle.gateway.proofs.step.Met as step-thm
-use Rattle.capi.proofs.local_step.step_answer as both
-use Rattle.capi.proofs.local_step.step_answer.Symbol as both-def
-use Rattle.capi.proofs.local_step.step_answer.Met as both-thm
-use Rattle.capi.proofs.LocalStep.{Step, meets}
+use Rattle.gateway_cases.proofs.step_answer as both
+use Rattle.gateway_cases.proofs.step_answer.Symbol as both-def
+use Rattle.gateway_cases.proofs.step_answer.Met as both-thm
+use Rattle.gateway_cases.proofs.LocalStep.{Step, meets}
 use Rattle.gateway_cases.proofs.by_reference.Key.{name as #f}
 use Rattle.gateway_cases.proofs.by_reference as f
 use Rattle.gateway_cases.proofs.by_reference.Statement as stated
@@ -36,6 +35,6 @@ by-reference-spec 𝓤 H 𝓜 𝓖 𝓡 =
     (step-thm.met 𝓤 H 𝓜 𝓖 𝓡))
     -- what `step_answer` gives
     (λ s v is h was. met-gives 𝓤 H 𝓜 𝓖 𝓡 code.env both.ended (both.clauses 𝓤 H A (𝓜 .mem) (𝓡 .run)) both-def.name both-def.routine
-    code.calls-capi·local-step·step-answer (both-thm.met 𝓤 H 𝓜 𝓖 𝓡) ((tt, tt, tt, (s, (h, tt)), (v ∷ [], (LL.val R.the-type R′.the-laws h ∷ [], tt))), tt)
+    code.calls-gateway-cases·step-answer (both-thm.met 𝓤 H 𝓜 𝓖 𝓡) ((tt, tt, tt, (s, (h, tt)), (v ∷ [], (LL.val R.the-type R′.the-laws h ∷ [], tt))), tt)
     (for-nothing 𝓤 H A W (S.the-row ∷ R.the-row ∷ [])
     (LL.makes S.the-type S′.the-plain 𝓤 H A, (LL.makes R.the-type R′.the-plain 𝓤 H A, tt)) (s, (h, tt)) _ (is, (was, tt))) _ (λ d _. id⊢ 𝓤 _)))

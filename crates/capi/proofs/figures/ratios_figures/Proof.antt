@@ -1,15 +1,8 @@
 -- `capi::figures::ratios_figures` meets its contract: the figures are undefined or known, and known each has the bits that `bits_of`
 -- ensures. Assumes nothing.
-use mathlib.Core.Path.{refl}
 use borrow.Author.Needs.{needs}
 use Rattle.capi.proofs.figures.ratios_figures.Statement.{statement}
 use Rattle.capi.proofs.figures.ratios_figures.Tie as tie
-
-enum-told : tie.Need-enum-told
-enum-told c = search needs
-
-returns : tie.Need-returns
-returns c = rw (c .enum-told .given .1) refl
 
 returns-2 : tie.Need-returns-2
 returns-2 c =
@@ -20,7 +13,5 @@ pub ratios-figures-spec : {M : Type 1} → statement M
 ratios-figures-spec =
     tie.close
     (tie.spec
-    enum-told
-    (λ c. search needs) (λ c κs. search needs) (λ c κs. search needs) (λ c κs. search needs)
-    returns
-    returns-2)
+    (λ c. search needs) (λ c. search needs) (λ c κs. search needs) (λ c κs. search needs) (λ c κs. search needs)
+    (λ c. search needs) returns-2)

@@ -1,0 +1,111 @@
+//! The summary of a sample: the archive's call, and a plain Rust implementation beside it.
+
+use std::fmt::Write;
+use std::hint::black_box;
+
+use crate::archive::{c, given, lent, one_figure};
+use crate::compare::Seen;
+use crate::disorder;
+use crate::generate::{measured, sample_case, Order, Random};
+use crate::needs::{least_sizes, MEASURES};
+use crate::reference::{check, counts, n_reordered, number_and_time, Written, OUTPUT_SHORT};
+use crate::time::{calls, measure, row};
+
+/// Octets that suffice for any summary.
+const ROOM: usize = 2048;
+const SHARES: [(&str, u32); 5] = [("50 %", 50), ("90 %", 90), ("95 %", 95), ("99 %", 99), ("all", 100)];
+
+// The library's call.
+
+fn by_library(file: &[u8], out: &mut [u8]) -> Written {
+    let ((f, octets), (o, room)) = (given(file), lent(out));
+    let (refusal, length) = one_figure(|w| unsafe { c::krakobran_summary_write(f, octets, o, room, w) });
+    Written { refusal, length }
+}
+
+// The reference.
+
+/// A share in percent with one decimal, half a tenth rounded up.
+fn percent(part: u32, whole: u32) -> String {
+    let Some(tenths) = (2000 * part + whole).checked_div(2 * whole) else {
+        return "-".into();
+    };
+    format!("{}.{}", tenths / 10, tenths % 10)
+}
+
+fn text(file: &[u8]) -> Result<String, u32> {
+    let sample = check(file)?;
+    let count = counts(file);
+    let (sent, arrived, copies) = (sample.sizes.len(), count.first_arrivals, count.duplicates);
+    let mut text = format!("{sent} packets sent, {arrived} arrived, {copies} copies besides\n\n");
+    text += "A receiver that puts the packets back in order needs, for this share of those that arrived:\n\n";
+    text += "    share    waiting time    packets held    octets held\n";
+    let [packets, octets, times] = MEASURES.map(|measure| least_sizes(&sample, measure, SHARES.map(|share| share.1)));
+    for (at, (name, _)) in SHARES.into_iter().enumerate() {
+        let (ms, micros) = (times[at] / 1000, times[at] % 1000);
+        let _ = writeln!(text, "{name:>9}{ms:9}.{micros:03} ms{:16}{:15}", packets[at], octets[at]);
+    }
+    text += "\nPackets held is an extent, which can be more than a receiver has to hold. ";
+    text += "Packets that never arrived are not counted.\n";
+    let times: Vec<u64> = sample.arrivals.iter().map(|arrival| number_and_time(arrival).1).collect();
+    if times.windows(2).any(|pair| pair[1] < pair[0]) {
+        text += "The clock steps back in this sample; the waiting times hold only for clocks that do not.\n";
+    }
+    let [one, three] = [1, 3].map(|n| n_reordered(file, n).reordered);
+    for (name, part) in [("\nReordered (late)", count.reordered), ("1-reordered", one), ("3-reordered", three)] {
+        let _ = writeln!(text, "{name}: {part} of {arrived}, {} %", percent(part, arrived));
+    }
+    let _ = writeln!(text, "Total of disorder: {} pairs in the wrong order", disorder::total(file));
+    Ok(text)
+}
+
+fn by_reference(file: &[u8], out: &mut [u8]) -> Written {
+    match text(file) {
+        Err(refusal) => Written { refusal, length: 0 },
+        Ok(text) if text.len() > out.len() => Written { refusal: OUTPUT_SHORT, length: 0 },
+        Ok(text) => {
+            out[..text.len()].copy_from_slice(text.as_bytes());
+            Written { refusal: 0, length: text.len() as u32 }
+        }
+    }
+}
+
+// The comparison.
+
+/// The library against the reference on samples made from a seed, with more and less room than they need.
+pub fn compare(seed: u64, samples: u64, seen: &mut Seen) -> Result<(), String> {
+    for index in 0..samples {
+        let random = &mut Random::new(seed ^ 0x73_756d, index);
+        let file = sample_case(seed, index).file;
+        let room = if random.once_in(8) { random.below(1000) } else { ROOM };
+        let mut left = vec![0xA7; room];
+        let mut right = left.clone();
+        let a = by_library(&file, &mut left);
+        let b = by_reference(&file, &mut right);
+        seen.call("summary", a.refusal);
+        if (a, &left) != (b, &right) {
+            let [left, right] = [left, right].map(|octets| String::from_utf8_lossy(&octets).into_owned());
+            return Err(format!(
+                "summary of sample {index} of seed {seed}:\n left {a:?}\n{left}\nright {b:?}\n{right}\n"
+            ));
+        }
+    }
+    Ok(())
+}
+
+// The measurement.
+
+/// Nanoseconds of a call.
+pub fn time(orders: &[Order], amounts: &[usize]) {
+    println!("{:30} {:>5} {:>11} {:>11} {:>6}", "summary", "A", "library", "reference", "ratio");
+    for &order in orders {
+        for &many in amounts {
+            let file = measured(order, many).file();
+            let f = &file[..];
+            let mut outs = [[0; ROOM]; 2];
+            let [l, r] = outs.each_mut();
+            let all = measure([calls(|| by_library(black_box(f), l)), calls(|| by_reference(black_box(f), r))]);
+            row(&format!("{order:?}"), many, all);
+        }
+    }
+}

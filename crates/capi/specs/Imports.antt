@@ -1,0 +1,14 @@
+-- What C is given of an import. Assumes nothing.
+use Prim.Native.Nat.{ℕ}
+use mathlib.Core.List.{List}
+use lib.ListN.{getD}
+use Rattle.textlog.specs.declared.LogImport.{LogImport}
+use Rattle.owamp.specs.declared.RecordsImport.{RecordsImport}
+
+-- the answer that a refusal and figures tell: of a text log
+abbrev pub logTold : (refusal : ℕ) (figures : List ℕ) → LogImport
+logTold refusal figures = record { refusal = refusal; arrivals = getD figures 0 0 }
+
+-- and of OWAMP records
+abbrev pub recordsTold : (refusal : ℕ) (figures : List ℕ) → RecordsImport
+recordsTold refusal figures = record { refusal = refusal; arrivals = getD figures 0 0 }

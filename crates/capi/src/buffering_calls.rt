@@ -1,0 +1,96 @@
+// Waiting time and buffer for C. A measure is a number: 0 packets, 1 octets, 2 time.
+
+use rfc4737::Measure;
+use rfc4737::judge::outside;
+use rfc4737::refusal::ASKED_OUTSIDE;
+ghost use mathlib.Core.Path.{_≡_};
+ghost use mathlib.Core.List.{[], _∷_};
+ghost use Rattle.rfc4737.specs.Refusals.{firstOf, askedOutside};
+ghost use Rattle.sample.specs.Decode.{decode, decodedRefusal};
+ghost use Rattle.metrics.specs.Figures.{sampleAccommodated, sampleNeeds};
+ghost use Rattle.buffering.specs.Least.{sampleLeast};
+ghost use Rattle.capi.specs.Buffering.{measureOf, withMeasure, needFigures};
+
+const PACKETS: u32 = 0;
+
+const OCTETS: u32 = 1;
+
+// The greatest number of a measure, which is that of time.
+const TIME: u64 = 2;
+
+// Returns the measure of a number; a number that is none is taken as time.
+fn measure_of(measure: u32) -> Measure
+    ensures { λ r. ⌜ r ≡ measureOf measure ⌝ }
+{
+    if measure == PACKETS {
+        return Measure::Packets;
+    }
+    if measure == OCTETS {
+        return Measure::Octets;
+    }
+    Measure::Time
+}
+
+// Returns the refusal where the measure is none: the file's own, then 9.
+fn no_measure(file: &[u8]) -> u64
+    ensures { λ r. ⌜ r ≡ firstOf (decodedRefusal (decode (now (file .entry))) ∷ askedOutside ∷ []) ⌝ }
+{
+    let layout = sample::check(file);
+    if layout.refusal != 0 {
+        return layout.refusal as u64;
+    }
+    ASKED_OUTSIDE as u64
+}
+
+// The greatest needs of a sample.
+#[no_mangle]
+pub extern "C" fn krakobran_greatest_needs(file: &[u8], needs: &mut [u64; 3]) -> u64
+    ensures { λ r. ⌜ (r ≡ sampleNeeds (decode (now (file .entry))) .refusal)
+        × (now (needs .exit) ≡ needFigures (sampleNeeds (decode (now (file .entry))))) ⌝ }
+{
+    let found = metrics::greatest_needs(file);
+    *needs = [found.packets, found.octets, found.time];
+    found.refusal as u64
+}
+
+// How many first arrivals a buffer of a size accommodates, and L.
+#[no_mangle]
+pub extern "C" fn krakobran_accommodated(
+    file: &[u8],
+    measure: u32,
+    size: u64,
+    counts: &mut [u64; 2],
+) -> u64
+    ensures { λ r. ⌜ (r ≡ sampleAccommodated (withMeasure measure (decode (now (file .entry)))) (measureOf measure) size .refusal)
+        × (now (counts .exit) ≡ sampleAccommodated (withMeasure measure (decode (now (file .entry)))) (measureOf measure) size .accommodated
+        ∷ sampleAccommodated (withMeasure measure (decode (now (file .entry)))) (measureOf measure) size .arrived ∷ []) ⌝ }
+{
+    if outside(0, TIME, measure as u64) {
+        *counts = [0, 0];
+        return no_measure(file);
+    }
+    let found = metrics::accommodated(file, measure_of(measure), size);
+    *counts = [found.accommodated as u64, found.arrived as u64];
+    found.refusal as u64
+}
+
+// The least size of a buffer that accommodates at least part in whole of the first arrivals.
+#[no_mangle]
+pub extern "C" fn krakobran_least_size(
+    file: &[u8],
+    measure: u32,
+    part: u32,
+    whole: u32,
+    size: &mut [u64; 1],
+) -> u64
+    ensures { λ r. ⌜ (r ≡ sampleLeast (withMeasure measure (decode (now (file .entry)))) (measureOf measure) part whole .refusal)
+        × (now (size .exit) ≡ sampleLeast (withMeasure measure (decode (now (file .entry)))) (measureOf measure) part whole .size ∷ []) ⌝ }
+{
+    if outside(0, TIME, measure as u64) {
+        *size = [0];
+        return no_measure(file);
+    }
+    let found = buffering::least(file, measure_of(measure), part, whole);
+    *size = [found.size];
+    found.refusal as u64
+}

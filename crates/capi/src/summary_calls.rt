@@ -1,0 +1,15 @@
+// The summary of a sample for C.
+
+ghost use Rattle.sample.specs.Decode.{decode};
+ghost use Rattle.summary.specs.Text.{SummaryTo};
+ghost use Rattle.capi.specs.Sample.{writeTold};
+
+// Writes the summary of a sample.
+#[no_mangle]
+pub extern "C" fn krakobran_summary_write(file: &[u8], out: &mut [u8], length: &mut [u64; 1]) -> u64
+    ensures { λ r. ⌜ SummaryTo (decode (now (file .entry))) (now (out .entry)) (writeTold r (now (length .exit))) (now (out .exit)) ⌝ }
+{
+    let written = summary::write(file, out);
+    *length = [written.length as u64];
+    written.refusal as u64
+}

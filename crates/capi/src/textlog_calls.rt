@@ -1,0 +1,50 @@
+// Text logs for C.
+
+ghost use mathlib.Core.Path.{_≡_};
+ghost use mathlib.Core.List.{[], _∷_};
+ghost use Rattle.textlog.specs.Decode.{judgeLog};
+ghost use Rattle.textlog.specs.Calls.{LogImportedFrom, LogWrittenTo};
+ghost use Rattle.capi.specs.Sample.{writeTold};
+ghost use Rattle.capi.specs.Imports.{logTold};
+
+// Imports the text log of K sent packets into lists of numbers and times.
+#[no_mangle]
+pub extern "C" fn krakobran_log_import(
+    log: &[u8],
+    sent: u32,
+    numbers: &mut [u32],
+    times: &mut [u64],
+    arrivals: &mut [u64; 1],
+) -> u64
+    ensures { λ r. ⌜ LogImportedFrom sent (now (log .entry)) (now (numbers .entry)) (now (times .entry))
+        (logTold r (now (arrivals .exit))) (now (numbers .exit)) (now (times .exit)) ⌝ }
+{
+    let imported = textlog::import(log, sent, numbers, times);
+    *arrivals = [imported.arrivals as u64];
+    imported.refusal as u64
+}
+
+// Finds the first refused line of the text log of K sent packets: its number from 1, or 0 where no line is refused.
+#[no_mangle]
+pub extern "C" fn krakobran_log_refused_line(log: &[u8], sent: u32, line: &mut [u64; 1])
+    ensures { λ _. ⌜ now (line .exit) ≡ judgeLog sent (now (log .entry)) .line ∷ [] ⌝ }
+{
+    *line = [textlog::refused_line(log, sent) as u64];
+}
+
+// Writes the text log of arrivals of K sent packets.
+#[no_mangle]
+pub extern "C" fn krakobran_log_write(
+    sent: u32,
+    numbers: &[u32],
+    times: &[u64],
+    out: &mut [u8],
+    length: &mut [u64; 1],
+) -> u64
+    ensures { λ r. ⌜ LogWrittenTo sent (now (numbers .entry)) (now (times .entry)) (now (out .entry))
+        (writeTold r (now (length .exit))) (now (out .exit)) ⌝ }
+{
+    let written = textlog::write(sent, numbers, times, out);
+    *length = [written.length as u64];
+    written.refusal as u64
+}

@@ -1,0 +1,3 @@
+-- The walk that both functions share. Assumes nothing.
+mod HeldInLocal
+mod LocalStep
