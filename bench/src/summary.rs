@@ -47,6 +47,10 @@ fn text(file: &[u8]) -> Result<String, u32> {
     }
     text += "\nPackets held is an extent, which can be more than a receiver has to hold. ";
     text += "Packets that never arrived are not counted.\n";
+    if (arrived as usize) < sent {
+        text += "Packets were lost in this sample; packets and octets held are told for samples without loss, ";
+        text += "and a receiver can hold more.\n";
+    }
     let times: Vec<u64> = sample.arrivals.iter().map(|arrival| number_and_time(arrival).1).collect();
     if times.windows(2).any(|pair| pair[1] < pair[0]) {
         text += "The clock steps back in this sample; the waiting times hold only for clocks that do not.\n";
