@@ -31,7 +31,7 @@ MAJOR = $(firstword $(subst ., ,$(VERSION)))
 # Before 1.0.0 each minor version may have another form, so it has a shared object of its own name.
 SOVERSION = $(if $(filter 0,$(MAJOR)),0.$(word 2,$(subst ., ,$(VERSION))),$(MAJOR))
 EXAMPLES = target/feed target/figures
-TOOLS = report show_refusal show_summary import_log export_log check_listing worse_link picture follow_log
+TOOLS = cmd_report cmd_table cmd_refusal cmd_summary cmd_import cmd_export cmd_check cmd_worse cmd_picture cmd_follow
 PROGRAMS = $(TOOLS:%=target/bin/%)
 SOURCES := crates.txt $(shell find crates -type f)
 DIST = krakobran-$(VERSION)-x86_64
@@ -111,7 +111,7 @@ install-command: $(PROGRAMS) target/krakobran
 	install -m 755 target/krakobran '$(DESTDIR)$(BINDIR)/krakobran'
 	install -m 755 $(PROGRAMS) '$(DESTDIR)$(LIBEXECDIR)/krakobran'
 	install -m 644 docs/krakobran.txt '$(DESTDIR)$(LIBEXECDIR)/krakobran/krakobran.txt'
-	install -m 644 crates/report/stdin '$(DESTDIR)$(LIBEXECDIR)/krakobran/example.sample'
+	install -m 644 crates/cmd_report/stdin '$(DESTDIR)$(LIBEXECDIR)/krakobran/example.sample'
 	install -m 644 docs/krakobran.1 '$(DESTDIR)$(MANDIR)/man1/krakobran.1'
 	install -m 644 tools/completion.bash '$(DESTDIR)$(BASHCOMPDIR)/krakobran'
 	install -m 644 tools/completion.zsh '$(DESTDIR)$(ZSHCOMPDIR)/_krakobran'

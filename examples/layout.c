@@ -17,6 +17,9 @@ int main(void) {
     SIZE(part);
     FIELD(part, start);
     FIELD(part, length);
+    SIZE(arrival);
+    FIELD(arrival, number);
+    FIELD(arrival, time);
     SIZE(row);
     FIELD(row, kind);
     FIELD(row, position);

@@ -43,9 +43,9 @@
 /* The version of this header and of the library that it was installed with. Names that are there stay within one major
  * version, and so do the layouts; before 1.0.0 they may change with the minor version. */
 #define KRAKOBRAN_VERSION_MAJOR 0
-#define KRAKOBRAN_VERSION_MINOR 10
+#define KRAKOBRAN_VERSION_MINOR 11
 #define KRAKOBRAN_VERSION_PATCH 0
-#define KRAKOBRAN_VERSION "0.10.0"
+#define KRAKOBRAN_VERSION "0.11.0"
 
 #ifdef __cplusplus
 extern "C" {
@@ -63,8 +63,8 @@ enum {
                                       found is outside 1 to K */
     KRAKOBRAN_TIME_BACK = 7,       /* arrival time over 1,000 below the greatest earlier time */
     KRAKOBRAN_OUTPUT_SHORT = 8,    /* lent output too short */
-    KRAKOBRAN_ASKED_OUTSIDE = 9,   /* record outside 1 to A, n outside 1 to 100, or a share whose part is outside 1 to its
-                                      whole; a measure that is none */
+    KRAKOBRAN_ASKED_OUTSIDE = 9,   /* record outside 1 to A, n outside 1 to 100, a share's part outside 1 to its whole, or no
+                                      such measure or refusal */
     KRAKOBRAN_STATE_UNFIT = 10,    /* state of a receiver or of a meter unfit, or a reordered packet with no greater kept
                                       jump */
     KRAKOBRAN_STATE_FULL = 11,     /* receiver has accepted 4,096 arrivals; or a stream of a meter has */
@@ -184,6 +184,25 @@ uint64_t krakobran_log_import(const uint8_t *log, uint64_t octets, uint32_t sent
  * line is refused, or K itself is. It has no refusal of its own, and takes no lists. */
 void krakobran_log_refused_line(const uint8_t *log, uint64_t octets, uint32_t sent, uint64_t *line);
 
+/* The arrival of one line of a text log. */
+typedef struct {
+    uint64_t number;
+    uint64_t time;
+} krakobran_arrival;
+
+/* Reads one line of a text log, with its line feed. The number may be any of 32 bits. Refusals: 14. */
+uint64_t krakobran_log_read_line(const uint8_t *line, uint64_t octets, krakobran_arrival *arrival);
+
+/* The same imports of logs whose sequence numbers are short: the lowest 8 or 10 bits. The lists get the full numbers, each
+ * found from the greatest number of the lines before it, as krakobran_full_numbers_8 and _10 find them. 6 also for a short
+ * number over its width. */
+uint64_t krakobran_log_import_8(const uint8_t *log, uint64_t octets, uint32_t sent, uint32_t *numbers,
+                                uint64_t number_places, uint64_t *times, uint64_t time_places, uint64_t *arrivals);
+uint64_t krakobran_log_import_10(const uint8_t *log, uint64_t octets, uint32_t sent, uint32_t *numbers,
+                                 uint64_t number_places, uint64_t *times, uint64_t time_places, uint64_t *arrivals);
+void krakobran_log_refused_line_8(const uint8_t *log, uint64_t octets, uint32_t sent, uint64_t *line);
+void krakobran_log_refused_line_10(const uint8_t *log, uint64_t octets, uint32_t sent, uint64_t *line);
+
 /* Writes the text log of arrivals of K sent packets from the start of out, three decimals after a comma, and the number of its
  * octets to length. Refusals: those of krakobran_lists_check; 8. */
 uint64_t krakobran_log_write(uint32_t sent, const uint32_t *numbers, uint64_t number_count, const uint64_t *times,
@@ -294,6 +313,10 @@ uint64_t krakobran_tally(const uint8_t *file, uint64_t octets, uint32_t tally[KR
 /* The gap of a record. 9 for a record outside 1 to A. */
 uint64_t krakobran_gap(const uint8_t *file, uint64_t octets, uint32_t record, krakobran_gap_figures *gap);
 
+/* Fills a list with the gap of each record, from its start; 0 where there is none. Refusals: the file's; 8 if gaps has fewer
+ * places than there are arrivals. */
+uint64_t krakobran_gaps(const uint8_t *file, uint64_t octets, uint32_t *gaps, uint64_t places);
+
 /* How many packets are n-reordered, and of how many. 9 for n outside 1 to KRAKOBRAN_DEGREE_MOST. */
 uint64_t krakobran_n_reordered(const uint8_t *file, uint64_t octets, uint32_t n, krakobran_degree_counts *counts);
 
@@ -371,6 +394,10 @@ uint64_t krakobran_report_check(const uint8_t *file, uint64_t octets, const uint
  * 90, 95 and 99 in 100 of the first arrivals and for all, ratios, total of disorder. Any summary fits into
  * KRAKOBRAN_SUMMARY_OCTETS places. Refusals: the file's; 8 if this one does not fit. */
 uint64_t krakobran_summary_write(const uint8_t *file, uint64_t octets, uint8_t *out, uint64_t room, uint64_t *length);
+
+/* The same as one object of JSON and a line feed, with the label; times are in microseconds. It fits into
+ * KRAKOBRAN_SUMMARY_OCTETS places too. Refusals: the file's; 8. */
+uint64_t krakobran_summary_json(const uint8_t *file, uint64_t octets, uint8_t *out, uint64_t room, uint64_t *length);
 
 /* ---- packets that are cut on the way
  *
@@ -532,6 +559,9 @@ KRAKOBRAN_AT(krakobran_layout, arrivals, 16);
 KRAKOBRAN_SIZE(krakobran_part, 16);
 KRAKOBRAN_AT(krakobran_part, start, 0);
 KRAKOBRAN_AT(krakobran_part, length, 8);
+KRAKOBRAN_SIZE(krakobran_arrival, 16);
+KRAKOBRAN_AT(krakobran_arrival, number, 0);
+KRAKOBRAN_AT(krakobran_arrival, time, 8);
 KRAKOBRAN_SIZE(krakobran_row, 8 * KRAKOBRAN_ROW_NUMBERS);
 KRAKOBRAN_AT(krakobran_row, kind, 0);
 KRAKOBRAN_AT(krakobran_row, position, 8);

@@ -4,8 +4,7 @@
 # compares the man page with the text. A line for each case; status 1 if one fails.
 . "$(dirname -- "${BASH_SOURCE[0]}")/lib.sh" || exit 2
 
-# Files: the report's example, a damaged one, two links and one on which nothing arrived.
-example=$root/crates/report/stdin
+# Files: a damaged one, two links and one on which nothing arrived.
 head -c 75 "$example" > "$dir/damaged"
 sample 'cable & <duct>' 3 1 10 3 20 2 30 > "$dir/cable"
 sample 'radio' 6 2 10 1 20 4 30 3 40 5 50 6 60 > "$dir/radio"
@@ -28,17 +27,18 @@ for word in report import export check worse picture; do
     try "$word --help" 0 '' "$word" --help
     try "$word --help after its arguments" 0 '' "$word" x --help
 done
-printf 'krakobran %s\n' "$(sed -n 's/^#define KRAKOBRAN_VERSION "\(.*\)"$/\1/p' "$root/include/krakobran.h")" > "$dir/expected"
+printf 'krakobran %s\n' "$version" > "$dir/expected"
 try '--version' 0 '' --version
 for word in report import export check worse picture help; do try "$word --version" 0 '' "$word" --version; done
 : > "$dir/expected"
 try 'a summary with two options' 2 'usage: krakobran summary [--json|--all] FILE' summary --json --all "$example"
-try 'an option that there is not' 2 'there is no option --csv; see krakobran help' report --csv "$example"
+try 'an option that there is not' 2 'there is no option --xml; see krakobran help' report --xml "$example"
+try 'a report with two options' 2 'usage: krakobran report [--csv|--json] [FILE]' report --csv --json "$example"
 try 'a word after -- that is none' 2 'there is no command --help; see krakobran help' -- --help
 try 'help on no word' 2 'there is no command pictures; see krakobran help' help pictures
 
 # The report.
-cp "$root/crates/report/stdout" "$dir/expected"
+cp "$example_report" "$dir/expected"
 try 'a report' 0 '' report "$example"
 try 'a report of standard input' 0 '' report - < "$example"
 try 'a report without a file' 0 'no file is named; this is the report of an example' report
@@ -55,7 +55,7 @@ try 'no report' 1 "damaged: $damage" report "$dir/damaged"
 try 'no report of standard input' 1 "standard input: $damage" report - < "$dir/damaged"
 
 # Import and export.
-printf '%d;0,%03d\n' 1 10 2 20 4 40 5 50 3 70 > "$dir/log"
+example_log > "$dir/log"
 cp "$example" "$dir/expected"
 try 'an imported log' 0 '' import log 5 100 "$dir/log"
 try 'an imported log on standard input' 0 '' import log 5 100 - < "$dir/log"
@@ -109,9 +109,9 @@ try 'a damaged first sample' 1 "damaged: $damage" worse "$dir/damaged" "$dir/cab
 try 'a damaged second sample' 1 "damaged: $damage" worse "$dir/cable" "$dir/damaged"
 
 # The summary.
-cp "$root/crates/show_summary/stdout" "$dir/expected"
-try 'a summary' 0 '' summary "$root/crates/show_summary/stdin"
-try 'a summary of standard input' 0 '' summary - < "$root/crates/show_summary/stdin"
+cp "$root/crates/cmd_summary/stdout" "$dir/expected"
+try 'a summary' 0 '' summary "$root/crates/cmd_summary/stdin"
+try 'a summary of standard input' 0 '' summary - < "$root/crates/cmd_summary/stdin"
 sizes() { printf '{"share_percent":%d,"waiting_time_us":%d,"packets_held":%d,"octets_held":%d}' "$@"; }
 share() { printf '"%s":{"packets":%d,"of":%d,"percent":%s}' "$@"; }
 {
@@ -143,22 +143,23 @@ try 'a summary with all figures' 0 '' summary --all "$dir/radio"
 try 'no summary' 1 "damaged: $damage" summary "$dir/damaged"
 try 'no summary as JSON' 1 "damaged: $damage" summary --json "$dir/damaged"
 try 'no summary with all figures' 1 "damaged: $damage" summary --all "$dir/damaged"
-try 'a report as JSON' 2 '--json is no option of report; see krakobran help' report --json "$example"
+try 'a picture as JSON' 2 '--json is no option of picture; see krakobran help' picture --json "$example"
+try 'a summary as CSV' 2 '--csv is no option of summary; see krakobran help' summary --csv "$example"
 
 # The check of a listing.
-sed '6s/late/in/' "$root/crates/report/stdout" > "$dir/listing"
+sed '6s/late/in/' "$example_report" > "$dir/listing"
 printf 'the listing is right\n' > "$dir/expected"
-try 'a right listing' 0 '' check "$example" "$root/crates/report/stdout"
-try 'a right listing on standard input' 0 '' check "$example" - < "$root/crates/report/stdout"
+try 'a right listing' 0 '' check "$example" "$example_report"
+try 'a right listing on standard input' 0 '' check "$example" - < "$example_report"
 printf 'line 6 is wrong\nthe listing has: 5 3 in 5 2 30 200 2\nthe sample gives: 5 3 late 5 2 30 200 2\n' > "$dir/expected"
 try 'a wrong listing' 1 '' check "$example" "$dir/listing"
 : > "$dir/expected"
 try 'check of a missing listing' 1 'missing: there is no such file' check "$example" "$dir/missing"
 
 # The picture, and that of the documents, which README's commands make.
-cp "$root/crates/picture/stdout" "$dir/expected"
-try 'a picture' 0 '' picture "$root/crates/picture/stdin"
-try 'a picture of standard input' 0 '' picture - < "$root/crates/picture/stdin"
+cp "$root/crates/cmd_picture/stdout" "$dir/expected"
+try 'a picture' 0 '' picture "$root/crates/cmd_picture/stdin"
+try 'a picture of standard input' 0 '' picture - < "$root/crates/cmd_picture/stdin"
 cp "$root/docs/picture.svg" "$dir/expected"
 "$krakobran" import log 290 100 "$root/examples/supplier.log" > "$dir/link.sample"
 try 'the picture of README' 0 '' picture "$dir/link.sample"
@@ -171,10 +172,10 @@ try 'a directory' 1 'this is a directory' picture "$dir"
 try 'a missing second file' 1 'missing: there is no such file' worse "$dir/cable" "$dir/missing"
 try 'no word' 2 'usage: krakobran WORD [ARGUMENT..]; see krakobran help'
 try 'another word' 2 'there is no command reports; see krakobran help' reports "$dir/cable"
-try 'report of two files' 2 'usage: krakobran report [FILE]' report "$dir/cable" "$dir/radio"
-try 'import without its kind' 2 'usage: krakobran import log|owamp [--label TEXT] K SIZE FILE' import 5 100 "$dir/log"
-try 'import of another kind' 2 'usage: krakobran import log|owamp [--label TEXT] K SIZE FILE' import records 5 100 "$dir/log"
-try 'import without a file' 2 'usage: krakobran import log|owamp [--label TEXT] K SIZE FILE' import log 5 100
+try 'report of two files' 2 'usage: krakobran report [--csv|--json] [FILE]' report "$dir/cable" "$dir/radio"
+try 'import without its kind' 2 'usage: krakobran import log|owamp [--bits 8|10] [--label TEXT] K SIZE FILE' import 5 100 "$dir/log"
+try 'import of another kind' 2 'usage: krakobran import log|owamp [--bits 8|10] [--label TEXT] K SIZE FILE' import records 5 100 "$dir/log"
+try 'import without a file' 2 'usage: krakobran import log|owamp [--bits 8|10] [--label TEXT] K SIZE FILE' import log 5 100
 try 'export without its kind' 2 'usage: krakobran export log|owamp FILE' export "$example"
 try 'export of another kind' 2 'usage: krakobran export log|owamp FILE' export text "$example"
 try 'check of one file' 2 'usage: krakobran check FILE LISTING' check "$example"
@@ -188,6 +189,7 @@ try 'help on two words' 2 'usage: krakobran help [WORD]' help report import
 # nothing on standard error. `tail -f` never ends, so `tail` reads the log to its end in its place.
 mkdir "$dir/folder"
 cp "$root/examples/supplier.log" "$dir/folder/supplier.log"
+awk -F ';' '{ print $1 % 256 ";" $2 }' "$root/examples/supplier.log" > "$dir/folder/radio.log"
 cp "$dir/radio" "$dir/folder/other.sample"
 "$krakobran" import log 290 100 "$root/examples/supplier.log" > "$dir/folder/link.sample"
 "$krakobran" export owamp "$dir/folder/link.sample" > "$dir/folder/session.owp"

@@ -21,11 +21,6 @@ fed() {
     sed -n '/^    1 at 10: /,/^    closed runs /s/^    //p' "$root/docs/C.md"
 }
 
-# The report of the example.
-reported() {
-    cat "$root/crates/report/stdout"
-}
-
 fed > "$dir/expected"
 try 'feed.c, its own list' 0 "$root/target/feed"
 printf '2 at 0: in order, jump size 1\n1 at 9: reordered, extent 1, late by 9\n3 at 9: refused 6\n' > "$dir/expected"
@@ -47,9 +42,9 @@ try 'feed.c, an arrival more than a receiver accepts' 0 "$root/target/feed" 1 < 
 {
     printf 'label ""\nL 5, reordered 1, duplicates 0, in order 4\nreordered ratio 0.2000\ntotal of disorder 2\n'
     printf 'needs 2 packets, 200 octets, 30 microseconds\n'
-    reported
+    cat "$example_report"
 } > "$dir/expected"
-try 'figures.c, the example' 0 "$root/target/figures" "$root/crates/report/stdin"
+try 'figures.c, the example' 0 "$root/target/figures" "$example"
 {
     printf 'label "cellar"\nL 0, reordered 0, duplicates 0, in order 0\nreordered ratio undefined\ntotal of disorder 0\n'
     printf 'needs 0 packets, 0 octets, 0 microseconds\n'
@@ -69,9 +64,9 @@ if have python3 'counts.py'; then
     export PYTHONPATH=$root/bindings/python PYTHONDONTWRITEBYTECODE=1
     {
         echo 'L 5, reordered 1, duplicates 0, in order 4'
-        reported
+        cat "$example_report"
     } > "$dir/expected"
-    try 'counts.py, the example' 0 python3 "$root/examples/counts.py" "$root/crates/report/stdin"
+    try 'counts.py, the example' 0 python3 "$root/examples/counts.py" "$example"
     echo 'refused 1' > "$dir/expected"
     try 'counts.py, an empty file' 1 python3 "$root/examples/counts.py" /dev/null
 fi
@@ -83,7 +78,7 @@ if have rustc 'counts.rs'; then
     printf 'L 5, reordered 1, duplicates 0, in order 4
 closed runs 1, sum of squares 16, open run 0
 ' > "$dir/expected"
-    try 'counts.rs, the example' 0 "$dir/counts" "$root/crates/report/stdin"
+    try 'counts.rs, the example' 0 "$dir/counts" "$example"
     echo 'refused 1' > "$dir/expected"
     try 'counts.rs, an empty file' 1 "$dir/counts" /dev/null
 fi
@@ -122,7 +117,7 @@ if have pkg-config 'a program against the installed library'; then
     fed > "$dir/expected"
     LD_LIBRARY_PATH=$dir/root/usr/lib try 'run with the shared object' 0 "$dir/shared"
     try 'run with the archive' 0 "$dir/static"
-    sed -n 's/^#define KRAKOBRAN_VERSION "\(.*\)"$/\1/p' "$root/include/krakobran.h" > "$dir/expected"
+    echo "$version" > "$dir/expected"
     try 'the version of the pkg-config file' 0 pkg-config --modversion krakobran
 fi
 

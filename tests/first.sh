@@ -6,11 +6,10 @@
 # A checkout in a folder with a space in its name: the script, what it reads, and a source.
 checkout="$dir/a checkout"
 krakobran=$checkout/krakobran
-example=$root/crates/report/stdin
-mkdir -p "$checkout/docs" "$checkout/crates/report" "$dir/kit"
+mkdir -p "$checkout/docs" "$checkout/crates/cmd_report" "$dir/kit"
 cp "$root/krakobran" "$root/crates.txt" "$checkout"
 cp "$root/docs/krakobran.txt" "$checkout/docs"
-cp "$example" "$checkout/crates/report/stdin"
+cp "$example" "$checkout/crates/cmd_report/stdin"
 
 # The kit: it takes a second, in which another one must not start.
 cat > "$dir/kit/rt" << EOF
@@ -31,8 +30,7 @@ chmod +x "$dir/kit/rt"
 
 # A path without the kit.
 bare=$dir/bare
-mkdir "$bare"
-for tool in bash env awk base64 cat dirname find flock head mkdir readlink sed touch tr; do ln -s "$(command -v "$tool")" "$bare/$tool"; done
+bare "$bare" bash env awk base64 cat dirname find flock head mkdir readlink sed touch tr
 kit=$dir/kit:$bare
 
 # Not built, and no kit.
@@ -45,11 +43,11 @@ PATH=$kit "$timeout" 60 "$krakobran" report "$example" > "$dir/out" 2> "$dir/err
 found=$?
 total=$(sed -n 's/.*building it, \([0-9]*\) crates.*/\1/p' "$dir/err")
 {
-    echo "krakobran: target/bin/report is missing or older than its sources: proving and building it, $total crates, takes some minutes"
+    echo "krakobran: target/bin/cmd_report is missing or older than its sources: proving and building it, $total crates, takes some minutes"
     echo "krakobran: 1 of $total: octets proved (1 s)"
-    echo "krakobran: 2 of $total: report proved (1 s)"
+    echo "krakobran: 2 of $total: cmd_report proved (1 s)"
 } > "$dir/progress"
-cp "$root/crates/report/stdout" "$dir/expected"
+cp "$example_report" "$dir/expected"
 same 'the first run says how far it is' "$dir/err" "$dir/progress"
 : > "$dir/err"
 judge 'the first run prints the report' 0 '' "$found"
@@ -58,19 +56,19 @@ path=$kit
 try 'the second run builds nothing' 0 '' report "$example"
 
 # A source that is newer: built again with the kit, used as it is without.
-touch -d '+1 minute' "$checkout/crates/report/stdin"
+touch -d '+1 minute' "$checkout/crates/cmd_report/stdin"
 path=$bare
 try 'newer sources, and no kit' 0 '' report "$example"
-touch -d '-1 minute' "$checkout/target/bin/report"
-touch "$checkout/crates/report/stdin"
+touch -d '-1 minute' "$checkout/target/bin/cmd_report"
+touch "$checkout/crates/cmd_report/stdin"
 : > "$dir/builds"
 PATH=$kit "$krakobran" report "$example" > "$dir/out" 2> "$dir/err"
-echo 'check report' > "$dir/expected"
+echo 'check cmd_report' > "$dir/expected"
 same 'newer sources are built again' "$dir/builds" "$dir/expected"
 
 # A program that is not proved is not run.
-touch -d '-1 minute' "$checkout/target/bin/report"
-touch "$checkout/crates/report/stdin" "$dir/refuse"
+touch -d '-1 minute' "$checkout/target/bin/cmd_report"
+touch "$checkout/crates/cmd_report/stdin" "$dir/refuse"
 : > "$dir/expected"
 PATH=$kit "$timeout" 60 "$krakobran" report "$example" > "$dir/out" 2> "$dir/full"
 found=$?
@@ -82,20 +80,20 @@ rm "$dir/refuse"
 # Two commands in a pipe, and four of the same program side by side: one build at a time, and one of each program.
 rm -r "$checkout/target"
 : > "$dir/builds"
-printf '%d;0,%03d\n' 1 10 2 20 4 40 5 50 3 70 > "$dir/log"
+example_log > "$dir/log"
 { PATH=$kit "$krakobran" import log 5 100 "$dir/log" | PATH=$kit "$krakobran" report -; } > "$dir/out" 2> "$dir/err"
-same 'two commands in a pipe' "$dir/out" "$root/crates/report/stdout"
+same 'two commands in a pipe' "$dir/out" "$example_report"
 rm -r "$checkout/target"
 for i in 1 2 3 4; do PATH=$kit "$krakobran" report "$example" > "$dir/out.$i" 2> "$dir/err.$i" & done
 wait
-for i in 1 2 3 4; do same "command $i of four" "$dir/out.$i" "$root/crates/report/stdout"; done
+for i in 1 2 3 4; do same "command $i of four" "$dir/out.$i" "$example_report"; done
 sort "$dir/builds" > "$dir/out"
-printf 'check import_log\ncheck report\ncheck report\n' > "$dir/expected"
+printf 'check cmd_import\ncheck cmd_report\ncheck cmd_report\n' > "$dir/expected"
 same 'one build of each program, one at a time' "$dir/out" "$dir/expected"
 
 # A checkout that can't be written: a built program runs; one that is to be built is not.
 chmod -R a-w "$checkout"
-cp "$root/crates/report/stdout" "$dir/expected"
+cp "$example_report" "$dir/expected"
 path=$kit
 try 'a checkout that is only read' 0 '' report "$example"
 chmod -R u+w "$checkout"

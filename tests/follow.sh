@@ -3,13 +3,13 @@
 # and compares standard output, standard error and the exit status with what is expected. A line for each case; status 1 if one fails.
 . "$(dirname -- "${BASH_SOURCE[0]}")/lib.sh" || exit 2
 
-# The words of a refusal, whole.
+# The line of a refusal.
 refusal() {
-    printf 'refused %d: %s\n' "$1" "$(sed -n "s/^| $1 | \(.*\) |\$/\1/p" "$root/docs/CALLS.md" | head -n 1)"
+    printf 'refused %d: %s\n' "$1" "$(words "$1")"
 }
 
-cp -- "$root/crates/follow_log/stdin" "$dir/log"
-cp -- "$root/crates/follow_log/stdout" "$dir/expected"
+cp -- "$root/crates/cmd_follow/stdin" "$dir/log"
+cp -- "$root/crates/cmd_follow/stdout" "$dir/expected"
 try 'a log by its name' 0 '' follow 5 "$dir/log"
 try 'a log on standard input' 0 '' follow 5 < "$dir/log"
 try 'a log on standard input by its sign' 0 '' follow 5 - < "$dir/log"
@@ -67,9 +67,6 @@ try 'standard input is a directory' 1 "it can't be read" follow 5 < "$dir"
 try 'standard input is closed' 1 'it is closed' follow 5 <&-
 try 'no K' 2 'usage: krakobran follow K [FILE]' follow
 try 'two files' 2 'usage: krakobran follow K [FILE]' follow 5 "$dir/log" "$dir/log"
+try_full 'a full disk' follow 5 "$dir/log"
 
-PATH=$path "$timeout" 60 "$krakobran" follow 5 "$dir/log" > /dev/full 2> "$dir/err"
-status=$?
-: > "$dir/out"
-judge 'a full disk' 1 "standard output: the result can't be written whole" "$status"
 finish

@@ -3,27 +3,25 @@
 # without the kit, and uses the library by pkg-config and CMake from where it was unpacked.
 . "$(dirname -- "${BASH_SOURCE[0]}")/lib.sh" || exit 2
 
-example=$root/crates/report/stdin
 make=(make -s --no-print-directory -C "$root")
-version=$(sed -n 's/^#define KRAKOBRAN_VERSION "\(.*\)"$/\1/p' "$root/include/krakobran.h")
 
 # A path on which there is nothing but what the installed command needs.
-mkdir "$dir/bare"
-for tool in bash env awk base64 cat dirname head readlink tr; do ln -s "$(command -v "$tool")" "$dir/bare/$tool"; done
+bare "$dir/bare" bash env awk base64 cat dirname head readlink tr
 
 # NAME: the installed command does what that of the checkout does, and says the same, wherever its folder is.
 same_command() {
     local arguments list
     path=$dir/bare
-    for arguments in "report $example" "import log 290 100 $root/examples/supplier.log" "export log $example" "export owamp $example" \
-        "check $example $root/crates/report/stdout" "worse $example $root/crates/picture/stdin" "picture $root/crates/picture/stdin" \
-        "summary $root/crates/show_summary/stdin" \
+    for arguments in "report $example" "report --csv $example" "report --json $example" \
+        "import log 290 100 $root/examples/supplier.log" "export log $example" "export owamp $example" \
+        "check $example $root/crates/cmd_report/stdout" "worse $example $root/crates/cmd_picture/stdin" "picture $root/crates/cmd_picture/stdin" \
+        "summary $root/crates/cmd_summary/stdin" \
         'help' 'help worse' '--version'; do
         read -ra list <<< "$arguments"
         "$root/krakobran" "${list[@]}" > "$dir/expected"
         try "$1: ${arguments//"$root/"/}" 0 '' "${list[@]}"
     done
-    cp "$root/crates/report/stdout" "$dir/expected"
+    cp "$example_report" "$dir/expected"
     try "$1: report of the example" 0 'this is the report of an example' report
     path=$PATH
 }
@@ -45,17 +43,18 @@ cat > "$dir/expected" << EOF
 ./lib/libkrakobran.so.${version%.*}
 ./lib/libkrakobran.so.$version
 ./lib/pkgconfig/krakobran.pc
-./libexec/krakobran/check_listing
+./libexec/krakobran/cmd_check
+./libexec/krakobran/cmd_export
+./libexec/krakobran/cmd_follow
+./libexec/krakobran/cmd_import
+./libexec/krakobran/cmd_picture
+./libexec/krakobran/cmd_refusal
+./libexec/krakobran/cmd_report
+./libexec/krakobran/cmd_summary
+./libexec/krakobran/cmd_table
+./libexec/krakobran/cmd_worse
 ./libexec/krakobran/example.sample
-./libexec/krakobran/export_log
-./libexec/krakobran/follow_log
-./libexec/krakobran/import_log
 ./libexec/krakobran/krakobran.txt
-./libexec/krakobran/picture
-./libexec/krakobran/report
-./libexec/krakobran/show_refusal
-./libexec/krakobran/show_summary
-./libexec/krakobran/worse_link
 ./share/bash-completion/completions/krakobran
 ./share/krakobran/python/krakobran.py
 ./share/man/man1/krakobran.1
@@ -69,7 +68,7 @@ krakobran="$dir/another place/bin/krakobran"
 same_command 'installed and moved'
 ln -s "$krakobran" "$dir/link"
 krakobran=$dir/link
-cp "$root/crates/report/stdout" "$dir/expected"
+cp "$example_report" "$dir/expected"
 try 'installed, by a link' 0 '' report "$example"
 
 # It never builds: with the kit on the path it neither builds an old program nor a missing one.
@@ -77,11 +76,11 @@ mkdir "$dir/kit"
 printf '#!/bin/sh\necho built >> %s\n' "$dir/built" > "$dir/kit/rt"
 chmod +x "$dir/kit/rt"
 path=$dir/kit:$PATH
-touch -d '2000-01-01' "$dir/another place/libexec/krakobran/report"
+touch -d '2000-01-01' "$dir/another place/libexec/krakobran/cmd_report"
 try 'installed, an old program' 0 '' report "$example"
-rm "$dir/another place/libexec/krakobran/report"
+rm "$dir/another place/libexec/krakobran/cmd_report"
 : > "$dir/expected"
-try 'installed, a missing program' 2 'libexec/krakobran/report: there is no such program; install krakobran again' report "$example"
+try 'installed, a missing program' 2 'libexec/krakobran/cmd_report: there is no such program; install krakobran again' report "$example"
 verdict 'installed, nothing is built' "$([ ! -e "$dir/built" ] || echo ', rt was run')"
 path=$PATH
 
@@ -122,7 +121,7 @@ fi
 if have python3 'the unpacked binding for Python'; then
     PYTHONPATH=$dir/unpacked/$name/share/krakobran/python PYTHONDONTWRITEBYTECODE=1 python3 "$root/examples/counts.py" "$example" \
         > "$dir/out" 2>&1
-    { echo 'L 5, reordered 1, duplicates 0, in order 4' && cat "$root/crates/report/stdout"; } > "$dir/expected"
+    { echo 'L 5, reordered 1, duplicates 0, in order 4' && cat "$example_report"; } > "$dir/expected"
     same 'a program by the unpacked binding for Python' "$dir/out" "$dir/expected"
 fi
 if have cmake 'the CMake package'; then
@@ -145,7 +144,8 @@ EOF
         same "a program by CMake, krakobran::$kind" "$dir/out" "$dir/expected"
     done
     # Another major version, and before 1.0.0 another minor version, is refused.
-    for other in $((${version%%.*} + 1)) 0.9 0.11; do
+    minor=${version#*.} minor=${minor%%.*}
+    for other in $((${version%%.*} + 1)) "0.$((minor - 1))" "0.$((minor + 1))"; do
         sed -i "s/find_package(krakobran [0-9.]*/find_package(krakobran $other/" "$dir/project/CMakeLists.txt"
         cmake -S "$dir/project" -B "$dir/project/$other" -DCMAKE_PREFIX_PATH="$dir/unpacked/$name" > "$dir/cmake" 2>&1
         verdict "CMake refuses version $other" "$([ $? -ne 0 ] || echo ', it does not')"
@@ -167,7 +167,9 @@ complete_words krakobran re >> "$dir/out"
 complete_words krakobran import '' >> "$dir/out"
 complete_words krakobran report --v >> "$dir/out"
 complete_words krakobran report x >> "$dir/out"
-printf '%s\n' 'report summary import export check worse picture follow help --help --version' report 'log owamp' --version '' > "$dir/expected"
+complete_words krakobran import log --b >> "$dir/out"
+complete_words krakobran import log --bits '' >> "$dir/out"
+printf '%s\n' 'report summary import export check worse picture follow help --help --version' report 'log owamp' --version '' --bits '8 10' > "$dir/expected"
 same 'the completion for bash' "$dir/out" "$dir/expected"
 if have zsh 'the completion for zsh'; then
     verdict 'the completion for zsh' "$(zsh -n "$root/tools/completion.zsh" 2>&1 | sed 's/^/, /')"

@@ -306,6 +306,72 @@ static void text_logs(void) {
     }
     passed("log_import, refused: K, lines, room", imports);
     passed("log_refused_line", lines);
+
+    static const struct {
+        const char *line;
+        uint64_t refusal, number, time;
+    } single[] = {{"7;4,05\n", 0, 7, 4050},         {"0;0\n", 0, 0, 0},    {"4294967295;1.5\n", 0, 4294967295, 1500},
+                  {"4294967296;1\n", 14, 0, 0},      {"1;1", 14, 0, 0},     {"1;1\n2;2\n", 14, 0, 0},
+                  {"", 14, 0, 0},                    {"\n", 14, 0, 0},      {"1;1\r\n", 14, 0, 0}};
+    holds = 1;
+    for (size_t i = 0; i < sizeof single / sizeof single[0]; i++) {
+        take_back();
+        krakobran_arrival *arrival = FIGURES(krakobran_arrival);
+        uint64_t read = krakobran_log_read_line((const uint8_t *)single[i].line, strlen(single[i].line), arrival);
+        holds = holds && (single[i].refusal ? refused(read, single[i].refusal) : accepted(read)) &&
+                arrival->number == single[i].number && arrival->time == single[i].time;
+    }
+    passed("log_read_line", holds);
+}
+
+/* Logs whose numbers are the lowest 8 or 10 bits. */
+static void short_logs(void) {
+    static const char log_8[] = "100;1\n200;2\n255;3\n0;4\n3;5\n254;6\n", log_10[] = "500;1\n1000;2\n1023;3\n0;4\n5;5\n1020;6\n";
+    static const uint32_t full_8[6] = {100, 200, 255, 256, 259, 254}, full_10[6] = {500, 1000, 1023, 1024, 1029, 1020};
+    static const uint64_t at[6] = {1000, 2000, 3000, 4000, 5000, 6000};
+    const struct {
+        const char *log;
+        const uint32_t *full;
+        uint32_t sent;
+        uint64_t (*import)(const uint8_t *, uint64_t, uint32_t, uint32_t *, uint64_t, uint64_t *, uint64_t, uint64_t *);
+        void (*refused_line)(const uint8_t *, uint64_t, uint32_t, uint64_t *);
+    } widths[2] = {{log_8, full_8, 259, krakobran_log_import_8, krakobran_log_refused_line_8},
+                   {log_10, full_10, 1029, krakobran_log_import_10, krakobran_log_refused_line_10}};
+    int imports = 1, lines = 1, refusals = 1;
+    for (size_t i = 0; i < 2; i++) {
+        const uint8_t *log = (const uint8_t *)widths[i].log;
+        size_t octets = strlen(widths[i].log);
+        take_back();
+        uint64_t *arrivals = FIGURES(uint64_t);
+        uint32_t *numbers = lend(7 * sizeof *numbers);
+        uint64_t *times = lend(7 * sizeof *times);
+        expect(numbers, sizeof full_8);
+        expect(times, sizeof at);
+        imports = imports && accepted(widths[i].import(log, octets, widths[i].sent, numbers, 7, times, 7, arrivals)) &&
+                  *arrivals == 6 && memcmp(numbers, widths[i].full, sizeof full_8) == 0 && memcmp(times, at, sizeof at) == 0;
+        for (uint32_t less = 0; less < 2; less++) {
+            take_back();
+            uint64_t *line = FIGURES(uint64_t);
+            widths[i].refused_line(log, octets, widths[i].sent - less, line);
+            lines = lines && accepted(KRAKOBRAN_NONE) && *line == (less ? 5 : 0);
+        }
+        const struct {
+            const char *log;
+            uint32_t sent;
+            uint64_t refusal, places;
+        } wrong[] = {{"x\n", 0, 4, 9},        {"1;1\nx\n", 9, 14, 9}, {"0;1\n", 400, 6, 9}, {"1;1\n1024;1\n", 4096, 6, 9},
+                     {"1;2\n2;0,999\n", 9, 7, 9}, {"1;1\n2;2\n", 9, 8, 1}};
+        for (size_t j = 0; j < sizeof wrong / sizeof wrong[0]; j++) {
+            take_back();
+            refusals = refusals && refused(widths[i].import((const uint8_t *)wrong[j].log, strlen(wrong[j].log), wrong[j].sent,
+                                                            LIST(uint32_t, wrong[j].places), LIST(uint64_t, wrong[j].places),
+                                                            FIGURES(uint64_t)),
+                                           wrong[j].refusal);
+        }
+    }
+    passed("log_import_8 and _10", imports);
+    passed("log_refused_line_8 and _10", lines);
+    passed("log_import_8 and _10, refused: K, lines, numbers, times, room", refusals);
 }
 
 static void owamp_records(void) {
@@ -385,6 +451,19 @@ static void records_of_it(void) {
     for (size_t i = 0; i < ARRIVALS; i++)
         holds = holds && same_row(&rows[i], &small_rows[i]);
     passed("rows", holds);
+
+    take_back();
+    uint32_t *list = lend((ARRIVALS + 1) * sizeof *list);
+    expect(list, ARRIVALS * sizeof *list);
+    holds = accepted(krakobran_gaps(small, SMALL, list, ARRIVALS + 1));
+    for (uint32_t i = 0; i < ARRIVALS; i++) {
+        krakobran_gap_figures gap;
+        holds = holds && krakobran_gap(small, SMALL, i + 1, &gap) == KRAKOBRAN_NONE && list[i] == gap.positions;
+    }
+    passed("gaps", holds);
+    take_back();
+    passed("gaps, refused: a place too few",
+           refused(krakobran_gaps(small, SMALL, LIST(uint32_t, ARRIVALS - 1)), KRAKOBRAN_OUTPUT_SHORT));
 
     take_back();
     uint16_t *table = lend((KRAKOBRAN_SWEEP_TABLE_PLACES + 1) * sizeof *table);
@@ -538,6 +617,21 @@ static void texts_of_it(void) {
     passed(
         "summary_write, one octet short",
         refused(krakobran_summary_write(small, SMALL, LIST(uint8_t, octets - 1), FIGURES(uint64_t)), KRAKOBRAN_OUTPUT_SHORT));
+
+    static char json[KRAKOBRAN_SUMMARY_OCTETS + 1];
+    holds = krakobran_summary_json(small, SMALL, (uint8_t *)json, KRAKOBRAN_SUMMARY_OCTETS, &octets) == KRAKOBRAN_NONE;
+    passed("summary_json, how it begins, a waiting time and its end",
+           holds && octets == strlen(json) && strncmp(json, "{\"label\":\"", 10) == 0 &&
+               strstr(json, "\"waiting_time_us\":30,") != NULL && strcmp(json + octets - 2, "}\n") == 0);
+    take_back();
+    length = FIGURES(uint64_t);
+    out = lend(octets + 9);
+    expect(out, octets);
+    holds = accepted(krakobran_summary_json(small, SMALL, out, octets + 9, length));
+    passed("summary_json", holds && *length == octets && memcmp(out, json, octets) == 0);
+    take_back();
+    passed("summary_json, one octet short",
+           refused(krakobran_summary_json(small, SMALL, LIST(uint8_t, octets - 1), FIGURES(uint64_t)), KRAKOBRAN_OUTPUT_SHORT));
 }
 
 static void two_samples(void) {
@@ -569,6 +663,7 @@ OVER_FILE(sample_label, krakobran_sample_label(file, octets, FIGURES(krakobran_p
 OVER_FILE(owamp_write, krakobran_owamp_write(file, octets, LIST(uint8_t, 175), FIGURES(uint64_t)))
 OVER_FILE(answer, krakobran_answer(file, octets, asked, FIGURES(krakobran_row)))
 OVER_FILE(rows, krakobran_rows(file, octets, lend(7 * sizeof(krakobran_row)), 56))
+OVER_FILE(gaps, krakobran_gaps(file, octets, LIST(uint32_t, 7)))
 OVER_FILE(counts, krakobran_counts(file, octets, FIGURES(krakobran_counts_figures)))
 OVER_FILE(tally, krakobran_tally(file, octets, (uint32_t *)lend_figures(404)))
 OVER_FILE(gap, krakobran_gap(file, octets, asked, FIGURES(krakobran_gap_figures)))
@@ -587,6 +682,7 @@ OVER_FILE(least_share, krakobran_least_size(file, octets, KRAKOBRAN_MEASURE_TIME
 OVER_FILE(report_write, krakobran_report_write(file, octets, LIST(uint8_t, 200), FIGURES(uint64_t)))
 OVER_FILE(report_check, krakobran_report_check(file, octets, (const uint8_t *)small_report, REPORT, FIGURES(krakobran_verdict)))
 OVER_FILE(summary_write, krakobran_summary_write(file, octets, LIST(uint8_t, 2048), FIGURES(uint64_t)))
+OVER_FILE(summary_json, krakobran_summary_json(file, octets, LIST(uint8_t, 2048), FIGURES(uint64_t)))
 
 #define FILE_CALL(name) \
     { #name, file_##name }
@@ -598,7 +694,7 @@ static const struct {
     FILE_CALL(rows),         FILE_CALL(counts),         FILE_CALL(tally),        FILE_CALL(gap),         FILE_CALL(n_reordered),
     FILE_CALL(degree),       FILE_CALL(ratios),         FILE_CALL(disorder),     FILE_CALL(sweep),       FILE_CALL(worse_first),
     FILE_CALL(worse_second), FILE_CALL(greatest_needs), FILE_CALL(accommodated), FILE_CALL(least_size),  FILE_CALL(least_share),
-    FILE_CALL(report_write), FILE_CALL(report_check),   FILE_CALL(summary_write)};
+    FILE_CALL(report_write), FILE_CALL(report_check),   FILE_CALL(summary_write), FILE_CALL(summary_json), FILE_CALL(gaps)};
 
 /* The small sample with one number changed, of this width, and the refusal of that. */
 static const struct {
@@ -1090,6 +1186,13 @@ static void no_places(void) {
            krakobran_log_import((const uint8_t *)small_log, LOG, SENT, NULL, 0, NULL, 0, &length) == KRAKOBRAN_OUTPUT_SHORT);
     krakobran_log_refused_line(NULL, 0, 1, &length);
     passed("NULL: log_refused_line of an empty log", length == 0);
+    krakobran_arrival arrival;
+    passed("NULL: log_read_line of nothing", krakobran_log_read_line(NULL, 0, &arrival) == KRAKOBRAN_LINE_MALFORMED);
+    passed("NULL: log_import_8 and _10 of an empty log",
+           krakobran_log_import_8(NULL, 0, 1, NULL, 0, NULL, 0, &length) == KRAKOBRAN_NONE && length == 0 &&
+               krakobran_log_import_10(NULL, 0, 1, NULL, 0, NULL, 0, &length) == KRAKOBRAN_NONE && length == 0);
+    passed("NULL: gaps of no arrivals", krakobran_gaps(file, 8, NULL, 0) == KRAKOBRAN_NONE);
+    passed("NULL: gaps, no room", krakobran_gaps(small, SMALL, NULL, 0) == KRAKOBRAN_OUTPUT_SHORT);
     passed("NULL: log_write of no arrivals", krakobran_log_write(1, NULL, 0, NULL, 0, NULL, 0, &length) == KRAKOBRAN_NONE);
     passed("NULL: owamp_import of no records", krakobran_owamp_import(NULL, 0, 1, NULL, 0, NULL, 0, &length) == KRAKOBRAN_NONE);
     passed("NULL: owamp_write of no arrivals",
@@ -1100,6 +1203,7 @@ static void no_places(void) {
     passed("NULL: report_check of an empty report",
            krakobran_report_check(file, 8, NULL, 0, &verdict) == KRAKOBRAN_NONE && verdict.agrees == 0 && verdict.line == 1);
     passed("NULL: summary_write, no room", krakobran_summary_write(file, 8, NULL, 0, &length) == KRAKOBRAN_OUTPUT_SHORT);
+    passed("NULL: summary_json, no room", krakobran_summary_json(file, 8, NULL, 0, &length) == KRAKOBRAN_OUTPUT_SHORT);
     passed("NULL: sweep of no arrivals",
            krakobran_sweep(file, 8, table, KRAKOBRAN_SWEEP_TABLE_PLACES, NULL, 0, NULL, 0, NULL, 0, NULL, 0) == KRAKOBRAN_NONE);
     passed("NULL: sweep, no room",
@@ -1208,6 +1312,7 @@ static union {
     krakobran_row row;
     krakobran_counts_figures counts;
     krakobran_gap_figures gap;
+    krakobran_arrival arrival;
     krakobran_degree_counts degree_counts;
     krakobran_degree_figures degree;
     krakobran_ratios_figures ratios;
@@ -1227,12 +1332,18 @@ CALL(sample_write, krakobran_sample_write(label, 64, sizes, MOST, numbers, MOST,
 CALL(lists_check, krakobran_lists_check(MOST, numbers, MOST, times, MOST))
 CALL(log_import, krakobran_log_import(line, sizeof line - 1, 1, positions, MOST, lates, MOST, &length))
 CALL(log_refused_line, (krakobran_log_refused_line(line, sizeof line - 1, 1, &length), length))
+CALL(log_read_line, krakobran_log_read_line(line, sizeof line - 1, &given.arrival))
+CALL(log_import_8, krakobran_log_import_8(line, sizeof line - 1, 1, positions, MOST, lates, MOST, &length))
+CALL(log_import_10, krakobran_log_import_10(line, sizeof line - 1, 1, positions, MOST, lates, MOST, &length))
+CALL(log_refused_line_8, (krakobran_log_refused_line_8(line, sizeof line - 1, 1, &length), length))
+CALL(log_refused_line_10, (krakobran_log_refused_line_10(line, sizeof line - 1, 1, &length), length))
 CALL(log_write, krakobran_log_write(MOST, numbers, MOST, times, MOST, out, sizeof out, &length))
 CALL(owamp_import, krakobran_owamp_import(records, recorded, MOST, positions, MOST, lates, MOST, &length))
 CALL(owamp_reversed, krakobran_owamp_import(reversed, recorded, MOST, positions, MOST, lates, MOST, &length))
 CALL(owamp_write, krakobran_owamp_write(file, octets, out, sizeof out, &length))
 CALL(answer, krakobran_answer(file, octets, record, &given.row))
 CALL(rows, krakobran_rows(file, octets, rows, sizeof rows / 8))
+CALL(gaps, krakobran_gaps(file, octets, positions, MOST))
 CALL(counts, krakobran_counts(file, octets, &given.counts))
 CALL(tally, krakobran_tally(file, octets, tally))
 CALL(gap, krakobran_gap(file, octets, record, &given.gap))
@@ -1248,6 +1359,7 @@ CALL(least_size, krakobran_least_size(file, octets, KRAKOBRAN_MEASURE_OCTETS, 99
 CALL(report_write, krakobran_report_write(file, octets, out, sizeof out, &length))
 CALL(report_check, krakobran_report_check(file, octets, out, sizeof out, &given.verdict))
 CALL(summary_write, krakobran_summary_write(file, octets, out, sizeof out, &length))
+CALL(summary_json, krakobran_summary_json(file, octets, out, sizeof out, &length))
 CALL(fragment_order, krakobran_fragment_order(MOST, numbers, MOST, times, MOST, lengths, MOST, mores, MOST, offsets, MOST,
                                               kinds, MOST, used, MOST))
 CALL(fragments_of_one,
@@ -1276,12 +1388,18 @@ static const struct {
              NAMED(lists_check),
              NAMED(log_import),
              NAMED(log_refused_line),
+             NAMED(log_read_line),
+             NAMED(log_import_8),
+             NAMED(log_import_10),
+             NAMED(log_refused_line_8),
+             NAMED(log_refused_line_10),
              NAMED(log_write),
              NAMED(owamp_import),
              NAMED(owamp_reversed),
              NAMED(owamp_write),
              NAMED(answer),
              NAMED(rows),
+             NAMED(gaps),
              NAMED(counts),
              NAMED(tally),
              NAMED(gap),
@@ -1297,6 +1415,7 @@ static const struct {
              NAMED(report_write),
              NAMED(report_check),
              NAMED(summary_write),
+             NAMED(summary_json),
              NAMED(fragment_order),
              NAMED(fragments_of_one),
              NAMED(full_numbers_8),
@@ -1352,6 +1471,7 @@ int main(void) {
     sample_file();
     wrong_lists();
     text_logs();
+    short_logs();
     owamp_records();
     records_of_it();
     figures_of_it();

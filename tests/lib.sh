@@ -1,13 +1,16 @@
 # shellcheck shell=bash
-# What the tests share; they source it. It sets `root`, the checkout; `dir`, a temporary folder that is removed at the end; and
-# `krakobran` and `path`, the command that is tried and its PATH. Each test prints a line for each case and ends with `finish`, whose
-# status is 1 if a case failed.
+# What the tests share; they source it. It sets `root`, the checkout; `dir`, a temporary folder that is removed at the end;
+# `krakobran` and `path`, the command that is tried and its PATH; `version`, that of the header; and `example` and `example_report`, the
+# sample of 76 octets that the report program is stored with, and its report of seven lines. Each test prints a line for each case and
+# ends with `finish`, whose status is 1 if a case failed.
 set -u
 
 root=$(cd -- "$(dirname -- "${BASH_SOURCE[0]}")/.." && pwd) || exit 2
 dir=$(mktemp -d) || exit 2
 trap 'rm -rf -- "$dir"' EXIT
 krakobran=$root/krakobran path=$PATH
+version=$(sed -n 's/^#define KRAKOBRAN_VERSION "\(.*\)"$/\1/p' "$root/include/krakobran.h")
+example=$root/crates/cmd_report/stdin example_report=$root/crates/cmd_report/stdout
 timeout=$(command -v timeout) || exit 2
 failed=0 run=0 left=0
 
@@ -46,6 +49,16 @@ judge() {
     verdict "$name" "$wrong"
 }
 
+# NAME [ARGUMENT..]: runs the command with a standard output that takes nothing.
+try_full() {
+    local name=$1
+    shift
+    : > "$dir/out"
+    : > "$dir/expected"
+    PATH=$path "$timeout" 60 "$krakobran" "$@" > /dev/full 2> "$dir/err"
+    judge "$name" 1 "standard output: the result can't be written whole" "$?"
+}
+
 # NAME FILE FILE: the files are the same.
 same() {
     verdict "$1" "$(cmp "$2" "$3" 2>&1 | sed 's/^/, /')"
@@ -57,6 +70,14 @@ have() {
     left=$((left + 1))
     printf 'skipped %s: %s is not on the path\n' "$2" "$1"
     return 1
+}
+
+# FOLDER PROGRAM..: makes a folder that has these programs alone, to be a PATH.
+bare() {
+    local folder=$1 program
+    shift
+    mkdir "$folder"
+    for program in "$@"; do ln -s "$(command -v "$program")" "$folder/$program"; done
 }
 
 # The words of a refusal, from the table of docs/CALLS.md.
@@ -84,9 +105,15 @@ sample() {
     done
 }
 
+# N: the letter x, N times.
+xs() { printf "%$1s" '' | tr ' ' x; }
+
+# The arrivals of the example, as a log.
+example_log() { printf '%d;0,%03d\n' 1 10 2 20 4 40 5 50 3 70; }
+
 # The longest sample, of 57,414 octets: every arrival is packet 1 at 0.
 longest() {
-    two 64 && printf 'x%.0s' {1..64}
+    two 64 && xs 64
     two 4096 && printf '\000\144%.0s' {1..4096}
     two 4096 && printf '\000\000\000\001\000\000\000\000\000\000\000\000%.0s' {1..4096}
 }

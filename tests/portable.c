@@ -292,6 +292,11 @@ static void record_calls(const uint8_t *file, uint64_t octets, const sample *s) 
     if (s && refusal == 0)
         for (uint32_t i = 0; i < many; i++)
             same_row((const krakobran_row *)(const void *)rows + i, due.rows + i);
+    room = room_for(many);
+    lay_uint32_t(positions, room);
+    refusal = CALL(gaps, file, octets, positions, room);
+    if (s)
+        filled_uint32_t(positions, refusal ? 0 : many, room);
     uint64_t t = room_for(KRAKOBRAN_SWEEP_TABLE_PLACES), a = room_for(many), b = room_for(many), c = room_for(many), d = room_for(many);
     lay_uint16_t(table, t), lay_uint8_t(flags, a), lay_uint32_t(positions, b), lay_uint32_t(extents, c), lay_uint64_t(lates, d);
     refusal = CALL(sweep, file, octets, table, t, flags, a, positions, b, extents, c, lates, d);
@@ -386,6 +391,10 @@ static void text_calls(const uint8_t *file, uint64_t octets, const sample *s) {
     lay_uint8_t(out, room);
     uint64_t refusal = CALL(summary_write, file, octets, out, room, answer());
     written(refusal, room);
+    room = room_for(KRAKOBRAN_SUMMARY_OCTETS);
+    lay_uint8_t(out, room);
+    refusal = CALL(summary_json, file, octets, out, room, answer());
+    written(refusal, room);
     room = room_for(s ? KRAKOBRAN_OWAMP_RECORD_OCTETS * s->arrivals : 64);
     lay_uint8_t(out, room);
     refusal = CALL(owamp_write, file, octets, out, room, answer());
@@ -433,6 +442,21 @@ static void list_calls(const sample *s) {
         answered(1, 0);
         if (j == 0 && refusal == 0 && length)
             hold("imported arrivals", memcmp(numbers, s->numbers, 4 * s->arrivals), 0);
+        lay_uint32_t(numbers, a), lay_uint64_t(times, b);
+        uint64_t shorts = j % 2 ? CALL(log_import_8, text, length, sent, numbers, a, times, b, answer())
+                                : CALL(log_import_10, text, length, sent, numbers, a, times, b, answer());
+        answered(1, shorts);
+        filled_uint32_t(numbers, shorts ? 0 : figures[1], a), filled_uint64_t(times, shorts ? 0 : figures[1], b);
+        if (j % 2)
+            CALL_VOID(log_refused_line_8, text, length, sent, answer());
+        else
+            CALL_VOID(log_refused_line_10, text, length, sent, answer());
+        answered(1, 0);
+        uint64_t line = 0;
+        while (line < length && text[line++] != '\n')
+            ;
+        shorts = CALL(log_read_line, text, line, (krakobran_arrival *)answer());
+        answered(2, shorts);
         uint8_t *at = text + (length ? below((uint32_t)length) : 0);
         *at = (uint8_t) "0123456789;,.\n x"[below(16)];
     }

@@ -4,6 +4,7 @@ crates/rfc4737/specs/Cases.antt with the figures that stand there, the report's 
 Cases.antt, and a refusal of each number. It holds the binding to the header too: the same calls, numbers and words. A line for each case;
 status 1 if one fails."""
 
+import json
 import os
 import pathlib
 import re
@@ -124,6 +125,7 @@ def try_case(name, sent, numbers, times, rows, gaps, tally, counts, ratios, diso
     same(f"{name}: answer", [sample.answer(record) for record in records], rows)
     same(f"{name}: sweep", sample.sweep(), [(row.kind, row.position, row.extent, row.late) for row in rows])
     same(f"{name}: gap", [sample.gap(record) for record in records], [gaps.get(record) for record in records])
+    same(f"{name}: gaps", sample.gaps(), [gaps.get(record) for record in records])
     same(f"{name}: tally", sample.tally(), [tally.get(extent, 0) for extent in range(101)])
     same(f"{name}: counts", sample.counts(), counts)
     same(f"{name}: ratios", sample.ratios(), ratios and tuple(part / arrived for part in ratios))
@@ -177,13 +179,18 @@ for case, figures in CASES.items():
 
 # ---- the report's example and the summary's, as files
 
-example = Sample.open(ROOT / "crates/report/stdin")
-same("the example: report", example.report(), (ROOT / "crates/report/stdout").read_text())
+example = Sample.open(ROOT / "crates/cmd_report/stdin")
+same("the example: report", example.report(), (ROOT / "crates/cmd_report/stdout").read_text())
 same("the example: check, a wrong line", example.check(example.report().replace("in 3 1", "in 3 0")), (False, 4))
 same("the example: worse", krakobran.worse(example, Sample.of("roof", [100, 100], [2, 1], [0, 0])), (2, "roof"))
 same("the example: worse, the other way", krakobran.worse(example, Sample.of("", [100], [], [])), (1, ""))
-link = Sample.open(ROOT / "crates/show_summary/stdin")
-same("the link: summary", link.summary(), (ROOT / "crates/show_summary/stdout").read_text())
+link = Sample.open(ROOT / "crates/cmd_summary/stdin")
+same("the link: summary", link.summary(), (ROOT / "crates/cmd_summary/stdout").read_text())
+of_link = json.loads(link.summary_json())
+same("the link: summary as JSON",
+     [(size["waiting_time_us"], size["packets_held"], size["octets_held"]) for size in of_link["least_sizes"]],
+     [tuple(link.least_size(measure, share, 100) for measure in (Measure.TIME, Measure.PACKETS, Measure.OCTETS))
+      for share in (50, 90, 95, 99, 100)])  # fmt: skip
 log = (ROOT / "examples/supplier.log").read_bytes()
 same("the link: from_log", Sample.from_log(log, 290, 100).octets, link.octets)
 same("the link: log, read again", krakobran.import_log(link.log(), 290), link.lists()[1:])
@@ -203,6 +210,12 @@ same("write_log", krakobran.write_log(4096, [4096, 1], [2**64 - 1, 2**64 - 1]), 
 same("import_log", krakobran.import_log("1;4,5\n2;4.5\n3;45\n", 3), ([1, 2, 3], [4500, 4500, 45000]))
 same("refused_line", [krakobran.refused_line(text, 2) for text in (b"", b"1;1\n", b"1;1\n3;1\nx\n")], [0, 0, 2])
 same("check_lists", krakobran.check_lists(2, [1, 2], [0, 0]), None)
+same("read_line", [krakobran.read_line(line) for line in (b"7;4,05\n", "0;0\n")], [(7, 4050), (0, 0)])
+short_8, short_10 = b"100;1\n200;2\n255;3\n0;4\n3;5\n254;6\n", "500;1\n1000;2\n1023;3\n0;4\n5;5\n1020;6\n"
+at = [1000, 2000, 3000, 4000, 5000, 6000]
+same("import_log, 8 bits", krakobran.import_log(short_8, 259, 8), ([100, 200, 255, 256, 259, 254], at))
+same("import_log, 10 bits", krakobran.import_log(short_10, 1029, 10), ([500, 1000, 1023, 1024, 1029, 1020], at))
+same("refused_line, 8 and 10 bits", (krakobran.refused_line(short_8, 258, 8), krakobran.refused_line(short_10, 1028, 10)), (5, 5))
 same("full_numbers_8", krakobran.full_numbers_8(346, [100, 200, 255, 0, 3, 254, 90], [0] * 7), [100, 200, 255, 256, 259, 254, 346])
 same("full_numbers_10", krakobran.full_numbers_10(1029, [500, 1000, 5, 1020], [0] * 4), [500, 1000, 1029, 1020])
 same("fragment_order", krakobran.fragment_order(3, [1, 1, 1, 1, 3, 2], [0] * 6, [8, 8, 8, 5, 5, 5], [1, 1, 1, 0, 0, 0], [0, 2, 1, 3, 0, 0]),

@@ -3,17 +3,16 @@
 # limit, closed and unreadable descriptors, and holds it to status 1, one line on standard error, and no cut result.
 . "$(dirname -- "${BASH_SOURCE[0]}")/lib.sh" || exit 2
 
-example=$root/crates/report/stdin
-listing=$root/crates/report/stdout
 longest > "$dir/longest"
 longest_report > "$dir/report"
 printf '%d;1\n' {1..4096} > "$dir/log"
 full="standard output: the result can't be written whole"
 
-# WORD: its arguments, on the longest input.
+# WORD: its arguments, on the longest input; an option is one of `report`.
 arguments() {
     case $1 in
         report | picture) list=("$1" "$dir/longest") ;;
+        --csv | --json) list=(report "$1" "$dir/longest") ;;
         import) list=(import log 4096 100 "$dir/log") ;;
         export) list=(export log "$dir/longest") ;;
         check) list=(check "$dir/longest" "$dir/report") ;;
@@ -22,7 +21,7 @@ arguments() {
     esac
 }
 
-for word in report import export check worse picture help; do
+for word in report --csv --json import export check worse picture help; do
     arguments "$word"
     "$krakobran" "${list[@]}" > "$dir/whole"
 
@@ -33,14 +32,11 @@ for word in report import export check worse picture help; do
     judge "$word, no file may grow" 0 '' "${PIPESTATUS[0]}"
 
     # Standard output that takes nothing, is closed, or takes a part.
-    : > "$dir/expected"
-    : > "$dir/out"
-    timeout 60 "$krakobran" "${list[@]}" > /dev/full 2> "$dir/err"
-    judge "$word, a full disk" 1 "$full" "$?"
+    try_full "$word, a full disk" "${list[@]}"
     timeout 60 "$krakobran" "${list[@]}" 2> "$dir/err" >&-
     judge "$word, standard output closed" 1 'standard output: it is closed' "$?"
 done
-for word in report import picture; do
+for word in report --csv --json import picture; do
     arguments "$word"
     "$krakobran" "${list[@]}" | head -c 1024 > "$dir/expected"
     (ulimit -f 1 && exec timeout 60 "$krakobran" "${list[@]}" > "$dir/out" 2> "$dir/err")
@@ -68,19 +64,21 @@ judge 'a reader that goes away, a broken pipe ignored' 1 "$full" "$found"
 # A program that does not end well: its output is no result.
 mkdir -p "$dir/copy/target/bin" "$dir/copy/docs" "$dir/copy/crates"
 cp "$root/krakobran" "$root/crates.txt" "$dir/copy"
-for tool in report check_listing; do
+for tool in cmd_report cmd_table cmd_check; do
     printf '#!/bin/sh\necho sent 1 arrivals 0\nkill -9 $$\n' > "$dir/copy/target/bin/$tool"
     chmod +x "$dir/copy/target/bin/$tool"
 done
 : > "$dir/expected"
 krakobran=$dir/copy/krakobran
-try 'a program that is killed' 1 'the program report did not end well' report "$example"
-try 'a program of two files that is killed' 1 'the program check_listing did not end well' check "$example" "$listing"
+try 'a program that is killed' 1 'the program cmd_report did not end well' report "$example"
+try 'a program of a table that is killed' 1 'the program cmd_table did not end well' report --csv "$example"
+try 'a program of two files that is killed' 1 'the program cmd_check did not end well' check "$example" "$example_report"
 krakobran=$root/krakobran
 
 # Standard input that is a directory, or is closed.
 : > "$dir/expected"
-for arguments in 'report -' 'import log 5 100 -' 'import owamp 5 100 -' 'export log -' 'export owamp -' "check - $listing" \
+for arguments in 'report -' 'report --csv -' 'report --json -' 'import log 5 100 -' 'import owamp 5 100 -' 'export log -' \
+    'export owamp -' "check - $example_report" \
     "check $example -" "worse - $example" "worse $example -" 'picture -'; do
     read -ra list <<< "$arguments"
     name=${arguments//"$root/"/}
@@ -89,7 +87,7 @@ for arguments in 'report -' 'import log 5 100 -' 'import owamp 5 100 -' 'export 
 done
 
 # A closed standard input is no fault of a command that does not read it, and a closed standard error hides no status.
-cp "$listing" "$dir/expected"
+cp "$example_report" "$dir/expected"
 try 'a file, standard input closed' 0 '' report "$example" <&-
 : > "$dir/expected" && : > "$dir/err"
 timeout 60 "$krakobran" picture "$dir/missing" > "$dir/out" 2>&-
@@ -109,29 +107,28 @@ ours.close()
 sys.exit(process.wait())' "$dir/input" "$krakobran" "$@" > "$dir/out" 2> "$dir/err"
     }
     echo 'the listing is right' > "$dir/expected"
-    cp "$listing" "$dir/input"
+    cp "$example_report" "$dir/input"
     socket check "$example" -
     judge 'check, the listing from a socket' 0 '' "$?"
     cp "$example" "$dir/input"
-    socket check - "$listing"
+    socket check - "$example_report"
     judge 'check, the sample from a socket' 0 '' "$?"
-    printf 'standard input is worse: 1/5 = 20.00 %%; %s (%s): 0/1 = 0.00 %%\n' "$dir/longest" "$(printf 'x%.0s' {1..64})" > "$dir/expected"
+    printf 'standard input is worse: 1/5 = 20.00 %%; %s (%s): 0/1 = 0.00 %%\n' "$dir/longest" "$(xs 64)" > "$dir/expected"
     socket worse - "$dir/longest"
     judge 'worse, the first from a socket' 0 '' "$?"
 fi
 
 # A file that can't be read, or whose name is too long, is no empty file.
 : > "$dir/expected"
-long=$(printf 'x%.0s' {1..300})
-try 'a name that is too long' 1 'there is no such file' worse "$example" "$dir/$long"
+try 'a name that is too long' 1 'there is no such file' worse "$example" "$dir/$(xs 300)"
 
 # The programs that open files themselves say which one they can't open.
-for tool in worse_link check_listing; do
+for tool in cmd_worse cmd_check; do
     "$root/target/bin/$tool" "$dir/missing" "$example" > "$dir/out"
     "$root/target/bin/$tool" "$example" "$dir/missing" >> "$dir/out"
     case $tool in
-        worse_link) printf "the %s sample can't be opened\n" first second > "$dir/expected" ;;
-        check_listing) printf "the %s can't be opened\n" sample listing > "$dir/expected" ;;
+        cmd_worse) printf "the %s sample can't be opened\n" first second > "$dir/expected" ;;
+        cmd_check) printf "the %s can't be opened\n" sample listing > "$dir/expected" ;;
     esac
     same "$tool, files that can't be opened" "$dir/out" "$dir/expected"
 done

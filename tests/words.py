@@ -1,5 +1,5 @@
 #!/usr/bin/env python3
-"""Compares the words of the refusals: those that the built program target/bin/show_refusal prints are the table, and docs/CALLS.md,
+"""Compares the words of the refusals: those that the built program target/bin/cmd_refusal prints are the table, and docs/CALLS.md,
 include/krakobran.h, docs/krakobran.txt and docs/krakobran.1 have the same. The header may add, after a semicolon, a case that only a caller in C
 meets. A line for each page; status 1 if one differs."""
 import os
@@ -18,7 +18,7 @@ def read(path):
 
 def said(number):
     """What the program says of a number."""
-    program = os.path.join(root, "target/bin/show_refusal")
+    program = os.path.join(root, "target/bin/cmd_refusal")
     return subprocess.run([program, str(number)], capture_output=True, text=True, check=True).stdout.rstrip("\n")
 
 

@@ -4,10 +4,13 @@ _krakobran() {
     COMPREPLY=()
     if [ "$COMP_CWORD" -eq 1 ]; then
         list='report summary import export check worse picture follow help --help --version'
+    elif [ "${COMP_WORDS[COMP_CWORD - 1]}" = --bits ]; then
+        list='8 10'
     elif [[ $current == --* ]]; then
         list='--help --version'
+        [ "$word" != report ] || list+=' --csv --json'
         [ "$word" != summary ] || list+=' --json --all'
-        [ "$word" != import ] || list+=' --label'
+        [ "$word" != import ] || list+=' --bits --label'
     elif [ "$COMP_CWORD" -eq 2 ]; then
         case $word in
             import | export) list='log owamp' ;;

@@ -4,11 +4,15 @@ local -a commands
 commands=(report summary import export check worse picture follow help)
 if (( CURRENT == 2 )); then
     compadd -- $commands --help --version
+elif [[ $words[CURRENT] == --* && $words[2] == report ]]; then
+    compadd -- --help --version --csv --json
+elif [[ $words[CURRENT - 1] == --bits ]]; then
+    compadd -- 8 10
 elif [[ $words[CURRENT] == --* && $words[2] == summary ]]; then
     compadd -- --help --version --json --all
 elif [[ $words[CURRENT] == --* ]]; then
     compadd -- --help --version
-    [[ $words[2] != import ]] || compadd -- --label
+    [[ $words[2] != import ]] || compadd -- --bits --label
 elif (( CURRENT == 3 )) && [[ $words[2] == (import|export) ]]; then
     compadd -- log owamp
 elif (( CURRENT == 3 )) && [[ $words[2] == help ]]; then

@@ -41,6 +41,7 @@ pub mod c {
     figures! {
         Layout: label sent arrivals;
         Part: start length;
+        Arrival: number time;
         Row: kind position jump extent late offset largest first;
         Counts: arrived reordered duplicates inorder closed squares current;
         Gap: known positions;
@@ -127,6 +128,17 @@ pub mod c {
             time_places: u64, arrivals: *mut u64,
         ) -> u64;
         pub fn krakobran_log_refused_line(log: *const u8, octets: u64, sent: u32, line: *mut u64);
+        pub fn krakobran_log_read_line(line: *const u8, octets: u64, arrival: *mut Arrival) -> u64;
+        pub fn krakobran_log_import_8(
+            log: *const u8, octets: u64, sent: u32, numbers: *mut u32, number_places: u64, times: *mut u64,
+            time_places: u64, arrivals: *mut u64,
+        ) -> u64;
+        pub fn krakobran_log_import_10(
+            log: *const u8, octets: u64, sent: u32, numbers: *mut u32, number_places: u64, times: *mut u64,
+            time_places: u64, arrivals: *mut u64,
+        ) -> u64;
+        pub fn krakobran_log_refused_line_8(log: *const u8, octets: u64, sent: u32, line: *mut u64);
+        pub fn krakobran_log_refused_line_10(log: *const u8, octets: u64, sent: u32, line: *mut u64);
         pub fn krakobran_log_write(
             sent: u32, numbers: *const u32, number_count: u64, times: *const u64, time_count: u64, out: *mut u8,
             room: u64, length: *mut u64,
@@ -141,6 +153,7 @@ pub mod c {
         pub fn krakobran_counts(file: *const u8, octets: u64, counts: *mut Counts) -> u64;
         pub fn krakobran_tally(file: *const u8, octets: u64, tally: *mut u32) -> u64;
         pub fn krakobran_gap(file: *const u8, octets: u64, record: u32, gap: *mut Gap) -> u64;
+        pub fn krakobran_gaps(file: *const u8, octets: u64, gaps: *mut u32, places: u64) -> u64;
         pub fn krakobran_n_reordered(file: *const u8, octets: u64, n: u32, counts: *mut DegreeCounts) -> u64;
         pub fn krakobran_degree(file: *const u8, octets: u64, n: u32, degree: *mut Degree) -> u64;
         pub fn krakobran_ratios(file: *const u8, octets: u64, ratios: *mut Ratios) -> u64;
@@ -165,6 +178,7 @@ pub mod c {
             file: *const u8, octets: u64, report: *const u8, report_octets: u64, verdict: *mut Verdict,
         ) -> u64;
         pub fn krakobran_summary_write(file: *const u8, octets: u64, out: *mut u8, room: u64, length: *mut u64) -> u64;
+        pub fn krakobran_summary_json(file: *const u8, octets: u64, out: *mut u8, room: u64, length: *mut u64) -> u64;
         pub fn krakobran_fragment_order(
             sent: u32, numbers: *const u32, number_count: u64, times: *const u64, time_count: u64, lengths: *const u16,
             length_count: u64, mores: *const u8, more_count: u64, offsets: *const u16, offset_count: u64,
@@ -496,6 +510,7 @@ pub fn layout() {
     table! {
         "layout" c::Layout: label sent arrivals;
         "part" c::Part: start length;
+        "arrival" c::Arrival: number time;
         "row" c::Row: kind position jump extent late offset largest first;
         "counts_figures" c::Counts: arrived reordered duplicates inorder closed squares current;
         "gap_figures" c::Gap: known positions;

@@ -4,7 +4,8 @@ use crate::boundary::{Meter, Reference, LIBRARY, LIBRARY_NAME};
 use crate::compare::{self, Buffers, Seen};
 use crate::generate::{arrival_list, sample_case, state_case};
 use crate::{
-    checker, disorder, fragments, meter, needs, records, rows, shortnumbers, summary, sweep, text, words, worse,
+    checker, disorder, fragments, gaps, meter, needs, records, rows, shortlog, shortnumbers, summary, sweep, text, words,
+    worse,
 };
 
 /// How many generated inputs a run takes.
@@ -41,9 +42,11 @@ pub fn run(seed: u64, amounts: &Amounts) -> bool {
     let mut seen = Seen::default();
     let found = all(&LIBRARY, &Reference, seed, amounts, &mut seen)
         .and_then(|()| text::compare(seed, amounts.samples, &mut seen))
+        .and_then(|()| shortlog::compare(seed, amounts.samples, &mut seen))
         .and_then(|()| records::compare(seed, amounts.samples, &mut seen))
         .and_then(|()| sweep::compare(seed, amounts.samples, &mut seen))
         .and_then(|()| rows::compare(seed, amounts.samples, &mut seen))
+        .and_then(|()| gaps::compare(seed, amounts.samples, &mut seen))
         .and_then(|()| needs::compare(seed, amounts.samples, &mut seen))
         .and_then(|()| summary::compare(seed, amounts.samples, &mut seen))
         .and_then(|()| words::compare(&mut seen))

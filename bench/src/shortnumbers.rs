@@ -11,7 +11,7 @@ use crate::time::{calls, measure};
 
 /// How many bits a short number has.
 #[derive(Clone, Copy, PartialEq, Eq, Debug)]
-enum Width {
+pub enum Width {
     Eight,
     Ten,
 }
@@ -56,7 +56,7 @@ impl Width {
 
     /// The number with those low bits that differs from the greatest by at least minus half the range and less than half; none
     /// for a short number over its width.
-    fn full(self, greatest: i64, short: u16) -> Option<i64> {
+    pub fn full(self, greatest: i64, short: u32) -> Option<i64> {
         let (range, short) = (self.range(), i64::from(short));
         let half = range / 2;
         (short < range).then(|| greatest + (short - greatest + half).rem_euclid(range) - half)
@@ -77,7 +77,7 @@ fn numbers_of(width: Width, sent: u32, shorts: &[u16], times: &[u64]) -> Result<
     let (mut greatest, mut latest) = (0, 0u64);
     let mut numbers = Vec::with_capacity(shorts.len());
     for (&short, &time) in shorts.iter().zip(times) {
-        let number = width.full(greatest, short).filter(|n| (1..=i64::from(sent)).contains(n)).ok_or(NUMBER)?;
+        let number = width.full(greatest, u32::from(short)).filter(|n| (1..=i64::from(sent)).contains(n)).ok_or(NUMBER)?;
         if time < latest.saturating_sub(MOST_BACK) {
             return Err(TIME);
         }
@@ -102,7 +102,7 @@ fn list_by_reference(width: Width, sent: u32, shorts: &[u16], times: &[u64], out
 /// The number found by a receiver; one that is no packet's is given as 0, which no receiver takes.
 fn number_by(width: Width, receiver: &Receiver, short: u16) -> u32 {
     let greatest = i64::from(receiver.next_expected) - 1;
-    width.full(greatest, short).and_then(|n| u32::try_from(n).ok()).unwrap_or(0)
+    width.full(greatest, u32::from(short)).and_then(|n| u32::try_from(n).ok()).unwrap_or(0)
 }
 
 /// The step with the number found.
@@ -259,9 +259,9 @@ mod tests {
             for greatest in [0, 1, 127, 128, 255, 256, 500, 511, 512, 1023, 1024, 4095, 4096] {
                 for short in 0..range {
                     let by_search = (greatest - range / 2..greatest + range / 2).find(|n| n.rem_euclid(range) == short);
-                    assert_eq!(width.full(greatest, short as u16), by_search);
+                    assert_eq!(width.full(greatest, short as u32), by_search);
                 }
-                assert_eq!(width.full(greatest, range as u16), None);
+                assert_eq!(width.full(greatest, range as u32), None);
             }
         }
     }

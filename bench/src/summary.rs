@@ -8,7 +8,7 @@ use crate::compare::Seen;
 use crate::disorder;
 use crate::generate::{measured, sample_case, Order, Random};
 use crate::needs::{least_sizes, MEASURES};
-use crate::reference::{check, counts, n_reordered, number_and_time, Written, OUTPUT_SHORT};
+use crate::reference::{check, counts, n_reordered, number_and_time, Sample, Written, OUTPUT_SHORT};
 use crate::time::{calls, measure, row};
 
 /// Octets that suffice for any summary.
@@ -17,9 +17,20 @@ const SHARES: [(&str, u32); 5] = [("50 %", 50), ("90 %", 90), ("95 %", 95), ("99
 
 // The library's call.
 
-fn by_library(file: &[u8], out: &mut [u8]) -> Written {
+/// What the summary is written as.
+#[derive(Clone, Copy)]
+enum Form {
+    Text,
+    Json,
+}
+
+fn by_library(form: Form, file: &[u8], out: &mut [u8]) -> Written {
+    let call = match form {
+        Form::Text => c::krakobran_summary_write,
+        Form::Json => c::krakobran_summary_json,
+    };
     let ((f, octets), (o, room)) = (given(file), lent(out));
-    let (refusal, length) = one_figure(|w| unsafe { c::krakobran_summary_write(f, octets, o, room, w) });
+    let (refusal, length) = one_figure(|w| unsafe { call(f, octets, o, room, w) });
     Written { refusal, length }
 }
 
@@ -31,6 +42,12 @@ fn percent(part: u32, whole: u32) -> String {
         return "-".into();
     };
     format!("{}.{}", tenths / 10, tenths % 10)
+}
+
+/// Whether a time is below the one before it.
+fn steps_back(sample: &Sample) -> bool {
+    let times: Vec<u64> = sample.arrivals.iter().map(|arrival| number_and_time(arrival).1).collect();
+    times.windows(2).any(|pair| pair[1] < pair[0])
 }
 
 fn text(file: &[u8]) -> Result<String, u32> {
@@ -51,8 +68,7 @@ fn text(file: &[u8]) -> Result<String, u32> {
         text += "Packets were lost in this sample; packets and octets held are told for samples without loss, ";
         text += "and a receiver can hold more.\n";
     }
-    let times: Vec<u64> = sample.arrivals.iter().map(|arrival| number_and_time(arrival).1).collect();
-    if times.windows(2).any(|pair| pair[1] < pair[0]) {
+    if steps_back(&sample) {
         text += "The clock steps back in this sample; the waiting times hold only for clocks that do not.\n";
     }
     let [one, three] = [1, 3].map(|n| n_reordered(file, n).reordered);
@@ -63,8 +79,44 @@ fn text(file: &[u8]) -> Result<String, u32> {
     Ok(text)
 }
 
-fn by_reference(file: &[u8], out: &mut [u8]) -> Written {
-    match text(file) {
+/// The same figures as one object of JSON.
+fn json(file: &[u8]) -> Result<String, u32> {
+    let sample = check(file)?;
+    let count = counts(file);
+    let (sent, arrived, copies) = (sample.sizes.len(), count.first_arrivals, count.duplicates);
+    let label = String::from_utf8_lossy(sample.label).replace('\\', "\\\\").replace('"', "\\\"");
+    let [packets, octets, times] = MEASURES.map(|measure| least_sizes(&sample, measure, SHARES.map(|share| share.1)));
+    let sizes: Vec<String> = SHARES
+        .into_iter()
+        .enumerate()
+        .map(|(at, (_, share))| {
+            format!(
+                r#"{{"share_percent":{share},"waiting_time_us":{},"packets_held":{},"octets_held":{}}}"#,
+                times[at], packets[at], octets[at]
+            )
+        })
+        .collect();
+    let mut text = format!(
+        r#"{{"label":"{label}","sent":{sent},"arrived":{arrived},"copies":{copies},"least_sizes":[{}]"#,
+        sizes.join(",")
+    );
+    let (lost, back) = ((arrived as usize) < sent, steps_back(&sample));
+    let _ = write!(text, r#","packets_lost":{lost},"clock_steps_back":{back}"#);
+    let [one, three] = [1, 3].map(|n| n_reordered(file, n).reordered);
+    for (name, part) in [("reordered", count.reordered), ("reordered_1", one), ("reordered_3", three)] {
+        let share = if arrived == 0 { "null".into() } else { percent(part, arrived) };
+        let _ = write!(text, r#","{name}":{{"packets":{part},"of":{arrived},"percent":{share}}}"#);
+    }
+    let _ = writeln!(text, r#","disorder_pairs":{}}}"#, disorder::total(file));
+    Ok(text)
+}
+
+fn by_reference(form: Form, file: &[u8], out: &mut [u8]) -> Written {
+    let text = match form {
+        Form::Text => text(file),
+        Form::Json => json(file),
+    };
+    match text {
         Err(refusal) => Written { refusal, length: 0 },
         Ok(text) if text.len() > out.len() => Written { refusal: OUTPUT_SHORT, length: 0 },
         Ok(text) => {
@@ -81,17 +133,19 @@ pub fn compare(seed: u64, samples: u64, seen: &mut Seen) -> Result<(), String> {
     for index in 0..samples {
         let random = &mut Random::new(seed ^ 0x73_756d, index);
         let file = sample_case(seed, index).file;
-        let room = if random.once_in(8) { random.below(1000) } else { ROOM };
-        let mut left = vec![0xA7; room];
-        let mut right = left.clone();
-        let a = by_library(&file, &mut left);
-        let b = by_reference(&file, &mut right);
-        seen.call("summary", a.refusal);
-        if (a, &left) != (b, &right) {
-            let [left, right] = [left, right].map(|octets| String::from_utf8_lossy(&octets).into_owned());
-            return Err(format!(
-                "summary of sample {index} of seed {seed}:\n left {a:?}\n{left}\nright {b:?}\n{right}\n"
-            ));
+        for (form, name) in [(Form::Text, "summary"), (Form::Json, "summary as JSON")] {
+            let room = if random.once_in(8) { random.below(1000) } else { ROOM };
+            let mut left = vec![0xA7; room];
+            let mut right = left.clone();
+            let a = by_library(form, &file, &mut left);
+            let b = by_reference(form, &file, &mut right);
+            seen.call(name, a.refusal);
+            if (a, &left) != (b, &right) {
+                let [left, right] = [left, right].map(|octets| String::from_utf8_lossy(&octets).into_owned());
+                return Err(format!(
+                    "{name} of sample {index} of seed {seed}:\n left {a:?}\n{left}\nright {b:?}\n{right}\n"
+                ));
+            }
         }
     }
     Ok(())
@@ -108,7 +162,10 @@ pub fn time(orders: &[Order], amounts: &[usize]) {
             let f = &file[..];
             let mut outs = [[0; ROOM]; 2];
             let [l, r] = outs.each_mut();
-            let all = measure([calls(|| by_library(black_box(f), l)), calls(|| by_reference(black_box(f), r))]);
+            let all = measure([
+                calls(|| by_library(Form::Text, black_box(f), l)),
+                calls(|| by_reference(Form::Text, black_box(f), r)),
+            ]);
             row(&format!("{order:?}"), many, all);
         }
     }

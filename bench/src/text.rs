@@ -16,7 +16,7 @@ const NUMBER_OUTSIDE: u32 = 6;
 const TIME_BACK: u32 = 7;
 const OUTPUT_SHORT: u32 = 8;
 const LISTS_DIFFER: u32 = 12;
-const LINE_MALFORMED: u32 = 14;
+pub const LINE_MALFORMED: u32 = 14;
 
 /// What an import answers.
 #[derive(Clone, Copy, PartialEq, Eq, Debug)]
@@ -46,6 +46,13 @@ fn refused_line_by_library(log: &[u8], sent: u32) -> u32 {
     let mut line = c::LENT;
     unsafe { c::krakobran_log_refused_line(l, octets, sent, &mut line) };
     narrow(line)
+}
+
+fn read_line_by_library(line: &[u8]) -> (u32, u64, u64) {
+    let (l, octets) = given(line);
+    let mut arrival = c::Arrival::LENT;
+    let refusal = unsafe { c::krakobran_log_read_line(l, octets, &mut arrival) };
+    (narrow(refusal), arrival.number, arrival.time)
 }
 
 fn write_by_library(sent: u32, numbers: &[u32], times: &[u64], out: &mut [u8]) -> Written {
@@ -96,10 +103,18 @@ fn time_of(text: &[u8]) -> Option<(u64, &[u8])> {
 }
 
 /// The number and the time of the first line, and what follows it.
-fn line(text: &[u8]) -> Option<(u32, u64, &[u8])> {
+pub fn line(text: &[u8]) -> Option<(u32, u64, &[u8])> {
     let (number, _, rest) = digits(text)?;
     let (time, after) = time_of(rest.strip_prefix(b";")?)?;
     Some((u32::try_from(number).ok()?, time, after))
+}
+
+/// One line by itself: the refusal, the number and the time.
+fn read_line(text: &[u8]) -> (u32, u64, u64) {
+    match line(text) {
+        Some((number, time, [])) => (0, u64::from(number), time),
+        _ => (LINE_MALFORMED, 0, 0),
+    }
 }
 
 /// How many lines a log has, none of them refused; else the refusal, and the number of the refused line, from 1, or 0 where K is
@@ -342,6 +357,13 @@ fn one(random: &mut Random, log: &[u8], sent: u32, seen: &mut Seen) -> Result<()
     seen.call("import line", 0);
     if line != found {
         return Err(format!("refused line\n left {line}\nright {found}\n"));
+    }
+    for line in log.split_inclusive(|&octet| octet == b'\n').take(3) {
+        let (left, right) = (read_line_by_library(line), read_line(line));
+        seen.call("read a line", left.0);
+        if left != right {
+            return Err(format!("a line\n left {left:?}\nright {right:?}\n"));
+        }
     }
     let most = if a.refusal == 0 { a.arrivals as usize } else { n.min(t) };
     let one_short = usize::from(random.once_in(20) && most > 0);

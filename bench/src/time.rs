@@ -5,7 +5,7 @@ use std::hint::black_box;
 use crate::boundary::{Meter, Reference, LIBRARY, LIBRARY_NAME};
 use crate::generate::{measured, Order};
 use crate::reference::*;
-use crate::{checker, disorder, fragments, meter, needs, records, rows, shortnumbers, summary, sweep, text};
+use crate::{checker, disorder, fragments, gaps, meter, needs, records, rows, shortnumbers, summary, sweep, text};
 
 const AMOUNTS: [usize; 3] = [256, 1024, 4096];
 const ORDERS: [Order; 3] = [Order::InOrder, Order::Shuffled, Order::Reversed];
@@ -64,7 +64,7 @@ pub fn measure<const N: usize>(mut columns: [Calls; N]) -> [f64; N] {
 }
 
 /// The tables in their order, each by its name.
-const TABLES: [(&str, fn()); 16] = [
+const TABLES: [(&str, fn()); 17] = [
     ("listing", || each(listings, "listing", ["lanes", "swift"])),
     ("figures", || each(figures, "figure", ["by answers", "swift"])),
     ("degrees", degrees),
@@ -74,6 +74,7 @@ const TABLES: [(&str, fn()); 16] = [
     ("checker", || checker::time(&ORDERS, &AMOUNTS)),
     ("sweep", || sweep::time(&ORDERS, &AMOUNTS)),
     ("rows", || rows::time(&ORDERS, &AMOUNTS)),
+    ("gaps", || gaps::time(&ORDERS, &AMOUNTS)),
     ("needs", || needs::time(&ORDERS, &AMOUNTS)),
     ("summary", || summary::time(&ORDERS, &AMOUNTS)),
     ("disorder", || disorder::time(&ORDERS, &AMOUNTS)),

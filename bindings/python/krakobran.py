@@ -27,7 +27,7 @@ import os
 from ctypes import c_char_p, c_uint8, c_uint16, c_uint32, c_uint64
 from typing import List, NamedTuple, Optional, Sequence, Tuple, Union
 
-VERSION = "0.10.0"
+VERSION = "0.11.0"
 
 LABEL_MOST = 64
 SENT_MOST = 4096
@@ -251,6 +251,11 @@ _CALLS = {
     "lists_check": [c_uint64] + _ARRIVALS,
     "log_import": _TEXT + [c_uint32] + _ARRIVALS + _FIGURES,
     "log_refused_line": _TEXT + [c_uint32] + _FIGURES,
+    "log_read_line": _TEXT + _FIGURES,
+    "log_import_8": _TEXT + [c_uint32] + _ARRIVALS + _FIGURES,
+    "log_import_10": _TEXT + [c_uint32] + _ARRIVALS + _FIGURES,
+    "log_refused_line_8": _TEXT + [c_uint32] + _FIGURES,
+    "log_refused_line_10": _TEXT + [c_uint32] + _FIGURES,
     "log_write": [c_uint32] + _ARRIVALS + _OUT + _FIGURES,
     "owamp_import": _TEXT + [c_uint32] + _ARRIVALS + _FIGURES,
     "owamp_write": _TEXT + _OUT + _FIGURES,
@@ -259,6 +264,7 @@ _CALLS = {
     "counts": _TEXT + _FIGURES,
     "tally": _TEXT + [ctypes.POINTER(c_uint32)],
     "gap": _TEXT + [c_uint32] + _FIGURES,
+    "gaps": _TEXT + _list(c_uint32),
     "n_reordered": _TEXT + [c_uint32] + _FIGURES,
     "degree": _TEXT + [c_uint32] + _FIGURES,
     "ratios": _TEXT + _FIGURES,
@@ -271,6 +277,7 @@ _CALLS = {
     "report_write": _TEXT + _OUT + _FIGURES,
     "report_check": _TEXT + _TEXT + _FIGURES,
     "summary_write": _TEXT + _OUT + _FIGURES,
+    "summary_json": _TEXT + _OUT + _FIGURES,
     "fragment_order": [c_uint32] + _ARRIVALS + _list(c_uint16) + _list(c_uint8) + _list(c_uint16) + _OUT + _OUT,
     "full_numbers_8": [c_uint32] + _list(c_uint16) + _list(c_uint64) + _list(c_uint32),
     "full_numbers_10": [c_uint32] + _list(c_uint16) + _list(c_uint64) + _list(c_uint32),
@@ -286,7 +293,7 @@ _CALLS = {
 }
 """The parameters of each call, in the header's order. Figures are passed as numbers of 64 bits."""
 
-_NO_REFUSAL = ("log_refused_line", "meter_new")
+_NO_REFUSAL = ("log_refused_line", "log_refused_line_8", "log_refused_line_10", "meter_new")
 
 
 def _found() -> ctypes.CDLL:
@@ -517,6 +524,12 @@ class Sample:
         _call("gap", self._file, _fitting(record, c_uint32), gap)
         return gap[1] if gap[0] else None
 
+    def gaps(self) -> List[Optional[int]]:
+        """The gap of every record in positions, None where there is none; in one pass."""
+        gaps = _room(self._layout.arrivals, c_uint32)
+        _call("gaps", self._file, gaps)
+        return [gap or None for gap in gaps[0]]
+
     def n_reordered(self, n: int) -> Share:
         """How many packets are n-reordered, and of how many. Refused: 9 for n outside 1 to 100."""
         counts = _figures(2)
@@ -575,6 +588,10 @@ class Sample:
         """The summary: counts, least sizes for some shares of the packets, ratios, total of disorder."""
         return _written("summary_write", self._file, room=SUMMARY_OCTETS).decode("ascii")
 
+    def summary_json(self) -> str:
+        """The same as one object of JSON, with the label; times are in microseconds."""
+        return _written("summary_json", self._file, room=SUMMARY_OCTETS).decode("ascii")
+
     def log(self) -> bytes:
         """The arrivals as a text log."""
         lists = self.lists()
@@ -606,12 +623,27 @@ def check_lists(sent: int, numbers: Sequence[int], times: Sequence[int]) -> None
     _call("lists_check", _fitting(sent, c_uint64), _given(numbers, c_uint32), _given(times, c_uint64))
 
 
-def import_log(log: Union[str, bytes], sent: int) -> Tuple[List[int], List[int]]:
-    """Numbers and times of a supplier's text log. Refused: 4; 14, 5, 6 and 7 with the line."""
+def import_log(log: Union[str, bytes], sent: int, bits: Optional[int] = None) -> Tuple[List[int], List[int]]:
+    """Numbers and times of a supplier's text log; with `bits`, 8 or 10, its numbers are short, and the full ones are returned.
+    Refused: 4; 14, 5, 6 and 7 with the line."""
     try:
-        return _imported("log_import", _encoded(log), sent)
+        return _imported("log_import" + _width(bits), _encoded(log), sent)
     except Refused as refused:
-        raise Refused(refused.number, refused_line(log, sent) or None) from None
+        raise Refused(refused.number, refused_line(log, sent, bits) or None) from None
+
+
+def _width(bits: Optional[int]) -> str:
+    """The end of a call's name for short numbers of a width, nothing for whole ones."""
+    if bits not in (None, 8, 10):
+        raise ValueError(f"short numbers have 8 or 10 bits, not {bits}")
+    return f"_{bits}" if bits else ""
+
+
+def read_line(line: Union[str, bytes]) -> Tuple[int, int]:
+    """Number and time of one line of a text log, with its line feed. Refused: 14."""
+    arrival = _figures(2)
+    _call("log_read_line", _text(_encoded(line)), arrival)
+    return arrival[0], arrival[1]
 
 
 def import_owamp(records: bytes, sent: int) -> Tuple[List[int], List[int]]:
@@ -626,10 +658,10 @@ def _imported(name: str, octets: bytes, sent: int) -> Tuple[List[int], List[int]
     return numbers[0][: arrivals[0]], times[0][: arrivals[0]]
 
 
-def refused_line(log: Union[str, bytes], sent: int) -> int:
+def refused_line(log: Union[str, bytes], sent: int, bits: Optional[int] = None) -> int:
     """The number of the first refused line of a text log, from 1; 0 where no line is refused, or K itself is."""
     line = _figures(1)
-    _call("log_refused_line", _text(_encoded(log)), _fitting(sent, c_uint32), line)
+    _call("log_refused_line" + _width(bits), _text(_encoded(log)), _fitting(sent, c_uint32), line)
     return line[0]
 
 

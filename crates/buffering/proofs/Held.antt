@@ -1,8 +1,8 @@
--- What the receiver holds. It passes a packet on as soon as all smaller numbers have arrived (`Prompt`), so it holds only packets with a number
--- greater than the least one that is missing (`Missing`), and no more than the byte offset of that one (`held-offset`). Where that one
--- comes later, it needs at least what is held now (`comes`), so never more is held than the greatest need (`never-more`). A number that is not
--- overtaken finds all greater ones held, so at least its byte offset (`offset-held`).
--- Here w is the waiting time, t a time, s a number, fs first arrivals, ps packets, z the size of each packet, m the measure. Assumes nothing.
+-- What the receiver holds. It passes a packet on as soon as all smaller numbers have arrived (`Prompt`), so it holds only packets with a
+-- number greater than the least one that is missing (`Missing`), and no more than the byte offset of that one (`held-offset`). Where that
+-- one comes later, it needs at least what is held now (`comes`), so never more is held than the greatest need (`never-more`). A number that
+-- is not overtaken finds all greater ones held, so at least its byte offset (`offset-held`). Here w is the waiting time, t a time, s a
+-- number, fs first arrivals, ps packets, z the size of each packet, m the measure. Assumes nothing.
 use mathlib.Core.Path.{_≡_, refl, sym, ap, subst, _∙_}
 use mathlib.Core.Bool.{Bool, true, false, cond, not, _&&_, _||_, true≢false}
 use mathlib.Core.List.{List, [], _∷_, _++_, append-nil, append-assoc, map-append}

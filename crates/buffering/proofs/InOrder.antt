@@ -1,6 +1,6 @@
--- The receiver restores order. Settling passes on every packet that has no smaller number to wait for (`settled-build`), and a number that is
--- overtaken afterwards had none either (`overtaken-settled`); so nothing is left behind (`settle-order`), after each arrival and between two.
--- Here w is the waiting time, t a time, n and s numbers, ps and qs packets, fs first arrivals. Assumes nothing.
+-- The receiver restores order. Settling passes on every packet that has no smaller number to wait for (`settled-build`), and a number that
+-- is overtaken afterwards had none either (`overtaken-settled`); so nothing is left behind (`settle-order`), after each arrival and between
+-- two. Here w is the waiting time, t a time, n and s numbers, ps and qs packets, fs first arrivals. Assumes nothing.
 use mathlib.Core.Path.{_≡_, refl, sym, subst}
 use mathlib.Core.Bool.{true, false, _&&_, _||_, true≢false}
 use mathlib.Core.List.{List, [], _∷_, _++_}

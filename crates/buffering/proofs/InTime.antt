@@ -1,9 +1,9 @@
--- Which arrivals the receiver finds in time. Whatever it has passed on, it has waited for every smaller number that has not arrived: a number
--- greater than that one arrived more than w before (`Patient`). This stays so until a later time, under an arrival, and when it settles;
--- and all that arrived more than w before were passed on. So a new number is overtaken exactly if one greater than it is overdue
--- (`overtaken-overdue`). Where times do not go back, the discontinuity is the first to fall due of all with a greater number, so one is overdue
--- exactly if the late time is over w (`late-overdue`); of a packet in order none has a greater number (`none-above`).
--- Here w is the waiting time, t and u are times, s is a number, l arrivals, fs first arrivals, a the next, ps packets. Assumes nothing.
+-- Which arrivals the receiver finds in time. Whatever it has passed on, it has waited for every smaller number that has not arrived: a
+-- number greater than that one arrived more than w before (`Patient`). This stays so until a later time, under an arrival, and when it
+-- settles; and all that arrived more than w before were passed on. So a new number is overtaken exactly if one greater than it is overdue
+-- (`overtaken-overdue`). Where times do not go back, the discontinuity is the first to fall due of all with a greater number, so one is
+-- overdue exactly if the late time is over w (`late-overdue`); of a packet in order none has a greater number (`none-above`). Here w is the
+-- waiting time, t and u are times, s is a number, l arrivals, fs first arrivals, a the next, ps packets. Assumes nothing.
 use mathlib.Core.Path.{_≡_, refl, sym, ap, subst, _∙_}
 use mathlib.Core.Bool.{Bool, true, false, cond, not, _&&_, _||_, true≢false}
 use mathlib.Core.Option.{some}

@@ -1,7 +1,7 @@
--- What `Restores` says, of arrivals and of a file. The test `stepsBack` gives the order of the times (`steps-ordered`), so the arrivals in time
--- are those of `all-in-time`. What is held at any moment is held after some of the arrivals, where `never-more` bounds it (`most-held`), and it
--- is at least the need of every packet, since with the greatest waiting time each is in time and finds its byte offset held (`held-needed`).
--- Here w is the waiting time, l arrivals, a the next, k is K, z the size of each packet. Assumes nothing.
+-- What `Restores` says, of arrivals and of a file. The test `stepsBack` gives the order of the times (`steps-ordered`), so the arrivals in
+-- time are those of `all-in-time`. What is held at any moment is held after some of the arrivals, where `never-more` bounds it
+-- (`most-held`), and it is at least the need of every packet, since with the greatest waiting time each is in time and finds its byte
+-- offset held (`held-needed`). Here w is the waiting time, l arrivals, a the next, k is K, z the size of each packet. Assumes nothing.
 use mathlib.Core.Path.{_≡_, refl, sym, ap, subst, _∙_}
 use mathlib.Core.Bool.{Bool, true, false, not}
 use mathlib.Core.List.{List, [], _∷_, _++_, append-nil, append-assoc, map, foldl-map}

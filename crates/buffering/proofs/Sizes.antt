@@ -6,14 +6,13 @@ use mathlib.Core.Path.{_≡_, refl, sym, subst, _∙_}
 use mathlib.Core.Bool.{Bool, true, false, cond}
 use mathlib.Core.List.{List, [], _∷_}
 use Prim.Native.Nat.{ℕ, zero, suc, _+_, _*_, _≤_, _<_}
-use native.Mathlib.Nat.{mul-add, mul-one, mul-zero, mul-le-mul-right, mul-le-mul-left}
+use native.Mathlib.Nat.{mul-add, mul-one, mul-le-mul-right, mul-le-mul-left}
 use native.Mathlib.Omega.{arith}
 use lib.Dec.{leb, ltb}
 use borrow.Author.Tests.{leb-true, leb-false, ltb-true, ltb-false}
 use Rattle.rfc4737.specs.declared.Answer.{Answer}
-use Rattle.rfc4737.specs.Arrivals.{count}
 use Rattle.rfc4737.specs.Answer.{answers}
-use Rattle.rfc4737.specs.Refusals.{outside, inCase, askedOutside}
+use Rattle.rfc4737.specs.Refusals.{outside, refusalIf, askedOutside}
 use Rattle.rfc4737.specs.Runs.{arrived}
 use Rattle.rfc4737.proofs.Due.{first-due, between}
 use Rattle.sample.specs.Decode.{Decoded, refused, accepted, decodedRefusal}
@@ -85,8 +84,8 @@ all-is-greatest = record { all = λ m l n h. record { enough = rw (all-in m (gre
         let p : n * (accommodated m s l + 1) ≤ n * arrived l = mul-le-mul-left n k in
         omega (arith, e, p, mul-add n (accommodated m s l) 1, mul-one n)
 
--- the first size from 0 on that is enough is the least: while the size asked is too small, the least is between the next one and the greatest
--- need, so that the steps do not run out
+-- the first size from 0 on that is enough is the least: while the size asked is too small, the least is between the next one and the
+-- greatest need, so that the steps do not run out
 first-least : (m : Measure) (part whole : ℕ) (l : List Answer) (steps size : ℕ)
     → Between m part whole l (record { low = size; high = size + steps }) → Least m part whole l (firstEnough m part whole l steps size)
 unfolding firstEnough
@@ -134,7 +133,7 @@ module _ (d : Decoded) (m : Measure) (part whole : ℕ) where
   pub least-refused : (r : ℕ) → r ≡ decodedRefusal d → (r ≡ 0 → ⊥) → record { refusal = r; size = 0 } ≡ sampleLeast d m part whole
   unfolding answers Rattle.rfc4737.specs.Arrivals.each Rattle.rfc4737.specs.Arrivals.eachAfter
   least-refused r e n =
-      by-parts r 0 (e ∙ sym (first-due (decodedRefusal d) (inCase (outside 1 whole part) askedOutside ∷ []) (omega (arith, e, n))))
+      by-parts r 0 (e ∙ sym (first-due (decodedRefusal d) (refusalIf (outside 1 whole part) askedOutside ∷ []) (omega (arith, e, n))))
       (rw (none d (λ z. n (e ∙ z)) (outside 1 whole part)) (least-none m part whole))
     where
       none : (d : Decoded) → (decodedRefusal d ≡ 0 → ⊥) → (b : Bool) → cond b [] (answersOf d) ≡ []

@@ -15,39 +15,39 @@ use Rattle.metrics.specs.Figures.{askedRefusal}
 use Rattle.rfc4737.specs.Needs.{accommodated, greatestNeed}
 use Rattle.buffering.specs.declared.SampleLeast.{SampleLeast}
 
--- the first size, from `size` on, that accommodates at least part in whole of the first arrivals; `steps` bounds how many are tried
+-- the first size from `size` on that accommodates at least `part` in `whole` of the first arrivals; at most `steps` sizes are tried
 unfoldable pub firstEnough : Measure → ℕ → ℕ → List Answer → (steps size : ℕ) → ℕ
 firstEnough m part whole l zero size = size
 firstEnough m part whole l (suc steps) size =
     cond (leb (part * arrived l) (whole * accommodated m size l)) size (firstEnough m part whole l steps (size + 1))
 
--- the least size that does: the first from 0 on, as the greatest need always does
+-- the least size that does: the first from 0 on; the greatest need always does
 unfoldable pub leastSize : Measure → ℕ → ℕ → List Answer → ℕ
 leastSize m part whole l = firstEnough m part whole l (greatestNeed m l) 0
 
 -- ---- the call
 
--- the answers over which a share is asked for: none where part is outside 1 to whole
+-- the answers over which a share is asked for: none if `part` is outside 1 to `whole`
 abbrev pub shareAnswers : Decoded → ℕ → ℕ → List Answer
 shareAnswers d part whole = cond (outside 1 whole part) [] (answersOf d)
 
--- the refusal is the file's own, then 9; the size is the least, of no answers 0
+-- the refusal is the file's own, else 9; the size is the least, and 0 if there are no answers
 unfoldable pub sampleLeast : Decoded → Measure → ℕ → ℕ → SampleLeast
 sampleLeast d m part whole =
     record { refusal = askedRefusal d 1 whole part; size = leastSize m part whole (shareAnswers d part whole) }
 
 -- ---- what is known of it
 
--- a buffer of this size accommodates at least part in whole of the first arrivals
+-- a buffer of this size accommodates at least `part` in `whole` of the first arrivals
 abbrev pub Enough : Measure → ℕ → ℕ → List Answer → ℕ → Type 0
 Enough m part whole l size = part * arrived l ≤ whole * accommodated m size l
 
--- this is the least size that does: it does, and no smaller one
+-- the least such size: it is enough, and no smaller one is
 pub record Least (m : Measure) (part whole : ℕ) (l : List Answer) (size : ℕ) : Type 0 where
   pub enough : Enough m part whole l size
   pub least : (smaller : ℕ) → smaller < size → Enough m part whole l smaller → ⊥
 
--- the size of the call is it
+-- the call returns the least size
 abbrev pub SizesAreLeast : Type 0
 SizesAreLeast = (m : Measure) (part whole : ℕ) (l : List Answer) → part ≤ whole → Least m part whole l (leastSize m part whole l)
 
@@ -59,6 +59,6 @@ pub record OneLeast : Type 0 where
 pub record MoreIsNoWorse : Type 0 where
   pub more : (m : Measure) (l : List Answer) (a b : ℕ) → a ≤ b → accommodated m a l ≤ accommodated m b l
 
--- the least size for all of them is the greatest need
+-- the least size for all first arrivals is the greatest need
 pub record AllIsGreatest : Type 0 where
   pub all : (m : Measure) (l : List Answer) (n : ℕ) → 1 ≤ n → Least m n n l (greatestNeed m l)

@@ -1,8 +1,8 @@
--- A receiver that restores order, with a waiting time w, and what the figures of RFC 4737 say of it. It holds each first arrival until every
--- smaller number has arrived or is given up, or until w after its own arrival, whichever comes first. Then it passes the packet on, after
--- the smaller ones that it holds. A number is given up when a greater one is passed on. Copies are thrown away. A first arrival is in time
--- if no packet with a greater number has been passed on before it comes; what falls due at the very time of an arrival is passed on after
--- it. The receiver itself names no figure of RFC 4737: `Restores` says which figure tells what it does. Assumes nothing.
+-- A receiver that restores order, with a waiting time w, and what the figures of RFC 4737 say of it. It holds each first arrival until
+-- every smaller number has arrived or is given up, or until w after its own arrival, whichever comes first. Then it passes the packet on,
+-- after the smaller ones that it holds. A number is given up when a greater one is passed on. Copies are discarded. A first arrival is in
+-- time if no packet with a greater number has been passed on before it comes; what falls due at the very time of an arrival is passed on
+-- after it. The receiver itself names no figure of RFC 4737: `Restores` says which figure tells what it does. Assumes nothing.
 use Prim.Native.Nat.{ℕ, zero, suc, _+_, _-_, _≤_}
 use mathlib.Core.Path.{_≡_}
 use mathlib.Core.Bool.{Bool, true, false, cond, not, _&&_, _||_}
@@ -33,7 +33,7 @@ unfoldable pub overtaken : ℕ → List Packet → Bool
 overtaken s [] = false
 overtaken s (p ∷ ps) = (p .passed && ltb s (p .arrival .number)) || overtaken s ps
 
--- those that are ready are passed on too
+-- the packets that are ready are passed on
 unfoldable pub passOn : (Arrival → Bool) → List Packet → List Packet
 passOn ready ps = map (λ (p : Packet). record { arrival = p .arrival; passed = p .passed || ready (p .arrival) }) ps
 
@@ -42,16 +42,16 @@ unfoldable pub settledTo : List Packet → ℕ → Bool
 settledTo ps zero = true
 settledTo ps (suc n) = settledTo ps n && (has (suc n) (arrivalsOf ps) || overtaken (suc n) ps)
 
--- all that have no smaller number to wait for are passed on
+-- every packet that has no smaller number to wait for is passed on
 unfoldable pub settle : List Packet → List Packet
 settle ps = passOn (λ (a : Arrival). settledTo ps (a .number - 1)) ps
 
--- whether one with a number greater than s arrived more than w before the time t
+-- whether a packet with a number greater than s arrived more than w before the time t
 unfoldable pub overdue : ℕ → ℕ → ℕ → List Arrival → Bool
 overdue w t s [] = false
 overdue w t s (b ∷ l) = (ltb s (b .number) && ltb (b .time + w) t) || overdue w t s l
 
--- what has happened until the time t: each that arrived more than w before was passed on, and with it the smaller ones
+-- what has happened until the time t: each packet that arrived more than w before was passed on, and with it those with smaller numbers
 unfoldable pub until : ℕ → ℕ → List Packet → List Packet
 until w t ps = settle (passOn (λ (a : Arrival). ltb (a .time + w) t || overdue w t (a .number) (arrivalsOf ps)) ps)
 
@@ -67,7 +67,7 @@ received w fs = foldl (receive w) [] fs
 unfoldable pub inTime : ℕ → List Arrival → Arrival → Bool
 inTime w earlier a = not (has (a .number) earlier) && not (overtaken (a .number) (until w (a .time) (received w (firsts earlier))))
 
--- how many are
+-- how many arrivals are
 unfoldable pub inTimeCount : ℕ → List Arrival → ℕ
 inTimeCount w l = count (λ (b : Bool). b) (each (inTime w) l)
 
@@ -86,8 +86,8 @@ mostHeld w size l = greatest (each (λ (earlier : List Arrival) (a : Arrival). h
 abbrev pub AllArrive : ℕ → List Arrival → Type 0
 AllArrive k l = (s : ℕ) → 1 ≤ s → s ≤ k → has s l ≡ true
 
--- a waiting time, a storage in octets and a number of places that are enough at once: every first arrival is in time, and neither more octets
--- nor more packets are ever held
+-- a waiting time, a storage in octets and a number of places that are enough at once: every first arrival is in time, and neither more
+-- octets nor more packets are ever held
 pub record EnoughAtOnce (size : ℕ → ℕ) (l : List Arrival) (wait octets packets : ℕ) : Type 0 where
   pub intime : inTimeCount wait l ≡ length (firsts l)
   pub storage : mostHeld wait size l ≤ octets
@@ -96,8 +96,8 @@ pub record EnoughAtOnce (size : ℕ → ℕ) (l : List Arrival) (wait octets pac
 -- of arrivals l of the packets 1 to k with these sizes, for every waiting time w. That all packets arrive is a premise where something is
 -- said of what is held: a packet that waits for one that never comes is held although no late time, extent or byte offset tells of it
 pub record Restores (k : ℕ) (size : ℕ → ℕ) (l : List Arrival) : Type 0 where
-  -- where the clock does not step back, the arrivals in time are, record by record, those that a buffer of the time w accommodates; so there
-  -- are as many
+  -- where the clock does not step back, the arrivals in time are, record by record, those that a buffer of the time w accommodates; so
+  -- there are as many
   pub which : (w : ℕ) → stepsBack 0 l ≡ false → each (inTime w) l ≡ map (accommodates Measure.Time w) (answers size l)
   pub many : (w : ℕ) → stepsBack 0 l ≡ false → inTimeCount w l ≡ accommodated Measure.Time w (answers size l)
   -- where all packets arrive, never more octets are held than the greatest need says, nor more packets
@@ -114,8 +114,8 @@ pub record Restores (k : ℕ) (size : ℕ → ℕ) (l : List Arrival) : Type 0 w
 abbrev pub RestoresFile : Decoded → Type 0
 RestoresFile d = Restores (length (sampleOf d .sizes)) (sizeOf d) (sampleArrivals d)
 
--- for any waiting time and clock, with packets lost or not: a packet in time finds at least its byte offset held, and until the next arrival
--- the receiver holds no more than before
+-- for any waiting time and clock, with packets lost or not: a packet in time finds at least its byte offset held, and until the next
+-- arrival the receiver holds no more than before
 pub record HoldsOffset : Type 0 where
   pub found : (w : ℕ) (size : ℕ → ℕ) (before : List Arrival) (a : Arrival) → inTime w before a ≡ true
       → neededFor Measure.Octets (answerTo size before a) ≤ held size (until w (a .time) (received w (firsts before)))

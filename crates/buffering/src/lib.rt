@@ -18,20 +18,20 @@ use rfc4737::judge::outside;
 use rfc4737::refusal::ASKED_OUTSIDE;
 use rfc4737::refusal::NONE;
 
-// The least size of a buffer, and the refusal (0 for none), with which it is 0.
+// The least size of a buffer, and the refusal (0 for none); with a refusal the size is 0.
 #[repr(C)]
 pub struct SampleLeast {
     pub refusal: u32,
     pub size: u64,
 }
 
-// Two sizes: all below the low one are too small, and the high one is enough.
+// Two sizes: all sizes below `low` are too small, and `high` is enough.
 struct Bounds {
     pub low: u64,
     pub high: u64,
 }
 
-// Whether `some` of `all` is a share of at least part in whole. No product of two numbers of 32 bits passes 64 bits.
+// Whether `some` of `all` is a share of at least `part` in `whole`. A product of two numbers of 32 bits fits 64 bits.
 fn enough(part: u32, whole: u32, some: u32, all: u32) -> bool
     ensures { λ r. ⌜ r ≡ leb (part * all) (whole * some) ⌝ }
 {
@@ -51,7 +51,7 @@ fn greatest_in(measure: Measure, needs: SampleNeeds) -> u64
     }
 }
 
-// Closer bounds: one pass over the sample, with the size in the middle.
+// Halves the distance of the bounds, by one pass over the sample with the size in the middle.
 fn narrowed(file: &[u8], measure: Measure, part: u32, whole: u32, b: Bounds) -> Bounds
     requires { ⌜ (b .low < b .high) × Between measure part whole (answersOf (decode (now file))) b ⌝ }
     ensures { λ r. ⌜ Between measure part whole (answersOf (decode (now (file .entry)))) r × (r .high - r .low < b .high - b .low) ⌝ }
@@ -67,9 +67,9 @@ fn narrowed(file: &[u8], measure: Measure, part: u32, whole: u32, b: Bounds) -> 
     Bounds { low: next, high }
 }
 
-// The least size of a buffer that accommodates at least part in whole of the first arrivals, found by halving: one pass over the sample, and
-// one for each binary digit of the greatest need, each O(A log K + K). What the size means for a receiver that restores order is carried
-// by `restores`.
+// The least size of a buffer that accommodates at least `part` in `whole` of the first arrivals. A binary search: one pass over the sample,
+// and one for each binary digit of the greatest need, each O(A log K + K). What the size means for a receiver that restores order is
+// carried by `restores`.
 pub fn least(file: &[u8], measure: Measure, part: u32, whole: u32) -> SampleLeast
     ensures { λ r. ⌜ r ≡ sampleLeast (decode (now (file .entry))) measure part whole ⌝ }
     ensures restores { λ _. ⌜ RestoresFile (decode (now (file .entry))) ⌝ }

@@ -6,7 +6,7 @@ use mathlib.Core.Bool.{true, false}
 use mathlib.Core.Path.{_≡_, refl, sym, ap, _∙_}
 use mathlib.Core.List.{[], _∷_}
 use Rattle.rfc4737.specs.declared.Measure.{Measure}
-use Rattle.rfc4737.specs.Refusals.{outside, firstOf, askedOutside}
+use Rattle.rfc4737.specs.Refusals.{outside, firstRefusal, askedOutside}
 use Rattle.rfc4737.specs.Arrivals.{count, each, eachAfter}
 use Rattle.rfc4737.specs.Answer.{answers}
 use Rattle.rfc4737.specs.Runs.{arrived}
@@ -26,14 +26,14 @@ unfolding sampleAccommodated accommodated arrived count answers each eachAfter
 accommodated-none m size r = refl
 
 -- the refusal of what is asked in no measure is one
-is-refusal : (r : ℕ) → 0 < firstOf (r ∷ askedOutside ∷ [])
+is-refusal : (r : ℕ) → 0 < firstRefusal (r ∷ askedOutside ∷ [])
 is-refusal zero = omega arith
 is-refusal (suc r) = omega arith
 
 -- ---- by the number
 
 module _ (n : ℕ) (d : Decoded) where
-  module _ (e : outside 0 2 n ≡ true) (r : ℕ) (f : r ≡ firstOf (decodedRefusal d ∷ askedOutside ∷ [])) where
+  module _ (e : outside 0 2 n ≡ true) (r : ℕ) (f : r ≡ firstRefusal (decodedRefusal d ∷ askedOutside ∷ [])) where
     none : withMeasure n d ≡ refused r
     unfolding withMeasure
     none = rw (e, f) refl

@@ -7,8 +7,9 @@
 --                  of the figures' reference; ℓ and ℓ′ the lifetimes of the references that are passed on
 --     Says         what `#step` ensures
 --     meets        the function meets every contract that follows
+--     told-in-place    such a function of a crate meets its contract, where `#step` meets its own
 -- Here κ, q, x are the lifetime, its share and the reference of the struct, κ′, q′, y those of the figures. Assumes `Given`.
-use mathlib.Core.Path.{_≡_, refl, ap, sym, subst, _∙_}
+use mathlib.Core.Path.{_≡_, refl, ap, sym, subst}
 use Prim.Native.Nat.{ℕ, suc}
 use mathlib.Core.List.{[], _∷_, List}
 use lib.Dec.{eqb-refl}
@@ -18,10 +19,12 @@ use mir.Val.{Val, vint, vptr, bytes}
 use base.Logic.{SProp, ent, sep, emp, id⊢}
 use base.Fml.{Lft, Share, ftrue, flft, fres}
 use prog.Memory.{Memory}
-use prog.Routine.{Name, Routine}
-use prog.Wp.{Heap, Env, Tables, WpFn}
+use prog.Model.{Model}
+use prog.Routine.{Name, Routine, Env as Meanings}
+use prog.Wp.{Heap, Env, Tables, WpFn, Closed}
 use ghost.Atoms.{Atoms, sem}
-use contract.Monad.{Fun}
+use contract.Monad.{Fun, fact}
+use contract.Running.{GhostRules, Running, givenOf, tables, tablesOf}
 use contract.Lifetimes.{Lfts, Shares, AllOutlive}
 use types.Kit.{Goal, passes, Given, Item, Step, step, mean, ‵, raw, _⊛_, _$_, _∵_, !, qed, by, move, keep, drop, use0, use1, use2, split, join, fsplit, fjoin, suffices, done}
 use types.Run.{Opds, look, init, forget, stop, hop, addr, from, load, and-then, no-more, assigns, land, returns, enter, alloc1, alloc0, params1, pass1, pass0, free1, free0}
@@ -30,7 +33,6 @@ use denote.RattleType.{RattleType, Denots, flat, owns}
 use denote.Laws.{Is, Ises, Are, Spells, valss, Tellss}
 use denote.Plain.{UInt, uint-vals, uint-tells, uint-makes, uint-lawful}
 use denote.Builtin.{u64}
-use denote.Memory.{lone}
 use denote.Array.{Array}
 use denote.Ref.{RefT, MutRef, ptr-vals, mut-tells}
 use denote.Signature.{Slot, plain, mutRefTo, typesAt}
@@ -40,20 +42,23 @@ use denote.Triple.End.{all, Fins}
 use denote.Triple.Entry.{Args, Vals, onEntry}
 use denote.Triple.Statement.{Contract, Triple}
 use denote.Triple.Call.{calls-at}
-use denote.Triple.Clauses.{Ended, Clauses, atExit, closing}
+use denote.Triple.Clauses.{Ended, Clauses, AtExit, atExit, closing}
 use denote.Triple.Spec.{Meets, tripleOf}
+use denote.Triple.Table.{entered, cited}
 use denote.Triple.Walked.{Stays, stay-none, gave-ref, fitsOf, hasOf, walkOf, AllGo, goes-none, goes-gave-ref, ends-at, walked, walk-meets}
 use denote.Exit.{yes}
 use Rattle.receiver.specs.declared.Outcome.{Outcome}
 use Rattle.receiver.proofs.PassedNumbers.{Numbers, Fit, values, locals, copies, past, Empty, Full, env, after, further, first, found, found-in, given, given-known, taken-given, allocs-all, reads-all, frees-all}
 use Rattle.receiver.proofs.Returned.{returned-with}
-use Rattle.receiver.proofs.LentStruct.{Lent, args, Back, lends}
+use Rattle.receiver.proofs.LentStruct.{Lent, args, Back, lends, lent-gives}
 use Rattle.receiver.proofs.LentStruct as LentStruct
 use Rattle.receiver.proofs.Outcome as S
 use Rattle.receiver.proofs.Outcome.Laws as S′
 use Rattle.capi.specs.Outcomes.{notedFigures}
 use Rattle.capi.proofs.outcomes.outcome_told as told
 use Rattle.capi.proofs.outcomes.outcome_told.Symbol.{name as #told}
+use Rattle.capi.proofs.outcomes.outcome_told.Symbol as told-def
+use Rattle.capi.proofs.outcomes.outcome_told.Met as told-thm
 
 -- the type of the figures
 abbrev pub Figures : RattleType
@@ -343,3 +348,33 @@ module _ {M : Type 1} (𝓤 : URA M) (H : Heap 𝓤) (A : Atoms 𝓤) (W : Given
       (WpFn-mono 𝓤 H (W .laws) 𝓣 f)
       (walked 𝓤 H A T stayed c fn (λ κs. (ptr-vals, spells κs ws)) (λ κs. (mut-tells (named 0) (κs .0) R, tells κs ws))
       (λ κs qs bounds a g are. enters κs qs bounds a g (are .1)))
+
+-- a function #f of the code whose calls mean γ, where #step means a routine that meets d, and d says what is in Says
+module _ {M : Type 1} (𝓤 : URA M) (H : Heap 𝓤) (𝓜 : Model 𝓤 H) (𝓖 : GhostRules 𝓤 H) (𝓡 : Running 𝓤 H 𝓜) (γ : Meanings) (R : RattleType)
+    (ws : List Width) (Says : R .Denot → Numbers ws → Outcome → R .Denot → Type 0)
+    (d : Clauses 𝓤 (LentStruct.ended R S.the-row ws)) (#step : Name) (routine : Routine) (means : γ #step ≡ routine)
+    (met : Triple 𝓤 (𝓡 .run routine) (tripleOf 𝓤 H (𝓖 .A) (LentStruct.ended R S.the-row ws .signature)
+    (closing 𝓤 H (𝓖 .A) (LentStruct.ended R S.the-row ws) d)))
+    (ghosts : (κs : Lfts 1) (a : Args (LentStruct.ended R S.the-row ws .signature) κs) → d κs a .ghost)
+    (asks : (κs : Lfts 1) (a : Args (LentStruct.ended R S.the-row ws .signature) κs) → ent 𝓤 (emp 𝓤) (d κs a .requires (ghosts κs a)))
+    (says : (κs : Lfts 1) (a : Args (LentStruct.ended R S.the-row ws .signature) κs) (s : Outcome) (e : AtExit (LentStruct.ended R S.the-row ws) κs)
+    → ent 𝓤 (d κs a .ensures (ghosts κs a) s e) (fact 𝓤 (Says (a .0 .now) (Rattle.receiver.proofs.PassedNumbers.taken κs ws (a .1)) s (e .0 .now))))
+    (tells-means : γ #told ≡ told-def.routine) (c : Clauses 𝓤 (ended R ws))
+    (follows : (κs : Lfts 2) (a : Args (ended R ws .signature) κs) (g : c κs a .ghost) (s : Outcome) (h : R .Denot) (r : ℕ) (zs : List ℕ)
+    → Says (a .0 .now) (taken κs ws (a .1)) s h → r ≡ s .refusal → zs ≡ notedFigures (s .noted)
+    → ent 𝓤 (emp 𝓤) (c κs a .ensures g r (atExit (ended R ws) κs a (h, last κs ws (a .1) zs))))
+    (#f : Name) (τ ρ σ φ : Ty) (ℓ ℓ′ : Lifetime) where
+  abbrev 𝓣 : Tables 𝓤 H
+  𝓣 = tablesOf 𝓤 H 𝓜 (tables 𝓤 H 𝓜 𝓡 γ)
+
+  pub told-in-place : Closed 𝓤 H (𝓣 .C) (𝓣 .Λ) #f (stepped ws τ ρ σ φ ℓ ℓ′ #step)
+      → Triple 𝓤 (𝓣 .C #f) (tripleOf 𝓤 H (𝓖 .A) (ended R ws .signature) (closing 𝓤 H (𝓖 .A) (ended R ws) c))
+  unfolding tablesOf
+  told-in-place unfolded =
+      let A = 𝓖 .A in
+      let W = givenOf 𝓤 H 𝓜 𝓖 in
+      entered 𝓤 H _ (𝓣 .C) (𝓣 .Λ) #f (stepped ws τ ρ σ φ ℓ ℓ′ #step) unfolded
+      (meets 𝓤 H A W (𝓜 .mem) (𝓡 .run) 𝓣 R ws Says c follows τ ρ σ φ ℓ ℓ′ #step
+      (λ κs qs a are. lent-gives 𝓤 H A R S.the-row ws Says W (𝓣 .C) (fmOf 𝓤 H (W .laws) 𝓣) d #step
+      (cited 𝓤 H _ 𝓜 𝓡 γ #step routine means met) κs qs a are (ghosts κs a) (asks κs a) (says κs a))
+      (cited 𝓤 H _ 𝓜 𝓡 γ #told told-def.routine tells-means (told-thm.met 𝓤 H 𝓜 𝓖 𝓡)))

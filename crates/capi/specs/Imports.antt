@@ -3,11 +3,16 @@ use Prim.Native.Nat.{ℕ}
 use mathlib.Core.List.{List}
 use lib.ListN.{getD}
 use Rattle.textlog.specs.declared.LogImport.{LogImport}
+use Rattle.textlog.specs.declared.LogLine.{LogLine}
 use Rattle.owamp.specs.declared.RecordsImport.{RecordsImport}
 
 -- the answer that a refusal and figures tell: of a text log
 abbrev pub logTold : (refusal : ℕ) (figures : List ℕ) → LogImport
 logTold refusal figures = record { refusal = refusal; arrivals = getD figures 0 0 }
+
+-- of one line of a text log
+abbrev pub lineTold : (refusal : ℕ) (figures : List ℕ) → LogLine
+lineTold refusal figures = record { refusal = refusal; number = getD figures 0 0; time = getD figures 1 0 }
 
 -- and of OWAMP records
 abbrev pub recordsTold : (refusal : ℕ) (figures : List ℕ) → RecordsImport

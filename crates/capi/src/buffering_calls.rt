@@ -5,7 +5,7 @@ use rfc4737::judge::outside;
 use rfc4737::refusal::ASKED_OUTSIDE;
 ghost use mathlib.Core.Path.{_≡_};
 ghost use mathlib.Core.List.{[], _∷_};
-ghost use Rattle.rfc4737.specs.Refusals.{firstOf, askedOutside};
+ghost use Rattle.rfc4737.specs.Refusals.{firstRefusal, askedOutside};
 ghost use Rattle.sample.specs.Decode.{decode, decodedRefusal};
 ghost use Rattle.metrics.specs.Figures.{sampleAccommodated, sampleNeeds};
 ghost use Rattle.buffering.specs.Least.{sampleLeast};
@@ -33,7 +33,7 @@ fn measure_of(measure: u32) -> Measure
 
 // Returns the refusal where the measure is none: the file's own, then 9.
 fn no_measure(file: &[u8]) -> u64
-    ensures { λ r. ⌜ r ≡ firstOf (decodedRefusal (decode (now (file .entry))) ∷ askedOutside ∷ []) ⌝ }
+    ensures { λ r. ⌜ r ≡ firstRefusal (decodedRefusal (decode (now (file .entry))) ∷ askedOutside ∷ []) ⌝ }
 {
     let layout = sample::check(file);
     if layout.refusal != 0 {

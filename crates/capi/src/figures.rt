@@ -11,7 +11,7 @@ use rfc4737::numbering::IN_ORDER;
 use rfc4737::numbering::REORDERED_AFTER;
 use rfc4737::numbering::REORDERED_BEFORE;
 use rfc4737::numbering::amount;
-use rfc4737::numbering::directed;
+use rfc4737::numbering::by_direction;
 ghost use mathlib.Core.Path.{_≡_};
 ghost use lib.Ieee.{binary64, toBits};
 ghost use Rattle.metrics.specs.Rows.{rowOf};
@@ -37,7 +37,7 @@ pub fn answer_row(answer: Answer) -> [u64; 8]
         Answer::Reordered(l) => {
             let late = l.late;
             [
-                directed(REORDERED_AFTER, REORDERED_BEFORE, late) as u64,
+                by_direction(REORDERED_AFTER, REORDERED_BEFORE, late) as u64,
                 l.position as u64,
                 0,
                 l.extent as u64,

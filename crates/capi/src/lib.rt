@@ -16,6 +16,7 @@ mod owamp_calls;
 mod receiver_calls;
 mod refusals_calls;
 mod sample_calls;
+mod shortlog_calls;
 mod shortnumbers_calls;
 mod summary_calls;
 mod sweep_calls;

@@ -14,6 +14,7 @@ ghost use Rattle.sample.specs.Decode.{decode, decodedRefusal};
 ghost use Rattle.metrics.specs.Sample.{answersOf};
 ghost use Rattle.metrics.specs.Figures.{recordAnswer, recordGap, sampleCounts, sampleTally, degreeCounts, sampleDegree, sampleRatios};
 ghost use Rattle.metrics.specs.Rows.{rowOf, rowsOf, rowsInto};
+ghost use Rattle.metrics.specs.Gaps.{gapsInto, gapNumbers};
 ghost use Rattle.metrics.specs.Report.{ListedTo};
 ghost use Rattle.capi.specs.Sample.{writeTold};
 ghost use Rattle.capi.specs.Figures.{countFigures, gapFigures, degreeFigures, ratiosFigures};
@@ -37,6 +38,16 @@ pub extern "C" fn krakobran_rows(file: &[u8], rows: &mut [u64]) -> u64
         × (now (rows .exit) ≡ over (rowsOf (answersOf (rowsInto (decode (now (file .entry))) (length (now (rows .entry)))))) (now (rows .entry))) ⌝ }
 {
     let layout = metrics::record_rows(file, rows);
+    layout.refusal as u64
+}
+
+// Fills a list with the gaps of all records, 0 where a record has none.
+#[no_mangle]
+pub extern "C" fn krakobran_gaps(file: &[u8], gaps: &mut [u32]) -> u64
+    ensures { λ r. ⌜ (r ≡ decodedRefusal (gapsInto (decode (now (file .entry))) (length (now (gaps .entry)))))
+        × (now (gaps .exit) ≡ over (gapNumbers (answersOf (gapsInto (decode (now (file .entry))) (length (now (gaps .entry)))))) (now (gaps .entry))) ⌝ }
+{
+    let layout = metrics::record_gaps(file, gaps);
     layout.refusal as u64
 }
 

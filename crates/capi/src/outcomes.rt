@@ -10,19 +10,19 @@ use rfc4737::numbering::IN_ORDER;
 use rfc4737::numbering::REORDERED_AFTER;
 use rfc4737::numbering::REORDERED_BEFORE;
 use rfc4737::numbering::amount;
-use rfc4737::numbering::directed;
+use rfc4737::numbering::by_direction;
 ghost use mathlib.Core.Path.{_≡_};
-ghost use Rattle.rfc4737.specs.Numbering.{directed};
+ghost use Rattle.rfc4737.specs.Numbering.{byDirection};
 ghost use Rattle.receiver.specs.Outcomes.{refusedOutcome};
 ghost use Rattle.capi.specs.Outcomes.{lateFigures, notedFigures};
 
 // Returns the figures of a reordered packet, in one of its two cases, of which each has a number for after and one for before.
 fn late_figures(after: u32, before: u32, l: Lateness) -> [u64; 4]
-    ensures { λ r. ⌜ r ≡ lateFigures (directed after before (l .late)) l ⌝ }
+    ensures { λ r. ⌜ r ≡ lateFigures (byDirection after before (l .late)) l ⌝ }
 {
     let late = l.late;
     [
-        directed(after, before, late) as u64,
+        by_direction(after, before, late) as u64,
         0,
         l.extent as u64,
         amount(late),

@@ -2,10 +2,10 @@
 
 ghost use mathlib.Core.Path.{_≡_};
 ghost use mathlib.Core.List.{[], _∷_};
-ghost use Rattle.textlog.specs.Decode.{judgeLog};
-ghost use Rattle.textlog.specs.Calls.{LogImportedFrom, LogWrittenTo};
+ghost use Rattle.textlog.specs.Decode.{judgeLog, decodeLine};
+ghost use Rattle.textlog.specs.Calls.{LogImportedFrom, LogWrittenTo, logLine};
 ghost use Rattle.capi.specs.Sample.{writeTold};
-ghost use Rattle.capi.specs.Imports.{logTold};
+ghost use Rattle.capi.specs.Imports.{logTold, lineTold};
 
 // Imports the text log of K sent packets into lists of numbers and times.
 #[no_mangle]
@@ -30,6 +30,16 @@ pub extern "C" fn krakobran_log_refused_line(log: &[u8], sent: u32, line: &mut [
     ensures { λ _. ⌜ now (line .exit) ≡ judgeLog sent (now (log .entry)) .line ∷ [] ⌝ }
 {
     *line = [textlog::refused_line(log, sent) as u64];
+}
+
+// Reads one line of a text log, with its line feed: its number and its time.
+#[no_mangle]
+pub extern "C" fn krakobran_log_read_line(line: &[u8], arrival: &mut [u64; 2]) -> u64
+    ensures { λ r. ⌜ lineTold r (now (arrival .exit)) ≡ logLine (decodeLine (now (line .entry))) ⌝ }
+{
+    let read = textlog::read_line(line);
+    *arrival = [read.number as u64, read.time];
+    read.refusal as u64
 }
 
 // Writes the text log of arrivals of K sent packets.

@@ -1,11 +1,11 @@
--- Lists and the numbers of a text t. A loop fills a list with them, one a turn, as far as it has places: after i turns the first i of those that
--- it takes stand there, and then what stood there (`Filled`); a turn stores number i, cut to the greatest that a place holds (`filled-next`),
--- and at the end all are there (`filled-done`). The laws serve every width: most is the greatest, old the list where the loop begins, d at its
--- head, x the number stored. `first-taken`: the first values of a list l, at most n, end at the lesser of n and its length. Assumes nothing.
+-- Lists and the numbers of a text t. A loop fills a list with them, one a turn, until either ends. After i turns the first i of them stand
+-- there, and then what stood there (`Filled`). A turn stores number i, cut to the greatest that a place holds (`filled-next`), and at the
+-- end all are there (`filled-done`). The laws serve every width: most is the greatest, old the list where the loop begins, d at its head, x
+-- the number stored. `first-taken`: the first values of a list l, at most n, end at the lesser of n and its length. Assumes nothing.
 use Prim.Native.Nat.{ℕ, zero, suc, _+_, _-_, _≤_, _<_, min}
 use native.Mathlib.Nat.{zero-min, min-zero, suc-min-suc}
 use native.Mathlib.Omega.{arith}
-use mathlib.Core.Path.{_≡_, sym, ap, _∙_}
+use mathlib.Core.Path.{_≡_, refl, sym, ap, _∙_}
 use mathlib.Core.List.{List, [], _∷_, _++_, map}
 use lib.ListN.{length, getD, set, take, drop, length-take, length-map, List·getD-map}
 use lib.Seq.{getD-take}
@@ -34,6 +34,10 @@ pub record Filled (most : ℕ) (t old : List ℕ) (i : ℕ) (d : List ℕ) : Typ
   pub turns : i ≤ min (length (cutAt 32 t)) (length old)
   pub holds : d ≡ take i (numbersWithin most (length old) t) ++ drop i old
 
+-- before the first turn
+pub filled-none : {most : ℕ} {t old : List ℕ} → Filled most t old 0 old
+filled-none = record { turns = omega arith; holds = refl }
+
 module _ {most : ℕ} {t old : List ℕ} {i : ℕ} {d : List ℕ} (f : Filled most t old i d) where
   -- the numbers that the list takes
   abbrev taken : List ℕ
@@ -56,6 +60,10 @@ module _ {most : ℕ} {t old : List ℕ} {i : ℕ} {d : List ℕ} (f : Filled mo
   filled-length =
       let l = taken-length in
       ap length (f .holds) ∙ fill-length taken old i (omega arith) (omega arith)
+
+  -- a number of the text that the list takes has a place
+  pub filled-room : i < min (length (cutAt 32 t)) (length old) → i < length d
+  filled-room h = let l = filled-length in omega arith
 
   -- a turn
   pub filled-next : {x : ℕ} → i < min (length (cutAt 32 t)) (length old) → x ≡ min (getD (numbersIn t) i 0) most

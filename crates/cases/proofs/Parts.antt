@@ -1,8 +1,8 @@
--- The parts of a text t between separators s, found from place to place. The search for a separator is at `Counted`: none stands from `from` up
--- to `end`; another octet is one more, and a separator or the end of the text ends it. A text that is not empty is its first part, up to the
--- first separator, and then the parts of what stands after that (`split`, by induction on the text with one octet o more before it). So from a
--- place `at` on, where that part ends at `end`, part 0 stands in between (`part-first`), part `left` is part left - 1 of what stands from
--- end + 1 on (`part-later`), and there is one part more than there (`count-more`). n and left count parts from 0. Assumes nothing.
+-- The parts of a text t between separators s, found from place to place. The search for a separator is at `Counted`: none stands from
+-- `from` up to `end`. Another octet is one more, and a separator or the end of the text ends it. A text that is not empty is its first
+-- part, up to the first separator, and then the parts of what stands after that (`split`, by induction on the text). From an offset `at` on
+-- let that part end at `end`. Then part 0 stands in between (`part-first`), and part `left` is part left - 1 of what stands from end + 1 on
+-- (`part-later`). There is one part more than there (`count-more`). n and left count parts from 0. Assumes nothing.
 use Prim.Native.Nat.{ℕ, suc, _+_, _-_, _≤_, _<_}
 use native.Mathlib.Omega.{arith}
 use mathlib.Core.Bool.{Bool, true, false, cond}

@@ -4,6 +4,6 @@ use mathlib.Core.List.{List, map}
 use lib.ListN.{take}
 use Rattle.cases.specs.Text.{numbersIn}
 
--- the numbers of a text as far as there are places, each at most the greatest that a place holds
+-- the first `places` numbers of a text, each cut to `most`
 abbrev pub numbersWithin : ℕ → ℕ → List ℕ → List ℕ
 numbersWithin most places t = take places (map (λ (n : ℕ). min n most) (numbersIn t))

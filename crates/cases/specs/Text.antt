@@ -5,7 +5,7 @@ use mathlib.Core.List.{List, [], _∷_, map}
 use lib.Dec.{eqb}
 use Rattle.decimal.specs.Reading.{leadingValue, wordMost}
 
--- the parts with one octet more before them: a separator ends an empty part, any other octet begins the first one
+-- the parts with an octet before them: a separator ends an empty part, any other octet begins the first one
 unfoldable pub onto : Bool → ℕ → List (List ℕ) → List (List ℕ)
 onto true o ps = [] ∷ ps
 onto false o [] = (o ∷ []) ∷ []

@@ -5,12 +5,12 @@ use crate::text::part;
 // What stands between the fields of a line.
 const BAR: u8 = b'|';
 
-// Field n of a line, counted from 0; past the last one there is an empty one.
+// Field n of a line, from 0; empty past the last one.
 pub fn field(line: &[u8], n: usize) -> &[u8] {
     part(line, BAR, n)
 }
 
-// The first octet of a text; 0 where it is empty.
+// The first octet of a text; 0 if it is empty.
 pub fn first_octet(text: &[u8]) -> u8 {
     if text.len() == 0 {
         return 0;

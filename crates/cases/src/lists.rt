@@ -1,5 +1,5 @@
 // Lists that are filled with the numbers of a text, and the first values of a list: one function for each width. Every public call
-// takes all input there is.
+// is total.
 ghost use mathlib.Core.Path.{_≡_};
 ghost use Prim.Native.Nat.{min};
 ghost use lib.ListN.{length, getD, take};
@@ -17,7 +17,7 @@ pub fn least(a: usize, b: usize) -> usize
     if a < b { a } else { b }
 }
 
-// Number i of a text of numbers, or the greatest that is taken.
+// Number i of a text of numbers, or `most` if it is greater.
 fn number_to(text: &[u8], i: usize, most: u64) -> u64
     ensures { λ r. ⌜ r ≡ min (getD (numbersIn (now (text .entry))) i 0) most ⌝ }
 {
@@ -25,7 +25,7 @@ fn number_to(text: &[u8], i: usize, most: u64) -> u64
     if n < most { n } else { most }
 }
 
-// Fills a list of numbers of 8 bits with those of a text, as far as it has places. The answer is how many numbers the text has.
+// Fills a list of 8 bits with the numbers of a text, until either ends; returns how many numbers the text has.
 pub fn fill_8(text: &[u8], out: &mut [u8]) -> usize
     ensures { λ r. ⌜ (r ≡ length (numbersIn (now (text .entry))))
         × (now (out .exit) ≡ over (numbersWithin 255 (length (now (out .entry))) (now (text .entry))) (now (out .entry))) ⌝ }
@@ -37,7 +37,7 @@ pub fn fill_8(text: &[u8], out: &mut [u8]) -> usize
     n
 }
 
-// Fills a list of numbers of 16 bits with those of a text, as far as it has places. The answer is how many numbers the text has.
+// Fills a list of 16 bits with the numbers of a text, until either ends; returns how many numbers the text has.
 pub fn fill_16(text: &[u8], out: &mut [u16]) -> usize
     ensures { λ r. ⌜ (r ≡ length (numbersIn (now (text .entry))))
         × (now (out .exit) ≡ over (numbersWithin 65535 (length (now (out .entry))) (now (text .entry))) (now (out .entry))) ⌝ }
@@ -49,7 +49,7 @@ pub fn fill_16(text: &[u8], out: &mut [u16]) -> usize
     n
 }
 
-// Fills a list of numbers of 32 bits with those of a text, as far as it has places. The answer is how many numbers the text has.
+// Fills a list of 32 bits with the numbers of a text, until either ends; returns how many numbers the text has.
 pub fn fill_32(text: &[u8], out: &mut [u32]) -> usize
     ensures { λ r. ⌜ (r ≡ length (numbersIn (now (text .entry))))
         × (now (out .exit) ≡ over (numbersWithin 4294967295 (length (now (out .entry))) (now (text .entry))) (now (out .entry))) ⌝ }
@@ -61,7 +61,7 @@ pub fn fill_32(text: &[u8], out: &mut [u32]) -> usize
     n
 }
 
-// Fills a list of numbers of 64 bits with those of a text, as far as it has places. The answer is how many numbers the text has.
+// Fills a list of 64 bits with the numbers of a text, until either ends; returns how many numbers the text has.
 pub fn fill_64(text: &[u8], out: &mut [u64]) -> usize
     ensures { λ r. ⌜ (r ≡ length (numbersIn (now (text .entry))))
         × (now (out .exit) ≡ over (numbersWithin 18446744073709551615 (length (now (out .entry))) (now (text .entry))) (now (out .entry))) ⌝ }
@@ -73,7 +73,7 @@ pub fn fill_64(text: &[u8], out: &mut [u64]) -> usize
     n
 }
 
-// The first n values of a list of 8 bits: all where it has no more.
+// The first n values of a list of 8 bits, or all if it has fewer.
 pub fn first_8(list: &[u8], n: usize) -> &[u8]
     ensures { λ r. ⌜ now r ≡ take n (now (list .entry)) ⌝ }
 {
@@ -81,7 +81,7 @@ pub fn first_8(list: &[u8], n: usize) -> &[u8]
     &list[0..end]
 }
 
-// The first n values of a list of 16 bits: all where it has no more.
+// The first n values of a list of 16 bits, or all if it has fewer.
 pub fn first_16(list: &[u16], n: usize) -> &[u16]
     ensures { λ r. ⌜ now r ≡ take n (now (list .entry)) ⌝ }
 {
@@ -89,7 +89,7 @@ pub fn first_16(list: &[u16], n: usize) -> &[u16]
     &list[0..end]
 }
 
-// The first n values of a list of 32 bits: all where it has no more.
+// The first n values of a list of 32 bits, or all if it has fewer.
 pub fn first_32(list: &[u32], n: usize) -> &[u32]
     ensures { λ r. ⌜ now r ≡ take n (now (list .entry)) ⌝ }
 {
@@ -97,7 +97,7 @@ pub fn first_32(list: &[u32], n: usize) -> &[u32]
     &list[0..end]
 }
 
-// The first n values of a list of 64 bits: all where it has no more.
+// The first n values of a list of 64 bits, or all if it has fewer.
 pub fn first_64(list: &[u64], n: usize) -> &[u64]
     ensures { λ r. ⌜ now r ≡ take n (now (list .entry)) ⌝ }
 {

@@ -14,7 +14,7 @@ pub fn write_number(word: &[u8], n: u64) {
     io::print_decimal(STDOUT_FILENO, n);
 }
 
-// Writes the one word where a test holds, and else the other.
+// Writes `one` if the test holds, else `other`.
 pub fn write_either(test: bool, one: &[u8], other: &[u8]) {
     if test {
         write_word(one);
@@ -23,7 +23,7 @@ pub fn write_either(test: bool, one: &[u8], other: &[u8]) {
     }
 }
 
-// Writes a name and what a call answers: a word and how many there are; or the refusal, with which there must be none.
+// Writes a name and what a call returned: a word and n; or the refusal, with which n must be 0.
 pub fn write_answer(name: &[u8], refusal: u32, word: &[u8], n: u64) {
     write_word(name);
     if refusal == 0 {

@@ -1,6 +1,6 @@
 // Whether lists still hold a value, and whether two hold the same.
 
-// Whether a list of 8 bits holds a value from a place on.
+// Whether every element of a list of 8 bits from index `from` on is `value`.
 pub fn kept_8(list: &[u8], from: usize, value: u8) -> bool {
     for i in from..list.len() {
         if list[i] != value {
@@ -10,7 +10,7 @@ pub fn kept_8(list: &[u8], from: usize, value: u8) -> bool {
     true
 }
 
-// Whether a list of 16 bits holds a value from a place on.
+// Whether every element of a list of 16 bits from index `from` on is `value`.
 pub fn kept_16(list: &[u16], from: usize, value: u16) -> bool {
     for i in from..list.len() {
         if list[i] != value {
@@ -20,7 +20,7 @@ pub fn kept_16(list: &[u16], from: usize, value: u16) -> bool {
     true
 }
 
-// Whether a list of 32 bits holds a value from a place on.
+// Whether every element of a list of 32 bits from index `from` on is `value`.
 pub fn kept_32(list: &[u32], from: usize, value: u32) -> bool {
     for i in from..list.len() {
         if list[i] != value {
@@ -30,7 +30,7 @@ pub fn kept_32(list: &[u32], from: usize, value: u32) -> bool {
     true
 }
 
-// Whether a list of 64 bits holds a value from a place on.
+// Whether every element of a list of 64 bits from index `from` on is `value`.
 pub fn kept_64(list: &[u64], from: usize, value: u64) -> bool {
     for i in from..list.len() {
         if list[i] != value {

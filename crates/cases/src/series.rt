@@ -20,7 +20,8 @@ pub fn series_64(out: &mut [u64], first: u64, step: u64) {
     }
 }
 
-// Puts the numbers of a series into octets, each of so many octets and so far after the one before, as far as there is room.
+// Writes `count` numbers of a series, each in `octets` octets, the first at offset `at` and each `apart` after the one before. A number
+// for which there is no room is left out.
 pub fn put_series(
     out: &mut [u8],
     at: u32,

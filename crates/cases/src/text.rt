@@ -1,4 +1,4 @@
-// The parts of a text, and its numbers. Every public call takes all input there is.
+// The parts of a text, and its numbers. Every public call is total.
 ghost use mathlib.Core.Path.{_≡_};
 ghost use Prim.Native.Nat.{_+_, _≤_};
 ghost use lib.ListN.{length, getD, drop};
@@ -12,7 +12,10 @@ use libc::STDIN_FILENO;
 // What stands between the numbers of a text.
 pub const BLANK: u8 = b' ';
 
-// The place of the first separator from a place on; the end of the text where none follows.
+// The octets of standard input that a program of cases has room for.
+pub const INPUT_OCTETS: usize = 8192;
+
+// The offset of the first separator from `from` on; the end of the text if none follows.
 fn end_at(text: &[u8], separator: u8, from: usize) -> usize
     requires { ⌜ from ≤ length (now text) ⌝ }
     ensures { λ r. ⌜ (r ≡ from + separatorAt separator (drop from (now (text .entry)))) × (r ≤ length (now (text .entry))) ⌝ }
@@ -27,7 +30,7 @@ fn end_at(text: &[u8], separator: u8, from: usize) -> usize
     end
 }
 
-// How many parts a text has.
+// The number of parts of a text.
 pub fn count(text: &[u8], separator: u8) -> usize
     ensures { λ r. ⌜ r ≡ length (cutAt separator (now (text .entry))) ⌝ }
 {
@@ -44,7 +47,7 @@ pub fn count(text: &[u8], separator: u8) -> usize
     n
 }
 
-// Part n of a text, counted from 0; past the last part there is an empty one.
+// Part n of a text, from 0; empty past the last one.
 pub fn part(text: &[u8], separator: u8, n: usize) -> &[u8]
     ensures { λ r. ⌜ now r ≡ getD (cutAt separator (now (text .entry))) n [] ⌝ }
 {
@@ -62,7 +65,7 @@ pub fn part(text: &[u8], separator: u8, n: usize) -> &[u8]
     &text[at..end]
 }
 
-// Number n of a text of numbers, counted from 0; 0 past the last one.
+// Number n of a text of numbers, from 0; 0 past the last one.
 pub fn number(text: &[u8], n: usize) -> u64
     ensures { λ r. ⌜ r ≡ getD (numbersIn (now (text .entry))) n 0 ⌝ }
 {
@@ -70,7 +73,7 @@ pub fn number(text: &[u8], n: usize) -> u64
     digits.value
 }
 
-// What stands on standard input, as far as there is room for it, as the first octets of that room.
+// Standard input, as the first octets of `room`; what does not fit is left out.
 pub fn input(room: &mut [u8]) -> &[u8] {
     let n = io::read_full(STDIN_FILENO, room);
     first_8(room, n)

@@ -1,7 +1,7 @@
-// What the numbers of a list come to, modulo 2^64.
+// Sums of the numbers of a list, modulo 2^64.
 use std::num::wrapping_add_u64;
 
-// The sum of the numbers, and the sum of the sums up to each place, which tells their order.
+// The sum of the numbers, and the sum of all partial sums, which depends on their order.
 pub struct Sums {
     pub sum: u64,
     pub sums: u64,
@@ -10,7 +10,7 @@ pub struct Sums {
 // The sums of no numbers.
 const NONE: Sums = Sums { sum: 0, sums: 0 };
 
-// The sums with one number more.
+// The sums with the next number.
 fn with(s: Sums, n: u64) -> Sums {
     let sum = wrapping_add_u64(s.sum, n);
     Sums {

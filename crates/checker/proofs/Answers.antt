@@ -1,6 +1,6 @@
--- The checker's answer, from what metrics found of a listing: its refusal is the sample's; without one, `same` says yes, and else the
--- octets that agree give the wrong line (`by-prefix`).
--- Here d is the decoded sample, found what was found, is that it was found of this listing, and z that it has no refusal. Assumes nothing.
+-- The checker's answer, from the agreement that metrics returns: its refusal is the sample's. Without one, `same` says that the listing
+-- agrees, else the octets that agree give the wrong line (`by-prefix`).
+-- Here d is the decoded sample, `agreement` that of this listing (`is`), and z says that it has no refusal. Assumes nothing.
 use Prim.Native.Nat.{ℕ, zero, suc, _≤_}
 use mathlib.Core.Path.{_≡_, refl, sym, ap, _∙_}
 use mathlib.Core.Bool.{true, false}
@@ -20,14 +20,15 @@ use Rattle.checker.specs.Verdict.{verdictOn, sampleVerdict}
 use Rattle.checker.specs.Private.{wrongAfter}
 use Rattle.checker.proofs.Lines.{by-prefix}
 
-module _ (d : Decoded) (listing : List ℕ) (found : SampleAgreement) (is : found ≡ sampleAgreement d listing) where
+module _ (d : Decoded) (listing : List ℕ) (agreement : SampleAgreement) (is : agreement ≡ sampleAgreement d listing) where
   -- it is the sample's
-  own : found .refusal ≡ decodedRefusal d
+  own : agreement .refusal ≡ decodedRefusal d
   unfolding sampleAgreement
   own = ap (λ (a : SampleAgreement). a .refusal) is
 
   -- with one, line 0
-  pub checked-refused : (found .refusal ≡ 0 → ⊥) → record { refusal = found .refusal; verdict = Verdict.WrongLine 0 } ≡ sampleVerdict d listing
+  pub checked-refused : (agreement .refusal ≡ 0 → ⊥)
+      → record { refusal = agreement .refusal; verdict = Verdict.WrongLine 0 } ≡ sampleVerdict d listing
   unfolding sampleVerdict
   checked-refused n = rw own (go (decodedRefusal d) (λ e. n (own ∙ e)))
     where
@@ -36,9 +37,9 @@ module _ (d : Decoded) (listing : List ℕ) (found : SampleAgreement) (is : foun
       go zero n = absurd (n refl)
       go (suc r) n = refl
 
-  module _ (z : found .refusal ≡ 0) where
+  module _ (z : agreement .refusal ≡ 0) where
     -- without one, what was compared
-    compared : found ≡ record { refusal = 0; octets = common (sampleText d) listing; same = sameText (sampleText d) listing }
+    compared : agreement ≡ record { refusal = 0; octets = common (sampleText d) listing; same = sameText (sampleText d) listing }
     unfolding sampleAgreement
     compared =
         is
@@ -46,19 +47,19 @@ module _ (d : Decoded) (listing : List ℕ) (found : SampleAgreement) (is : foun
         (sym own ∙ z)
 
     -- the octets that agree
-    octets-are : found .octets ≡ common (sampleText d) listing
+    octets-are : agreement .octets ≡ common (sampleText d) listing
     octets-are = ap (λ (a : SampleAgreement). a .octets) compared
 
     -- whether it is the same text
-    same-is : found .same ≡ sameText (sampleText d) listing
+    same-is : agreement .same ≡ sameText (sampleText d) listing
     same-is = ap (λ (a : SampleAgreement). a .same) compared
 
     -- what agrees lies in the listing, and in the text that must be given
-    pub octets-most : length (sampleText d) ≤ listingOctets → (found .octets ≤ length listing) × (found .octets ≤ listingOctets)
+    pub octets-most : length (sampleText d) ≤ listingOctets → (agreement .octets ≤ length listing) × (agreement .octets ≤ listingOctets)
     octets-most h = omega (arith, octets-are, common-le (sampleText d) listing)
 
     -- the same text
-    pub checked-same : found .same ≡ true → record { refusal = 0; verdict = Verdict.Agrees } ≡ sampleVerdict d listing
+    pub checked-same : agreement .same ≡ true → record { refusal = 0; verdict = Verdict.Agrees } ≡ sampleVerdict d listing
     unfolding sampleVerdict
     checked-same q =
         let e : sameText (sampleText d) listing ≡ true = sym same-is ∙ q in
@@ -66,7 +67,8 @@ module _ (d : Decoded) (listing : List ℕ) (found : SampleAgreement) (is : foun
         rw (r, by-prefix (sampleText d) listing, e)
 
     -- another one
-    pub checked-wrong : found .same ≡ false → (v : Verdict) → v ≡ wrongAfter (found .octets) listing → record { refusal = 0; verdict = v } ≡ sampleVerdict d listing
+    pub checked-wrong : agreement .same ≡ false → (v : Verdict)
+        → v ≡ wrongAfter (agreement .octets) listing → record { refusal = 0; verdict = v } ≡ sampleVerdict d listing
     unfolding sampleVerdict
     checked-wrong q v w =
         let e : sameText (sampleText d) listing ≡ false = sym same-is ∙ q in

@@ -1,6 +1,6 @@
 -- Yes is said exactly of the listing that the sample must give, and the start of a listing decides. By the longest common prefix
--- (`by-prefix`) the verdict is yes exactly if the two texts are the same octet by octet, and then they are equal (`same-text`, by induction
--- over both); with a refusal it is never yes. Of a listing no more is looked at than one octet more than the sample's text has
+-- (`by-prefix`) the verdict is yes exactly if the two texts are the same octet by octet, and then they are equal (`same-text`, by
+-- induction over both). With a refusal it is never yes. Of a listing no more is looked at than one octet more than the sample's text has
 -- (`verdict-start`), and no sample's text has more than `listingOctets`.
 -- Here e is the text that must be given, t another, and d the decoded sample. Assumes nothing.
 use Prim.Native.Nat.{ℕ, zero, suc, _≤_}

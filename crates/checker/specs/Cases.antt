@@ -16,7 +16,7 @@ pub record ListingCase : Type 0 where
 abbrev middle : text.String
 middle = "1 1 in 1 0\n2 2 in 2 0\n3 4 in 3 1\n4 5 in 4 0\n5 3 late 5 2 30 200 2\n"
 
--- the right listing, and wrong ones: a line that differs, is missing or is extra, at the first line, in the middle and at the last
+-- the right listing, and wrong ones: a line differs, is missing or is extra, at the start, in the middle or at the end
 unfoldable pub listingCases : List ListingCase
 listingCases =
     record { given = "sent 5 arrivals 5\n" ∷ middle ∷ "end 5 1 0 1 16 0\n" ∷ []; verdict = Verdict.Agrees }

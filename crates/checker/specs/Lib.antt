@@ -1,4 +1,4 @@
--- The verdict on a listing, by its lines, and what is shown of it. Assumes nothing.
+-- The verdict on a listing, by its lines, and two claims about it. Assumes nothing.
 pub mod Verdict
 pub mod Claims
 pub mod Cases

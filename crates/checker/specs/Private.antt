@@ -1,4 +1,4 @@
--- What private functions say to each other, which no public contract reaches: the line feeds of a text. Assumes nothing.
+-- Definitions for the contracts of private functions, which no public contract reaches: the line feeds of a text. Assumes nothing.
 use Prim.Native.Nat.{ℕ, _+_}
 use mathlib.Core.Bool.{cond}
 use mathlib.Core.List.{List, [], _∷_}
@@ -12,6 +12,6 @@ unfoldable pub feeds : List ℕ → ℕ
 feeds [] = 0
 feeds (x ∷ t) = cond (eqb x lineFeed) (feeds t + 1) (feeds t)
 
--- the wrong line after so many octets that agree: 1 more than their line feeds
-abbrev pub wrongAfter : ℕ → List ℕ → Verdict
+-- the wrong line after the first `octets` octets, which agree: 1 more than their line feeds
+abbrev pub wrongAfter : (octets : ℕ) (listing : List ℕ) → Verdict
 wrongAfter octets listing = Verdict.WrongLine (1 + feeds (take octets listing))

@@ -13,13 +13,13 @@ ghost use Rattle.checker.specs.Cases.{ListingCasesHold};
 ghost use Rattle.checker.specs.Private.{feeds, wrongAfter};
 use rfc4737::refusal::NONE;
 
-// What is said of a listing: that it agrees, or the number of its first wrong line, from 1.
+// The verdict on a listing: it agrees, or the number of its first wrong line, from 1.
 pub enum Verdict {
     Agrees,
     WrongLine(u32),
 }
 
-// The verdict, and the refusal of the sample (0 for none); with a refusal the listing is not looked at, and the line is 0.
+// The verdict, and the refusal of the sample (0 for none). With a refusal the listing is not read, and the line is 0.
 pub struct SampleVerdict {
     pub refusal: u32,
     pub verdict: Verdict,
@@ -35,20 +35,20 @@ fn one_if_line_feed(x: u8) -> usize
     0
 }
 
-// The line feeds of a text.
+// The number of line feeds of a text.
 fn line_feeds_in(text: &[u8]) -> usize
     ensures { λ r. ⌜ r ≡ feeds (now (text .entry)) ⌝ }
 {
-    let mut found: usize = 0;
+    let mut count: usize = 0;
     let mut i: usize = 0;
     while i < text.len() {
-        found += one_if_line_feed(text[i]);
+        count += one_if_line_feed(text[i]);
         i += 1;
     }
-    found
+    count
 }
 
-// The wrong line after so many octets that agree: 1 more than their line feeds.
+// The wrong line after the first `octets` octets, which agree: 1 more than their line feeds.
 fn wrong_line(listing: &[u8], octets: usize) -> Verdict
     requires { ⌜ (octets ≤ length (now listing)) × (octets ≤ listingOctets) ⌝ }
     ensures { λ r. ⌜ r ≡ wrongAfter octets (now (listing .entry)) ⌝ }
@@ -56,23 +56,23 @@ fn wrong_line(listing: &[u8], octets: usize) -> Verdict
     Verdict::WrongLine((1 + line_feeds_in(&listing[..octets])) as u32)
 }
 
-// Checks a listing against a sample: yes exactly if it is the one that the sample must give, else the number of its first wrong
-// line. It costs what comparing the two costs, and once more the octets that agree.
+// Checks a listing against a sample: `Agrees` exactly if it is the listing of the sample, else the number of its first wrong line.
+// Cost: that of `metrics::agreement`, and a second pass over the octets that agree.
 pub fn check(file: &[u8], listing: &[u8]) -> SampleVerdict
     ensures { λ r. ⌜ r ≡ sampleVerdict (decode (now (file .entry))) (now (listing .entry)) ⌝ }
     ensures exactly { λ _. ⌜ AgreesExactly (decode (now (file .entry))) ⌝ }
     ensures start { λ _. ⌜ StartDecides (decode (now (file .entry))) ⌝ }
     ensures cases { λ _. ⌜ ListingCasesHold ⌝ }
 {
-    let found = metrics::agreement(file, listing);
-    if found.refusal != NONE {
+    let agreement = metrics::agreement(file, listing);
+    if agreement.refusal != NONE {
         return SampleVerdict {
-            refusal: found.refusal,
+            refusal: agreement.refusal,
             verdict: Verdict::WrongLine(0),
         };
     }
-    let octets = found.octets;
-    if found.same {
+    let octets = agreement.octets;
+    if agreement.same {
         return SampleVerdict {
             refusal: NONE,
             verdict: Verdict::Agrees,

@@ -1,4 +1,4 @@
--- The decimal digits that stand at a place of octets, and their number as 64 bits hold it. Assumes nothing.
+-- The decimal digits at an offset of octets, and their value, at most the greatest number of 64 bits. Assumes nothing.
 use Prim.Native.Nat.{ℕ, suc, _+_, _-_, _^_, _<_, min}
 use mathlib.Core.Bool.{Bool, cond, _&&_}
 use mathlib.Core.List.{List, [], _∷_, _++_}
@@ -17,11 +17,11 @@ unfoldable pub digitCount : List ℕ → ℕ
 digitCount [] = 0
 digitCount (o ∷ t) = cond (digit o) (suc (digitCount t)) 0
 
--- these digits
+-- the digits that a text begins with
 abbrev pub leading : List ℕ → List ℕ
 leading t = take (digitCount t) t
 
--- the number of these digits, 0 if there are none
+-- the value of these digits, 0 if there are none
 abbrev pub leadingValue : List ℕ → ℕ
 leadingValue t = decimalValue (leading t)
 
@@ -29,11 +29,11 @@ leadingValue t = decimalValue (leading t)
 abbrev pub wordMost : ℕ
 wordMost = 2 ^ 64 - 1
 
--- the digits that stand from a place on: where they end, and their number, or the greatest of 64 bits where it is greater
-abbrev pub numberAt : ℕ → List ℕ → Number
+-- the digits from offset `at` on: the offset after the last one, and their value, at most `wordMost`
+abbrev pub numberAt : (at : ℕ) → List ℕ → Number
 numberAt at os = record { end = at + digitCount (drop at os); value = min (leadingValue (drop at os)) wordMost }
 
--- a number of 64 bits in decimal reads back as itself wherever it stands with no digit after it
+-- a number of 64 bits in decimal reads back as itself wherever it stands, if no digit follows it
 abbrev pub ReadsBack : Type 0
 ReadsBack =
     (n : ℕ) (earlier later : List ℕ) → n < 2 ^ 64 → digitCount later ≡ 0

@@ -1,4 +1,4 @@
-// The decimal digits of a number of 64 bits as ASCII octets, written into lent memory; module `reading` reads them.
+// The decimal digits of a number of 64 bits as ASCII octets, written into the caller's buffer; module `reading` reads them.
 ghost use mathlib.Core.Path.{_≡_};
 ghost use Prim.Native.Nat.{_+_, _%_, _≤_};
 ghost use lib.ListN.{length};
@@ -7,7 +7,7 @@ ghost use Rattle.decimal.specs.Decimal.{decimalOf};
 
 pub mod reading;
 
-// How many digits a number has, 1 to 20: four are cut off at a time.
+// How many digits v has, 1 to 20. Four are cut off at a time.
 pub fn count(v: u64) -> usize
     ensures { λ r. ⌜ r ≡ length (decimalOf v) ⌝ }
 {
@@ -29,7 +29,7 @@ pub fn count(v: u64) -> usize
     cut + 4
 }
 
-// The last digit of a number, as an ASCII octet.
+// The last digit of n, as an ASCII octet.
 fn last_digit(n: u64) -> u8
     ensures { λ r. ⌜ r ≡ 48 + n % 10 ⌝ }
 {
@@ -56,7 +56,7 @@ fn write_decimal(out: &mut [u8], at: usize, n: usize, v: u64)
     }
 }
 
-// Writes the digits of `v` from `at` on if there is room for all of them, and answers how many there are.
+// Writes the digits of `v` from `at` on if there is room for all of them; returns how many there are.
 pub fn put_decimal(out: &mut [u8], at: usize, v: u64) -> usize
     ensures { λ r. ⌜ (r ≡ length (decimalOf v)) × (now (out .exit) ≡ put at (decimalOf v) (now (out .entry))) ⌝ }
 {

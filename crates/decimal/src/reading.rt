@@ -1,5 +1,5 @@
-// Decimal digits read from octets. Their number is exact as far as 64 bits hold it, and is the greatest number of 64 bits
-// from there on, so any number of digits is taken.
+// Decimal digits read from octets. Their value is exact up to the greatest number of 64 bits, and stays there with every
+// further digit. So any number of digits is read.
 ghost use mathlib.Core.Path.{_≡_};
 ghost use Prim.Native.Nat.{_+_, _*_, _-_, _≤_, min};
 ghost use Rattle.decimal.specs.Reading.{digit, wordMost, numberAt, ReadsBack};
@@ -7,10 +7,10 @@ ghost use Rattle.decimal.specs.Reading.{digit, wordMost, numberAt, Reads
 // The greatest number of 64 bits.
 const WORD_MOST: u64 = 18_446_744_073_709_551_615;
 
-// The greatest number of which ten times fit 64 bits.
+// The greatest number whose tenfold fits 64 bits.
 const TENS_MOST: u64 = 1_844_674_407_370_955_161;
 
-// Digits: where they end, and their number, or the greatest of 64 bits where it is greater.
+// Digits that were read: the offset after the last one, and their value, at most `WORD_MOST`.
 pub struct Number {
     pub end: usize,
     pub value: u64,
@@ -26,7 +26,7 @@ fn is_digit(octet: u8) -> bool
     octet <= 57
 }
 
-// A number and one digit more.
+// `value` with the digit `octet` appended, at most `WORD_MOST`.
 fn with_digit(value: u64, octet: u8) -> u64
     requires { ⌜ (48 ≤ octet) × (octet ≤ 57) ⌝ }
     ensures { λ r. ⌜ r ≡ min (value * 10 + (octet - 48)) wordMost ⌝ }
@@ -42,7 +42,7 @@ fn with_digit(value: u64, octet: u8) -> u64
     tens + last
 }
 
-// The digits that stand from a place on, and their number; where none stands, they end there and the number is 0.
+// Reads the digits from offset `at` on. Where there are none, the end is `at` and the value 0.
 pub fn number_at(s: &[u8], at: usize) -> Number
     ensures { λ r. ⌜ r ≡ numberAt at (now (s .entry)) ⌝ }
     ensures back { λ _. ⌜ ReadsBack ⌝ }

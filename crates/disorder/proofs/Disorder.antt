@@ -1,10 +1,10 @@
 -- The total of disorder. With every payload size 1 a byte offset is how many numbers before it are greater (`offset-higher`), none for a
--- packet in order (`higher-next`), and so many pairs in the wrong order are added by one first arrival more at the end (`wrong-snoc`); so
--- the sum of the byte offsets is the number of these pairs (`sum-wrong`, by induction over the arrivals from the end). That number is the
--- least number of exchanges of neighbours that puts first arrivals in rising order (`wrong-least`). Fewer do not: an exchange changes the
--- order of one pair alone, so it takes at most one from the wrong ones (`exchange-wrong`), and in rising order there is none
--- (`rising-none`). So many do: from the last arrival on, each passes those of a smaller number in the rising order of the arrivals behind
--- it (`insert`), and these are its wrong pairs (`sort`); for that the numbers of first arrivals differ (`firsts-differ`).
+-- packet in order (`higher-next`). The next first arrival adds as many pairs in the wrong order (`wrong-snoc`). So the sum of the byte
+-- offsets is the number of these pairs (`sum-wrong`, by induction over the arrivals from the end). That number is the least number of
+-- exchanges of neighbours that puts first arrivals in rising order (`wrong-least`). Fewer do not: an exchange changes the order of one
+-- pair alone, so it takes at most one from the wrong ones (`exchange-wrong`), and in rising order there is none (`rising-none`). That
+-- number suffices: from the last arrival on, each passes those of a smaller number in the rising order of the arrivals behind it
+-- (`insert`), and these are its wrong pairs (`sort`). For that the numbers of first arrivals differ (`firsts-differ`).
 -- Here l and m are arrivals before and after an exchange, a and b two of them, fs first arrivals, s a number, p a test and n how many
 -- exchanges. Assumes nothing.
 use Prim.Native.Nat.{ℕ, suc, _+_, _≤_, _<_}
@@ -241,7 +241,7 @@ rising-none (a ∷ l) h = omega (arith, wrong-cons a l, lower-none a l (rising-a
 
 -- ---- a way to rising order
 
--- arrivals reach rising order by so many exchanges
+-- arrivals reach rising order by n exchanges
 record Sorted (n : ℕ) (l : List Arrival) : Type 0 where
   order : List Arrival
   rises : Rising order

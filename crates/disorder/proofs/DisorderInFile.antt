@@ -3,8 +3,8 @@
 -- arrival is a first one the table of packets tells (`firsts-seen`). And with sizes of 1 the total is the sum of byte offsets
 -- (`sums-offsets`), since each arrival's packet has one of the sizes.
 -- Here fs are the first arrivals, a the next one, p how many there are, how many of their pairs are wrong and a number that none is
--- above, k the greatest number for which the tree has a place, d the decoded file, y its layout, i the records before, n the number of record i + 1, and a prime marks the tree after it.
--- Assumes nothing.
+-- above, k the greatest number for which the tree has a place, d the decoded file, y its layout, i the records before, n the number of
+-- record i + 1, and a prime marks the tree after it. Assumes nothing.
 use mathlib.Core.Path.{_≡_, refl, sym, ap, _∙_}
 use mathlib.Core.Bool.{Bool, true, false, cond}
 use mathlib.Core.List.{List, [], _∷_, _++_}

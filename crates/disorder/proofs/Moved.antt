@@ -1,5 +1,5 @@
--- Moving the clock by c changes no total of disorder: the first arrivals of moved arrivals are the moved ones (rfc4737's `firsts-moved`), and a
--- pair is wrong by its numbers alone (`wrong-moved`, by induction over the arrivals). Here fs are first arrivals, s is the sample.
+-- Moving the clock by c changes no total of disorder: the first arrivals of moved arrivals are the moved ones (rfc4737's `firsts-moved`),
+-- and a pair is wrong by its numbers alone (`wrong-moved`, by induction over the arrivals). Here fs are first arrivals, s is the sample.
 -- Assumes nothing.
 use Prim.Native.Nat.{ℕ, _+_}
 use native.Mathlib.Omega.{arith}

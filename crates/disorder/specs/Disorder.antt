@@ -1,5 +1,5 @@
--- Disorder of arrivals: pairs that came in the wrong order, the sum of the byte offsets, exchanges of neighbours, and the
--- least number of them. Assumes nothing.
+-- Disorder of arrivals: pairs that came in the wrong order, the sum of the byte offsets, and the least number of exchanges of neighbours.
+-- Assumes nothing.
 use Prim.Native.Nat.{ℕ, suc, _+_, _≤_, _<_}
 use mathlib.Core.Path.{_≡_}
 use mathlib.Core.Bool.{Bool}
@@ -11,7 +11,7 @@ use Rattle.rfc4737.specs.declared.Answer.the-variants.{Duplicate, InOrder, Reor
 use Rattle.rfc4737.specs.Arrivals.{firsts, count}
 use Rattle.rfc4737.specs.Answer.{answers}
 
--- the byte offset of an answer: that of a reordered packet; no other has one
+-- the byte offset of an answer: that of a reordered packet, else 0
 abbrev pub offsetIn : Answer → ℕ
 offsetIn (Duplicate d) = 0
 offsetIn (InOrder d) = 0
@@ -39,12 +39,12 @@ pub data Exchange : List Arrival → List Arrival → Type 0 where
   here : {a b : Arrival} {l : List Arrival} → Exchange (a ∷ b ∷ l) (b ∷ a ∷ l)
   after : {a : Arrival} {l m : List Arrival} → Exchange l m → Exchange (a ∷ l) (a ∷ m)
 
--- the last list comes of the first by this number of exchanges of neighbours, whichever they are
+-- the last list comes of the first by n exchanges of neighbours, whichever they are
 pub data Exchanges : ℕ → List Arrival → List Arrival → Type 0 where
   none : {l : List Arrival} → Exchanges 0 l l
   one : {n : ℕ} {k l m : List Arrival} → Exchange k l → Exchanges n l m → Exchanges (suc n) k m
 
--- the numbers rise: each is less than that after it
+-- the numbers rise: each is less than the next
 abbrev pub Rising : List Arrival → Type 0
 Rising [] = Unit
 Rising (a ∷ []) = Unit

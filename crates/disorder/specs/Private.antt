@@ -1,4 +1,5 @@
--- What private functions say to each other, which no public contract reaches: the pairs of some first arrivals, and the tree that counts them. Assumes nothing.
+-- Definitions for the contracts of private functions, which no public contract reaches: the pairs of some first arrivals, and the tree that
+-- counts them. Assumes nothing.
 use mathlib.Core.Path.{_≡_}
 use mathlib.Core.List.{List}
 use Prim.Native.Nat.{ℕ, _+_, _*_, _≤_, _<_}
@@ -10,7 +11,7 @@ use Rattle.disorder.specs.Disorder.{wrongPairs}
 use Rattle.sums.specs.Tree.{Summed}
 use Rattle.disorder.specs.declared.pairs.Pairs.{Pairs}
 
--- a tree with a place for each of k packets, and the pairs of some first arrivals
+-- a tree with an index for each of k packets, and the pairs of the first arrivals fs
 pub record PairTree (k : ℕ) (fs : List Arrival) (tree : List ℕ) (p : Pairs) : Type 0 where
   pub places : length tree ≡ k + 1
   pub summed : Summed (byteOffset (λ _. 1) fs) tree
@@ -20,7 +21,7 @@ pub record PairTree (k : ℕ) (fs : List Arrival) (tree : List ℕ) (p : Pairs) 
   pub small : p .wrong ≤ arrivalsMost * p .count
   pub above : (s : ℕ) → p .greatest ≤ s → byteOffset (λ _. 1) fs s ≡ 0
 
--- of fewer than 4,096
+-- the pairs of fewer than 4,096 first arrivals
 pub record FewPairs (tree : List ℕ) (p : Pairs) : Type 0 where
   pub k : ℕ
   pub fs : List Arrival

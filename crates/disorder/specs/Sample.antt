@@ -13,11 +13,11 @@ use Rattle.metrics.specs.Sample.{sampleArrivals, answersOf}
 use Rattle.disorder.specs.Disorder.{offsetSum, wrongPairs}
 use Rattle.disorder.specs.declared.SampleDisorder.{SampleDisorder}
 
--- the total of disorder: how many pairs of first arrivals came in the wrong order, whatever the payload sizes
+-- the total of disorder: the number of pairs of first arrivals that came in the wrong order, whatever the payload sizes
 unfoldable pub disorderOf : Decoded → ℕ
 disorderOf d = wrongPairs (firsts (sampleArrivals d))
 
--- the answer of the call; with a refusal 0
+-- the answer of the call; with a refusal the total is 0
 unfoldable pub sampleDisorder : Decoded → SampleDisorder
 sampleDisorder d = record { refusal = decodedRefusal d; total = disorderOf d }
 
@@ -25,7 +25,7 @@ sampleDisorder d = record { refusal = decodedRefusal d; total = disorderOf d }
 abbrev pub SumsOffsets : Decoded → Type 0
 SumsOffsets d = sampleOf d .sizes ≡ replicate (length (sampleOf d .sizes)) 1 → offsetSum (answersOf d) ≡ disorderOf d
 
--- moving the clock: the call answers of the moved sample's file as of the file, where no time passes the field's range
+-- moving the clock: the answer for the moved sample's file is that for the file, if no time passes the field's range
 abbrev pub DisorderMoved : List ℕ → Type 0
 DisorderMoved file =
     (s : Sample) (c : ℕ) → decode file ≡ accepted s → Below (2 ^ 64) (timesOf (movedSample c s .arrivals))

@@ -12,17 +12,17 @@ ghost use Rattle.disorder.specs.Private.{PairTree, FewPairs};
 use rfc4737::judge::SENT_MOST;
 use sample::Layout;
 
-// The places: the packet numbers, and 0, which is not used.
-const PLACES: usize = SENT_MOST as usize + 1;
+// The length of a table by packet number; index 0 is not used.
+const PACKET_TABLE_LEN: usize = SENT_MOST as usize + 1;
 
-// How many first arrivals there are, how many pairs of them came in the wrong order, and their greatest number.
+// The number of first arrivals, how many pairs of them came in the wrong order, and their greatest sequence number.
 pub(crate) struct Pairs {
     pub count: u32,
     pub wrong: u32,
     pub greatest: u32,
 }
 
-// Of no arrivals.
+// The pairs of no arrivals.
 fn no_pairs() -> Pairs
     ensures { λ r. ⌜ r ≡ record { count = 0; wrong = 0; greatest = 0 } ⌝ }
 {
@@ -33,8 +33,8 @@ fn no_pairs() -> Pairs
     }
 }
 
-// Of one arrival more, whose packet has arrived or not: it is in a wrong pair with each greater number. The tree is not asked
-// for a number above all before it.
+// The pairs after the next arrival, where `arrived` says that its packet arrived before. A first arrival is in a wrong pair with each
+// greater number that came before it. For a number above all of these the tree is not asked.
 fn pairs_after(counts: &mut [u32], arrived: bool, number: u32, p: Pairs) -> Pairs
     requires { ⌜ (1 ≤ number) × (number < length (now counts)) × FewPairs (now counts) p ⌝ }
     ensures { λ r. ⌜ ((k : ℕ) (fs : List Arrival) (a : Arrival) → a .number ≡ number → PairTree k fs (now (counts .entry)) p
@@ -60,16 +60,16 @@ fn pairs_after(counts: &mut [u32], arrived: bool, number: u32, p: Pairs) -> Pair
     }
 }
 
-// The total of disorder of a sample, by a tree of zeros with a place for each packet number.
-fn disorder_in(file: &[u8], y: Layout, counts: &mut [u32]) -> u32
-    requires { ⌜ FileLayout (decode (now file)) y × (now counts ≡ replicate (y .sent + 1) 0) ⌝ }
+// The total of disorder of a sample, with a tree of zeros that has an index for each packet number.
+fn disorder_in(file: &[u8], layout: Layout, counts: &mut [u32]) -> u32
+    requires { ⌜ FileLayout (decode (now file)) layout × (now counts ≡ replicate (layout .sent + 1) 0) ⌝ }
     ensures { λ r. ⌜ r ≡ disorderOf (decode (now (file .entry))) ⌝ }
 {
-    let mut seen = [false; PLACES];
+    let mut seen = [false; PACKET_TABLE_LEN];
     let mut p = no_pairs();
     let mut i: u32 = 0;
-    while i < y.arrivals {
-        let number = sample::arrival(file, y, i).number;
+    while i < layout.arrivals {
+        let number = sample::arrival(file, layout, i).number;
         let at = number as usize;
         let arrived = seen[at];
         p = pairs_after(counts, arrived, number, p);
@@ -79,13 +79,13 @@ fn disorder_in(file: &[u8], y: Layout, counts: &mut [u32]) -> u32
     p.wrong
 }
 
-// The total of disorder of a sample. The tree ends at K, so that few packets take few steps.
-pub(crate) fn disorder_of(file: &[u8], y: Layout) -> u32
-    requires { ⌜ FileLayout (decode (now file)) y ⌝ }
+// The total of disorder of a sample. The tree ends at K, so that few packets cost few steps.
+pub(crate) fn disorder_of(file: &[u8], layout: Layout) -> u32
+    requires { ⌜ FileLayout (decode (now file)) layout ⌝ }
     ensures { λ r. ⌜ r ≡ disorderOf (decode (now (file .entry))) ⌝ }
 {
-    let mut counts = [0u32; PLACES];
-    let places = y.sent as usize + 1;
+    let mut counts = [0u32; PACKET_TABLE_LEN];
+    let places = layout.sent as usize + 1;
     let tree = &mut counts[..places];
-    disorder_in(file, y, tree)
+    disorder_in(file, layout, tree)
 }

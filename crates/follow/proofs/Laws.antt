@@ -1,26 +1,27 @@
--- Laws of the text of a line and of the call's answer. A late time has a minus only if it is before by more than 0 (`after-amount`, `before-none`,
--- `before-some`). What is written of a refusal's words are the words, or nothing where there are none (`words-read`). A line is refused or
--- not (`arrival-none`, `arrival-some`, `followed-refused`, `followed-step`), and so is its arrival (`outcome-refused`, `outcome-noted`). The
--- call's text has room or not (`line-short`, `line-written`).
--- Here r is a receiver, l a line, read what is read of it, s the step, n the octets of the text in `new`, out the lent octets. Assumes nothing.
+-- Laws of the text of a line and of the call's answer. A late time has a minus only if it is before by more than 0 (`after-amount`,
+-- `before-none`, `before-some`). What is written of a refusal's words are the words, or nothing where there are none (`words-read`). A line
+-- is refused or not (`arrival-none`, `arrival-some`, `followed-refused`, `followed-step`), and so is its arrival (`outcome-refused`,
+-- `outcome-noted`). The call's text has room or not (`line-short`, `line-written`), and so has the text of the counts (`counts-short`,
+-- `counts-written`). Here r is a receiver, l a line, read what is read of it, s the step, n the octets of the text in `new`, out the lent
+-- octets. Assumes nothing.
 use Prim.Native.Nat.{ℕ, _+_, _≤_, _<_}
 use native.Mathlib.Omega.{arith}
-use mathlib.Core.Path.{_≡_, refl, sym, ap, subst, _∙_}
-use mathlib.Core.Bool.{Bool, true, false, true≢false, not, cond, _&&_}
+use mathlib.Core.Path.{_≡_, refl, sym, ap, _∙_}
+use mathlib.Core.Bool.{Bool, true, false, true≢false, not, _&&_}
 use mathlib.Core.List.{List, [], _∷_, _++_}
-use borrow.Author.Tests.{eq-eqb, ne-eqb, lt-ltb, le-ltb, leb-true, leb-false}
+use borrow.Author.Tests.{eq-eqb, ne-eqb, lt-ltb, le-ltb, leb-false}
 use lib.Dec.{leb, ltb}
 use lib.ListN.{length, getD, take, List·getD-eq-default}
 use Rattle.octets.specs.Text.{ascii}
 use Rattle.octets.specs.Memory.{put}
-use Rattle.octets.proofs.Memory.{over-first, put-none}
+use Rattle.octets.proofs.Memory.{over-first, put-none, put-over}
 use Rattle.decimal.specs.Decimal.{decimalOf}
 use Rattle.rfc4737.specs.declared.LateTime.the-variants.{After, Before}
-use Rattle.rfc4737.specs.Refusals.{outside, inCase, firstOf, askedOutside, outputShort}
+use Rattle.rfc4737.specs.Refusals.{outside, refusalIf, firstRefusal, askedOutside, outputShort}
 use Rattle.listing.specs.Lines.{lateTime}
 use Rattle.sample.specs.declared.WriteAnswer.{WriteAnswer}
 use Rattle.sample.specs.Output.{ifNone, Output}
-use Rattle.sample.proofs.Output.{output-whole}
+use Rattle.sample.proofs.Output.{output-whole, output-short, output-written}
 use Rattle.refusals.specs.Words.{allWords, wordsOf, askedRefusal, WordsFit}
 use Rattle.receiver.specs.declared.Outcome.{Outcome}
 use Rattle.receiver.specs.declared.Receiver.{Receiver}
@@ -28,9 +29,9 @@ use Rattle.receiver.specs.declared.StepAnswer.{StepAnswer}
 use Rattle.receiver.specs.Outcomes.{refusedOutcome}
 use Rattle.receiver.specs.Step.{stepOf}
 use Rattle.textlog.specs.declared.LogLine.{LogLine}
+use Rattle.writing.specs.Numbers.{between}
 use Rattle.writing.specs.Parts.{Written, joined}
-use Rattle.follow.specs.declared.FollowAnswer.{FollowAnswer}
-use Rattle.follow.specs.Text.{field, arrivalText, notedText, refusalText, outcomeText, lineText, lineOctets}
+use Rattle.follow.specs.Text.{arrivalText, notedText, refusalText, outcomeText, lineText, lineOctets}
 use Rattle.follow.specs.Follow.{followed, followedText, followAnswer, FollowedTo}
 
 -- ---- late times
@@ -70,7 +71,7 @@ words-none n h = go (leb 1 n) refl (leb n 18) refl
 -- and nothing is written of it
 words-refused : (n : ℕ) (old new : List ℕ) (answer : WriteAnswer) → askedRefusal n ≡ 9 → Output (askedRefusal n) (wordsOf n) old answer new → answer .length ≡ 0
 words-refused n old new answer e w =
-    let h : answer .refusal ≡ 9 = w .refusal ∙ ap (λ (own : ℕ). firstOf (own ∷ inCase (ltb (length old) (length (wordsOf n))) outputShort ∷ [])) e in
+    let h : answer .refusal ≡ 9 = w .refusal ∙ ap (λ (own : ℕ). firstRefusal (own ∷ refusalIf (ltb (length old) (length (wordsOf n))) outputShort ∷ [])) e in
     w .octets ∙ ap (λ (refusal : ℕ). ifNone refusal (length (wordsOf n)) 0) h
 
 pub words-read : (n : ℕ) {old new : List ℕ} {answer : WriteAnswer} → Output (askedRefusal n) (wordsOf n) old answer new → WordsFit → length old ≡ 128
@@ -80,14 +81,14 @@ words-read n {old} {new} {answer} w fit room = go (outside 1 18 n) refl
   where
     go : (t : Bool) → outside 1 18 n ≡ t → (answer .length ≤ 128) × ((answer .length ≤ length new) × (take (answer .length) new ≡ wordsOf n))
     go false e =
-        let own : inCase (outside 1 18 n) askedOutside ≡ 0 = rw e refl in
+        let own : refusalIf (outside 1 18 n) askedOutside ≡ 0 = rw e refl in
         let most = fit .most n in
         let h : length (wordsOf n) ≤ length old = omega (arith, most, room) in
         let whole = output-whole (askedRefusal n) (wordsOf n) old w own h in
         let count : answer .length ≡ length (wordsOf n) = ap (λ (a : WriteAnswer). a .length) (whole .0) in
         (omega (arith, count, most), over-first (wordsOf n) old count (whole .1))
     go true e =
-        let own : inCase (outside 1 18 n) askedOutside ≡ 9 = rw e refl in
+        let own : refusalIf (outside 1 18 n) askedOutside ≡ 9 = rw e refl in
         let none : answer .length ≡ 0 = words-refused n old new answer own w in
         (omega (arith, none), (omega (arith, none), rw (none, words-none n e) refl))
 
@@ -98,7 +99,7 @@ unfolding arrivalText
 arrival-none l h = rw (ne-eqb (l .refusal) 0 h) refl
 
 pub arrival-some : (l : LogLine) → l .refusal ≡ 0
-    → joined (field "" (l .number) ∷ field " at " (l .time) ∷ ascii " us: " ∷ []) ≡ arrivalText l
+    → joined (between [] (l .number) (ascii " at ") ∷ between [] (l .time) (ascii " us: ") ∷ []) ≡ arrivalText l
 unfolding arrivalText
 arrival-some l e = rw (eq-eqb (l .refusal) 0 e) refl
 
@@ -157,3 +158,16 @@ module _ (r : Receiver) {l read : LogLine} {s : StepAnswer} {n : ℕ} {old new :
         answered = rw (le-ltb (length out) (length (followedText r l)) k, length-is, step-is) refl;
         filled = ap (λ (xs : List ℕ). put 0 xs out) (w .memory ∙ text-is);
       }
+
+-- ---- the counts
+
+-- a text that is written at the start of memory has no room in out, or it has, and is put there
+module _ {n : ℕ} {xs old new : List ℕ} (w : Written 0 n xs old new) (out : List ℕ) where
+  pub counts-short : length out < n → Output 0 xs out (record { refusal = 8; length = 0 }) out
+  counts-short h = output-short 0 xs out refl (omega (arith, w .place, h))
+
+  pub counts-written : n ≤ length out → Output 0 xs out (record { refusal = 0; length = n }) (put 0 (take n new) out)
+  counts-written h =
+      let k : 0 + length xs ≤ length out = omega (arith, w .place, h) in
+      let e : n ≡ length xs = omega (arith, w .place) in
+      output-written 0 xs out refl (omega (arith, k)) e (ap (λ (l : List ℕ). put 0 l out) (w .memory) ∙ put-over 0 [] xs out refl k)

@@ -15,7 +15,7 @@ use Rattle.textlog.specs.declared.LogLine.{LogLine}
 use Rattle.follow.specs.Text.{lineText}
 use Rattle.follow.specs.declared.FollowAnswer.{FollowAnswer}
 
--- the receiver's step by the arrival of a line; a malformed line is refused, and the receiver stays
+-- the receiver's step by the arrival of a line; a malformed line is refused, and the receiver stays as it was
 unfoldable pub followed : Receiver → LogLine → StepAnswer
 followed r l =
     cond (eqb (l .refusal) 0) (stepOf r (l .number) (l .time)) (record { outcome = refusedOutcome (l .refusal); state = r })
@@ -24,13 +24,13 @@ followed r l =
 unfoldable pub followedText : Receiver → LogLine → List ℕ
 followedText r l = lineText l (followed r l .outcome)
 
--- the answer where the text has room in this number of octets, and where it has none, which is 8
+-- the answer with a buffer of `room` octets; refused with 8 if the text is longer
 unfoldable pub followAnswer : Receiver → LogLine → (room : ℕ) → FollowAnswer
 followAnswer r l room =
     cond (ltb room (length (followedText r l))) (record { refusal = outputShort; length = 0; state = r })
     (record { refusal = followed r l .outcome .refusal; length = length (followedText r l); state = followed r l .state })
 
--- the call's answer, and the lent octets after it: the text stands from the start, if it has room
+-- the call's answer, and the caller's buffer after it: the text stands at its start, if it has room
 pub record FollowedTo (r : Receiver) (l : LogLine) (out : List ℕ) (answer : FollowAnswer) (out′ : List ℕ) : Type 0 where
   pub answered : answer ≡ followAnswer r l (length out)
   pub filled : out′ ≡ put 0 (followedText r l) out

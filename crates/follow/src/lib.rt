@@ -4,7 +4,8 @@ ghost use Prim.Native.Nat.{_≤_};
 ghost use lib.ListN.{length};
 ghost use Rattle.textlog.specs.Decode.{decodeLine};
 ghost use Rattle.textlog.specs.Calls.{logLine};
-ghost use Rattle.follow.specs.Text.{lineOctets};
+ghost use Rattle.sample.specs.Output.{Output};
+ghost use Rattle.follow.specs.Text.{lineOctets, countsText};
 ghost use Rattle.follow.specs.Follow.{followed, followedText, FollowedTo};
 
 mod parts;
@@ -15,11 +16,13 @@ use receiver::Receiver;
 use receiver::ReceiverAnswer;
 use receiver::StepAnswer;
 use rfc4737::refusal::OUTPUT_SHORT;
+use sample::WriteAnswer;
+use text::write_counts;
 use text::write_line;
 use textlog::LogLine;
 use textlog::read_line;
 
-// The octets that suffice for the text of any line.
+// The octets that suffice for the text of any line, and for the counts.
 pub const LINE_OCTETS: usize = 256;
 
 // The answer for a line: its refusal (0 for none), the octets of its text, and the receiver after it.
@@ -44,8 +47,8 @@ fn step_line(state: Receiver, read: LogLine) -> StepAnswer
 }
 
 // Reads one line, steps the receiver by its arrival, and writes what is said of it at the start of `out`, of which LINE_OCTETS octets
-// suffice. A malformed line is refused with 14. Refused, the receiver stays as it was. Where `out` has no room for the text, which is
-// refused with 8, both stay as they were.
+// suffice. A malformed line is refused with 14. With a refusal the receiver stays as it was. If `out` has no room for the text, the refusal
+// is 8, and both stay as they were.
 pub fn line(state: Receiver, line: &[u8], out: &mut [u8]) -> FollowAnswer
     ensures { λ r. ⌜ FollowedTo state (logLine (decodeLine (now (line .entry)))) (now (out .entry)) r (now (out .exit)) ⌝ }
     ensures room { λ _. ⌜ length (followedText state (logLine (decodeLine (now (line .entry))))) ≤ lineOctets ⌝ }
@@ -68,5 +71,27 @@ pub fn line(state: Receiver, line: &[u8], out: &mut [u8]) -> FollowAnswer
         refusal: outcome.refusal,
         length: n as u32,
         state: after,
+    }
+}
+
+// Writes the counts of a receiver at the start of `out`, of which LINE_OCTETS octets suffice. Refused with 8 if `out` has no room for
+// them; then it stays as it was.
+pub fn counts(state: Receiver, out: &mut [u8]) -> WriteAnswer
+    ensures { λ r. ⌜ Output 0 (countsText (state .stream)) (now (out .entry)) r (now (out .exit)) ⌝ }
+    ensures room { λ _. ⌜ length (countsText (state .stream)) ≤ lineOctets ⌝ }
+{
+    let stream = state.stream;
+    let mut text = [0u8; LINE_OCTETS];
+    let n = write_counts(&mut text, stream);
+    if out.len() < n {
+        return WriteAnswer {
+            refusal: OUTPUT_SHORT,
+            length: 0,
+        };
+    }
+    octets::put_octets(out, 0, &text[..n]);
+    WriteAnswer {
+        refusal: 0,
+        length: n as u32,
     }
 }

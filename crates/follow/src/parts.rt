@@ -1,11 +1,11 @@
 // Parts of a text, each written at an offset of a buffer that has room for it. Each function returns the offset after its part.
 ghost use mathlib.Core.Path.{_≡_};
-ghost use mathlib.Core.List.{_++_};
 ghost use Prim.Native.Nat.{_+_, _≤_};
 ghost use lib.ListN.{length};
 ghost use Rattle.decimal.specs.Decimal.{decimalOf};
 ghost use Rattle.listing.specs.Lines.{lateTime};
 ghost use Rattle.refusals.specs.Words.{wordsOf};
+ghost use Rattle.writing.specs.Numbers.{between};
 ghost use Rattle.writing.specs.Parts.{Written};
 use rfc4737::LateTime;
 
@@ -26,16 +26,18 @@ pub(crate) fn write_number(out: &mut [u8], at: usize, v: u64) -> usize
     at + decimal::put_decimal(out, at, v)
 }
 
-// Writes a number after a word of at most 32 octets.
-pub(crate) fn write_field(out: &mut [u8], at: usize, name: &[u8], v: u64) -> usize
-    requires { ⌜ (length (now name) ≤ 32) × (at + 52 ≤ length (now out)) ⌝ }
-    ensures { λ r. ⌜ Written at r (now (name .entry) ++ decimalOf v) (now (out .entry)) (now (out .exit)) × (r ≤ at + length (now (name .entry)) + 20) ⌝ }
+// Writes a number between two words.
+pub(crate) fn write_between(out: &mut [u8], at: usize, before: &[u8], v: u64, after: &[u8]) -> usize
+    requires { ⌜ at + (length (now before) + (20 + length (now after))) ≤ length (now out) ⌝ }
+    ensures { λ r. ⌜ Written at r (between (now (before .entry)) v (now (after .entry))) (now (out .entry)) (now (out .exit))
+        × (r ≤ at + (length (now (before .entry)) + (20 + length (now (after .entry))))) ⌝ }
 {
-    let digits = write_word(out, at, name);
-    write_number(out, digits, v)
+    let number = write_word(out, at, before);
+    let word = write_number(out, number, v);
+    write_word(out, word, after)
 }
 
-// Writes a late time that is before by an amount.
+// Writes a late time that is before its discontinuity by `t`.
 fn write_before(out: &mut [u8], at: usize, t: u64) -> usize
     requires { ⌜ at + 52 ≤ length (now out) ⌝ }
     ensures { λ r. ⌜ Written at r (lateTime (LateTime.Before t)) (now (out .entry)) (now (out .exit)) × (r ≤ at + 21) ⌝ }
@@ -43,7 +45,8 @@ fn write_before(out: &mut [u8], at: usize, t: u64) -> usize
     if t == 0 {
         return write_number(out, at, t);
     }
-    write_field(out, at, b"-", t)
+    let amount = write_word(out, at, b"-");
+    write_number(out, amount, t)
 }
 
 // Writes a late time.

@@ -1,16 +1,18 @@
 // The text of a line, written into a buffer that has room for it. Each function returns the offset after its part.
 ghost use mathlib.Core.Path.{_≡_};
-ghost use Prim.Native.Nat.{_+_, _≤_};
+ghost use Prim.Native.Nat.{_+_, _-_, _≤_};
 ghost use lib.ListN.{length};
 ghost use Rattle.writing.specs.Parts.{Written};
-ghost use Rattle.follow.specs.Text.{arrivalText, inOrderText, exactText, beyondText, notedText, refusalText, outcomeText, lineText};
-use crate::parts::write_field;
+ghost use Rattle.follow.specs.Text.{arrivalText, exactText, notedText, refusalText, outcomeText, lineText};
+ghost use Rattle.follow.specs.Text.{acceptedText, runsText, countsText};
+use crate::parts::write_between;
 use crate::parts::write_late;
 use crate::parts::write_word;
 use crate::parts::write_words;
 use receiver::Lateness;
 use receiver::Outcome;
 use receiver::ReceiverAnswer;
+use receiver::Stream;
 use textlog::LogLine;
 
 // Writes the arrival of a line that is not refused.
@@ -21,18 +23,8 @@ fn write_arrival(out: &mut [u8], at: usize, read: LogLine) -> usize
     if read.refusal != 0 {
         return at;
     }
-    let one = write_field(out, at, b"", read.number as u64);
-    let two = write_field(out, one, b" at ", read.time);
-    write_word(out, two, b" us: ")
-}
-
-// Writes an in-order packet.
-fn write_in_order(out: &mut [u8], at: usize, jump: u32) -> usize
-    requires { ⌜ at + 100 ≤ length (now out) ⌝ }
-    ensures { λ r. ⌜ Written at r (inOrderText jump) (now (out .entry)) (now (out .exit)) × (r ≤ at + 100) ⌝ }
-{
-    let one = write_field(out, at, b"in order, jump ", jump as u64);
-    write_word(out, one, b"\n")
+    let one = write_between(out, at, b"", read.number as u64, b" at ");
+    write_between(out, one, b"", read.time, b" us: ")
 }
 
 // Writes a reordered packet with exact extent and late time.
@@ -41,19 +33,9 @@ fn write_exact(out: &mut [u8], at: usize, l: Lateness) -> usize
     ensures { λ r. ⌜ Written at r (exactText l) (now (out .entry)) (now (out .exit)) × (r ≤ at + 100) ⌝ }
 {
     let late = l.late;
-    let one = write_field(out, at, b"late by ", l.extent as u64);
-    let two = write_word(out, one, b" packets, ");
-    let three = write_late(out, two, late);
-    write_word(out, three, b" us\n")
-}
-
-// Writes a packet that is late beyond the window.
-fn write_beyond(out: &mut [u8], at: usize, l: Lateness) -> usize
-    requires { ⌜ at + 100 ≤ length (now out) ⌝ }
-    ensures { λ r. ⌜ Written at r (beyondText l) (now (out .entry)) (now (out .exit)) × (r ≤ at + 100) ⌝ }
-{
-    let one = write_field(out, at, b"late by more than ", l.extent as u64);
-    write_word(out, one, b" packets, beyond the window\n")
+    let one = write_between(out, at, b"late by ", l.extent as u64, b" packets, ");
+    let two = write_late(out, one, late);
+    write_word(out, two, b" us\n")
 }
 
 // Writes what is noted of an arrival.
@@ -63,9 +45,17 @@ fn write_noted(out: &mut [u8], at: usize, noted: ReceiverAnswer) -> usize
 {
     match noted {
         ReceiverAnswer::Duplicate => write_word(out, at, b"copy\n"),
-        ReceiverAnswer::InOrder(jump) => write_in_order(out, at, jump),
+        ReceiverAnswer::InOrder(jump) => {
+            write_between(out, at, b"in order, jump ", jump as u64, b"\n")
+        }
         ReceiverAnswer::Exact(l) => write_exact(out, at, l),
-        ReceiverAnswer::Beyond(l) => write_beyond(out, at, l),
+        ReceiverAnswer::Beyond(l) => write_between(
+            out,
+            at,
+            b"late by more than ",
+            l.extent as u64,
+            b" packets, beyond the window\n",
+        ),
     }
 }
 
@@ -74,10 +64,9 @@ fn write_refusal(out: &mut [u8], at: usize, refusal: u32) -> usize
     requires { ⌜ at + 180 ≤ length (now out) ⌝ }
     ensures { λ r. ⌜ Written at r (refusalText refusal) (now (out .entry)) (now (out .exit)) × (r ≤ at + 180) ⌝ }
 {
-    let one = write_field(out, at, b"refused ", refusal as u64);
-    let two = write_word(out, one, b": ");
-    let three = write_words(out, two, refusal);
-    write_word(out, three, b"\n")
+    let one = write_between(out, at, b"refused ", refusal as u64, b": ");
+    let two = write_words(out, one, refusal);
+    write_word(out, two, b"\n")
 }
 
 // Writes what is said of an arrival.
@@ -99,4 +88,46 @@ pub(crate) fn write_line(out: &mut [u8], read: LogLine, outcome: Outcome) -> usi
 {
     let one = write_arrival(out, 0, read);
     write_outcome(out, one, outcome)
+}
+
+// The reordered packets of `arrived` first arrivals, of which `inorder` are in order.
+fn reordered(arrived: u32, inorder: u32) -> u64
+    ensures { λ r. ⌜ r ≡ arrived - inorder ⌝ }
+{
+    if arrived < inorder {
+        return 0;
+    }
+    (arrived - inorder) as u64
+}
+
+// Writes the counts of the arrivals.
+fn write_accepted(out: &mut [u8], at: usize, arrived: u32, inorder: u32, copies: u32) -> usize
+    requires { ⌜ at + 160 ≤ length (now out) ⌝ }
+    ensures { λ r. ⌜ Written at r (acceptedText arrived inorder copies) (now (out .entry)) (now (out .exit)) × (r ≤ at + 135) ⌝ }
+{
+    let accepted = arrived as u64 + copies as u64;
+    let late = reordered(arrived, inorder);
+    let one = write_between(out, at, b"accepted ", accepted, b", in order ");
+    let two = write_between(out, one, b"", inorder as u64, b", reordered ");
+    let three = write_between(out, two, b"", late, b", copies ");
+    write_between(out, three, b"", copies as u64, b", closed runs ")
+}
+
+// Writes the counts of the runs.
+fn write_runs(out: &mut [u8], at: usize, closed: u32, current: u32) -> usize
+    requires { ⌜ at + 120 ≤ length (now out) ⌝ }
+    ensures { λ r. ⌜ Written at r (runsText closed current) (now (out .entry)) (now (out .exit)) × (r ≤ at + 120) ⌝ }
+{
+    let one = write_between(out, at, b"", closed as u64, b", open run ");
+    write_between(out, one, b"", current as u64, b"\n")
+}
+
+// Writes the counts of a stream at the start of `out`.
+pub(crate) fn write_counts(out: &mut [u8], stream: Stream) -> usize
+    requires { ⌜ 256 ≤ length (now out) ⌝ }
+    ensures { λ r. ⌜ Written 0 r (countsText stream) (now (out .entry)) (now (out .exit)) × (r ≤ 256) ⌝ }
+{
+    let runs = stream.runs;
+    let one = write_accepted(out, 0, stream.arrived, stream.inorder, stream.duplicates);
+    write_runs(out, one, runs.closed, runs.current)
 }

@@ -1,5 +1,6 @@
--- What it says of K and the lists that nothing is refused: from `orderRefusal ≡ 0` each test of the judge in turn, last the rooms (`accepted`);
--- the arrivals have the numbers of the list of numbers, so what the judge says of theirs holds of the list. With a refusal lent memory stays.
+-- What holds of K and the lists where nothing is refused: from `orderRefusal ≡ 0` each test of the judge in turn, last the lengths of both
+-- lists (`accepted`). The arrivals have the numbers of the list of numbers, so what the judge says of theirs holds of the list. With a
+-- refusal the caller's lists stay.
 -- Here ns, ts, ls, ms and os are the five lists, f and u the places for flags and for usable values, r is a refusal. Assumes nothing.
 use Prim.Native.Nat.{ℕ, zero, suc, _≤_, _<_}
 use native.Mathlib.Omega.{arith}
@@ -10,7 +11,7 @@ use borrow.Author.Tests.{eqb-true, not-false, ltb-false}
 use lib.Dec.{ltb, eqb}
 use lib.ListN.{length}
 use Rattle.octets.specs.Memory.{over}
-use Rattle.rfc4737.specs.Refusals.{inCase, sentOutside, manyArrivals, listsDiffer, outputShort}
+use Rattle.rfc4737.specs.Refusals.{refusalIf, sentOutside, manyArrivals, listsDiffer, outputShort}
 use Rattle.rfc4737.specs.Judge.{judgeSent, judgeArrivals, sentMost, arrivalsMost}
 use Rattle.sample.specs.Output.{ifNone}
 use Rattle.rfc4737.proofs.Due.{each-none, case-none, limit-none}
@@ -44,7 +45,7 @@ unfolding orderRefusal
 accepted k ns ts ls ms os f u e =
     let same : Bool = sameLengths (length ns) (length ts) (length ls) (length ms) (length os) in
     let short : Bool = ltb f (length ns) || ltb u (length ns) in
-    let r = each-none (judgeSent k ∷ judgeArrivals (length ns) ∷ inCase (not same) listsDiffer ∷ judgePieces k (piecesOf ns ts ls ms os) ∷ inCase short outputShort ∷ []) e in
+    let r = each-none (judgeSent k ∷ judgeArrivals (length ns) ∷ refusalIf (not same) listsDiffer ∷ judgePieces k (piecesOf ns ts ls ms os) ∷ refusalIf short outputShort ∷ []) e in
     let sent = limit-none 1 sentMost k sentOutside (omega arith) (r 0) in
     let many = limit-none 0 arrivalsMost (length ns) manyArrivals (omega arith) (r 1) in
     let rooms = neither (ltb f (length ns)) (ltb u (length ns)) (case-none short outputShort (omega arith) (r 4)) in
@@ -62,7 +63,7 @@ accepted k ns ts ls ms os f u e =
       usedRoom = ltb-false u (length ns) (rooms .1);
     }
 
--- with a refusal lent memory stays
+-- with a refusal the caller's lists stay
 pub refused-over : (r : ℕ) (xs old : List ℕ) → (r ≡ 0 → ⊥) → old ≡ ifNone r (over xs old) old
 refused-over zero xs old n = absurd (n refl)
 refused-over (suc r) xs old n = refl

@@ -1,4 +1,5 @@
--- The tables of small lists, their flags, usable values and refusals, each by computation of the definitions that it opens. Assumes nothing.
+-- The tables of small lists, their flags, usable values and refusals, each by computation of the definitions that it opens. Assumes
+-- nothing.
 use mathlib.Core.Path.{refl}
 use mathlib.Core.List.{flatten}
 use Rattle.rfc4737.specs.Arrivals.{each, eachAfter}

@@ -1,5 +1,5 @@
--- Copies by marks. An arrival is a copy exactly if an earlier one has its number, offset and length, or both are whole packets of one number (`copy-split`). The first
--- is its mark, the second what was seen of whole packets (`copy-here`).
+-- Copies by marks. An arrival is a copy exactly if an earlier one has its number, offset and length, or both are whole packets of one
+-- number (`copy-split`). The first is its mark, the second what was seen of whole packets (`copy-here`).
 -- Here l are arrivals, a and b single ones, p and q tests. Assumes nothing.
 use Prim.Native.Nat.{ℕ}
 use mathlib.Core.Bool.{Bool, true, false, cond, not, _&&_, _||_}

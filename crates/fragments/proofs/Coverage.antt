@@ -1,8 +1,8 @@
--- One pass over a packet's arrivals in the order of their starts finds the first octet that is not covered. run has the places of its arrivals in l, in
--- that order; r is covered up to, and none of the first j has the octet r (`OnePass`). The next one, a, takes r to its end if it has the octet r
--- (`pass-next`): an earlier one starts no later than a, so by r, and does not have r, so it ends by r and has no later octet (`no-later`).
--- All are passed in the end, and no other arrival is of the packet (`pass-done`). The search for a last fragment that ends by r goes through them from
--- the end (`Unended`). A whole packet among them settles it (`whole-found`).
+-- One pass over a packet's arrivals in the order of their starts finds the first octet that is not covered. `run` has the places of its
+-- arrivals in l, in that order. It is covered up to r, and none of the first j has the octet r (`OnePass`). The next one, a, takes r to its
+-- end if it has the octet r (`pass-next`). An earlier one starts no later than a, so by r, and does not have r. So it ends by r and has no
+-- later octet (`no-later`). All are passed in the end, and no other arrival is of the packet (`pass-done`). The search for a last fragment
+-- that ends by r goes through them from the end (`Unended`). A whole packet among them settles it (`whole-found`).
 -- Here l are the arrivals, s is the packet, o an octet, r the reach, d an earlier arrival, j and m places in the run. Assumes nothing.
 use Prim.Native.Nat.{ℕ, _+_, _-_, _≤_, _<_}
 use native.Mathlib.Omega.{arith}

@@ -1,6 +1,6 @@
--- Arrivals judged in turn. What `each` gives at place i is its function of the arrivals before and the arrival there (`each-at`), so the loop
--- finds at i the refusal of a by the reference (`refusal-here`), which is the greatest time before it (past). Where no refusal is due none is
--- at any place, so every number lies in 1 to k (`numbered`).
+-- Arrivals judged in turn. What `each` gives at place i is its function of the arrivals before and the arrival there (`each-at`). So the
+-- loop finds at i the refusal of a by the reference (`refusal-here`), which is the greatest time before it (past). Where no refusal applies
+-- none is at any place, so every number lies in 1 to k (`numbered`).
 -- Here k is K, l are the arrivals, a the one at i, r a refusal or a reference. Assumes nothing.
 use Prim.Native.Nat.{ℕ, zero, suc, _+_, _≤_, _<_}
 use native.Mathlib.Omega.{arith}
@@ -8,7 +8,7 @@ use mathlib.Core.Path.{_≡_, refl, sym, ap, _∙_}
 use mathlib.Core.List.{List, [], _∷_, _++_, map, append-nil, append-assoc, map-append}
 use lib.ListN.{length, getD, drop, take}
 use Rattle.rfc4737.specs.Arrivals.{each, eachAfter}
-use Rattle.rfc4737.specs.Refusals.{outside, inCase, firstOf, numberOutside, timeBack, fragmentUnfit}
+use Rattle.rfc4737.specs.Refusals.{outside, refusalIf, firstRefusal, numberOutside, timeBack, fragmentUnfit}
 use Rattle.rfc4737.specs.Times.{tooEarly, nextReference, greatestTime}
 use Rattle.rfc4737.proofs.Arrivals.{take-more}
 use Rattle.rfc4737.proofs.Due.{first-none, each-none, limit-none}
@@ -50,7 +50,7 @@ module _ (l : List Piece) (reference i : ℕ) (a : Piece) (h : i < length l) (he
       ∙ ap greatestTime (sym (map-append arrivalOf (take i l) (a ∷ [])) ∙ ap (λ (b : Piece). map arrivalOf (take i l ++ (b ∷ []))) here ∙ ap (map arrivalOf) (sym (take-more noPiece l i h)))
 
 -- before the first
-pub turn-start : (k : ℕ) (l : List Piece) → (0 ≡ greatestTime (map arrivalOf (take 0 l))) × (judgePieces k l ≡ firstOf (drop 0 (each (judgeAfter k) l)))
+pub turn-start : (k : ℕ) (l : List Piece) → (0 ≡ greatestTime (map arrivalOf (take 0 l))) × (judgePieces k l ≡ firstRefusal (drop 0 (each (judgeAfter k) l)))
 unfolding judgePieces greatestTime
 turn-start k l = (refl, refl)
 
@@ -60,7 +60,7 @@ turn-start k l = (refl, refl)
 one-number : (k r : ℕ) (a : Piece) → judgePiece k r a ≡ 0 → (1 ≤ a .number) × (a .number ≤ k)
 unfolding judgePiece
 one-number k r a e =
-    let p = first-none (inCase (outside 1 k (a .number)) numberOutside) (inCase (isUnfit a) fragmentUnfit ∷ inCase (tooEarly r (a .time)) timeBack ∷ []) e in
+    let p = first-none (refusalIf (outside 1 k (a .number)) numberOutside) (refusalIf (isUnfit a) fragmentUnfit ∷ refusalIf (tooEarly r (a .time)) timeBack ∷ []) e in
     limit-none 1 k (a .number) numberOutside (omega arith) (p .0)
 
 -- every number lies in 1 to k

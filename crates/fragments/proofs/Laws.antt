@@ -1,9 +1,9 @@
 -- Laws of `any`, and a packet's completeness by its first uncovered octet. `any` holds exactly if one element passes: by induction on the
--- list, at a place (`any-at`) or at none (`any-none`). Where r is the first octet of packet s that is not covered, every octet below n is
--- covered exactly if n is at most r (`below-reach`, by induction on n), so s is complete exactly if an arrival of it with no more to come ends
--- by r (`complete-ends`). The five lists, read side by side, give at each place the arrival of the values there (`pieces-getD`).
--- Here p and q are tests, l is a list, a and b its elements, i a place and z what is read past the end, o an octet; ns, ts, ls, ms and os are
--- the five lists. Assumes nothing.
+-- list, at a place (`any-at`) or at none (`any-none`). Let r be the first octet of packet s that is not covered. Every octet below n is
+-- covered exactly if n is at most r (`below-reach`, by induction on n). So s is complete exactly if an arrival of it with no more to come
+-- ends by r (`complete-ends`). The five lists, read side by side, give at each place the arrival of the values there (`pieces-getD`).
+-- Here p and q are tests, l is a list, a and b its elements, i a place and z what is read past the end, o an octet; ns, ts, ls, ms and os
+-- are the five lists. Assumes nothing.
 use Prim.Native.Nat.{ℕ, zero, suc, _+_, _≤_, _<_}
 use native.Mathlib.Omega.{arith}
 use mathlib.Core.Bool.{Bool, true, false, _&&_, _||_, or-assoc, or-false, or-true}

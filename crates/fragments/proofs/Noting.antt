@@ -1,5 +1,5 @@
--- What is noted of a packet's arrivals. What is stored at a place depends on the place alone, so a store keeps what was noted of the others (`noted-more`). When all of the
--- run are noted, all of the packet's arrivals are, as each stands in the run (`noting-done`).
+-- What is noted of a packet's arrivals. What is stored at a place depends on the place alone, so a store keeps what was noted of the others
+-- (`noted-more`). When all of the run are noted, all of the packet's arrivals are, as each stands in the run (`noting-done`).
 -- Here l are the arrivals, s is the packet, y the place that is stored at, v and u what is stored. Assumes nothing.
 use Prim.Native.Nat.{ℕ, _+_, _≤_, _<_}
 use native.Mathlib.Omega.{arith}

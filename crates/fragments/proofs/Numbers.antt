@@ -1,5 +1,5 @@
--- Laws of tables and of numbers. After a store an element is what was stored, or what it was (`stored`). The arrivals have the numbers of the
--- list of numbers (`pieces-number`), so these lie where the list's do (`piece-within`).
+-- Laws of tables and of numbers. After a store an element is what was stored, or what it was (`stored`). The arrivals have the numbers of
+-- the list of numbers (`pieces-number`), so these lie where the list's do (`piece-within`).
 -- Here d is a table, p and q are its places, v is what is stored; ns, ts, ls, ms and os are the five lists. Assumes nothing.
 use Prim.Native.Nat.{ℕ, _≤_, _<_}
 use native.Mathlib.Omega.{arith}

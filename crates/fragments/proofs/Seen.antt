@@ -1,5 +1,5 @@
--- Whole packets that were seen. After i arrivals the table holds for each packet whether one of these is a whole packet of it: the next arrival changes what is stored
--- of its own packet only, and there only if it is whole (`seen-next`).
+-- Whole packets that were seen. After i arrivals the table holds for each packet whether one of these is a whole packet of it. The next
+-- arrival changes the entry of its own packet alone, and only if it is whole (`seen-next`).
 -- Here l are the arrivals, a is the one at i, s a packet, d the table. Assumes nothing.
 use Prim.Native.Nat.{ℕ, _+_, _-_, _≤_, _<_}
 use native.Mathlib.Omega.{arith}

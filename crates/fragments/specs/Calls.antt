@@ -1,4 +1,4 @@
--- What the call answers, and what lent memory holds after it. Assumes nothing.
+-- What the call returns, and what the caller's lists hold after it. Assumes nothing.
 use Prim.Native.Nat.{ℕ}
 use mathlib.Core.Bool.{Bool, not, _&&_, _||_}
 use mathlib.Core.List.{List, [], _∷_}
@@ -6,7 +6,7 @@ use mathlib.Core.Path.{_≡_}
 use lib.Dec.{ltb, eqb}
 use lib.ListN.{length}
 use Rattle.octets.specs.Memory.{over}
-use Rattle.rfc4737.specs.Refusals.{inCase, firstOf, listsDiffer, outputShort}
+use Rattle.rfc4737.specs.Refusals.{refusalIf, firstRefusal, listsDiffer, outputShort}
 use Rattle.rfc4737.specs.Judge.{judgeSent, judgeArrivals}
 use Rattle.sample.specs.Output.{ifNone}
 use Rattle.fragments.specs.Pieces.{piecesOf}
@@ -18,15 +18,15 @@ use Rattle.fragments.specs.Judge.{judgePieces}
 unfoldable pub sameLengths : ℕ → ℕ → ℕ → ℕ → ℕ → Bool
 sameLengths n times lengths mores offsets = eqb n times && (eqb n lengths && (eqb n mores && eqb n offsets))
 
--- the first refusal that is due: 4, 5 (by the list of numbers), 12, the arrivals in turn, 8
+-- the first refusal that applies: 4, 5 (by the list of numbers), 12, the arrivals in turn, 8
 unfoldable pub orderRefusal : ℕ → List ℕ → List ℕ → List ℕ → List ℕ → List ℕ → ℕ → ℕ → ℕ
 orderRefusal k numbers times lengths mores offsets flagRoom usableRoom =
-    firstOf
+    firstRefusal
     (judgeSent k
     ∷ judgeArrivals (length numbers)
-    ∷ inCase (not (sameLengths (length numbers) (length times) (length lengths) (length mores) (length offsets))) listsDiffer
+    ∷ refusalIf (not (sameLengths (length numbers) (length times) (length lengths) (length mores) (length offsets))) listsDiffer
     ∷ judgePieces k (piecesOf numbers times lengths mores offsets)
-    ∷ inCase (ltb flagRoom (length numbers) || ltb usableRoom (length numbers)) outputShort
+    ∷ refusalIf (ltb flagRoom (length numbers) || ltb usableRoom (length numbers)) outputShort
     ∷ [])
 
 -- the answer, and the two lent lists after it: the values from their start, all else as it was

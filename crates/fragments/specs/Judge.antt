@@ -5,7 +5,7 @@ use mathlib.Core.List.{List, [], _∷_, map}
 use lib.Dec.{ltb, eqb}
 use Rattle.rfc4737.specs.Arrivals.{each}
 use Rattle.rfc4737.specs.Times.{tooEarly, greatestTime}
-use Rattle.rfc4737.specs.Refusals.{outside, inCase, firstOf, numberOutside, timeBack, fragmentUnfit}
+use Rattle.rfc4737.specs.Refusals.{outside, refusalIf, firstRefusal, numberOutside, timeBack, fragmentUnfit}
 use Rattle.fragments.specs.declared.Piece.{Piece}
 use Rattle.fragments.specs.Pieces.{arrivalOf, isLast, isWhole, pieceEnd}
 
@@ -21,10 +21,10 @@ isUnfit a =
 -- one arrival, by K and the reference for its time: 6, 17, 7
 unfoldable pub judgePiece : ℕ → ℕ → Piece → ℕ
 judgePiece k reference a =
-    firstOf
-    (inCase (outside 1 k (a .number)) numberOutside
-    ∷ inCase (isUnfit a) fragmentUnfit
-    ∷ inCase (tooEarly reference (a .time)) timeBack
+    firstRefusal
+    (refusalIf (outside 1 k (a .number)) numberOutside
+    ∷ refusalIf (isUnfit a) fragmentUnfit
+    ∷ refusalIf (tooEarly reference (a .time)) timeBack
     ∷ [])
 
 -- one arrival, after those before it, whose greatest time is the reference
@@ -33,4 +33,4 @@ judgeAfter k earlier a = judgePiece k (greatestTime (map arrivalOf earlier)) a
 
 -- the arrivals in turn
 unfoldable pub judgePieces : ℕ → List Piece → ℕ
-judgePieces k l = firstOf (each (judgeAfter k) l)
+judgePieces k l = firstRefusal (each (judgeAfter k) l)

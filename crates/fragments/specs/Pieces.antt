@@ -32,11 +32,11 @@ isLast a = eqb (a .more) 0
 abbrev pub isWhole : Piece → Bool
 isWhole a = isLast a && eqb (a .offset) 0
 
--- the place of its first octet in its packet; offsets are in units of 8 octets
+-- the offset of its first octet in its packet; fragment offsets count units of 8 octets
 abbrev pub pieceStart : Piece → ℕ
 pieceStart a = 8 * a .offset
 
--- the place after its last octet
+-- the offset after its last octet
 abbrev pub pieceEnd : Piece → ℕ
 pieceEnd a = 8 * a .offset + a .length
 

@@ -17,6 +17,6 @@ orderFlag (Duplicate d) = duplicateNumber
 orderFlag (InOrder d) = inOrderNumber
 orderFlag (Reordered d) = reorderedAfterNumber
 
--- where no arrival is a fragment, the flags are those of the answers, whatever the payload sizes
+-- if no arrival is a fragment, the flags are those of the answers, whatever the payload sizes
 unfoldable pub WholeFlags : List Piece → Type 0
 WholeFlags l = any (λ (a : Piece). not (isWhole a)) l ≡ false → (size : ℕ → ℕ) → flags l ≡ map orderFlag (answers size (map arrivalOf l))

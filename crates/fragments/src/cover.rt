@@ -14,7 +14,7 @@ use crate::arrival::piece_at;
 use crate::arrival::piece_end;
 use crate::tables::index_of;
 
-// How far an arrival takes a packet that is covered up to r.
+// How far a packet that is covered up to r is covered once an arrival is added.
 fn reach_after(r: u32, a: Piece) -> u32
     ensures { λ n. ⌜ n ≡ cond (leb (pieceStart a) r && ltb r (pieceEnd a)) (pieceEnd a) r ⌝ }
 {
@@ -51,7 +51,7 @@ fn reach_of(
     r
 }
 
-// Whether no more is to come after an arrival and it ends by r.
+// Whether an arrival has no more to come and ends by r.
 fn ends_by(r: u32, a: Piece) -> bool
     ensures { λ t. ⌜ t ≡ (isLast a && leb (pieceEnd a) r) ⌝ }
 {
@@ -61,7 +61,7 @@ fn ends_by(r: u32, a: Piece) -> bool
     piece_end(a) <= r
 }
 
-// Whether packet s is complete: a last fragment ends by its first octet that is not covered. The search for it begins at the end.
+// Whether packet s is complete: a last fragment ends by its first octet that is not covered. The search begins with its last arrival.
 fn ends_covered(
     numbers: &[u32],
     times: &[u64],
@@ -87,7 +87,7 @@ fn ends_covered(
     false
 }
 
-// Whether packet s is complete; `run` has the places of its arrivals, one at least. A whole packet is complete by itself.
+// Whether packet s is complete; `run` has the indices of its arrivals, at least one. A whole packet is complete by itself.
 pub(crate) fn complete(
     numbers: &[u32],
     times: &[u64],

@@ -27,7 +27,7 @@ const REORDERED: u8 = REORDERED_AFTER as u8;
 
 const ORDERED: u8 = IN_ORDER as u8;
 
-// Whether an arrival is reordered: the three cases.
+// Whether an arrival is reordered: the three cases of section B.3.
 fn is_reordered(e: Expected, a: Piece) -> bool
     ensures { λ r. ⌜ r ≡ isReorderedFragment e a ⌝ }
 {
@@ -81,7 +81,7 @@ fn expected_after(copy: bool, e: Expected, a: Piece) -> Expected
     }
 }
 
-// Whether an arrival is usable, of a packet that is complete or not.
+// 1 if an arrival is usable, else 0; `whole` is 1 if its packet is complete, else 0.
 fn usable_of(copy: bool, whole: u8) -> u8
     ensures { λ r. ⌜ r ≡ cond copy 0 whole ⌝ }
 {
@@ -91,7 +91,8 @@ fn usable_of(copy: bool, whole: u8) -> u8
     whole
 }
 
-// Whether an arrival is a copy, by its mark and by what was seen of whole packets of its number.
+// Whether an arrival is a copy. `mark` is not 0 if an earlier one has its number, offset and length, `seen` if an earlier whole packet
+// has its number.
 fn is_copy(a: Piece, mark: u8, seen: u8) -> bool
     ensures { λ r. ⌜ r ≡ (not (eqb mark 0) || (isWhole a && not (eqb seen 0))) ⌝ }
 {
@@ -104,7 +105,7 @@ fn is_copy(a: Piece, mark: u8, seen: u8) -> bool
     false
 }
 
-// What was seen of whole packets of its number after an arrival.
+// `seen` after an arrival.
 fn seen_after(a: Piece, seen: u8) -> u8
     ensures { λ r. ⌜ r ≡ cond (isWhole a) 1 seen ⌝ }
 {
@@ -114,7 +115,7 @@ fn seen_after(a: Piece, seen: u8) -> u8
     seen
 }
 
-// Replaces what is noted of the arrivals by their flags and by which are usable.
+// Replaces the notes of the arrivals in both lists by their flags and by which are usable.
 pub(crate) fn fill_flags_and_used(
     numbers: &[u32],
     times: &[u64],

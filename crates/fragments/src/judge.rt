@@ -24,7 +24,7 @@ use rfc4737::time::too_early;
 // The greatest end of a fragment.
 const END_MOST: u32 = 65535;
 
-// Whether it is a fragment that is refused.
+// Whether an arrival is a fragment that is refused with 17.
 fn is_unfit(a: Piece) -> bool
     ensures { λ r. ⌜ r ≡ isUnfit a ⌝ }
 {
@@ -43,7 +43,7 @@ fn is_unfit(a: Piece) -> bool
     END_MOST < piece_end(a)
 }
 
-// One arrival: 6, 17, 7.
+// Judges one arrival: 6, 17, 7.
 fn judge_piece(k: u64, reference: u64, a: Piece) -> u32
     ensures { λ r. ⌜ r ≡ judgePiece k reference a ⌝ }
 {
@@ -59,7 +59,7 @@ fn judge_piece(k: u64, reference: u64, a: Piece) -> u32
     0
 }
 
-// The arrivals in turn.
+// Judges the arrivals in turn.
 fn judge_pieces(
     k: u64,
     numbers: &[u32],
@@ -101,7 +101,7 @@ fn same_lengths(n: usize, times: usize, lengths: usize, mores: usize, offsets: u
     n == offsets
 }
 
-// The first refusal that is due, 0 if none is.
+// The first refusal that applies; 0 if none does.
 pub(crate) fn order_refusal(
     k: u32,
     numbers: &[u32],

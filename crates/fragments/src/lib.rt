@@ -1,5 +1,5 @@
 // Fragments: the order flag of packets that may be cut on the way, and which arrivals are usable in sample figures (RFC 4737,
-// Appendix B). The call takes all input there is.
+// Appendix B). The call is total.
 ghost use mathlib.Core.Path.{_≡_};
 ghost use Prim.Native.Nat.{_≤_};
 ghost use lib.ListN.{length};
@@ -26,7 +26,7 @@ use judge::order_refusal;
 use notes::note_arrivals;
 use rfc4737::judge::SENT_MOST;
 
-// How many packets there are at most.
+// The greatest number of packets, and of arrivals.
 const PACKETS: usize = SENT_MOST as usize;
 
 // An arrival: number, time, length in octets, more-fragments flag (set if not 0) and fragment offset.
@@ -45,7 +45,7 @@ pub struct Expected {
     pub fragment: u32,
 }
 
-// Fills the two lists of arrivals that are accepted.
+// Fills the two lists for arrivals that are accepted.
 fn order_accepted(
     k: u32,
     numbers: &[u32],

@@ -1,5 +1,5 @@
-// What is noted of each arrival before the flags are made: whether an earlier one has its number, offset and length, and whether its
-// packet is complete.
+// The notes of each arrival, made before the flags: whether an earlier one has its number, offset and length, and whether its packet is
+// complete.
 ghost use mathlib.Core.Path.{_≡_};
 ghost use Prim.Native.Nat.{_+_, _≤_, _<_};
 ghost use lib.ListN.{length};
@@ -21,7 +21,7 @@ use crate::tables::sum_counts;
 // Half the greatest number of arrivals.
 const SPARE: usize = PACKETS / 2;
 
-// Notes the arrivals of packet s; `run` has their places, in order. Equal ones stand side by side.
+// Notes the arrivals of packet s; `run` has their indices, in order. Equal ones stand side by side.
 fn note_run(
     numbers: &[u32],
     times: &[u64],

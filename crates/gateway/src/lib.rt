@@ -1,4 +1,4 @@
-// The receiver lent by reference: a thin call over the receiver's step by value, which leaves the new state in it.
+// The step of a borrowed receiver as a thin call over the step by value.
 
 use receiver::Outcome;
 use receiver::Receiver;
@@ -6,21 +6,21 @@ use receiver::StepAnswer;
 ghost use mathlib.Core.Path.{_≡_};
 ghost use Rattle.receiver.specs.Lent.{AsStep};
 
-// The state after a step.
+// Returns the state after a step.
 fn step_state(s: StepAnswer) -> Receiver
     ensures { λ r. ⌜ r ≡ s .state ⌝ }
 {
     s.state
 }
 
-// What a step says.
+// Returns the outcome of a step.
 fn step_outcome(s: StepAnswer) -> Outcome
     ensures { λ r. ⌜ r ≡ s .outcome ⌝ }
 {
     s.outcome
 }
 
-// The answer to an arrival, as the step's of the receiver lent, which holds the step's state afterwards.
+// Steps the borrowed receiver in place; returns the outcome of `Receiver::step`.
 pub fn step(r: &mut Receiver, number: u32, time: u64) -> Outcome
     ensures { λ outcome. ⌜ AsStep (now (r .entry)) number time outcome (now (r .exit)) ⌝ }
 {

@@ -1,5 +1,5 @@
--- What is wrong with a line of a text log: a byte order mark or another start that is no digit, a number over its range, or the first octet
--- that the form does not have where it stands. A line has its line feed, if there is one. Assumes nothing.
+-- What is wrong with a line of a text log. Its start is no digit (a byte order mark, say), its number is over the range, or an octet stands
+-- where the form does not have it; then the first such octet tells. A line has its line feed, if there is one. Assumes nothing.
 use Prim.Native.Nat.{ℕ, _+_, _-_}
 use mathlib.Core.Bool.{Bool, cond, _&&_}
 use mathlib.Core.List.{List}

@@ -1,12 +1,14 @@
-// What is wrong with a line of a text log that is refused with 14: where the form breaks, and what stands there.
+// What is wrong with a line of a text log that is refused with 14: where the form breaks, and what stands there. The call is total.
 ghost use mathlib.Core.Path.{_≡_};
-ghost use lib.ListN.{getD};
-ghost use Rattle.textlog.specs.Decode.{isDecimalMark};
 ghost use Rattle.line_faults.specs.Cases.{FaultsAsGiven};
 ghost use Rattle.line_faults.specs.Faults.{hasByteOrderMark, strayAt, startFault, endFault, decimalsFault, timeFault, lineFault};
 use decimal::reading::number_at;
+use textlog::reading::DECIMALS_MOST;
+use textlog::reading::NUMBER_MOST;
+use textlog::reading::is_decimal_mark;
+use textlog::reading::octet_at;
 
-// The first fault of a line. `Formed` is a line of the form whose number fits: where it is refused with 14, its time is over the range.
+// The first fault of a line. `Formed` is a line of the form whose number fits; if it is refused with 14, its time is over the range.
 pub enum LineFault {
     ByteOrderMark,
     EmptyLine,
@@ -19,34 +21,8 @@ pub enum LineFault {
     Other,
 }
 
-// The greatest sequence number that its field holds.
-const NUMBER_MOST: u64 = 4_294_967_295;
-
 // The octet of a carriage return.
 const CARRIAGE_RETURN: u8 = 13;
-
-// The most decimals of a time.
-const DECIMALS_MOST: usize = 3;
-
-// The octet that stands at an offset; 0 past the end.
-fn octet_at(line: &[u8], at: usize) -> u8
-    ensures { λ r. ⌜ r ≡ getD (now (line .entry)) at 0 ⌝ }
-{
-    if at < line.len() {
-        return line[at];
-    }
-    0
-}
-
-// Whether an octet may stand before the decimals.
-fn is_decimal_mark(octet: u8) -> bool
-    ensures { λ r. ⌜ r ≡ isDecimalMark octet ⌝ }
-{
-    if octet == b',' {
-        return true;
-    }
-    octet == b'.'
-}
 
 // Whether a line begins with the byte order mark of UTF-8: the octets EF, BB, BF.
 fn has_byte_order_mark(line: &[u8]) -> bool
@@ -61,7 +37,7 @@ fn has_byte_order_mark(line: &[u8]) -> bool
     octet_at(line, 2) == 191
 }
 
-// An octet that the form does not have at its offset.
+// The fault of an octet that the form does not have at its offset.
 fn stray_at(line: &[u8], at: usize) -> LineFault
     ensures { λ r. ⌜ r ≡ strayAt (now (line .entry)) at ⌝ }
 {
@@ -74,7 +50,7 @@ fn stray_at(line: &[u8], at: usize) -> LineFault
     LineFault::Other
 }
 
-// A line that begins with no digit.
+// The fault of a line that begins with no digit.
 fn start_fault(line: &[u8]) -> LineFault
     ensures { λ r. ⌜ r ≡ startFault (now (line .entry)) ⌝ }
 {
@@ -91,7 +67,7 @@ fn start_fault(line: &[u8]) -> LineFault
     LineFault::NoDigit
 }
 
-// A line whose time ends before an offset, where its line feed must stand.
+// The fault of a line whose time ends before `at`, where its line feed must stand.
 fn end_fault(line: &[u8], at: usize) -> LineFault
     ensures { λ r. ⌜ r ≡ endFault (now (line .entry)) at ⌝ }
 {
@@ -101,7 +77,7 @@ fn end_fault(line: &[u8], at: usize) -> LineFault
     stray_at(line, at)
 }
 
-// A line whose decimals begin at an offset.
+// The fault of a line whose decimals begin at `at`.
 fn decimals_fault(line: &[u8], at: usize) -> LineFault
     ensures { λ r. ⌜ r ≡ decimalsFault (now (line .entry)) at ⌝ }
 {
@@ -116,7 +92,7 @@ fn decimals_fault(line: &[u8], at: usize) -> LineFault
     end_fault(line, end)
 }
 
-// A line whose time begins at an offset.
+// The fault of a line whose time begins at `at`.
 fn time_fault(line: &[u8], at: usize) -> LineFault
     ensures { λ r. ⌜ r ≡ timeFault (now (line .entry)) at ⌝ }
 {
@@ -133,7 +109,7 @@ fn time_fault(line: &[u8], at: usize) -> LineFault
     end_fault(line, end)
 }
 
-// The fault of a line, which has its line feed if there is one.
+// The fault of a line, given with its line feed if it has one. Cost: O(octets).
 pub fn line_fault(line: &[u8]) -> LineFault
     ensures { λ r. ⌜ r ≡ lineFault (now (line .entry)) ⌝ }
     ensures cases { λ _. ⌜ FaultsAsGiven ⌝ }

@@ -1,7 +1,8 @@
--- How long the lines are. A line is words and numbers one after the other, so that its length is the sum of theirs (`length-append`). The words have
--- their own lengths; a number has at most the digits that its bound allows (decimal's `at-most`): four (`small`), but nine for a byte offset, eight
--- for the sum of squares, ten for a refusal, and 20 for a late time, or four and a minus (`time-octets`).
--- Here k and a are K and the arrivals, r is a record, n its number, f the figures of its answer, c the counts and h their bounds. Assumes nothing.
+-- How long the lines are. A line is words and numbers one after the other, so that its length is the sum of theirs (`length-append`). The
+-- words have their own lengths; a number has at most the digits that its bound allows (decimal's `at-most`): four (`small`), but nine for
+-- a byte offset, eight for the sum of squares, ten for a refusal, and 20 for a late time, or four and a minus (`time-octets`).
+-- Here k and a are K and the arrivals, r is a record, n its number, f the figures of its answer, c the counts and h their bounds. Assumes
+-- nothing.
 use Prim.Native.Nat.{ℕ, _^_, _≤_, _<_}
 use native.Mathlib.Omega.{arith}
 use mathlib.Core.Bool.{Bool, true, false, cond}

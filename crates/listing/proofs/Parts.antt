@@ -1,6 +1,6 @@
 -- Parts of a line, and a line that is written whole. A part written and one at the place after it are one part, since splicing in xs and
--- then ys right behind them is splicing in xs ++ ys (`then`); its bound is the sum of theirs. So a line is written part by part. Where
--- there is room for the longest it is a line put (`whole`); else it is written at the start of a buffer, stands in the buffer's first
+-- then ys right behind them is splicing in xs ++ ys (`then`). Its bound is the sum of theirs. So a line is written part by part. Where
+-- there is room for the longest it is a line put (`whole`). Else it is written at the start of a buffer, stands in the buffer's first
 -- places, and copied from there is a line put too (`copied`).
 -- Here at is the place of a part, most the bound of its octets, next the place after it, xs and ys are octets, old, new and newer memory
 -- before and after each part, text the buffer, and w and v that a part is written. Assumes nothing.
@@ -16,6 +16,7 @@ use Rattle.rfc4737.specs.declared.Answer.{Answer}
 use Rattle.rfc4737.specs.declared.Answer.the-variants.{Duplicate, InOrder, Reordered}
 use Rattle.rfc4737.specs.declared.LateTime.{LateTime}
 use Rattle.rfc4737.specs.Numbering.{amountOf}
+use Rattle.octets.specs.Text.{lineFeed}
 use Rattle.listing.specs.Words.{space}
 use Rattle.listing.specs.Lines.{number, sign, lateTime, line, answerFields, recordLine}
 use Rattle.listing.specs.Private.Written.{PartWritten}
@@ -42,7 +43,7 @@ with-after at xs x old h =
           (splice-next at (at + length xs) xs (x ∷ []) old refl start);
     }
 
--- a part of at most so many octets is one of at most more
+-- a part of at most `most` octets is one of at most `more`
 pub weaken : {at most next : ℕ} {xs old new : List ℕ} (more : ℕ) → most ≤ more → PartWritten at most next xs old new → PartWritten at more next xs old new
 weaken more h w = record { place = w .place; within = omega arith; memory = w .memory }
 
@@ -61,6 +62,20 @@ then {at} {a} {mid} {b} {next} {xs} {ys} {old} {new} {newer} h w v =
       memory = rw (v .memory, w .memory) (splice-next at mid xs ys old (sym (w .place)) h);
     }
 
+-- the same, where there is room for `room` octets
+pub then-within : {at a mid b next : ℕ} {xs ys old new newer : List ℕ} (room : ℕ) → at + room ≤ length old → PartWritten at a mid xs old new
+    → PartWritten mid b next ys new newer → PartWritten at (a + b) next (xs ++ ys) old newer
+then-within {at} {a} {mid} {b} {next} {xs} {ys} {old} {new} {newer} room h w v =
+    let start : at ≤ length old = omega arith in
+    then start w v
+
+-- a word with a space after it, and then a field that ends the line, are the line of both
+pub two-fields : {at a mid b next : ℕ} {old new newer : List ℕ} (room : ℕ) (word field : List ℕ) → at + room ≤ length old
+    → PartWritten at a mid (word ++ (space ∷ [])) old new → PartWritten mid b next (field ++ (lineFeed ∷ [])) new newer
+    → PartWritten at (a + b) next (line (word ∷ field ∷ [])) old newer
+two-fields {at} {a} {mid} {b} {next} {old} {new} {newer} room word field h w v =
+    simp append-assoc (simp append-assoc at (then-within room h w v))
+
 -- a line written where there is room for it is a line put
 pub whole : {at most next : ℕ} {xs old new : List ℕ} → at + most ≤ length old → PartWritten at most next xs old new → new ≡ put at xs old
 whole {at} {most} {next} {xs} {old} h w = w .memory ∙ sym (put-room at xs old (omega (arith, w .within)))
@@ -71,7 +86,7 @@ read-back {most} {next} {xs} {text} {new} w =
     let e : next ≡ length xs = omega (arith, w .place) in
     rw (e, w .memory) (splice-part 0 xs text (omega arith))
 
--- so many of them as the place after it says
+-- as many of them as the place after it says
 pub read-length : {most next : ℕ} {xs text new : List ℕ} → PartWritten 0 most next xs text new → next ≡ length (take next new)
 read-length w = rw (read-back w) (omega (arith, w .place))
 

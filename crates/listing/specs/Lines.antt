@@ -23,7 +23,7 @@ use Rattle.listing.specs.Words.{space, minus, sentWord, arrivalsWord, in
 abbrev pub number : ℕ → List ℕ
 number n = decimalOf n
 
--- what stands in front of a late time's amount: a minus for before, unless the amount is 0
+-- the sign of a late time: a minus for before, unless the amount is 0
 abbrev pub sign : LateTime → List ℕ
 sign (After t) = []
 sign (Before t) = cond (ltb 0 t) (minus ∷ []) []
@@ -48,8 +48,8 @@ line fs = joinedBySpaces fs ++ (lineFeed ∷ [])
 unfoldable pub headerLine : ℕ → ℕ → List ℕ
 headerLine k a = line (sentWord ∷ number k ∷ arrivalsWord ∷ number a ∷ [])
 
--- what a record's line says of its answer: `copy` and the record of the first copy; or `in`, position, jump size; or `late`,
--- position, extent, late time, byte offset, largest n
+-- the fields of an answer: `copy` and the record of the first copy; or `in`, position, jump size; or `late`, position, extent, late time,
+-- byte offset, largest n
 abbrev pub answerFields : Answer → List (List ℕ)
 answerFields (Duplicate f) = copyWord ∷ number (f .first) ∷ []
 answerFields (InOrder f) = inWord ∷ number (f .position) ∷ number (f .jump) ∷ []
@@ -70,8 +70,8 @@ endLine c =
 unfoldable pub refusedLine : ℕ → List ℕ
 refusedLine n = line (refusedWord ∷ number n ∷ [])
 
--- a line put into `old` from a place on, where there is room for all of it; r is its length, whether it is put or not
-abbrev pub LinePut : ℕ → List ℕ → List ℕ → ℕ → List ℕ → Type 0
+-- `new` is `old` with a line put at offset `at`, if there is room for all of it. In any case r is the length of the line
+abbrev pub LinePut : (at : ℕ) (text old : List ℕ) (r : ℕ) (new : List ℕ) → Type 0
 LinePut at text old r new = (r ≡ length text) × (new ≡ put at text old)
 
 -- ---- the listing
@@ -86,6 +86,6 @@ recordLinesFrom r (a ∷ l) (b ∷ m) = recordLine r (a .number) b ++ recordLine
 unfoldable pub recordLines : List Arrival → List Answer → List ℕ
 recordLines l m = recordLinesFrom 1 l m
 
--- the first line, the lines of the records in order, and the last line
+-- the listing: the first line, the lines of the records in order, and the last line
 unfoldable pub listingOf : ℕ → List Arrival → List Answer → Counts → List ℕ
 listingOf k l m c = headerLine k (length l) ++ (recordLines l m ++ endLine c)

@@ -1,3 +1,3 @@
--- What private functions say to each other: no public contract reaches these definitions. Assumes nothing.
+-- Definitions for the contracts of private functions, which no public contract reaches. Assumes nothing.
 pub mod DigitBounds
 pub mod Written

@@ -2,12 +2,12 @@
 use Prim.Native.Nat.{ℕ, _*_}
 use Rattle.rfc4737.specs.Judge.{arrivalsMost}
 
--- the most octets of a line, whatever its figures: `late`, six numbers of 32 bits and a time of 64 bits, with an octet after each of
+-- the greatest length of a line, whatever its figures. It has `late`, six numbers of 32 bits and a time of 64 bits, an octet after each of
 -- these eight, and a minus
 abbrev pub lineMost : ℕ
 lineMost = 93
 
--- the octets that suffice for any listing: 64 for each of 4,096 records. The longest line of a record has 61; what is left
--- holds the first line, of at most 24, and the last, of at most 38.
+-- the octets that suffice for any listing: 64 for each of 4,096 records. The longest line of a record has 61. The rest holds the first
+-- line, of at most 24, and the last, of at most 38
 abbrev pub listingOctets : ℕ
 listingOctets = 64 * arrivalsMost

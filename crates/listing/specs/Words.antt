@@ -9,7 +9,7 @@ use Rattle.octets.specs.Text.{ascii}
 abbrev pub space : ℕ
 space = code " "
 
--- in front of a late time that is before
+-- in front of the amount of a late time that is before
 abbrev pub minus : ℕ
 minus = code "-"
 

@@ -1,6 +1,6 @@
-// The lines of the report, written into lent memory. A public function writes its line whole, or nothing where
-// there is no room for all of it, and answers how long the line is. Inside, a part of a line is written where
-// room is known, and the answer is the place after it, which has the name of the field that goes there.
+// The lines of the report, written into the caller's buffer. A public function writes its line whole, or nothing where there is no
+// room for all of it, and returns the length of the line. A private function writes a part of a line where there is room, and returns
+// the offset after it. A caller names that offset after the field that goes there.
 ghost use mathlib.Core.List.{[], _∷_, _++_};
 ghost use Prim.Native.Nat.{_+_, _≤_, _<_};
 ghost use lib.ListN.{length};
@@ -17,21 +17,21 @@ use rfc4737::ReorderedFigures;
 use rfc4737::judge::ARRIVALS_MOST;
 use rfc4737::numbering::amount;
 
-// What parts two fields.
+// Between two fields.
 const SPACE: u8 = b' ';
 
-// What ends a line.
+// At the end of a line.
 const LINE_FEED: u8 = b'\n';
 
-// In front of a late time that is before.
+// In front of the amount of a late time that is before.
 const MINUS: u8 = b'-';
 
-// The most octets of a line, whatever its figures: `late`, six numbers of 32 bits and a time of 64 bits, with an
-// octet after each of these eight, and a minus.
+// The greatest length of a line, whatever its figures. It has `late`, six numbers of 32 bits and a time of 64 bits, an octet after each
+// of these eight, and a minus.
 pub const LINE: usize = 93;
 
-// The octets that suffice for any listing: 64 for each of 4,096 records. The longest line of a record has 61; what
-// is left holds the first line, of at most 24, and the last, of at most 38.
+// The octets that suffice for any listing: 64 for each of 4,096 records. The longest line of a record has 61. The rest holds the first
+// line, of at most 24, and the last, of at most 38.
 pub const LISTING_OCTETS: usize = 64 * ARRIVALS_MOST as usize;
 
 // Writes a word and the octet after it.
@@ -127,7 +127,7 @@ fn write_number(out: &mut [u8], at: usize, n: u32, after: u8) -> usize
     end + 1
 }
 
-// Writes what stands in front of a late time's amount.
+// Writes the minus of a late time, if it has one.
 fn write_sign(out: &mut [u8], at: usize, late: LateTime) -> usize
     requires { ⌜ at + 1 ≤ length (now out) ⌝ }
     ensures { λ r. ⌜ PartWritten at 1 r (sign late) (now (out .entry)) (now (out .exit)) ⌝ }
@@ -162,7 +162,7 @@ fn write_header(out: &mut [u8], at: usize, k: u32, a: u32) -> usize
     write_number(out, arrivals, a, LINE_FEED)
 }
 
-// The first line: K and the number of arrivals.
+// Puts the first line: K and the number of arrivals.
 pub fn put_header(out: &mut [u8], at: usize, k: u32, a: u32) -> usize
     ensures { λ r. ⌜ LinePut at (headerLine k a) (now (out .entry)) r (now (out .exit)) ⌝ }
 {
@@ -205,7 +205,7 @@ fn write_reordered(out: &mut [u8], at: usize, f: ReorderedFigures) -> usize
     write_number(out, largest, f.largest, LINE_FEED)
 }
 
-// Writes an answer, and with it the end of a record's line.
+// Writes an answer and the line feed after it.
 fn write_answer(out: &mut [u8], at: usize, answer: Answer) -> usize
     requires { ⌜ at + 71 ≤ length (now out) ⌝ }
     ensures { λ r. ⌜ PartWritten at 71 r (line (answerFields answer)) (now (out .entry)) (now (out .exit)) ⌝ }
@@ -227,7 +227,7 @@ fn write_record(out: &mut [u8], at: usize, record: u32, number: u32, answer: Ans
     write_answer(out, rest, answer)
 }
 
-// A record's line: the record, its number and its answer.
+// Puts a record's line: the record, its number and its answer.
 pub fn put_record(out: &mut [u8], at: usize, record: u32, number: u32, answer: Answer) -> usize
     ensures { λ r. ⌜ LinePut at (recordLine «record» number answer) (now (out .entry)) r (now (out .exit)) ⌝ }
 {
@@ -255,7 +255,7 @@ fn write_end(out: &mut [u8], at: usize, c: Counts) -> usize
     write_number(out, current, runs.current, LINE_FEED)
 }
 
-// The last line: L, reordered, duplicates, closed runs, sum of squares, open run.
+// Puts the last line: L, reordered, duplicates, closed runs, sum of squares, open run.
 pub fn put_end(out: &mut [u8], at: usize, c: Counts) -> usize
     ensures { λ r. ⌜ LinePut at (endLine c) (now (out .entry)) r (now (out .exit)) ⌝ }
 {
@@ -274,7 +274,7 @@ fn write_refused(out: &mut [u8], at: usize, n: u32) -> usize
     write_number(out, number, n, LINE_FEED)
 }
 
-// The one line of a refused input.
+// Puts the one line of a refused input.
 pub fn put_refused(out: &mut [u8], at: usize, refusal: u32) -> usize
     ensures { λ r. ⌜ LinePut at (refusedLine refusal) (now (out .entry)) r (now (out .exit)) ⌝ }
 {

@@ -20,7 +20,7 @@ use Rattle.rfc4737.specs.declared.Answer.the-variants as answer
 use Rattle.rfc4737.specs.Arrivals.{firsts, count}
 use Rattle.rfc4737.specs.Order.{jumps}
 use Rattle.rfc4737.specs.Runs.{counts, arrived, isDuplicate, isInOrderAnswer}
-use Rattle.rfc4737.specs.Refusals.{outside, inCase, sentOutside, stateUnfit}
+use Rattle.rfc4737.specs.Refusals.{outside, refusalIf, sentOutside, stateUnfit}
 use Rattle.rfc4737.specs.Judge.{sentMost}
 use Rattle.rfc4737.proofs.Lists.{snoc-ind, each-same}
 use Rattle.rfc4737.proofs.Arrivals.{fold-more, count-each}
@@ -76,8 +76,8 @@ module _ (account : Account) (m : Meter) (g : Carries account m) where
   start-on s k = go (outside 1 sentMost k)
     where
       go : (t : Bool)
-          → cond {A = MeterStartAnswer} (eqb (inCase t sentOutside) 0) (record { refusal = 0; state = withStream s (streamIn (madeFor (cond t 1 k))) m })
-          (notStarted (inCase t sentOutside) m)
+          → cond {A = MeterStartAnswer} (eqb (refusalIf t sentOutside) 0) (record { refusal = 0; state = withStream s (streamIn (madeFor (cond t 1 k))) m })
+          (notStarted (refusalIf t sentOutside) m)
           ≡ cond t (notStarted sentOutside m) (record { refusal = 0; state = withStream s (streamIn (madeFor k)) m })
       go true = refl
       go false = refl
@@ -90,7 +90,7 @@ module _ (account : Account) (m : Meter) (g : Carries account m) where
     where
       go : (s : Side) (t : Bool)
           → started (cond {A = MeterStartAnswer} t (notStarted sentOutside m) (record { refusal = 0; state = withStream s (streamIn (madeFor k)) m }) .refusal)
-          ≡ started (inCase t sentOutside)
+          ≡ started (refusalIf t sentOutside)
       go s true = refl
       go s false = refl
 
@@ -142,7 +142,7 @@ never-unfit account none (starts n k) = refl
 never-unfit account (some s) (arrives n a) = outcome-fit (account s .window) (account s .sent) (account s .accepted) a
 never-unfit account (some s) (starts n k) = go (outside 1 sentMost k)
   where
-    go : (t : Bool) → eqb (inCase t sentOutside) stateUnfit ≡ false
+    go : (t : Bool) → eqb (refusalIf t sentOutside) stateUnfit ≡ false
     go true = refl
     go false = refl
 

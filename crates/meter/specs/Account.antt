@@ -42,8 +42,8 @@ pub record Part : Type 0 where
 abbrev pub freshPart : ℕ → Part
 freshPart k = record { sent = k; accepted = []; window = [] }
 
--- a stream's part after a call on it, where so many places are free: a new jump takes a free place, or the oldest kept one is dropped
--- for it; refused, the part stays
+-- a stream's part after a call on it, with `free` places free: a new jump takes a free place, or the oldest kept one is dropped for it;
+-- a refused call leaves the part as it was
 unfoldable pub partAfter : ℕ → Part → Call → Part
 partAfter free h (arrives n a) =
     record {

@@ -6,8 +6,8 @@ use Rattle.receiver.specs.Outcomes.{refusedOutcome}
 use Rattle.meter.specs.declared.Meter.{Meter}
 use Rattle.meter.specs.Step.{meterStep, meterStart}
 
--- what a step over a meter lent says and leaves: the outcome is the step's, the meter at exit holds the step's state, and with a
--- refusal it is equal
+-- what a step in place returns and leaves: the outcome is the step's, the meter at exit is the step's state, and with a refusal it is
+-- as it was
 abbrev pub AsMeterStep : Meter → ℕ → ℕ → ℕ → Outcome → Meter → Type 0
 AsMeterStep m n number time outcome after =
     (outcome ≡ meterStep m n number time .outcome)

@@ -12,7 +12,7 @@ use Rattle.meter.specs.declared.MeterStartAnswer.{MeterStartAnswer}
 use Rattle.meter.specs.declared.StreamsStep.{StreamsStep}
 use Rattle.meter.specs.Streams.{mostKept, shared}
 
--- two streams that keep so many jumps keep as few as those of a fit meter
+-- two streams that keep `first` and `second` jumps keep as few as those of a fit meter
 abbrev pub fewKept : ℕ → ℕ → Bool
 fewKept first second = leb first mostKept && (leb second mostKept && leb (first + second) shared)
 

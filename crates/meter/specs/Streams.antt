@@ -39,11 +39,11 @@ shared = windowPlaces
 abbrev pub mostKept : ℕ
 mostKept = 48
 
--- how many places are free beside so many taken by the one and by the other
+-- how many places are free if the streams keep `first` and `second` jumps
 abbrev pub freeBeside : ℕ → ℕ → ℕ
 freeBeside first second = shared - (first + second)
 
--- "a new jump takes a free place if its stream keeps fewer than 48": of a stream that keeps so many, where so many are free
+-- "a new jump takes a free place if its stream keeps fewer than 48": of a stream that keeps `kept` jumps, with `free` places free
 abbrev pub takesPlace : ℕ → ℕ → Bool
 takesPlace kept free = ltb kept mostKept && ltb 0 free
 

@@ -1,5 +1,5 @@
-// A meter: two streams, each with a receiver's numbers and marks, that share the places of their kept jumps. It is stepped where it
-// stands (`step_in_place`), or handed in and back by value. Its rule is specs/Step.antt.
+// A meter: two streams, each with a receiver's numbers and marks, that share the places of their kept jumps. It is stepped in place
+// (`step_in_place`), or passed and returned by value. Its rule is specs/Step.antt.
 
 use receiver::MARK_WORDS;
 use receiver::Outcome;
@@ -42,7 +42,7 @@ pub struct Meter {
     pub places: Places,
 }
 
-// The answer of a step: what is said of the arrival, and the meter after it.
+// The answer of a step: the outcome, and the meter after it.
 pub struct MeterStepAnswer {
     pub outcome: Outcome,
     pub state: Meter,
@@ -55,7 +55,7 @@ pub struct MeterStartAnswer {
     pub state: Meter,
 }
 
-// What is said of an arrival on a stream, and the numbers of both streams after it.
+// The outcome of an arrival on a stream, and the numbers of both streams after it.
 pub struct StreamsStep {
     pub outcome: Outcome,
     pub first: Stream,
@@ -63,13 +63,13 @@ pub struct StreamsStep {
 }
 
 impl Meter {
-    // How many places the streams share: those that one receiver has. What Receiver::WINDOW is to a receiver, how many jumps it
-    // keeps, is MOST_KEPT to a stream of a meter.
+    // How many places the streams share: those of one receiver. A receiver keeps at most Receiver::WINDOW jumps, a stream of a meter
+    // at most MOST_KEPT.
     pub const PLACES: u32 = Receiver::WINDOW as u32;
-    // How many jumps one stream keeps at most.
+    // The greatest number of jumps that one stream keeps.
     pub const MOST_KEPT: u32 = 48;
 
-    // A new meter: both streams fresh for a single packet.
+    // Returns a new meter: both streams fresh for a single packet.
     pub fn new() -> Meter
         ensures new { λ r. ⌜ r ≡ newMeter ⌝ }
         ensures demand3 { λ _. ⌜ ((calls : List Call) → MeterDemand3 calls) ⌝ }
@@ -85,7 +85,7 @@ impl Meter {
         }
     }
 
-    // A stream started afresh for k packets.
+    // Starts a stream afresh for k packets.
     pub fn start(self, stream: u32, k: u32) -> MeterStartAnswer
         ensures start { λ r. ⌜ r ≡ meterStart self stream k ⌝ }
         ensures refused { λ r. ⌜ ((r .refusal ≡ 0 → ⊥) → r .state ≡ self) ⌝ }
@@ -129,7 +129,7 @@ impl Meter {
         }
     }
 
-    // The answer to an arrival on a stream, and the meter after it.
+    // Steps a stream with an arrival.
     pub fn step(self, stream: u32, number: u32, time: u64) -> MeterStepAnswer
         ensures step { λ r. ⌜ r ≡ meterStep self stream number time ⌝ }
         ensures refused { λ r. ⌜ ((r .outcome .refusal ≡ 0 → ⊥) → r .state ≡ self) ⌝ }
@@ -175,7 +175,7 @@ impl Meter {
     }
 }
 
-// What a receiver has beside its places.
+// Returns what a receiver has beside its places.
 fn stream_in(r: Receiver) -> StreamState
     ensures { λ t. ⌜ t ≡ streamIn r ⌝ }
 {
@@ -184,7 +184,7 @@ fn stream_in(r: Receiver) -> StreamState
     StreamState { stream, marks }
 }
 
-// How many jumps a stream can keep beside a neighbour that keeps so many.
+// Returns how many jumps a stream can keep beside a neighbour that keeps `kept`.
 fn most_beside(kept: u32) -> u32
     requires { ⌜ kept ≤ mostKept ⌝ }
     ensures { λ r. ⌜ r ≡ min mostKept (shared - kept) ⌝ }
@@ -241,8 +241,8 @@ fn is_fit<'a>(
     parts::is_fit(second, true, positions, numbers, times)
 }
 
-// Steps a stream on the meter's parts: the numbers by value, the marks and the places borrowed and written where they stand. The
-// neighbour's fit test is made here, the stream's own by its step.
+// Steps a stream on the meter's parts: the numbers by value, the marks and the places borrowed and written in place. The neighbour's
+// fit test is made here, the stream's own by its step.
 fn advance<'a>(
     first: Stream,
     second: Stream,

@@ -15,6 +15,7 @@ pub mod Shares
 pub mod Discovered
 pub mod RecordsAsked
 pub mod RowLaws
+pub mod GapLists
 pub mod DigitBounds
 pub mod Listed
 pub mod Common

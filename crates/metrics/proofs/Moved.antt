@@ -14,7 +14,7 @@ use Rattle.rfc4737.specs.declared.Answer.{Answer}
 use Rattle.rfc4737.specs.declared.Gap.{Gap}
 use Rattle.rfc4737.specs.declared.Counts.{Counts}
 use Rattle.rfc4737.specs.Extent.{sizeIn}
-use Rattle.rfc4737.specs.Refusals.{inCase, firstOf, askedOutside, outside}
+use Rattle.rfc4737.specs.Refusals.{refusalIf, firstRefusal, askedOutside, outside}
 use Rattle.rfc4737.specs.Runs as run
 use Rattle.rfc4737.specs.Tally as tallying
 use Rattle.rfc4737.specs.Gaps.{gaps}
@@ -79,25 +79,25 @@ module _ (c : ℕ) where
           text = text-same;
           answer = λ asked i.
               record {
-                refusal = firstOf (inCase (outside 1 (n i) asked) askedOutside ∷ []);
+                refusal = firstRefusal (refusalIf (outside 1 (n i) asked) askedOutside ∷ []);
                 answer = atRecord (Answer.InOrder (record { position = 0; jump = 0 })) (a i) asked;
               };
           gap = λ asked i.
               record {
-                refusal = firstOf (inCase (outside 1 (n i) asked) askedOutside ∷ []);
+                refusal = firstRefusal (refusalIf (outside 1 (n i) asked) askedOutside ∷ []);
                 gap = atRecord Gap.None (gaps (a i)) asked;
               };
           counts = λ i. record { refusal = 0; counts = run.counts (a i) };
           tally = λ i. record { refusal = 0; tally = tallying.tally (a i) };
           shares = λ m i.
               record {
-                refusal = firstOf (inCase (outside 1 degreeMost m) askedOutside ∷ []);
+                refusal = firstRefusal (refusalIf (outside 1 degreeMost m) askedOutside ∷ []);
                 reordered = ratio.nReordered m (cond (outside 1 degreeMost m) [] (a i));
                 arrived = run.arrived (cond (outside 1 degreeMost m) [] (a i));
               };
           degree = λ m i.
               record {
-                refusal = firstOf (inCase (outside 1 degreeMost m) askedOutside ∷ []);
+                refusal = firstRefusal (refusalIf (outside 1 degreeMost m) askedOutside ∷ []);
                 ratio = ratio.degree m (cond (outside 1 degreeMost m) [] (a i));
               };
           ratios = λ i. record { refusal = 0; ratios = ratio.ratios (a i) };

@@ -33,8 +33,8 @@ use Rattle.metrics.specs.Sample.{sizeOf, sampleArrivals, answersOf}
 use Rattle.metrics.specs.Records.{arrivalAt, before, answerAt, answersTo, FileLayout, HasRecord, numberPlaces}
 use Rattle.metrics.specs.Private.Tables.{EngineTables, ClassOf, IfLate}
 use Rattle.metrics.specs.Private.Steps.{DiscoverersAt, known}
-use Rattle.metrics.specs.declared.classes.Class.{Class}
-use Rattle.metrics.specs.declared.tables.State.{State}
+use Rattle.metrics.specs.declared.kind.Class.{Class}
+use Rattle.metrics.specs.declared.seen.State.{State}
 use Rattle.metrics.proofs.TablesFollow.{arrivals-laid, before-more, before-length}
 use Rattle.metrics.proofs.AnswersByClass.{late-place}
 
@@ -98,8 +98,10 @@ counts-more l a = rw (arrived-more l a, count-more isReordered l a, count-more i
 -- ---- tally
 
 -- the tally under record i + 1
-pub tally-next : (d : Decoded) (y : Layout) (i : ℕ) → HasRecord d y i → tally (answersTo d (i + 1)) ≡ tallyAfter (tally (answersTo d i)) (answerAt d i)
-tally-next d y i h = ap tally (answers-next d y i h) ∙ tally-more (answersTo d i) (answerAt d i)
+pub tally-next : (d : Decoded) (y : Layout) (i : ℕ) → HasRecord d y i → (t : List ℕ) → t ≡ tally (answersTo d i)
+    → tallyAfter t (answerAt d i) ≡ tally (answersTo d (i + 1))
+tally-next d y i h t e =
+    ap (λ (t : List ℕ). tallyAfter t (answerAt d i)) e ∙ sym (ap tally (answers-next d y i h) ∙ tally-more (answersTo d i) (answerAt d i))
 
 -- of no answers all counts of the tally are 0
 pub tally-none : tally [] ≡ replicate tallyPlaces 0

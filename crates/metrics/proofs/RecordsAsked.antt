@@ -18,7 +18,7 @@ use borrow.Author.Tests.{leb-true, leb-false}
 use Rattle.rfc4737.specs.declared.Arrival.{Arrival}
 use Rattle.rfc4737.specs.declared.Answer.{Answer}
 use Rattle.rfc4737.specs.declared.Gap.{Gap}
-use Rattle.rfc4737.specs.Refusals.{firstOf, inCase, outside, askedOutside}
+use Rattle.rfc4737.specs.Refusals.{firstRefusal, refusalIf, outside, askedOutside}
 use Rattle.rfc4737.specs.Arrivals.{count, has, withArrival, firsts, each, eachAfter}
 use Rattle.rfc4737.specs.Order.{isInOrder}
 use Rattle.rfc4737.specs.Extent.{discontinuity}
@@ -47,7 +47,7 @@ use Rattle.metrics.proofs.OneArrivalMore.{known-some}
 
 -- no refusal: the file has none of its own, and what is asked for is in its range
 asked-inside : (d : Decoded) (low high asked : ℕ) → askedRefusal d low high asked ≡ 0 → outside low high asked ≡ false
-asked-inside d low high asked e = case-none (outside low high asked) askedOutside (omega arith) (sym (first-one _) ∙ first-none (decodedRefusal d) (inCase (outside low high asked) askedOutside ∷ []) e .1)
+asked-inside d low high asked e = case-none (outside low high asked) askedOutside (omega arith) (sym (first-one _) ∙ first-none (decodedRefusal d) (refusalIf (outside low high asked) askedOutside ∷ []) e .1)
 
 -- a call that is not refused asks for a number in its range
 pub asked-within : (d : Decoded) (low high asked : ℕ) → askedRefusal d low high asked ≡ 0 → (low ≤ asked) × (asked ≤ high)
@@ -108,6 +108,15 @@ pub answer-at : (d : Decoded) (other : Answer) (i : ℕ) → i < length (sampleA
 unfolding answers each
 answer-at d other i h = each-after-at (answerTo (sizeOf d)) noArrival other [] (sampleArrivals d) i h
 
+-- an answer that has no gap, for a place where there is none
+abbrev pub no-answer : Answer
+no-answer = Answer.Duplicate (record { first = 0 })
+
+-- the gap of each answer among those of all
+pub gap-of-answer : (l : List Answer) (i : ℕ) → getD (gaps l) i Gap.None ≡ gapOf l (positionOf (getD l i no-answer))
+unfolding gaps gapOf positionOf
+gap-of-answer l i = List·getD-map (λ (a : Answer). gapOf l (positionOf a)) l i no-answer
+
 module _ (d : Decoded) (asked : ℕ) where
   -- a refused call has no answer and no gap
   pub answer-refused : (other : Answer) → (recordRefusal d asked ≡ 0 → ⊥) → atRecord other (answersOf d) asked ≡ other
@@ -134,12 +143,10 @@ module _ (d : Decoded) (asked : ℕ) where
 
     -- and its gap
     pub gap-known : atRecord Gap.None (gaps (answersOf d)) asked ≡ gapOf (answersOf d) (positionOf (answerAt d (asked - 1)))
-    unfolding gaps gapOf positionOf
     gap-known =
-        let copy : Answer = Answer.Duplicate (record { first = 0 }) in
         at-inside Gap.None (gaps (answersOf d)) asked (record-inside .0)
-        ∙ List·getD-map (λ (a : Answer). gapOf (answersOf d) (positionOf a)) (answersOf d) (asked - 1) copy
-        ∙ ap (λ (a : Answer). gapOf (answersOf d) (positionOf a)) (answer-at d copy (asked - 1) (omega (arith, record-inside)))
+        ∙ gap-of-answer (answersOf d) (asked - 1)
+        ∙ ap (λ (a : Answer). gapOf (answersOf d) (positionOf a)) (answer-at d no-answer (asked - 1) (omega (arith, record-inside)))
 
 -- ---- the position of an answer
 
@@ -167,7 +174,7 @@ firsts-grow l (a ∷ m) = let k = rw append-assoc at (firsts-grow (l ++ (a ∷ [
 
 module _ (d : Decoded) (y : Layout) (i : ℕ) (h : HasRecord d y i) where
   -- the position of record i + 1, if it is a first arrival
-  new-place : has (arrivalAt d i .number) (before d i) ≡ false → positionOf (answerAt d i) ≡ some (length (firsts (before d i)) + 1)
+  pub new-place : has (arrivalAt d i .number) (before d i) ≡ false → positionOf (answerAt d i) ≡ some (length (firsts (before d i)) + 1)
   new-place e = rw (answer-first (sizeOf d) (before d i) (arrivalAt d i) e) (first-place (sizeOf d) (firsts (before d i)) (arrivalAt d i))
 
   -- every position is at most L
@@ -196,13 +203,13 @@ module _ (d : Decoded) (y : Layout) (i : ℕ) (h : HasRecord d y i) where
 
 -- the refusal that is found by the layout
 pub laid-refusal : (d : Decoded) (y : Layout) → FileLayout d y → (r low high asked : ℕ)
-    → r ≡ firstOf (y .refusal ∷ inCase (outside low high asked) askedOutside ∷ []) → r ≡ askedRefusal d low high asked
+    → r ≡ firstRefusal (y .refusal ∷ refusalIf (outside low high asked) askedOutside ∷ []) → r ≡ askedRefusal d low high asked
 laid-refusal d y h r low high asked e =
-    e ∙ ap (λ (y : Layout). firstOf (y .refusal ∷ inCase (outside low high asked) askedOutside ∷ [])) (h .laid)
+    e ∙ ap (λ (y : Layout). firstRefusal (y .refusal ∷ refusalIf (outside low high asked) askedOutside ∷ [])) (h .laid)
 
 -- the same of a record
 pub laid-record : (d : Decoded) (y : Layout) → FileLayout d y → (r asked : ℕ)
-    → r ≡ firstOf (y .refusal ∷ inCase (outside 1 (y .arrivals) asked) askedOutside ∷ []) → r ≡ recordRefusal d asked
+    → r ≡ firstRefusal (y .refusal ∷ refusalIf (outside 1 (y .arrivals) asked) askedOutside ∷ []) → r ≡ recordRefusal d asked
 laid-record d y h r asked e =
     laid-refusal d y h r 1 (y .arrivals) asked e ∙ ap (λ (n : ℕ). askedRefusal d 1 n asked) (arrivals-laid d y h)
 

@@ -23,7 +23,7 @@ use Rattle.sample.specs.Calls.{unlessShort}
 use Rattle.metrics.specs.Sample.{sizeOf, sampleArrivals, answersOf}
 use Rattle.metrics.specs.Records.{before, answerAt, answersTo, HasRecord, FileLayout}
 use Rattle.metrics.specs.Figures.{recordAnswer}
-use Rattle.metrics.specs.Rows.{rowOf, rowsOf, rowAt, rowsShort, rowsInto, RowsTo, RowsTell}
+use Rattle.metrics.specs.Rows.{rowOf, rowsOf, rowAt, rowsShort, RowsTo, RowsTell}
 use Rattle.metrics.proofs.TablesFollow.{arrivals-laid, before-count}
 use Rattle.metrics.proofs.OneArrivalMore.{answers-next, answers-length}
 use Rattle.metrics.proofs.RecordsAsked.{asked-within, at-inside}
@@ -103,6 +103,11 @@ module _ (d : Decoded) (y : Layout) (i : ℕ) (h : HasRecord d y i) (old new : L
 
 -- ---- what the call answers
 
+-- a decoded file that is accepted, where what is lent is too short or not, by the arrivals of its layout
+pub into : (short : (arrivals places : ℕ) → Bool) (d : Decoded) (y : Layout) → FileLayout d y → d ≡ accepted (sampleOf d) → (places : ℕ) (b : Bool)
+    → b ≡ short (y .arrivals) places → unlessShort (short (length (sampleArrivals d)) places) d ≡ unlessShort b (accepted (sampleOf d))
+into short d y h a places b q = ap₂ unlessShort (ap (λ (n : ℕ). short n places) (sym (arrivals-laid d y h)) ∙ sym q) a
+
 -- with the file's own refusal
 pub rows-refused : (d : Decoded) (y : Layout) → y ≡ layoutOf d → (y .refusal ≡ 0 → ⊥) → (old : List ℕ) → RowsTo d old y old
 unfolding unlessShort rowsOf answers Rattle.rfc4737.specs.Arrivals.each Rattle.rfc4737.specs.Arrivals.eachAfter
@@ -110,17 +115,10 @@ rows-refused (refused r) y e n old = record { layout = e; rows = refl }
 rows-refused (accepted s) y e n old = absurd (n (ap (λ (y : Layout). y .refusal) e))
 
 module _ (d : Decoded) (y : Layout) (h : FileLayout d y) (a : d ≡ accepted (sampleOf d)) (old : List ℕ) where
-  -- the arrivals of the layout are those of the sample
-  short-is : (b : Bool) → b ≡ rowsShort (y .arrivals) (length old) → rowsShort (length (sampleArrivals d)) (length old) ≡ b
-  short-is b q = ap (λ (n : ℕ). rowsShort n (length old)) (sym (arrivals-laid d y h)) ∙ sym q
-
   -- with 8
   pub rows-eight : true ≡ rowsShort (y .arrivals) (length old) → (r : Layout) → r ≡ layoutOf (refused 8) → RowsTo d old r old
   unfolding unlessShort rowsOf answers Rattle.rfc4737.specs.Arrivals.each Rattle.rfc4737.specs.Arrivals.eachAfter
-  rows-eight q r e = record { layout = rw into e; rows = rw into }
-    where
-      into : rowsInto d (length old) ≡ refused 8
-      into = ap₂ unlessShort (short-is true q) a
+  rows-eight q r e = let k = into rowsShort d y h a (length old) true q in record { layout = rw k e; rows = rw k }
 
   -- with none
   module _ (q : false ≡ rowsShort (y .arrivals) (length old)) where
@@ -131,10 +129,9 @@ module _ (d : Decoded) (y : Layout) (h : FileLayout d y) (a : d ≡ accepted (sa
 
     pub rows-filled : (new : List ℕ) → new ≡ over (rowsOf (answersOf d)) old → RowsTo d old y new
     unfolding unlessShort
-    rows-filled new f = record { layout = rw into (h .laid ∙ ap layoutOf a); rows = rw into f }
-      where
-        into : rowsInto d (length old) ≡ accepted (sampleOf d)
-        into = ap₂ unlessShort (short-is false q) a
+    rows-filled new f =
+        let k = into rowsShort d y h a (length old) false q in
+        record { layout = rw k (h .laid ∙ ap layoutOf a); rows = rw k (f ∙ ap (λ (d : Decoded). over (rowsOf (answersOf d)) old) a) }
 
 -- ---- a row tells its answer
 

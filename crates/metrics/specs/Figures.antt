@@ -1,4 +1,4 @@
--- What each call answers of a decoded file: a definition of rfc4737 over the answers of its sample. The file's own refusal comes
+-- What each call returns of a decoded file: a definition of rfc4737 over the answers of its sample. The file's own refusal comes
 -- first, then 9. A refused file has the empty sample, so what stands beside a refusal is the figure of no arrivals: zeros, no gap, an
 -- undefined ratio. Assumes nothing.
 use Prim.Native.Nat.{ℕ, zero, suc}
@@ -8,7 +8,7 @@ use lib.ListN.{length, getD}
 use Rattle.rfc4737.specs.declared.Answer.{Answer}
 use Rattle.rfc4737.specs.declared.Gap.{Gap}
 use Rattle.rfc4737.specs.declared.Measure.{Measure}
-use Rattle.rfc4737.specs.Refusals.{outside, inCase, firstOf, askedOutside}
+use Rattle.rfc4737.specs.Refusals.{outside, refusalIf, firstRefusal, askedOutside}
 use Rattle.rfc4737.specs.Runs.{arrived, counts}
 use Rattle.rfc4737.specs.Tally.{tally}
 use Rattle.rfc4737.specs.Gaps.{gaps}
@@ -36,7 +36,7 @@ module _ {ℓ} {A : Type ℓ} where
 
 -- the refusal of a call that asks for a number from low to high: the file's own, then 9
 abbrev pub askedRefusal : (d : Decoded) (low high asked : ℕ) → ℕ
-askedRefusal d low high asked = firstOf (decodedRefusal d ∷ inCase (outside low high asked) askedOutside ∷ [])
+askedRefusal d low high asked = firstRefusal (decodedRefusal d ∷ refusalIf (outside low high asked) askedOutside ∷ [])
 
 -- the refusal of a call that asks for a record: 1 to A
 abbrev pub recordRefusal : (d : Decoded) (asked : ℕ) → ℕ

@@ -1,7 +1,8 @@
--- What each call answers (Figures, Report and Agreement, over Sample), and that moving the clock changes nothing (Moved). Assumes nothing.
+-- What each call answers (Figures, Gaps, Rows, Report and Agreement, over Sample), and that moving the clock changes nothing (Moved). Assumes nothing.
 pub mod Sample
 pub mod Records
 pub mod Figures
+pub mod Gaps
 pub mod Rows
 pub mod Report
 pub mod Agreement

@@ -1,4 +1,4 @@
--- The listing of a decoded file, and what its call leaves in lent memory. Assumes nothing.
+-- The listing of a decoded file, and what its call leaves in the caller's buffer. Assumes nothing.
 use mathlib.Core.List.{List}
 use Prim.Native.Nat.{ℕ}
 use lib.ListN.{length}

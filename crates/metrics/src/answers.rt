@@ -2,23 +2,23 @@
 ghost use mathlib.Core.Path.{_≡_};
 ghost use mathlib.Core.List.{[], _∷_};
 ghost use Prim.Native.Nat.{_≤_};
-ghost use Rattle.rfc4737.specs.Refusals.{outside, inCase, firstOf, askedOutside};
+ghost use Rattle.rfc4737.specs.Refusals.{outside, refusalIf, firstRefusal, askedOutside};
 ghost use Rattle.sample.specs.Decode.{decode};
 ghost use Rattle.metrics.specs.Records.{FileLayout, HasRecord, before, answerAt};
 ghost use Rattle.metrics.specs.Private.Tables.{EngineTables};
 ghost use Rattle.metrics.specs.Figures.{recordAnswer};
 use crate::RecordAnswer;
-use crate::classes::Class;
-use crate::classes::answer_by;
-use crate::classes::class_of;
 use crate::input;
-use crate::scan::largest;
-use crate::scan::offset;
-use crate::tables::FIRSTS;
-use crate::tables::PLACES;
-use crate::tables::State;
-use crate::tables::note;
-use crate::tables::start_state;
+use crate::kind::Class;
+use crate::kind::answer_by;
+use crate::kind::class_of;
+use crate::largest_n::largest;
+use crate::largest_n::offset;
+use crate::seen::FIRSTS;
+use crate::seen::PLACES;
+use crate::seen::State;
+use crate::seen::note;
+use crate::seen::start_state;
 use rfc4737::Answer;
 use rfc4737::InOrderFigures;
 use rfc4737::judge::outside;
@@ -28,7 +28,7 @@ use sample::Layout;
 
 // The refusal of a call that asks for a number from low to high: the file's own, then 9.
 pub(crate) fn asked_refusal(own: u32, low: u32, high: u32, asked: u32) -> u32
-    ensures { λ r. ⌜ r ≡ firstOf (own ∷ inCase (outside low high asked) askedOutside ∷ []) ⌝ }
+    ensures { λ r. ⌜ r ≡ firstRefusal (own ∷ refusalIf (outside low high asked) askedOutside ∷ []) ⌝ }
 {
     if own != NONE {
         return own;

@@ -1,4 +1,4 @@
-// A lent text against the listing that a sample must give, line by line. The first line that differs ends the pass.
+// A text compared with the listing that a sample must give, line by line. The first line that differs ends the pass.
 ghost use mathlib.Core.Path.{_≡_};
 ghost use mathlib.Core.Bool.{_&&_};
 ghost use lib.Dec.{eqb};
@@ -6,12 +6,12 @@ ghost use Rattle.sample.specs.Decode.{decode};
 ghost use Rattle.metrics.specs.Private.Taken.{Agreed};
 ghost use Rattle.metrics.specs.Records.{FileLayout};
 ghost use Rattle.metrics.specs.Report.{sampleText};
-use crate::parts::Part;
-use crate::pass::take_all;
+use crate::line_agreement::Part;
+use crate::listing_pass::take_all;
 use listing::LINE;
 use sample::Layout;
 
-// The listing of a sample against a text: each line is made in a buffer of one line, and compared there.
+// Compares the listing of a sample with a text: each line is made in a buffer of one line, and compared there.
 pub(crate) fn compare_listing(file: &[u8], y: Layout, text: &[u8]) -> Part
     requires { ⌜ FileLayout (decode (now file)) y ⌝ }
     ensures { λ r. ⌜ Agreed (sampleText (decode (now (file .entry)))) (now (text .entry)) r ⌝ }

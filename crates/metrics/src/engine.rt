@@ -1,21 +1,21 @@
-// The engine: what is known after some records, and the answer for one record more. A record takes a few steps, and a
-// reordered packet those of the tree of sums besides: at most 11 to ask it, and at most 12 for each first arrival that it
-// has to be told of, once. Links take at most two steps for each first arrival in all.
+// The engine: what is known after some records, and the answer for the next one. Cost: a few steps for each record; besides,
+// for a reordered packet at most 11 steps to ask the tree of sums, and once for each first arrival at most 12 to enter it. Links
+// take at most two steps for each first arrival in all.
 ghost use mathlib.Core.Path.{_≡_};
 ghost use Prim.Native.Nat.{_+_};
 ghost use Rattle.sample.specs.Decode.{decode};
 ghost use Rattle.metrics.specs.Records.{HasRecord, arrivalAt, answerAt};
 ghost use Rattle.metrics.specs.Private.Tables.{ClassOf};
 ghost use Rattle.metrics.specs.Private.Engine.{EngineState};
-use crate::classes::Class;
-use crate::classes::answer_by;
-use crate::classes::class_of;
-use crate::tables::FIRSTS;
-use crate::tables::PLACES;
-use crate::tables::State;
-use crate::tables::note;
-use crate::totals::Totals;
-use crate::totals::late_figures;
+use crate::byte_offset::Totals;
+use crate::byte_offset::late_figures;
+use crate::kind::Class;
+use crate::kind::answer_by;
+use crate::kind::class_of;
+use crate::seen::FIRSTS;
+use crate::seen::PLACES;
+use crate::seen::State;
+use crate::seen::note;
 use rfc4737::Answer;
 use rfc4737::Arrival;
 use sample::Layout;
@@ -39,7 +39,7 @@ pub(crate) fn fresh_engine() -> Engine
     }
 }
 
-// The answer for one record more with its class, and what is known after it.
+// The answer for the next record with its class, and what is known after it.
 pub(crate) struct EngineAnswer {
     pub answer: Answer,
     pub class: Class,

@@ -18,14 +18,14 @@ ghost use Rattle.metrics.specs.Private.Tables.{Links, ClassOf, IfLate};
 ghost use Rattle.metrics.specs.Private.Steps.{kindBy, reachedBy, sharesOf, ShareTables};
 use crate::TALLY_MOST;
 use crate::TALLY_PLACES;
-use crate::classes::Class;
-use crate::classes::class_of;
 use crate::input;
-use crate::scan::largest_by_links;
-use crate::tables::FIRSTS;
-use crate::tables::PLACES;
-use crate::tables::note;
-use crate::tables::start_state;
+use crate::kind::Class;
+use crate::kind::class_of;
+use crate::largest_n::largest_by_links;
+use crate::seen::FIRSTS;
+use crate::seen::PLACES;
+use crate::seen::note;
+use crate::seen::start_state;
 use rfc4737::Counts;
 use rfc4737::Runs;
 use sample::Layout;
@@ -47,7 +47,7 @@ pub(crate) fn no_counts() -> Counts
     }
 }
 
-// The counts under one arrival more: an in-order packet lengthens the open run, and a reordered one closes it.
+// The counts after the next arrival: an in-order packet lengthens the open run, and a reordered one closes it.
 pub(crate) fn counts_after(c: Counts, class: Class) -> Counts
     requires { ⌜ CountsWithin c ⌝ }
     ensures { λ r. ⌜ ((l : List Answer) (n : ℕ) (a : Answer) → c ≡ counts l → ClassOf n class a → r ≡ counts (l ++ (a ∷ []))) ⌝ }
@@ -144,7 +144,7 @@ fn tally_place(extent: u32) -> usize
     0
 }
 
-// Tallies one arrival more, after so many first arrivals.
+// Tallies the next arrival, after `count` first arrivals.
 fn tally_after(t: &mut [u32; TALLY_PLACES], count: u32, class: Class)
     requires { ⌜ (length (now t) ≡ tallyPlaces) × ((k : ℕ) → getD (now t) k 0 ≤ arrivalsMost) × (count ≤ sentMost) × IfLate (λ (at : ℕ). (1 ≤ at) × (at ≤ count)) class ⌝ }
     ensures { λ _. ⌜ ((a : Answer) → ClassOf count class a → now (t .exit) ≡ tallyAfter (now (t .entry)) a) ⌝ }
@@ -198,7 +198,7 @@ pub(crate) struct Shares {
     pub next: u32,
 }
 
-// The n-reordered packets under a reordered one more, of this largest n.
+// The n-reordered packets after another reordered one, of this largest n.
 fn n_reordered_after(n: u32, most: u32, part: u32) -> u32
     requires { ⌜ part < arrivalsMost ⌝ }
     ensures { λ r. ⌜ r ≡ reachedBy n most part ⌝ }
@@ -209,8 +209,8 @@ fn n_reordered_after(n: u32, most: u32, part: u32) -> u32
     part
 }
 
-// The shares under one arrival more, of this number. A copy leaves them and the tables; any other packet is linked by its
-// largest n, which is 0 where it is in order.
+// The shares after the next arrival, of this number. A copy leaves them and the tables; any other packet is linked by its
+// largest n, which is 0 if it is in order.
 fn shares_after(
     numbers: &mut [u16; FIRSTS],
     links: &mut [u16; PLACES],

@@ -1,34 +1,39 @@
-// The gap of a discontinuity: a table of the discoverers by the discontinuity's position, looked through downward.
+// Gaps: a table of the discoverers by the discontinuity's position. For one record it is searched downward from its position; for all
+// records it is gone through once, upward.
 ghost use mathlib.Core.Path.{_≡_};
 ghost use mathlib.Core.List.{List, [], _∷_, _++_};
 ghost use mathlib.Core.Option.{some};
-ghost use Prim.Native.Nat.{ℕ, _-_, _≤_};
+ghost use Prim.Native.Nat.{ℕ, _+_, _-_, _≤_};
 ghost use lib.ListN.{length, replicate};
+ghost use Rattle.octets.specs.Memory.{over};
 ghost use Rattle.rfc4737.specs.declared.Answer.{Answer};
+ghost use Rattle.rfc4737.specs.Arrivals.{firsts};
 ghost use Rattle.rfc4737.specs.Gaps.{positionOf, gapOf};
 ghost use Rattle.rfc4737.specs.Judge.{sentMost};
 ghost use Rattle.sample.specs.Decode.{decode};
-ghost use Rattle.metrics.specs.Sample.{answersOf};
-ghost use Rattle.metrics.specs.Records.{FileLayout, before, answerAt, answersTo, numberPlaces};
+ghost use Rattle.metrics.specs.Sample.{sampleArrivals, answersOf};
+ghost use Rattle.metrics.specs.Records.{FileLayout, HasRecord, before, answerAt, answersTo, numberPlaces};
 ghost use Rattle.metrics.specs.Figures.{recordGap};
-ghost use Rattle.metrics.specs.Private.Tables.{EngineTables, ClassOf, IfLate};
-ghost use Rattle.metrics.specs.Private.Steps.{known, DiscoverersAt, lastTo};
+ghost use Rattle.metrics.specs.Gaps.{gapNumber, gapNumbers};
+ghost use Rattle.metrics.specs.Private.Tables.{EngineTables, RecordTable, ClassOf, IfLate};
+ghost use Rattle.metrics.specs.Private.Steps.{known, DiscoverersAt, lastTo, countAfter, PositionAt};
 use crate::RecordGap;
 use crate::answers::asked_refusal;
-use crate::classes::Class;
-use crate::classes::class_of;
 use crate::input;
-use crate::tables::FIRSTS;
-use crate::tables::PLACES;
-use crate::tables::State;
-use crate::tables::note;
-use crate::tables::start_state;
+use crate::kind::Class;
+use crate::kind::class_of;
+use crate::seen::FIRSTS;
+use crate::seen::PLACES;
+use crate::seen::State;
+use crate::seen::note;
+use crate::seen::start_state;
+use crate::seen::wide;
 use rfc4737::Gap;
 use rfc4737::refusal::NONE;
 use sample::Layout;
 
-// Notes at the discontinuity of one arrival more, after so many first arrivals, the position of the arrival, if
-// it is the first that has it as its own.
+// Notes the position of the next arrival, after `count` first arrivals, at its discontinuity, if it is the first that has
+// this discontinuity as its own.
 fn note_discoverer(found: &mut [u16; PLACES], count: u32, class: Class)
     requires { ⌜ (length (now found) ≡ numberPlaces) × (count ≤ sentMost) × IfLate (λ (at : ℕ). (1 ≤ at) × (at ≤ count)) class ⌝ }
     ensures { λ _. ⌜ ((l : List Answer) (a : Answer) → ClassOf count class a → DiscoverersAt l (now (found .entry)) → DiscoverersAt (l ++ (a ∷ [])) (now (found .exit))) ⌝ }
@@ -45,7 +50,7 @@ fn note_discoverer(found: &mut [u16; PLACES], count: u32, class: Class)
     }
 }
 
-// The position of an arrival, after so many first arrivals; 0 for a duplicate.
+// The position of an arrival, after `count` first arrivals; 0 for a duplicate.
 fn position_of(count: u32, class: Class) -> u32
     requires { ⌜ count ≤ sentMost ⌝ }
     ensures { λ r. ⌜ ((a : Answer) → ClassOf count class a → known r ≡ positionOf a) ⌝ }
@@ -141,24 +146,32 @@ fn last_to(found: &[u16; PLACES], p: u32) -> u32
     0
 }
 
-// The gap of position p: there is one if the discontinuity before it was discovered earlier.
-fn gap_at(found: &[u16; PLACES], p: u32) -> Gap
-    requires { ⌜ (1 ≤ p) × (p ≤ sentMost) ⌝ }
+// The gap of position p over `last`, the last discontinuity before it: there is one if `last` was discovered earlier.
+fn gap_over(found: &[u16; PLACES], last: u32, p: u32) -> Gap
+    requires { ⌜ (1 ≤ p) × (p ≤ sentMost) × (last ≡ lastTo (now found) (p - 1)) ⌝ }
     ensures { λ r. ⌜ ((l : List Answer) → DiscoverersAt l (now (found .entry)) → r ≡ gapOf l (some p)) ⌝ }
 {
     let place = p as usize;
     if found[place] == 0 {
         return Gap::None;
     }
-    let before = last_to(found, p - 1);
-    if before == 0 {
+    if last == 0 {
         return Gap::None;
     }
-    let neighbour = before as usize;
+    let neighbour = last as usize;
     if found[neighbour] < found[place] {
-        return Gap::Positions(p - before);
+        return Gap::Positions(p - last);
     }
     Gap::None
+}
+
+// The gap of position p.
+fn gap_at(found: &[u16; PLACES], p: u32) -> Gap
+    requires { ⌜ (1 ≤ p) × (p ≤ sentMost) ⌝ }
+    ensures { λ r. ⌜ ((l : List Answer) → DiscoverersAt l (now (found .entry)) → r ≡ gapOf l (some p)) ⌝ }
+{
+    let last = last_to(found, p - 1);
+    gap_over(found, last, p)
 }
 
 // The gap of a record of a file.
@@ -185,4 +198,106 @@ pub(crate) fn gap_of(file: &[u8], y: Layout, asked: u32) -> RecordGap
         refusal,
         gap: gap_at(&found, position),
     }
+}
+
+// Of the records whose gaps are listed: how many are first arrivals, and the last discontinuity among their positions, 0 if there is none.
+struct Listed {
+    pub count: u32,
+    pub last: u32,
+}
+
+// The position of record i + 1, after `count` first arrivals; 0 for a duplicate. The record of its packet's first arrival tells which.
+fn position_at(file: &[u8], y: Layout, records: &[u16; PLACES], i: u32, count: u32) -> u32
+    requires { ⌜ HasRecord (decode (now file)) y i × RecordTable (sampleArrivals (decode (now file))) (now records)
+        × (count ≡ length (firsts (before (decode (now file)) i))) ⌝ }
+    ensures { λ r. ⌜ PositionAt (decode (now (file .entry))) i count r ⌝ }
+{
+    let at = input::number_of(file, y, i) as usize;
+    if wide(records[at]) == i + 1 {
+        return count + 1;
+    }
+    0
+}
+
+// The gap of a position over `last`, the last discontinuity before it, as a number: 0 for no gap, and for position 0.
+fn gap_number(found: &[u16; PLACES], last: u32, position: u32) -> u32
+    requires { ⌜ (position ≤ sentMost) × ((position ≡ 0 → ⊥) → last ≡ lastTo (now found) (position - 1)) ⌝ }
+    ensures { λ r. ⌜ ((l : List Answer) → DiscoverersAt l (now (found .entry)) → r ≡ gapNumber (gapOf l (known position))) ⌝ }
+{
+    if position == 0 {
+        return 0;
+    }
+    match gap_over(found, last, position) {
+        Gap::None => 0,
+        Gap::Positions(gap) => gap,
+    }
+}
+
+// What is listed after a record of this position, which is the next one or, for a duplicate, 0.
+fn listed_after(found: &[u16; PLACES], listed: Listed, position: u32) -> Listed
+    requires { ⌜ (position ≤ sentMost) × (listed .last ≡ lastTo (now found) (listed .count))
+        × ((position ≡ 0 → ⊥) → position ≡ listed .count + 1) ⌝ }
+    ensures { λ r. ⌜ (r .count ≡ countAfter (listed .count) position) × (r .last ≡ lastTo (now (found .entry)) (r .count)) ⌝ }
+{
+    if position == 0 {
+        return listed;
+    }
+    let place = position as usize;
+    if found[place] == 0 {
+        return Listed {
+            count: position,
+            last: listed.last,
+        };
+    }
+    Listed {
+        count: position,
+        last: position,
+    }
+}
+
+// Lists the gaps of all records by the tables of the whole sample. Positions rise by 1 with each first arrival, so the last discontinuity
+// before each is known without a search.
+fn list_gaps(
+    file: &[u8],
+    y: Layout,
+    records: &[u16; PLACES],
+    found: &[u16; PLACES],
+    gaps: &mut [u32],
+)
+    requires { ⌜ FileLayout (decode (now file)) y × (y .arrivals ≤ length (now gaps))
+        × RecordTable (sampleArrivals (decode (now file))) (now records) × DiscoverersAt (answersOf (decode (now file))) (now found) ⌝ }
+    ensures { λ _. ⌜ now (gaps .exit) ≡ over (gapNumbers (answersOf (decode (now (file .entry))))) (now (gaps .entry)) ⌝ }
+{
+    let mut listed = Listed { count: 0, last: 0 };
+    let mut i: u32 = 0;
+    while i < y.arrivals {
+        let position = position_at(file, y, records, i, listed.count);
+        let place = i as usize;
+        gaps[place] = gap_number(found, listed.last, position);
+        listed = listed_after(found, listed, position);
+        i += 1;
+    }
+}
+
+// Puts the gaps of all records: one pass marks the discoverers of all discontinuities, one lists the gaps.
+pub(crate) fn put_gaps(file: &[u8], y: Layout, gaps: &mut [u32])
+    requires { ⌜ FileLayout (decode (now file)) y × (y .arrivals ≤ length (now gaps)) ⌝ }
+    ensures { λ _. ⌜ now (gaps .exit) ≡ over (gapNumbers (answersOf (decode (now (file .entry))))) (now (gaps .entry)) ⌝ }
+{
+    let mut numbers = [0u16; FIRSTS];
+    let mut records = [0u16; PLACES];
+    let mut skipped = [0u16; PLACES];
+    let mut found = [0u16; PLACES];
+    note_to(
+        file,
+        y,
+        0,
+        y.arrivals,
+        &mut numbers,
+        &mut records,
+        &mut skipped,
+        &mut found,
+        start_state(),
+    );
+    list_gaps(file, y, &records, &found, gaps);
 }

@@ -1,8 +1,8 @@
-// Every figure of a sample, by the definitions of rfc4737 over what the file decodes to. Every call takes all
-// input there is, and first checks the file, in one pass over it; on refusal it answers as for no arrivals.
-// No call takes a quadratic number of steps: with A arrivals of K packets the check and each pass take a number that
-// grows with A + K, and where a call says so with A times the binary digits of K. Tables of 4,096 places are zeroed
-// whatever A and K are.
+// Every figure of a sample, by the definitions of rfc4737 over what the file decodes to. Every call is total. It first
+// checks the file, in one pass; with a refusal its figures are those of no arrivals. A list or a buffer is lent if the
+// caller owns it and passes it by reference.
+// Cost, with A arrivals of K packets: O(A + K) for the check and for each pass, where a call says nothing else. No call
+// is quadratic. Tables of 4,096 places are zeroed whatever A and K are.
 ghost use mathlib.Core.Path.{_≡_};
 ghost use Prim.Native.Nat.{_≤_};
 ghost use lib.ListN.{length};
@@ -10,6 +10,7 @@ ghost use Rattle.rfc4737.specs.Cases.{CasesHold};
 ghost use Rattle.rfc4737.specs.Reordered.{ReorderedHaveDiscontinuity, OffsetsBounded, FiguresBounded};
 ghost use Rattle.sample.specs.Decode.{decode};
 ghost use Rattle.metrics.specs.Figures.{recordAnswer, recordGap, sampleCounts, sampleTally, degreeCounts, sampleDegree, sampleRatios, sampleAccommodated, sampleNeeds};
+ghost use Rattle.metrics.specs.Gaps.{GapsTo, GapsTell};
 ghost use Rattle.metrics.specs.Rows.{RowsTo, RowsTell};
 ghost use Rattle.listing.specs.Example.{ExampleHolds};
 ghost use Rattle.listing.specs.Room.{listingOctets};
@@ -18,22 +19,22 @@ ghost use Rattle.metrics.specs.Moved.{ClockMoved};
 ghost use Rattle.metrics.specs.Agreement.{sampleAgreement};
 
 mod answers;
-mod classes;
+mod byte_offset;
 mod compare;
 mod engine;
 mod figures;
 mod gaps;
 mod input;
+mod kind;
+mod largest_n;
+mod line_agreement;
 mod lines;
+mod listing_pass;
 mod needs;
-mod parts;
-mod pass;
 mod quotients;
 mod report;
 mod rows;
-mod scan;
-mod tables;
-mod totals;
+mod seen;
 
 use answers::answer_of;
 use answers::asked_refusal;
@@ -43,6 +44,7 @@ use figures::counts_of;
 use figures::shares_of;
 use figures::tally_of;
 use gaps::gap_of;
+use gaps::put_gaps;
 use input::layout;
 use needs::needs_of;
 use quotients::ratio_of;
@@ -138,7 +140,7 @@ pub struct SampleAgreement {
     pub same: bool,
 }
 
-// The answer for a record: one pass over the arrivals before it, and one over the positions of its extent. A + K.
+// The answer for a record: one pass over the arrivals before it, and one over the positions of its extent. O(A + K).
 pub fn answer(file: &[u8], asked: u32) -> RecordAnswer
     ensures { λ r. ⌜ r ≡ recordAnswer (decode (now (file .entry))) asked ⌝ }
     ensures cases { λ _. ⌜ CasesHold ⌝ }
@@ -150,7 +152,7 @@ pub fn answer(file: &[u8], asked: u32) -> RecordAnswer
     answer_of(file, y, asked)
 }
 
-// The counts of a sample: one pass. A + K.
+// The counts of a sample: one pass, O(A + K).
 pub fn counts(file: &[u8]) -> SampleCounts
     ensures { λ r. ⌜ r ≡ sampleCounts (decode (now (file .entry))) ⌝ }
 {
@@ -161,7 +163,7 @@ pub fn counts(file: &[u8]) -> SampleCounts
     }
 }
 
-// The extent tally of a sample: one pass. A + K.
+// The extent tally of a sample: one pass, O(A + K).
 pub fn tally(file: &[u8]) -> SampleTally
     ensures { λ r. ⌜ r ≡ sampleTally (decode (now (file .entry))) ⌝ }
 {
@@ -173,7 +175,7 @@ pub fn tally(file: &[u8]) -> SampleTally
     }
 }
 
-// The gap of a record: one pass, and as many steps as there are positions before it. A + K.
+// The gap of a record: one pass, and a search over the positions before it, O(A + K).
 pub fn gap(file: &[u8], asked: u32) -> RecordGap
     ensures { λ r. ⌜ r ≡ recordGap (decode (now (file .entry))) asked ⌝ }
 {
@@ -181,8 +183,8 @@ pub fn gap(file: &[u8], asked: u32) -> RecordGap
     gap_of(file, y, asked)
 }
 
-// The two counts of which the degree of n-reordering is made: one pass, in which the reordered packets together take
-// at most two steps for each first arrival to find the largest n. A + K.
+// The two counts of which the degree of n-reordering is made: one pass, O(A + K). In it all searches for a largest n take
+// at most two steps for each first arrival.
 pub fn n_reordered(file: &[u8], n: u32) -> DegreeCounts
     ensures { λ r. ⌜ r ≡ degreeCounts (decode (now (file .entry))) n ⌝ }
 {
@@ -226,8 +228,7 @@ pub fn ratios(file: &[u8]) -> SampleRatios
     }
 }
 
-// How many first arrivals a receiver's buffer of this size accommodates: one pass, as that of `listing`. A times the binary digits of
-// K, and K.
+// How many first arrivals a receiver's buffer of this size accommodates: one pass, as that of `listing`, O(A log K + K).
 pub fn accommodated(file: &[u8], measure: Measure, size: u64) -> SampleAccommodated
     ensures { λ r. ⌜ r ≡ sampleAccommodated (decode (now (file .entry))) measure size ⌝ }
 {
@@ -254,6 +255,23 @@ pub fn greatest_needs(file: &[u8]) -> SampleNeeds
     }
 }
 
+// Fills a lent list with the gap of every record, 0 where it has none: one pass and a step for each record, O(A + K). With a refusal, the
+// file's own or 8, the list stays as it was.
+pub fn record_gaps(file: &[u8], gaps: &mut [u32]) -> Layout
+    ensures { λ r. ⌜ GapsTo (decode (now (file .entry))) (now (gaps .entry)) r (now (gaps .exit)) ⌝ }
+    ensures tell { λ _. ⌜ GapsTell ⌝ }
+{
+    let y = layout(file);
+    if y.refusal != NONE {
+        return y;
+    }
+    if gaps.len() < y.arrivals as usize {
+        return refused_layout(OUTPUT_SHORT);
+    }
+    put_gaps(file, y, gaps);
+    y
+}
+
 // Every figure of every record, in rows of eight numbers from the start of a lent list: one pass, as that of `listing`. With a refusal,
 // the file's own or 8, the list stays as it was.
 pub fn record_rows(file: &[u8], rows: &mut [u64]) -> Layout
@@ -271,9 +289,9 @@ pub fn record_rows(file: &[u8], rows: &mut [u64]) -> Layout
     y
 }
 
-// The listing of a sample, at the start of lent memory that has room for it, as LISTING_OCTETS octets have for any:
-// one pass, in which a reordered packet takes at most 11 steps of a tree of sums, and each first arrival before it once
-// at most 12. A times the binary digits of K, and K; twice that where less is lent.
+// Writes the listing of a sample at the start of `out`, if `out` has room for it; LISTING_OCTETS octets have room for any. One pass,
+// in which a reordered packet takes at most 11 steps of a tree of sums, and each first arrival at most 12 to enter it. Cost:
+// O(A log K + K); twice that if `out` is shorter than LISTING_OCTETS.
 pub fn listing(file: &[u8], out: &mut [u8]) -> WriteAnswer
     ensures { λ r. ⌜ ListedTo (decode (now (file .entry))) (now (out .entry)) r (now (out .exit)) ⌝ }
     ensures room { λ _. ⌜ length (sampleText (decode (now (file .entry)))) ≤ listingOctets ⌝ }
@@ -291,8 +309,8 @@ pub fn listing(file: &[u8], out: &mut [u8]) -> WriteAnswer
     }
 }
 
-// A text against the listing of a sample, which is not made whole: a step for each octet that agrees, and the steps of `listing`
-// up to the first line that differs.
+// Compares a text with the listing of a sample, line by line, up to the first line that differs. Cost: a step for each octet that
+// agrees, and the steps of `listing` for these lines.
 pub fn agreement(file: &[u8], text: &[u8]) -> SampleAgreement
     ensures { λ r. ⌜ r ≡ sampleAgreement (decode (now (file .entry))) (now (text .entry)) ⌝ }
     ensures room { λ _. ⌜ length (sampleText (decode (now (file .entry)))) ≤ listingOctets ⌝ }

@@ -1,5 +1,5 @@
-// The lines of a sample's listing, one by one. Each is put into lent memory, at a place after the line before it; or it is
-// compared with a text from such a place on, and then it is put at the start of memory, where the next one is put too.
+// The lines of a sample's listing, one by one. A line is either written into the caller's buffer, after the line before it; or it is
+// written at the buffer's start, as every other, and compared there with a text from the offset on that the listing has reached.
 ghost use mathlib.Core.Path.{_≡_};
 ghost use mathlib.Core.Bool.{true, false, cond};
 ghost use Prim.Native.Nat.{_≤_};
@@ -7,12 +7,12 @@ ghost use lib.ListN.{length, take, drop};
 ghost use Rattle.listing.specs.Lines.{headerLine, recordLine, endLine};
 ghost use Rattle.listing.specs.Private.DigitBounds.{AnswerWithin, CountsWithin, FourDigits};
 ghost use Rattle.metrics.specs.Private.Taken.{Agreed, LineRoom, Taken};
-use crate::parts::Part;
-use crate::parts::compare_line;
+use crate::line_agreement::Part;
+use crate::line_agreement::compare_line;
 use rfc4737::Answer;
 use rfc4737::Counts;
 
-// Where a line is put: at its place or, comparing, at the start.
+// The offset at which a line is written: its own or, if lines are compared, 0.
 fn put_place(comparing: bool, at: usize) -> usize
     ensures { λ r. ⌜ r ≡ cond comparing 0 at ⌝ }
 {
@@ -22,7 +22,7 @@ fn put_place(comparing: bool, at: usize) -> usize
     at
 }
 
-// A line of n octets that is put, as a part: comparing, against the text.
+// What is known of a line of n octets that is written: if lines are compared, how far it agrees with the text.
 fn line_part(out: &[u8], text: &[u8], comparing: bool, at: usize, n: usize) -> Part
     requires { ⌜ (comparing ≡ true → (n ≤ length (now out)) × (at ≤ length (now text))) ⌝ }
     ensures { λ r. ⌜ (comparing ≡ false → r ≡ record { octets = n; whole = true })

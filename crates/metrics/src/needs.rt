@@ -10,12 +10,12 @@ ghost use Rattle.metrics.specs.Sample.{answersOf};
 ghost use Rattle.rfc4737.specs.Needs.{waitingTime, neededBy};
 ghost use Rattle.metrics.specs.Records.{FileLayout};
 ghost use Rattle.metrics.specs.Private.Needs.{greaterOf, needsAfter, needsOf};
+use crate::byte_offset::PAIRS;
 use crate::engine::advance;
 use crate::engine::fresh_engine;
 use crate::input;
-use crate::tables::FIRSTS;
-use crate::tables::PLACES;
-use crate::totals::PAIRS;
+use crate::seen::FIRSTS;
+use crate::seen::PLACES;
 use rfc4737::Answer;
 use rfc4737::LateTime;
 use rfc4737::Measure;
@@ -32,7 +32,7 @@ pub(crate) struct Needs {
     pub time: u64,
 }
 
-// How long a packet of this late time is waited for.
+// How long a receiver waits for a packet of this late time.
 fn waiting_time(late: LateTime) -> u64
     ensures { λ r. ⌜ r ≡ waitingTime late ⌝ }
 {
@@ -66,7 +66,7 @@ fn greater_of(a: u64, b: u64) -> u64
     a
 }
 
-// One more where a need is at most a size.
+// `count`, and one more if `need` is at most `size`.
 fn one_more_if(need: u64, size: u64, count: u32) -> u32
     requires { ⌜ count < arrivalsMost ⌝ }
     ensures { λ r. ⌜ r ≡ cond (leb need size) (count + 1) count ⌝ }
@@ -77,7 +77,7 @@ fn one_more_if(need: u64, size: u64, count: u32) -> u32
     count
 }
 
-// What is held under one answer more.
+// The needs after the next answer.
 fn needs_after(measure: Measure, size: u64, h: Needs, answer: Answer) -> Needs
     requires { ⌜ (h .arrived < arrivalsMost) × (h .accommodated < arrivalsMost) ⌝ }
     ensures { λ r. ⌜ r ≡ needsAfter measure size h answer ⌝ }

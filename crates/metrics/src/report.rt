@@ -1,21 +1,21 @@
-// The listing of a sample, in lent memory.
+// The listing of a sample, in the caller's buffer.
 ghost use mathlib.Core.Path.{_≡_};
 ghost use mathlib.Core.List.{[], _∷_};
 ghost use Prim.Native.Nat.{_≤_};
 ghost use lib.Dec.{ltb};
 ghost use lib.ListN.{length};
 ghost use Rattle.octets.specs.Memory.{over};
-ghost use Rattle.rfc4737.specs.Refusals.{inCase, firstOf, outputShort};
+ghost use Rattle.rfc4737.specs.Refusals.{refusalIf, firstRefusal, outputShort};
 ghost use Rattle.sample.specs.Decode.{decode, decodedRefusal};
 ghost use Rattle.metrics.specs.Records.{FileLayout};
 ghost use Rattle.metrics.specs.Report.{sampleText};
-use crate::pass::take_all;
+use crate::listing_pass::take_all;
 use rfc4737::refusal::NONE;
 use rfc4737::refusal::OUTPUT_SHORT;
 use sample::Layout;
 
-// Writes the lines of a sample at the start of lent memory if it has room for all of them, and answers how many
-// octets they have. Where it has no room, some of them may stand in it.
+// Writes the lines of a sample at the start of `out` if it has room for all of them, and returns their length. If it has
+// not, some of them may be written.
 pub(crate) fn write_listing(file: &[u8], y: Layout, out: &mut [u8]) -> u32
     requires { ⌜ FileLayout (decode (now file)) y ⌝ }
     ensures { λ r. ⌜ (r ≡ length (sampleText (decode (now (file .entry)))))
@@ -25,12 +25,12 @@ pub(crate) fn write_listing(file: &[u8], y: Layout, out: &mut [u8]) -> u32
     part.octets as u32
 }
 
-// The refusal of a listing into so many octets: the file's own, then 8. Where any listing has room no line is made;
-// else all are, with no memory to stand in.
+// The refusal of a listing into `room` octets: the file's own, then 8. No line is made if `room` suffices for any listing; else
+// all lines are made, into an empty buffer, to know their length.
 pub(crate) fn listing_refusal(file: &[u8], y: Layout, room: usize) -> u32
     requires { ⌜ FileLayout (decode (now file)) y ⌝ }
-    ensures { λ r. ⌜ r ≡ firstOf (decodedRefusal (decode (now (file .entry)))
-        ∷ inCase (ltb room (length (sampleText (decode (now (file .entry)))))) outputShort ∷ []) ⌝ }
+    ensures { λ r. ⌜ r ≡ firstRefusal (decodedRefusal (decode (now (file .entry)))
+        ∷ refusalIf (ltb room (length (sampleText (decode (now (file .entry)))))) outputShort ∷ []) ⌝ }
 {
     if y.refusal != NONE {
         return y.refusal;

@@ -8,19 +8,19 @@ ghost use Rattle.metrics.specs.Sample.{answersOf};
 ghost use Rattle.metrics.specs.Rows.{rowOf, rowsOf, rowsShort};
 ghost use Rattle.metrics.specs.Records.{FileLayout};
 ghost use Rattle.metrics.specs.Private.Rows.{rowNumbers};
+use crate::byte_offset::PAIRS;
 use crate::engine::advance;
 use crate::engine::fresh_engine;
 use crate::input;
-use crate::tables::FIRSTS;
-use crate::tables::PLACES;
-use crate::totals::PAIRS;
+use crate::seen::FIRSTS;
+use crate::seen::PLACES;
 use rfc4737::Answer;
 use rfc4737::numbering::DUPLICATE;
 use rfc4737::numbering::IN_ORDER;
 use rfc4737::numbering::REORDERED_AFTER;
 use rfc4737::numbering::REORDERED_BEFORE;
 use rfc4737::numbering::amount;
-use rfc4737::numbering::directed;
+use rfc4737::numbering::by_direction;
 use sample::Layout;
 
 // The figures of a record; those that it lacks are 0.
@@ -70,7 +70,7 @@ fn row_of(answer: Answer) -> Row
         Answer::Reordered(d) => {
             let late = d.late;
             Row {
-                kind: directed(REORDERED_AFTER, REORDERED_BEFORE, late) as u64,
+                kind: by_direction(REORDERED_AFTER, REORDERED_BEFORE, late) as u64,
                 position: d.position as u64,
                 jump: 0,
                 extent: d.extent as u64,

@@ -1,9 +1,10 @@
--- Big-endian numbers. The value is a left fold, so one octet more at the end is a step of it (`value-snoc`), and what a fold starts from is
--- multiplied by 256 for each octet after it (`value-append`); from this the bound, by induction from the front. The octets are made from the last,
--- by induction on the width. Reading undoes writing, by induction on the width: the last octet is v % 256, and those before it read as v / 256 cut
--- to one octet less, which is v cut to the width (`value-octets-mod`), so v itself if it fits (`value-octets`). Writing undoes reading, by
--- induction on the width too: of the value the last octet is the remainder, and the value of those before it the quotient (`octets-value`).
--- Here os are octets and o is one, v a number, w a width; at is a place, n a count of octets, l and old memory. Assumes nothing.
+-- Big-endian numbers. The value is a left fold, so one octet more at the end is a step of it (`value-snoc`), and what a fold starts from
+-- is multiplied by 256 for each octet after it (`value-append`). This gives the bound, by induction from the front. The octets are made
+-- from the last, by induction on the width. Reading undoes writing, by induction on the width: the last octet is v % 256, and those
+-- before it read as v / 256 cut to one octet less, which is v cut to the width (`value-octets-mod`), so v itself if it fits
+-- (`value-octets`). Writing undoes reading, by induction on the width too: of the value the last octet is the remainder, and the value of
+-- those before it the quotient (`octets-value`). Here os are octets and o is one, v a number, w a width; at is a place, n a count of
+-- octets, l and old memory. Assumes nothing.
 use Prim.Native.Nat.{ℕ, zero, suc, _+_, _*_, _/_, _%_, _^_, _≤_, _<_}
 use native.Mathlib.Nat.{le-trans, lt-of-lt-of-le, mod-one, mod-eq-of-lt, div-div-eq-div-mul, div-one, pow-zero, pow-suc, pow-succ', pow-le-pow-right, one-le-pow, mul-one, add-mul, mul-assoc, add-assoc, add-zero, zero-mul, zero-add, add-suc}
 use native.Mathlib.Numerals.{add-one}
@@ -55,7 +56,7 @@ unfolding beValue
 value-below [] h = omega arith
 value-below (o ∷ os) h = rw (value-cons, pow-succ') (digits-lt (h 0) (value-below os (below-tail 256 o os h)))
 
--- what so many octets hold: `value-fits 2`, `4` and `8` give the bounds 65536, 2 ^ 32 and 2 ^ 64
+-- what w octets hold: `value-fits 2`, `4` and `8` give the bounds 65536, 2 ^ 32 and 2 ^ 64
 pub value-fits : (w : ℕ) (os : List ℕ) → Octets os → length os ≤ w → beValue os < 256 ^ w
 value-fits w os h p = lt-of-lt-of-le (value-below os h) (pow-le-pow-right (omega arith) p)
 
@@ -86,7 +87,7 @@ pub octets-snoc : (w v : ℕ) → beOctets (w + 1) v ≡ beOctets w (v / 256) ++
 unfolding beOctets
 octets-snoc w v = rw add-one
 
--- of so many and so many more
+-- a + b octets are the first a and the last b
 pub octets-append : (a b v : ℕ) → beOctets (a + b) v ≡ beOctets a (v / 256 ^ b) ++ beOctets b v
 unfolding beOctets
 octets-append a zero v = rw (add-zero, pow-zero, div-one, append-nil)

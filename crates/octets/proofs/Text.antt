@@ -1,7 +1,7 @@
--- The lines of a text, by induction on its octets o ∷ t and by cases on whether o is a line feed: then it is a line of its own, else it goes in
--- front of the first line of t. So octets other than a line feed, with a line feed after them, are the first line (`plain-line`); the lines,
--- one after the other, are the text (`lines-joined`); and a text that is not empty has a first line, which begins with its first octet, and
--- then come the lines of what is left (`first-line`).
+-- The lines of a text, by induction on its octets o ∷ t and by cases on whether o is a line feed: then it is a line of its own, else it
+-- goes in front of the first line of t. So octets other than a line feed, with a line feed after them, are the first line (`plain-line`).
+-- The lines, one after the other, are the text (`lines-joined`). A text that is not empty has a first line, which begins with its first
+-- octet, and then come the lines of what is left (`first-line`).
 -- Here x, a and b are octets without a line feed, u what follows, l a line and ls lines. Assumes nothing.
 use Prim.Native.Nat.{ℕ}
 use mathlib.Core.Bool.{Bool, true, false, cond}

@@ -3,7 +3,7 @@ use Prim.Native.Nat.{ℕ, _<_}
 use mathlib.Core.List.{List}
 use lib.ListN.{getD}
 
--- every element is below n; what is read past the end is 0, so n is not 0
+-- every element is below n. What is read past the end is 0, so n is not 0
 abbrev pub Below : ℕ → List ℕ → Type 0
 Below n l = (i : ℕ) → getD l i 0 < n
 

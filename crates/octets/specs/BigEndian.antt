@@ -1,4 +1,4 @@
--- Big-endian numbers: the value of a list of octets, and a number as a list of so many octets. Assumes nothing.
+-- Big-endian numbers: the value of a list of octets, and a number as a list of `width` octets. Assumes nothing.
 use Prim.Native.Nat.{ℕ, zero, suc, _+_, _*_, _/_, _%_}
 use mathlib.Core.List.{List, [], _∷_, _++_, foldl}
 
@@ -6,7 +6,7 @@ use mathlib.Core.List.{List, [], _∷_, _++_, foldl}
 unfoldable pub beValue : List ℕ → ℕ
 beValue os = foldl (λ (v o : ℕ). v * 256 + o) 0 os
 
--- a number as so many octets, the first of them the most significant; what they cannot hold is cut off at the front
-unfoldable pub beOctets : ℕ → ℕ → List ℕ
+-- v as `width` octets, the first of them the most significant; what they cannot hold is cut off at the front
+unfoldable pub beOctets : (width v : ℕ) → List ℕ
 beOctets zero v = []
 beOctets (suc w) v = beOctets w (v / 256) ++ (v % 256 ∷ [])

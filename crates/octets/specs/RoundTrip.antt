@@ -7,7 +7,7 @@ use Rattle.octets.specs.Below.{Octets}
 use Rattle.octets.specs.BigEndian.{beValue, beOctets}
 use Rattle.octets.specs.Memory.{part, put}
 
--- numbers, each with octets that it is written as
+-- numbers, each with the octets that it is written as
 abbrev pub octetCases : List (ℕ × List ℕ)
 octetCases =
     -- the first octet is the most significant
@@ -20,11 +20,11 @@ octetCases =
 
 -- what is written is read as it was, and what is read is written as it was
 pub record ReadBack : Type 0 where
-  -- a number that so many octets can hold is read from them as itself
+  -- a number that `width` octets can hold is read from them as itself
   pub number : (width v : ℕ) → v < 256 ^ width → beValue (beOctets width v) ≡ v
   -- octets that are read and written again are the same octets
   pub octets : (os : List ℕ) → Octets os → beOctets (length os) (beValue os) ≡ os
-  -- so a number of at most 8 octets that is put where there is room for them is read at its place as itself
+  -- so a number of at most 8 octets, put where there is room for them, is read at its offset as itself
   pub inPlace : (at width v : ℕ) (old : List ℕ) → width ≤ 8 → v < 256 ^ width → at + width ≤ length old
       → beValue (part at (min width 8) (put at (beOctets (min width 8) v) old)) ≡ v
   -- each number of the table is written as its octets

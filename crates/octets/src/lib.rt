@@ -1,5 +1,5 @@
-// Big-endian numbers of up to 8 octets, read and written by one rule for every width, and octets copied
-// into lent memory. Each public function is total: it takes any place and any width.
+// Big-endian numbers of up to 8 octets, read and written by one rule for every width, and octets copied into the caller's buffer.
+// Each public function is total: it takes any offset and any width.
 ghost use mathlib.Core.Path.{_≡_};
 ghost use Prim.Native.Nat.{_+_, _≤_, min};
 ghost use lib.Dec.{leb};
@@ -8,24 +8,24 @@ ghost use Rattle.octets.specs.BigEndian.{beValue, beOctets};
 ghost use Rattle.octets.specs.Memory.{part, splice, put};
 ghost use Rattle.octets.specs.RoundTrip.{ReadBack};
 
-// The most octets that a number has: those of a u64.
-const MOST: usize = 8;
+// The greatest width of a number, in octets: that of a u64.
+const MAX_WIDTH: usize = 8;
 
-// The number of octets for a width: at most 8.
+// The width, cut to `MAX_WIDTH`.
 fn octets_of(width: usize) -> usize
     ensures { λ r. ⌜ r ≡ min width 8 ⌝ }
 {
-    if width < MOST { width } else { MOST }
+    if width < MAX_WIDTH { width } else { MAX_WIDTH }
 }
 
-// Whether n octets from a place on lie within the first len; the sum of place and n is never made.
+// Whether n octets from offset `at` on lie within the first `len`. The sum `at + n` is never made, so nothing wraps.
 pub fn has_room(len: usize, at: usize, n: usize) -> bool
     ensures { λ r. ⌜ r ≡ leb (at + n) len ⌝ }
 {
     if n <= len { at <= len - n } else { false }
 }
 
-// The value of n octets that stand from a place on.
+// The value of the n octets from offset `at` on.
 fn value_of(s: &[u8], at: usize, n: usize) -> u64
     requires { ⌜ (n ≤ 8) × (at + n ≤ length (now s)) ⌝ }
     ensures { λ r. ⌜ r ≡ beValue (part at n (now (s .entry))) ⌝ }
@@ -40,8 +40,8 @@ fn value_of(s: &[u8], at: usize, n: usize) -> u64
     v
 }
 
-// The value of the octets that stand from a place on: as many as the width asks, of at most 8, or
-// those up to the end where there are fewer.
+// Reads the number at offset `at`: the value of `width` octets, at most 8 of them. Where there are fewer, those up to the end are
+// read.
 pub fn number_at(s: &[u8], at: usize, width: usize) -> u64
     ensures { λ r. ⌜ r ≡ beValue (part at (min width 8) (now (s .entry))) ⌝ }
 {
@@ -56,7 +56,7 @@ pub fn number_at(s: &[u8], at: usize, width: usize) -> u64
     value_of(s, at, left)
 }
 
-// Writes a number as n octets from a place on, the last of them first.
+// Writes v as n octets from offset `at` on, the last of them first.
 fn write_number(out: &mut [u8], at: usize, n: usize, v: u64)
     requires { ⌜ at + n ≤ length (now out) ⌝ }
     ensures { λ _. ⌜ now (out .exit) ≡ splice at (beOctets n v) (now (out .entry)) ⌝ }
@@ -70,8 +70,7 @@ fn write_number(out: &mut [u8], at: usize, n: usize, v: u64)
     }
 }
 
-// Writes a number from a place on, as many octets as the width asks, of at most 8; nothing where there
-// is no room for all of them.
+// Writes v at offset `at` as `width` octets, at most 8 of them. Writes nothing where there is no room for all of them.
 pub fn put_number(out: &mut [u8], at: usize, width: usize, v: u64)
     ensures { λ _. ⌜ now (out .exit) ≡ put at (beOctets (min width 8) v) (now (out .entry)) ⌝ }
     ensures back { λ _. ⌜ ReadBack ⌝ }
@@ -82,7 +81,7 @@ pub fn put_number(out: &mut [u8], at: usize, width: usize, v: u64)
     }
 }
 
-// Copies octets to a place and those after it.
+// Copies s to `out` from offset `at` on.
 fn write_octets(out: &mut [u8], at: usize, s: &[u8])
     requires { ⌜ at + length (now s) ≤ length (now out) ⌝ }
     ensures { λ _. ⌜ now (out .exit) ≡ splice at (now (s .entry)) (now (out .entry)) ⌝ }
@@ -94,7 +93,7 @@ fn write_octets(out: &mut [u8], at: usize, s: &[u8])
     }
 }
 
-// Copies octets to a place and those after it; nothing where there is no room for all of them.
+// Copies s to `out` from offset `at` on. Writes nothing where there is no room for all of it.
 pub fn put_octets(out: &mut [u8], at: usize, s: &[u8])
     ensures { λ _. ⌜ now (out .exit) ≡ put at (now (s .entry)) (now (out .entry)) ⌝ }
 {

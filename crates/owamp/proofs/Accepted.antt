@@ -1,7 +1,7 @@
--- Imported arrivals are accepted as those of a sample. What holds of every arrival holds of every one in order, by induction over the insertions
--- (`order-all`), so the numbers stay in 1 to K; whole microseconds do not go back where receive times do not (`since-rising`), so each time is at
--- or after the reference and none is refused (`judge-none`, by induction with the reference at the time before). Of a label with these lists only
--- the label is refused (`label-alone`). l are arrivals and a is one, os the records, k is K, b what is taken off their times. Assumes nothing.
+-- Imported arrivals are accepted as those of a sample. What holds of every arrival holds of every one in order, by induction over the
+-- insertions (`order-all`), so the numbers stay in 1 to K. Whole microseconds do not go back where receive times do not (`since-rising`).
+-- So each time is at or after the reference, and none is refused (`judge-none`, by induction). Of a label with these lists only the label
+-- is refused (`label-alone`). l are arrivals and a is one, os the records, k is K, b what is taken off their times. Assumes nothing.
 use Prim.Native.Nat.{ℕ, zero, suc, _-_, _≤_, zero-le}
 use native.Mathlib.Omega.{arith}
 use mathlib.Core.Bool.{Bool, true, false, cond}
@@ -14,7 +14,7 @@ use Rattle.merging.specs.Order.{NotBelow, insert, inOrder}
 use Rattle.merging.proofs.Ordered.{in-order, order-length, order-more}
 use Rattle.rfc4737.specs.declared.Arrival.{Arrival}
 use Rattle.rfc4737.specs.Judge.{numbersOf, timesOf, judgeOne, judge, refusalOfLists}
-use Rattle.rfc4737.specs.Refusals.{firstOf}
+use Rattle.rfc4737.specs.Refusals.{firstRefusal}
 use Rattle.rfc4737.specs.Times.{backMost, tooEarly, nextReference}
 use Rattle.rfc4737.proofs.Lists.{snoc-ind, All, all-left, all-right}
 use Rattle.rfc4737.proofs.Due.{not-outside}
@@ -118,16 +118,16 @@ accepted k os e =
 
 -- the label's refusals alone
 label-alone : (label sizes numbers times : List ℕ) → refusalOfLists (length sizes) numbers times ≡ 0
-    → sampleRefusal label sizes numbers times ≡ firstOf (judgeLabel (length label) ∷ judgeOctets label ∷ [])
+    → sampleRefusal label sizes numbers times ≡ firstRefusal (judgeLabel (length label) ∷ judgeOctets label ∷ [])
 unfolding sampleRefusal
 label-alone label sizes numbers times e =
-    ap (λ (x : ℕ). firstOf (judgeLabel (length label) ∷ judgeOctets label ∷ x ∷ [])) e ∙ last (judgeLabel (length label)) (judgeOctets label)
+    ap (λ (x : ℕ). firstRefusal (judgeLabel (length label) ∷ judgeOctets label ∷ x ∷ [])) e ∙ last (judgeLabel (length label)) (judgeOctets label)
   where
-    one : (r : ℕ) → firstOf (r ∷ 0 ∷ []) ≡ firstOf (r ∷ [])
+    one : (r : ℕ) → firstRefusal (r ∷ 0 ∷ []) ≡ firstRefusal (r ∷ [])
     one zero = refl
     one (suc r) = refl
 
-    last : (q r : ℕ) → firstOf (q ∷ r ∷ 0 ∷ []) ≡ firstOf (q ∷ r ∷ [])
+    last : (q r : ℕ) → firstRefusal (q ∷ r ∷ 0 ∷ []) ≡ firstRefusal (q ∷ r ∷ [])
     last zero r = one r
     last (suc q) r = refl
 

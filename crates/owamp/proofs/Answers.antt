@@ -1,9 +1,9 @@
--- The importer's answers: K or the records are refused, a list is too short (8), or both lists are filled. Each case settles the first refusal,
--- and with it what is answered and left in the lists (`answered`). Nothing refused means that K, the number of arrivals and their numbers are
--- within their limits (`none-refused`), so 4,096 places are always enough (`import-room`). As the times filled in rise, none is before the
--- first (`filled-first`), which the conversion needs.
--- Here k is K, os the records, r a refusal, n how many arrivals, l the arrivals in order; numbers′ and times′ are the lists after the call, d
--- the list of times as filled. Assumes nothing.
+-- The importer's answers: K or the records are refused, a list is too short (8), or both lists are filled. Each case settles the first
+-- refusal, and with it what is answered and left in the lists (`answered`). Nothing refused means that K, the number of arrivals and their
+-- numbers are within their limits (`none-refused`), so 4,096 places are always enough (`import-room`). As the times filled in rise, none is
+-- before the first (`filled-first`), which the conversion needs.
+-- Here k is K, os the records, r a refusal, n how many arrivals, l the arrivals in order; numbers′ and times′ are the lists after the call,
+-- d the list of times as filled. Assumes nothing.
 use Prim.Native.Nat.{ℕ, zero, suc, _≤_, _<_}
 use native.Mathlib.Omega.{arith}
 use mathlib.Core.Bool.{_||_, or-true}
@@ -15,7 +15,7 @@ use borrow.Author.Tests.{lt-ltb, le-ltb}
 use Rattle.octets.specs.Memory.{over}
 use Rattle.merging.proofs.Ordered.{rising-at, in-order, order-length}
 use Rattle.rfc4737.specs.declared.Arrival.{Arrival}
-use Rattle.rfc4737.specs.Refusals.{inCase, firstOf, sentOutside, manyArrivals, outputShort}
+use Rattle.rfc4737.specs.Refusals.{refusalIf, firstRefusal, sentOutside, manyArrivals, outputShort}
 use Rattle.rfc4737.specs.Judge.{numbersOf, timesOf, judgeSent, judgeArrivals, sentMost, arrivalsMost}
 use Rattle.sample.specs.Output.{ifNone}
 use Rattle.sample.specs.Places.{noArrival}
@@ -63,7 +63,7 @@ module _ (k : ℕ) (os numbers times : List ℕ) where
   unfolding importRefusal
   import-refused zero e n = absurd (n refl)
   import-refused (suc r) e n =
-      answered 0 (ap (λ (x : ℕ). firstOf (x ∷ inCase (ltb (length numbers) (length (recordsArrivals os)) || ltb (length times) (length (recordsArrivals os))) outputShort ∷ [])) (sym e)) refl refl refl
+      answered 0 (ap (λ (x : ℕ). firstRefusal (x ∷ refusalIf (ltb (length numbers) (length (recordsArrivals os)) || ltb (length times) (length (recordsArrivals os))) outputShort ∷ [])) (sym e)) refl refl refl
 
   -- a list is too short
   module _ {n : ℕ} (e : recordsRefusal k os ≡ 0) (c : n ≡ length (recordsArrivals os)) where

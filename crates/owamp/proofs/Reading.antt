@@ -1,8 +1,8 @@
--- The records in turn. Record i + 1 stands at 25 * i, and its fields in it (`number-stands`, `time-stands`: the receive time is the seconds and the
--- fraction, one behind the other). What passes of the first i + 1 is what passes of the first i and, if it passes, the next (`passing-take`). Where no
--- number is refused every number lies in 1 to K (`numbers-all`).
--- Here os are the octets of the records, i a record's place, a a record as an arrival, l records, v, s and f what was read, z what is read past
--- the end. Assumes nothing.
+-- The records in turn. Record i + 1 stands at 25 * i, and its fields in it (`number-stands`, `time-stands`). The receive time is the
+-- seconds and the fraction, one behind the other. What passes of the first i + 1 is what passes of the first i and, if it passes, the next
+-- (`passing-take`). Where no number is refused every number lies in 1 to K (`numbers-all`).
+-- Here os are the octets of the records, i a record's place, a a record as an arrival, l records, v, s and f what was read, z what is read
+-- past the end. Assumes nothing.
 use Prim.Native.Nat.{ℕ, _+_, _-_, _*_, _^_, _≤_, _<_}
 use native.Mathlib.Numerals.{add-one}
 use native.Mathlib.Omega.{arith}

@@ -1,7 +1,8 @@
--- Arrivals written as records and read again. From a record's octets, cut into what stands before the receive time, the receive time and the
--- last octet, its number and its stamp are read as they were written (`record-read`); so records one after the other read as the arrivals with
--- stamps (`items-read`, by induction), none of them lost, since a stamp has at least a second (`arrivals-read`). Stamps rise with times
--- (`stamp-rising`): where no time goes back the arrivals are in order as they stand, and have their numbers in their order (`records-again`).
+-- Arrivals written as records and read again. A record's octets are cut into what stands before the receive time, the receive time and the
+-- last octet. From them its number and its stamp are read as written (`record-read`). So records one after the other read as the arrivals
+-- with stamps (`items-read`, by induction), none of them lost, since a stamp has at least a second (`arrivals-read`). Stamps rise with
+-- times (`stamp-rising`): where no time goes back the arrivals are in order as they stand, and have their numbers in their order
+-- (`records-again`).
 -- Here k is K, l are arrivals and a is one, s and t times. Assumes nothing.
 use Prim.Native.Nat.{ℕ, _+_, _-_, _*_, _%_, _^_, _≤_, _<_}
 use native.Mathlib.Omega.{arith}
@@ -18,7 +19,7 @@ use Rattle.octets.proofs.BigEndian.{octets-length, value-octets, value-append}
 use Rattle.merging.specs.Order.{NotBelow, passing}
 use Rattle.merging.proofs.Ordered.{order-rising}
 use Rattle.rfc4737.specs.declared.Arrival.{Arrival}
-use Rattle.rfc4737.specs.Refusals.{outside, firstOf, secondsOver}
+use Rattle.rfc4737.specs.Refusals.{outside, firstRefusal, secondsOver}
 use Rattle.rfc4737.specs.Judge.{sentMost, arrivalsMost, numbersOf}
 use Rattle.sample.specs.Format.{itemsIn, itemOctets}
 use Rattle.owamp.specs.Record.{recordWidth, recordIn, recordCount, isArrival, recordsArrivals}
@@ -136,7 +137,7 @@ stamped-each k (a ∷ l) = ap (λ (rs : List ℕ). judgeNumber k a ∷ rs) (stam
 
 stamped-judged : (k : ℕ) (l : List Arrival) → judgeNumbers k (map stamped l) ≡ judgeNumbers k l
 unfolding judgeNumbers
-stamped-judged k l = ap firstOf (stamped-each k l)
+stamped-judged k l = ap firstRefusal (stamped-each k l)
 
 -- arrivals of packets 1 to K whose times can be written and do not go back, written as records and read again: none is refused, and they
 -- have the same numbers in the same order

@@ -1,9 +1,9 @@
--- The writer. A record is seven numbers put one behind the other into 25 lent octets, which is one put of them all (`record-put`, by `chain`
--- for each after the first). The first refusal of a file is its own, or that of its times (`own-refusal`, `times-refusal`). Written and read
--- again (`read-again`): without a refusal the records stand at the start and the file is accepted, so its numbers lie in 1 to K, and
+-- The writer. A record is seven numbers put one behind the other into 25 octets. That is one put of them all (`record-put`, by `chain` for
+-- each after the first). The first refusal of a file is its own, or that of its times (`own-refusal`, `times-refusal`). Written and read
+-- again (`read-again`): without a refusal the records stand at the start and the file is accepted. So its numbers lie in 1 to K, and
 -- `records-again` gives what is read.
--- Here a to g are octets and d₁ to d₇ the lent octets after each put, s and f the seconds and the fraction of time t; y is a file's layout, r a
--- refusal, l are arrivals, k is K. Assumes nothing.
+-- Here a to g are octets and d₁ to d₇ the lent octets after each put, s and f the seconds and the fraction of time t; y is a file's layout,
+-- r a refusal, l are arrivals, k is K. Assumes nothing.
 use Prim.Native.Nat.{ℕ, zero, suc, _+_, _-_, _≤_, _<_}
 use native.Mathlib.Omega.{arith}
 use mathlib.Core.List.{List, [], _∷_, _++_, append-assoc}
@@ -16,7 +16,7 @@ use Rattle.octets.specs.Memory.{over, put}
 use Rattle.octets.proofs.BigEndian.{octets-length}
 use Rattle.octets.proofs.Memory.{put-next}
 use Rattle.rfc4737.specs.declared.Arrival.{Arrival}
-use Rattle.rfc4737.specs.Refusals.{firstOf}
+use Rattle.rfc4737.specs.Refusals.{firstRefusal}
 use Rattle.rfc4737.specs.Judge.{numbersOf}
 use Rattle.sample.specs.Decode.{decode, sampleOf, decodedRefusal, layoutOf, accepted}
 use Rattle.sample.specs.Output.{ifNone}
@@ -34,7 +34,7 @@ use Rattle.owamp.proofs.RoundTrips.{records-again, arrivals-read, stamp
 
 -- ---- one record into 25 octets
 
--- so many octets more
+-- the next w octets
 chain : (at w : ℕ) (xs : List ℕ) (v : ℕ) (old : List ℕ) {d d′ : List ℕ} → length xs ≡ at → at + w ≤ length old → d ≡ put 0 xs old → d′ ≡ put at (beOctets w v) d
     → d′ ≡ put 0 (xs ++ beOctets w v) old
 chain at w xs v old e h p q =
@@ -89,7 +89,7 @@ module _ (file : List ℕ) where
   pub own-refusal : (r : ℕ) → r ≡ decodedRefusal (decode file) → (r ≡ 0 → ⊥) → r ≡ exportRefusal file
   unfolding exportRefusal
   own-refusal zero e n = absurd (n refl)
-  own-refusal (suc r) e n = ap (λ (x : ℕ). firstOf (x ∷ judgeSeconds (arrivalsOfFile file) ∷ [])) e
+  own-refusal (suc r) e n = ap (λ (x : ℕ). firstRefusal (x ∷ judgeSeconds (arrivalsOfFile file) ∷ [])) e
 
   -- where there is none, that of the times alone
   pub times-refusal : (r : ℕ) → decodedRefusal (decode file) ≡ 0 → r ≡ judgeSeconds (arrivalsOfFile file) → r ≡ exportRefusal file

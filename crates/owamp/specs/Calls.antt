@@ -1,4 +1,4 @@
--- What the calls answer, and what lent memory holds after them. Assumes nothing.
+-- What the calls return, and what the caller's lists and octets hold after them. Assumes nothing.
 use Prim.Native.Nat.{ℕ, _-_}
 use mathlib.Core.Bool.{_||_}
 use mathlib.Core.List.{List, [], _∷_, _++_}
@@ -8,7 +8,7 @@ use lib.ListN.{length}
 use Rattle.octets.specs.Memory.{over}
 use Rattle.rfc4737.specs.declared.Arrival.{Arrival}
 use Rattle.rfc4737.specs.Judge.{numbersOf, timesOf}
-use Rattle.rfc4737.specs.Refusals.{inCase, firstOf, outputShort}
+use Rattle.rfc4737.specs.Refusals.{refusalIf, firstRefusal, outputShort}
 use Rattle.sample.specs.Format.{itemOctets}
 use Rattle.sample.specs.Decode.{decode, sampleOf, decodedRefusal}
 use Rattle.sample.specs.Output.{ifNone, Output}
@@ -25,16 +25,16 @@ use Rattle.owamp.specs.declared.RecordsImport.{RecordsImport}
 unfoldable pub importedArrivals : List ℕ → List Arrival
 importedArrivals os = fromSmallest (inTimeOrder (recordsArrivals os))
 
--- the first refusal that is due where lists of so many places are filled: 8 comes last
+-- the first refusal that applies, with lists of the lengths `numbers` and `times`: 8 comes last
 unfoldable pub importRefusal : (k numbers times : ℕ) (os : List ℕ) → ℕ
 importRefusal k numbers times os =
-    firstOf
+    firstRefusal
     (recordsRefusal k os
-    ∷ inCase (ltb numbers (length (recordsArrivals os)) || ltb times (length (recordsArrivals os))) outputShort
+    ∷ refusalIf (ltb numbers (length (recordsArrivals os)) || ltb times (length (recordsArrivals os))) outputShort
     ∷ [])
 
--- the importer's answer, and the two lists after it: the arrivals' values from their start, all else as it was; with a refusal 0, and
--- the lists as they were
+-- the importer's answer, and the two lists after it: the arrivals' values from their start, all else as it was. With a refusal 0
+-- arrivals, and the lists as they were
 pub record RecordsImportedFrom (k : ℕ) (os numbers times : List ℕ) (answer : RecordsImport) (numbers′ times′ : List ℕ) : Type 0 where
   pub refusal : answer .refusal ≡ importRefusal k (length numbers) (length times) os
   pub arrivals : answer .arrivals ≡ ifNone (answer .refusal) (length (importedArrivals os)) 0
@@ -62,10 +62,10 @@ recordsOf l = itemOctets recordOctets l
 abbrev pub arrivalsOfFile : List ℕ → List Arrival
 arrivalsOfFile file = sampleOf (decode file) .arrivals
 
--- the first refusal that is due of a sample's file: its own, then 18
+-- the first refusal that applies to a sample's file: its own, then 18
 unfoldable pub exportRefusal : List ℕ → ℕ
-exportRefusal file = firstOf (decodedRefusal (decode file) ∷ judgeSeconds (arrivalsOfFile file) ∷ [])
+exportRefusal file = firstRefusal (decodedRefusal (decode file) ∷ judgeSeconds (arrivalsOfFile file) ∷ [])
 
--- the writer's answer, and the lent octets after it: those of the records
+-- the writer's answer, and the lent octets after it, which begin with the records
 abbrev pub RecordsWrittenTo : (file out : List ℕ) → WriteAnswer → List ℕ → Type 0
 RecordsWrittenTo file out answer out′ = Output (exportRefusal file) (recordsOf (arrivalsOfFile file)) out answer out′

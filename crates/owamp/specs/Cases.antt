@@ -11,8 +11,8 @@ use Rattle.owamp.specs.Calls.{importedArrivals, recordOctets}
 
 -- ---- what is read
 
--- receive times, each with its whole microseconds and what rounding takes off: the least, half a second, a second and a third, the last
--- fraction of the second second, and the greatest
+-- receive times, each with its whole microseconds and what rounding takes off. They are the least, half a second, a second and a third,
+-- the last fraction of the second second, and the greatest
 abbrev pub timeTable : List (ℕ × (ℕ × ℕ))
 timeTable =
     (1, (0, 1000000))
@@ -26,7 +26,7 @@ timeTable =
 abbrev pub receivedRecord : (sequence time : ℕ) → List ℕ
 receivedRecord sequence time = beOctets 4 sequence ++ (replicate 12 9 ++ (beOctets 8 time ++ (9 ∷ [])))
 
--- K and octets, each with the first refusal that is due
+-- K and octets, each with the first refusal that applies
 abbrev pub refusalTable : List ((ℕ × List ℕ) × ℕ)
 refusalTable =
     -- no record; one record, and an octet less and more

@@ -20,12 +20,12 @@ micros = 1000000
 unfoldable pub microseconds : ℕ → ℕ
 microseconds stamp = stamp * micros / fractions
 
--- what rounding takes off, in microseconds: this number over 2 to the 32
+-- what rounding takes off, in microseconds, times 2^32
 unfoldable pub takenOff : ℕ → ℕ
 takenOff stamp = stamp * micros % fractions
 
--- the exact time is stamp * 10^6 over 2^32 microseconds: the whole microseconds are below it by takenOff over 2^32, a fraction of two
--- whole numbers that is at least 0 and under 1
+-- the exact time is stamp * 10^6 / 2^32 microseconds. The whole microseconds are below it by takenOff / 2^32, which is at least 0 and
+-- under 1
 pub record Distance (stamp : ℕ) : Type 0 where
   pub exact : microseconds stamp * fractions + takenOff stamp ≡ stamp * micros
   pub under : takenOff stamp < fractions
@@ -43,13 +43,13 @@ smallest (t ∷ ts) = foldl min t ts
 abbrev pub since : ℕ → Arrival → Arrival
 since base a = record { number = a .number; time = microseconds (a .time) - base }
 
--- arrivals in whole microseconds, from each the smallest of them taken off
+-- arrivals in whole microseconds, the smallest of these taken off each
 unfoldable pub fromSmallest : List Arrival → List Arrival
 fromSmallest l = map (since (smallest (map microseconds (timesOf l)))) l
 
 -- ---- to receive times
 
--- the seconds of a written receive time: those of the sample's time, and one more
+-- the seconds of a written receive time: those of the sample's time, plus 1
 abbrev pub writtenSeconds : ℕ → ℕ
 writtenSeconds t = t / micros + 1
 

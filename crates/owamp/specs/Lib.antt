@@ -1,4 +1,5 @@
--- OWAMP packet records: their layout, their order and clock, what is refused, what the calls answer, and what is read again. Assumes nothing.
+-- OWAMP packet records: their layout, their order and clock, what is refused, what the calls return, and what is read again. Assumes
+-- nothing.
 pub mod Record
 pub mod Order
 pub mod Clock

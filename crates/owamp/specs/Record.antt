@@ -1,4 +1,4 @@
--- The packet record of RFC 4656, section 3.9: 25 octets, all numbers big-endian. The places of its fields stand here and nowhere else.
+-- The packet record of RFC 4656, section 3.9: 25 octets, all numbers big-endian. The offsets of its fields stand here alone.
 -- Assumes nothing.
 use Prim.Native.Nat.{ℕ, _+_, _/_}
 use mathlib.Core.Bool.{Bool, not}
@@ -13,11 +13,11 @@ use Rattle.sample.specs.Format.{itemsIn}
 
 -- ---- the layout
 
--- the octets of a record
+-- the length of a record in octets
 abbrev pub recordWidth : ℕ
 recordWidth = 25
 
--- a field of a record: where it begins, and how many octets it has
+-- a field of a record: its offset, and its length in octets
 pub record Field : Type 0 where
   pub at : ℕ
   pub width : ℕ
@@ -61,7 +61,7 @@ fieldOctets f v = beOctets (f .width) v
 unfoldable pub recordIn : List ℕ → Arrival
 recordIn os = record { number = fieldIn sequenceNumber os + 1; time = fieldIn receiveTime os }
 
--- how many records there are
+-- the number of whole records
 abbrev pub recordCount : List ℕ → ℕ
 recordCount os = length os / recordWidth
 

@@ -6,7 +6,7 @@ use mathlib.Core.Path.{_≡_}
 use lib.ListN.{length, take}
 use Rattle.octets.specs.Memory.{over}
 use Rattle.rfc4737.specs.Judge.{numbersOf, timesOf, refusalOfLists}
-use Rattle.rfc4737.specs.Refusals.{firstOf}
+use Rattle.rfc4737.specs.Refusals.{firstRefusal}
 use Rattle.sample.specs.Judge.{judgeLabel, judgeOctets, sampleRefusal}
 use Rattle.sample.specs.Decode.{decode, sampleOf}
 use Rattle.sample.specs.declared.WriteAnswer.{WriteAnswer}
@@ -15,20 +15,20 @@ use Rattle.owamp.specs.Judge.{recordsRefusal}
 use Rattle.owamp.specs.Calls.{importedArrivals, RecordsImportedFrom, arrivalsOfFile, RecordsWrittenTo}
 use Rattle.owamp.specs.declared.RecordsImport.{RecordsImport}
 
--- imported arrivals that a sample may have: no time goes back, and with K nothing of them is refused; so of a label, K payload sizes and
--- these arrivals the sample's writer refuses, before 8, the label alone, by 3 or 13
+-- imported arrivals that a sample may have: no time goes back, and with K nothing of them is refused. So of a label, K payload sizes and
+-- these arrivals the sample's writer refuses, before 8, only the label (3 or 13)
 pub record AcceptedRecords (k : ℕ) (os : List ℕ) : Type 0 where
   pub rising : NotBack (importedArrivals os)
   pub lists : refusalOfLists k (numbersOf (importedArrivals os)) (timesOf (importedArrivals os)) ≡ 0
   pub written : (label sizes : List ℕ) → length sizes ≡ k
-      → sampleRefusal label sizes (numbersOf (importedArrivals os)) (timesOf (importedArrivals os)) ≡ firstOf (judgeLabel (length label) ∷ judgeOctets label ∷ [])
+      → sampleRefusal label sizes (numbersOf (importedArrivals os)) (timesOf (importedArrivals os)) ≡ firstRefusal (judgeLabel (length label) ∷ judgeOctets label ∷ [])
 
 -- the arrivals of records that are not refused are such
 abbrev pub AcceptedLists : ℕ → List ℕ → Type 0
 AcceptedLists k os = recordsRefusal k os ≡ 0 → AcceptedRecords k os
 
--- a sample's file that is written as records, and these read again with its K into lists that are long enough: where no time goes back, the
--- same numbers in the same order. Of the times nothing is said: written and read they are rounded down, and a microsecond may be lost
+-- a sample's file is written as records, and these are read again with its K into lists that are long enough. Where no time goes back, the
+-- numbers are the same, in the same order. Nothing is said of the times: each is rounded down twice, so a microsecond may be lost
 abbrev pub RecordsReadAgain : List ℕ → Type 0
 RecordsReadAgain file =
     (out out′ numbers times numbers′ times′ : List ℕ) (written : WriteAnswer) (read : RecordsImport)

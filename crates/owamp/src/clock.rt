@@ -22,7 +22,7 @@ pub(crate) fn seconds_of(time: u64) -> u64
     time / MICROS + 1
 }
 
-// Its fraction, rounded down.
+// The fraction of a written receive time, rounded down.
 pub(crate) fn fraction_of(time: u64) -> u64
     ensures { λ r. ⌜ r ≡ writtenFraction time ⌝ }
 {

@@ -2,7 +2,7 @@
 ghost use mathlib.Core.Path.{_≡_};
 ghost use mathlib.Core.List.{[], _∷_};
 ghost use lib.ListN.{length};
-ghost use Rattle.rfc4737.specs.Refusals.{outside, inCase, firstOf, numberOutside};
+ghost use Rattle.rfc4737.specs.Refusals.{outside, refusalIf, firstRefusal, numberOutside};
 ghost use Rattle.sample.specs.Decode.{decode, layoutOf};
 ghost use Rattle.owamp.specs.Record.{recordsArrivals};
 ghost use Rattle.owamp.specs.Judge.{judgeNumbers, recordsRefusal, judgeTime, judgeSeconds};
@@ -31,9 +31,9 @@ pub(crate) struct Judged {
     pub refusal: u32,
 }
 
-// One packet number by 6.
+// 6 if a packet number is outside 1 to K, else 0.
 fn judge_number(k: u64, number: u64) -> u32
-    ensures { λ r. ⌜ r ≡ inCase (outside 1 k number) numberOutside ⌝ }
+    ensures { λ r. ⌜ r ≡ refusalIf (outside 1 k number) numberOutside ⌝ }
 {
     if outside(1, k, number) {
         return NUMBER_OUTSIDE;
@@ -43,7 +43,7 @@ fn judge_number(k: u64, number: u64) -> u32
 
 // The first of two refusals that applies.
 fn first_of(first: u32, second: u32) -> u32
-    ensures { λ r. ⌜ r ≡ firstOf (first ∷ second ∷ []) ⌝ }
+    ensures { λ r. ⌜ r ≡ firstRefusal (first ∷ second ∷ []) ⌝ }
 {
     if first != 0 {
         return first;
@@ -88,7 +88,7 @@ pub(crate) fn records_refusal(records: &[u8], k: u32, judged: Judged) -> u32
     judged.refusal
 }
 
-// One time by 18.
+// 18 if the written seconds of a time don't fit 32 bits, else 0.
 fn judge_time(time: u64) -> u32
     ensures { λ r. ⌜ r ≡ judgeTime time ⌝ }
 {
@@ -98,16 +98,16 @@ fn judge_time(time: u64) -> u32
     0
 }
 
-// The arrivals of an accepted file by 18: some time is refused exactly if the greatest is.
-pub(crate) fn judge_seconds(file: &[u8], found: Layout) -> u32
-    requires { ⌜ (found ≡ layoutOf (decode (now file))) × (found .refusal ≡ 0) ⌝ }
+// 18 if a time of an accepted file is refused, else 0: some time is refused exactly if the greatest is.
+pub(crate) fn judge_seconds(file: &[u8], layout: Layout) -> u32
+    requires { ⌜ (layout ≡ layoutOf (decode (now file))) × (layout .refusal ≡ 0) ⌝ }
     ensures { λ r. ⌜ r ≡ judgeSeconds (arrivalsOfFile (now (file .entry))) ⌝ }
 {
-    let count = found.arrivals;
+    let count = layout.arrivals;
     let mut greatest: u64 = 0;
     let mut i: u32 = 0;
     while i < count {
-        greatest = next_reference(greatest, sample::arrival(file, found, i).time);
+        greatest = next_reference(greatest, sample::arrival(file, layout, i).time);
         i += 1;
     }
     judge_time(greatest)

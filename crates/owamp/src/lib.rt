@@ -1,5 +1,5 @@
-// OWAMP packet records (RFC 4656, section 3.9): imported into the two lent lists of a sample, and written from one. Every
-// public call takes all input there is.
+// OWAMP packet records (RFC 4656, section 3.9): imported into two lists of the caller, and written from a sample file. Every
+// public call is total.
 ghost use mathlib.Core.Path.{_≡_};
 ghost use Prim.Native.Nat.{_*_, _≤_};
 ghost use lib.ListN.{length};
@@ -37,8 +37,8 @@ pub struct RecordsImport {
     pub arrivals: u32,
 }
 
-// Imports the records of K sent packets: fills the lists of numbers and times from their start, in the order of the receive
-// times as recorded. With a refusal they stay as they were. Cost: O(A) in order or reversed, O(A log A) at most.
+// Imports the records of K sent packets: fills the lists of numbers and times from their start, in the order of the recorded
+// receive times. With a refusal they stay as they were. Cost: O(A) in order or reversed, O(A log A) at most.
 pub fn import(records: &[u8], k: u32, numbers: &mut [u32], times: &mut [u64]) -> RecordsImport
     ensures { λ r. ⌜ RecordsImportedFrom k (now (records .entry)) (now (numbers .entry)) (now (times .entry)) r (now (numbers .exit)) (now (times .exit)) ⌝ }
     ensures order { λ _. ⌜ OnlyOne timeOf (recordsArrivals (now (records .entry))) ⌝ }
@@ -76,14 +76,15 @@ pub fn import(records: &[u8], k: u32, numbers: &mut [u32], times: &mut [u64]) ->
 }
 
 // Writes the records of an accepted file's arrivals from the start of `out`.
-fn write_records(file: &[u8], found: Layout, out: &mut [u8])
-    requires { ⌜ ((found ≡ layoutOf (decode (now file))) × (found .refusal ≡ 0)) × (recordWidth * (found .arrivals) ≤ length (now out)) ⌝ }
+fn write_records(file: &[u8], layout: Layout, out: &mut [u8])
+    requires { ⌜ ((layout ≡ layoutOf (decode (now file))) × (layout .refusal ≡ 0))
+        × (recordWidth * (layout .arrivals) ≤ length (now out)) ⌝ }
     ensures { λ _. ⌜ now (out .exit) ≡ splice 0 (recordsOf (arrivalsOfFile (now (file .entry)))) (now (out .entry)) ⌝ }
 {
-    let count = found.arrivals;
+    let count = layout.arrivals;
     let mut i: u32 = 0;
     while i < count {
-        let arrival = sample::arrival(file, found, i);
+        let arrival = sample::arrival(file, layout, i);
         let start = WIDTH * (i as usize);
         let end = start + WIDTH;
         let lent = &mut out[start..end];
@@ -92,31 +93,31 @@ fn write_records(file: &[u8], found: Layout, out: &mut [u8])
     }
 }
 
-// Writes the records of a sample's file from the start of `out`. With a refusal `out` stays as it was.
+// Writes the records of a sample's file from the start of `out`. With a refusal `out` stays as it was. Cost: O(A).
 pub fn write(file: &[u8], out: &mut [u8]) -> WriteAnswer
     ensures { λ r. ⌜ RecordsWrittenTo (now (file .entry)) (now (out .entry)) r (now (out .exit)) ⌝ }
     ensures again { λ _. ⌜ RecordsReadAgain (now (file .entry)) ⌝ }
     ensures cases { λ _. ⌜ RecordsWrittenAsGiven ⌝ }
 {
-    let found = sample::check(file);
-    if found.refusal != 0 {
+    let layout = sample::check(file);
+    if layout.refusal != 0 {
         return WriteAnswer {
-            refusal: found.refusal,
+            refusal: layout.refusal,
             length: 0,
         };
     }
-    let refusal = judge_seconds(file, found);
+    let refusal = judge_seconds(file, layout);
     if refusal != 0 {
         return WriteAnswer { refusal, length: 0 };
     }
-    let end = WIDTH * (found.arrivals as usize);
+    let end = WIDTH * (layout.arrivals as usize);
     if out.len() < end {
         return WriteAnswer {
             refusal: OUTPUT_SHORT,
             length: 0,
         };
     }
-    write_records(file, found, out);
+    write_records(file, layout, out);
     WriteAnswer {
         refusal: 0,
         length: end as u32,

@@ -10,10 +10,10 @@ use crate::clock::FRACTIONS;
 use crate::clock::fraction_of;
 use crate::clock::seconds_of;
 
-// The octets of a record.
+// The length of a record in octets.
 pub(crate) const WIDTH: usize = 25;
 
-// Where each field stands.
+// The offset of each field.
 const SEQUENCE_NUMBER: usize = 0;
 
 const SEND_ERROR: usize = 4;

@@ -11,7 +11,7 @@ use lib.ListN.{length, length-append}
 use borrow.Author.Tests.{eqb-true, eqb-false}
 use Rattle.rfc4737.specs.declared.Arrival.{Arrival}
 use Rattle.rfc4737.specs.Times.{greatestTime}
-use Rattle.rfc4737.specs.Refusals.{inCase, stateFull}
+use Rattle.rfc4737.specs.Refusals.{refusalIf, stateFull}
 use Rattle.rfc4737.specs.Judge.{arrivalsMost, judgeOne}
 use Rattle.rfc4737.proofs.Lists.{snoc-ind, All, all-append}
 use Rattle.rfc4737.proofs.Arrivals.{fold-more}
@@ -29,7 +29,7 @@ pub record AcceptedArrival (k : ℕ) (account : List Arrival) (a : Arrival) : Ty
 pub accepted-arrival : (k : ℕ) (account : List Arrival) (a : Arrival) → accountRefusal k account a ≡ 0 → AcceptedArrival k account a
 unfolding accountRefusal
 accepted-arrival k account a e =
-    let f = first-none (inCase (eqb (length account) arrivalsMost) stateFull) (judgeOne k (greatestTime account) a ∷ []) e in
+    let f = first-none (refusalIf (eqb (length account) arrivalsMost) stateFull) (judgeOne k (greatestTime account) a ∷ []) e in
     let w = one-split k (greatestTime account) a (first-none (judgeOne k (greatestTime account) a) [] (f .1) .0) .0 in
     record {
       room = eqb-false _ _ (case-none (eqb (length account) arrivalsMost) stateFull (lit< tt) (f .0));

@@ -40,7 +40,7 @@ use Rattle.receiver.specs.Limits.{windowPlaces}
 use Rattle.receiver.specs.Marks.{markAt, withMark}
 use Rattle.receiver.specs.Outcomes.{acceptedOutcome, latenessFrom}
 use Rattle.receiver.specs.Kept.{Held, withJump, heldAfter}
-use Rattle.receiver.specs.Step.{stepRefusal, reorderedOutcome, firstOutcome, lookedAt, outcomeOf, duplicateStream, inOrderStream, reorderedStream, inOrderState, reorderedState, notedState, stepWith}
+use Rattle.receiver.specs.Step.{stepRefusal, reorderedOutcome, firstOutcome, unrefusedOutcome, outcomeOf, duplicateStream, inOrderStream, reorderedStream, inOrderState, reorderedState, notedState, stepWith}
 use Rattle.receiver.specs.Account.{standsIn, accountRefusal, accountWith, jumpIn, answerIn, answersIn, isIn, inWindow, beyondFigures, inForm, outcomeIn}
 use Rattle.receiver.proofs.Window.{lastNumber}
 use Rattle.receiver.proofs.HeldJumps.{Holds}
@@ -299,8 +299,8 @@ module _ (k : ℕ) (low : 1 ≤ k) (high : k ≤ sentMost) (account : List Arriv
   noted = inForm ws account a (answerIn account a)
 
   -- an arrival that is not refused is noted so
-  looked-agrees : AcceptedArrival k account a → lookedAt before (a .number) (a .time) ≡ acceptedOutcome noted
-  unfolding lookedAt firstOutcome stateWith inForm inOrderAnswer jumpSize
+  looked-agrees : AcceptedArrival k account a → unrefusedOutcome before (a .number) (a .time) ≡ acceptedOutcome noted
+  unfolding unrefusedOutcome firstOutcome stateWith inForm inOrderAnswer jumpSize
   looked-agrees n = go (has (a .number) account) refl
     where
       looked : Bool → Outcome
@@ -312,7 +312,7 @@ module _ (k : ℕ) (low : 1 ≤ k) (high : k ≤ sentMost) (account : List Arriv
       order false t e =
           rw (t, o .kept) (late-agrees k account a ds ws sp (before .stream) refl (o .dropped) (n .numbered) e (leb-false _ _ t))
 
-      go : (t : Bool) → has (a .number) account ≡ t → lookedAt before (a .number) (a .time) ≡ acceptedOutcome noted
+      go : (t : Bool) → has (a .number) account ≡ t → unrefusedOutcome before (a .number) (a .time) ≡ acceptedOutcome noted
       go true e =
           ap looked (mark-agrees (n .numbered) ∙ e) ∙ sym (ap (λ (b : Answer). acceptedOutcome (inForm ws account a b)) (answer-again account a e))
       go false e = ap looked (mark-agrees (n .numbered) ∙ e) ∙ order (leb (nextExp (firsts account)) (a .number)) refl e

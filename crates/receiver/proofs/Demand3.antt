@@ -24,7 +24,7 @@ use Rattle.rfc4737.specs.Extent.{discontinuity, extentFrom}
 use Rattle.rfc4737.specs.Times.{tooEarly, greatestTime}
 use Rattle.rfc4737.specs.Answer.{reorderedAnswer, inOrderAnswer}
 use Rattle.rfc4737.specs.Runs.{counts, arrived, isDuplicate, isInOrderAnswer}
-use Rattle.rfc4737.specs.Refusals.{outside, inCase, firstOf, numberOutside, timeBack, stateUnfit, stateFull}
+use Rattle.rfc4737.specs.Refusals.{outside, refusalIf, firstRefusal, numberOutside, timeBack, stateUnfit, stateFull}
 use Rattle.rfc4737.specs.Judge.{sentMost, arrivalsMost, judgeOne}
 use Rattle.rfc4737.proofs.Lists.{snoc-ind, each-same}
 use Rattle.rfc4737.proofs.Arrivals.{fold-more, count-each}
@@ -53,7 +53,7 @@ unfolding accountRefusal judgeOne
 refusal-fit k account a = go (eqb (length account) arrivalsMost) (outside 1 k (a .number)) (tooEarly (greatestTime account) (a .time))
   where
     go : (t u v : Bool)
-        → eqb (firstOf (inCase t stateFull ∷ firstOf (inCase u numberOutside ∷ inCase v timeBack ∷ []) ∷ [])) stateUnfit ≡ false
+        → eqb (firstRefusal (refusalIf t stateFull ∷ firstRefusal (refusalIf u numberOutside ∷ refusalIf v timeBack ∷ []) ∷ [])) stateUnfit ≡ false
     go true u v = refl
     go false true v = refl
     go false false true = refl

@@ -1,5 +1,6 @@
 -- Steps of a walk by hand over a struct behind a `&mut` of which fields are lent to a call. The struct's cell is at its
 -- raw type, as `opens` gives it; so are the cells of its fields, and a struct within is taken apart in turn.
+--     opens-struct   the borrow of a struct is opened: its cell, at the machine value of what it holds, and what is known of that
 --     cells-out      the struct's cell is its fields' cells, and the way back to it from those cells at any values
 --     cells-in       the fields' cells, with the way back, are the struct's cell, at the values that they now hold
 --     lends-field    a field's cell is lent for κ: a `&κ mut` to it, and the lender's part
@@ -20,7 +21,7 @@ use mir.Syntax.{Sym, Lifetime, Ty, Tys, tnil, tcons, tyStruct}
 use mir.Raw.{raw as rawTy}
 use mir.Val.{Val, Vals, vnil, vcons, vptr, vstruct}
 use base.Logic.{SProp, ent, sep, emp, wand, all, never, via, monoR, comm∗, assoc∗, assoc′, snd∗, emp∗, wandE, allE, neverE, apply∗}
-use base.Fml.{Lft, GName, Share, fsep, fat, fdead, flent, fres}
+use base.Fml.{Lft, GName, Share, fsep, fat, flft, fdead, flent, fobs, fauth, fres, fbor, fobor}
 use prog.Memory.{size, align, up}
 use prog.Model.{fieldsAt}
 use prog.Wp.{Heap}
@@ -34,10 +35,11 @@ use denote.Laws.{Is, shows}
 use denote.Memory.{cellAt, mem, partOf}
 use denote.Ref.{MutRef}
 use denote.Lend.{lends-ref, ref-back}
-use denote.Steps.{owned, facts}
+use denote.Steps.{opens, owned, facts}
 use denote.Struct.Steps.{spelt}
 use denote.Struct.Field.{Field}
-use denote.Struct.Laws.{FLaws, Plain}
+use denote.Struct.Declared.{Declared, row}
+use denote.Struct.Laws.{FLaws, Laws, Plain, val, vals, tells}
 
 module _ {M : Type 1} (𝓤 : URA M) (H : Heap 𝓤) (A : Atoms 𝓤) where
   -- the cells of the fields, one entry each, and then the entry i. e is where what stands before them ends
@@ -80,6 +82,19 @@ module _ {M : Type 1} (𝓤 : URA M) (H : Heap 𝓤) (A : Atoms 𝓤) where
       (via 𝓤 _ (monoR 𝓤 (H .at q τ b (o + up (align τ) e) v) (lay-in i q τs (up (align τ) e + size τ) b o vs))
       (assoc′ 𝓤 (H .at q τ b (o + up (align τ) e) v) (fieldsAt 𝓤 H q τs (up (align τ) e + size τ) b o vs)
       (mean 𝓤 H A i)))
+
+-- a struct R that holds h, lent at (b, o) under the name γ, for κ
+module _ {M : Type 1} {𝓤 : URA M} {H : Heap 𝓤} {A : Atoms 𝓤} {K : Type 0} {W : Given 𝓤 H A} {Γ : List (Item 𝓤)} {G : Goal 𝓤 H}
+    (t : K) (z : Soaks G) (R : Declared) (L : Laws R) where
+  pub opens-struct : {κ : Lft} {q : Share} {γ : GName} (h : R .D) (b o : ℕ)
+      → (Is (row R) h (val R L h ∷ [])
+      → Seq K W (‵ (cellAt fullShare (row R .mir) (val R L h ∷ []) b o) ∷ ‵ (fobor κ q (Body (mem (row R)) b o γ))
+      ∷ ‵ (fobs γ (row R .coded .code h)) ∷ ‵ (fauth γ (row R .coded .code h)) ∷ Γ) G)
+      → Seq K W (‵ (fobs γ (row R .coded .code h)) ∷ ‵ (fbor κ (Body (mem (row R)) b o γ)) ∷ ‵ (flft κ q) ∷ Γ) G
+  opens-struct h b o k =
+      opens t z (row R) {h = h} b o (λ vs.
+      spelt t (row R) (Is (row R)) (shows 𝓤 H A (row R)) (vals R L) (tells R L) fullShare h vs b o $ move t (1 ∷ []) $
+      facts t (row R) (Is (row R)) (shows 𝓤 H A (row R)) h (val R L h ∷ []) k)
 
 -- a struct of fields of the types τs, at (b, o)
 module _ {M : Type 1} {𝓤 : URA M} {H : Heap 𝓤} {A : Atoms 𝓤} {K : Type 0} (W : Given 𝓤 H A) {Γ : List (Item 𝓤)}

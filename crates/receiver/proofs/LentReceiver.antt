@@ -11,6 +11,7 @@
 --     told         what the callee ensures makes Q true
 --     walk         the walk
 --     in-place     such a function of a crate meets its contract d, which follows from Q, where the callee meets its own
+--     ref, slot64, Lends64, ..    a reference to such an array, as a parameter, and what it owns
 --     A64, A16     the arrays that are lent, as fields, with their laws; Is64 and Is16 what is known of them
 -- Here h is the receiver, lent at (b, o) under the name γ, ns are the numbers, α is the lifetime of the call, a what it gives back, at the
 -- machine value v, and ws′ are the last values of what was lent. Assumes `Given`.
@@ -36,12 +37,11 @@ use types.Part.{whole as all-of, sub, look-in, store-in}
 use types.Tokens.{lft-new, lft-end}
 use sound.WpLaws.{fmOf}
 use denote.RattleType.{owns}
-use denote.Laws.{Is, shows, valss}
+use denote.Laws.{Is, valss}
 use denote.Builtin.{u16, u64, RefMutOf, ArrayOf}
 use denote.Ref.{RefT, MutRef}
-use denote.Signature.{plain}
-use denote.Steps.{only, opens, closes, owned, facts, nothing}
-use denote.Struct.Steps.{spelt}
+use denote.Signature.{Slot, plain}
+use denote.Steps.{only, closes, owned, nothing}
 use denote.Struct.Field.{Field, u16-field, u64-field, array-field}
 use denote.Struct.At.{Are, spelled}
 use denote.Struct.Laws as LL
@@ -59,7 +59,7 @@ use Rattle.receiver.specs.declared.Outcome.{Outcome}
 use Rattle.receiver.specs.declared.Receiver.{Receiver}
 use Rattle.receiver.specs.declared.advance.StreamStep.{StreamStep}
 use Rattle.receiver.specs.Parts.{whole}
-use Rattle.receiver.proofs.FieldLent.{cells-out, cells-in, map-same, lends-field, field-back, unraw}
+use Rattle.receiver.proofs.FieldLent.{opens-struct, cells-out, cells-in, map-same, lends-field, field-back, unraw}
 use Rattle.receiver.proofs.Returned.{returned-with}
 use Rattle.receiver.proofs.PassedNumbers.{Numbers, Fit, values, slots, rows, spells, taken, fit, given, given-known, given-row, owned-all, locals, copies, none, past, after, further, first, found, found-in, allocs-all, passes-all, reads-all, frees-all}
 use Rattle.receiver.proofs.LentStruct.{ended as lent-ended, Lent, Walk, meets}
@@ -114,6 +114,23 @@ Is64 xs = Is (A64 .row) (A64 .into xs) (L64 .val (A64 .into xs) ∷ [])
 abbrev pub Is16 : List ℕ → Type 0
 Is16 xs = Is (A16 .row) (A16 .into xs) (L16 .val (A16 .into xs) ∷ [])
 
+-- a reference to an array xs at (b, d), under the name γ, and what whoever has it owns for a lifetime α
+abbrev pub ref : ℕ → ℕ → GName → List ℕ → RefT (List ℕ)
+ref b d γ xs = record { ptr = (b, d); name = γ; now = xs }
+
+abbrev pub Lends64 : ℕ → ℕ → ℕ → GName → List ℕ → Fml
+Lends64 b α d γ xs = MutRef (named 0) (α ∷ []) (A64 .row) .own (ref b d γ xs) (vptr b d ∷ [])
+
+abbrev pub Lends16 : ℕ → ℕ → ℕ → GName → List ℕ → Fml
+Lends16 b α d γ xs = MutRef (named 0) (α ∷ []) (A16 .row) .own (ref b d γ xs) (vptr b d ∷ [])
+
+-- a parameter that is such a reference
+abbrev pub slot64 : Slot 1
+slot64 = RefMutOf (0 ∷ []) tt (ArrayOf (plain (λ _. u64)) (λ _. tt) 64) (λ _. tt)
+
+abbrev pub slot16 : Slot 1
+slot16 = RefMutOf (0 ∷ []) tt (ArrayOf (plain (λ _. u16)) (λ _. tt) 64) (λ _. tt)
+
 -- the machine values of the places, and of the members of a receiver
 abbrev pub places-vals : Places → Vals
 places-vals z = spelled (P.the-type .parts) P′.the-laws (P.struct .as-values z)
@@ -153,11 +170,7 @@ ended ws = record {
   signature = record {
     lifetimes = 1;
     outlives = [];
-    params =
-        plain (λ _. F.the-row) ∷ RefMutOf (0 ∷ []) tt (ArrayOf (plain (λ _. u64)) (λ _. tt) 64) (λ _. tt)
-        ∷ RefMutOf (0 ∷ []) tt (ArrayOf (plain (λ _. u16)) (λ _. tt) 64) (λ _. tt)
-        ∷ RefMutOf (0 ∷ []) tt (ArrayOf (plain (λ _. u16)) (λ _. tt) 64) (λ _. tt)
-        ∷ RefMutOf (0 ∷ []) tt (ArrayOf (plain (λ _. u64)) (λ _. tt) 64) (λ _. tt) ∷ slots ws;
+    params = plain (λ _. F.the-row) ∷ slot64 ∷ slot16 ∷ slot16 ∷ slot64 ∷ slots ws;
     result = plain (λ _. B.the-row);
   };
   kept = (yes, (yes, (yes, (yes, (yes, all yes (slots ws))))));
@@ -249,16 +262,6 @@ module _ {M : Type 1} (𝓤 : URA M) (H : Heap 𝓤) (A : Atoms 𝓤) (W : Given
     abbrev times-at : ℕ
     times-at = places-at + 256
 
-    -- a reference to an array xs at d, under the name γ₁, and what whoever has it owns
-    abbrev ref : ℕ → GName → List ℕ → RefT (List ℕ)
-    ref d γ₁ xs = record { ptr = (b, d); name = γ₁; now = xs }
-
-    abbrev Lends64 : ℕ → ℕ → GName → List ℕ → Fml
-    Lends64 α d γ₁ xs = MutRef (named 0) (α ∷ []) (A64 .row) .own (ref d γ₁ xs) (vptr b d ∷ [])
-
-    abbrev Lends16 : ℕ → ℕ → GName → List ℕ → Fml
-    Lends16 α d γ₁ xs = MutRef (named 0) (α ∷ []) (A16 .row) .own (ref d γ₁ xs) (vptr b d ∷ [])
-
     -- what the callee is handed
     abbrev handed : (α : ℕ) → GName → GName → GName → GName → Args (ended ws .signature) (α ∷ [], tt)
     handed α = parts ws (α ∷ [], tt) h ns (b, marks-at) (b, positions-at) (b, numbers-at) (b, times-at)
@@ -301,15 +304,15 @@ module _ {M : Type 1} (𝓤 : URA M) (H : Heap 𝓤) (A : Atoms 𝓤) (W : Given
 
     -- what it asks is had of the token and of the references
     goes : Is R.the-row h (mach h ∷ []) → (α : ℕ) (γm γp γn γt : GName)
-        → ent 𝓤 (sep 𝓤 (A .lft (α ∷ []) fullShare) (sep 𝓤 (sem 𝓤 H A (Lends64 α marks-at γm (h .marks)))
-        (sep 𝓤 (sem 𝓤 H A (Lends16 α positions-at γp (h .places .positions)))
-        (sep 𝓤 (sem 𝓤 H A (Lends16 α numbers-at γn (h .places .numbers)))
-        (sem 𝓤 H A (Lends64 α times-at γt (h .places .times)))))))
+        → ent 𝓤 (sep 𝓤 (A .lft (α ∷ []) fullShare) (sep 𝓤 (sem 𝓤 H A (Lends64 b α marks-at γm (h .marks)))
+        (sep 𝓤 (sem 𝓤 H A (Lends16 b α positions-at γp (h .places .positions)))
+        (sep 𝓤 (sem 𝓤 H A (Lends16 b α numbers-at γn (h .places .numbers)))
+        (sem 𝓤 H A (Lends64 b α times-at γt (h .places .times)))))))
         (Callee .pre (to-callee α γm γp γn γt))
     goes was α γm γp γn γt =
-        qed W (‵ (flft (α ∷ []) fullShare) ∷ ‵ (Lends64 α marks-at γm (h .marks))
-        ∷ ‵ (Lends16 α positions-at γp (h .places .positions)) ∷ ‵ (Lends16 α numbers-at γn (h .places .numbers))
-        ∷ ‵ (Lends64 α times-at γt (h .places .times)) ∷ []) ∵
+        qed W (‵ (flft (α ∷ []) fullShare) ∷ ‵ (Lends64 b α marks-at γm (h .marks))
+        ∷ ‵ (Lends16 b α positions-at γp (h .places .positions)) ∷ ‵ (Lends16 b α numbers-at γn (h .places .numbers))
+        ∷ ‵ (Lends64 b α times-at γt (h .places .times)) ∷ []) ∵
         nothing ! $ move ! (1 ∷ 0 ∷ []) $ join ! $
         use0 W (‵ (owns (rows (α ∷ [], tt) ws) (given (α ∷ [], tt) ws ns) _))
         (owned-all 𝓤 H A W (α ∷ [], tt) ws (given (α ∷ [], tt) ws ns) (given-known (α ∷ [], tt) ws ns fits)) $
@@ -336,10 +339,7 @@ module _ {M : Type 1} (𝓤 : URA M) (H : Heap 𝓤) (A : Atoms 𝓤) (W : Given
       alloc1 ! (λ l₀. alloc1 ! (λ l₁. allocs-all ! ws (λ bs. alloc1 ! (λ l₄. alloc1 ! (λ l₅. alloc1 ! (λ l₆. alloc1 ! (λ l₇.
       alloc1 ! (λ l₈. alloc1 ! (λ l₉. alloc0 ! $ params1 ! $ pass1 ! (init ! 13 refl (tt, tt)) $
       move ! (12 ∷ []) $ passes-all ! ws bs ns fits _ $
-      move ! (17 ∷ 18 ∷ 19 ∷ []) $ opens ! tt R.the-row {h = h} b o (λ vs.
-      spelt ! R.the-row (Is R.the-row) (shows 𝓤 H A R.the-row) (LL.vals R.the-type R′.the-laws)
-      (LL.tells R.the-type R′.the-laws) fullShare h vs b o $
-      move ! (1 ∷ []) $ facts ! R.the-row (Is R.the-row) (shows 𝓤 H A R.the-row) h (mach h ∷ []) (λ was.
+      move ! (17 ∷ 18 ∷ 19 ∷ []) $ opens-struct ! tt R.the-type R′.the-laws h b o (λ was.
       -- the context: the receiver's cell; the open borrow; what observes it, and what holds it; the numbers, at 4; then each other local,
       -- with what frees it: the reference to the times at 5, and so on to what the callee gives back at 15; the reference at 17; the
       -- result at 19
@@ -417,7 +417,7 @@ module _ {M : Type 1} (𝓤 : URA M) (H : Heap 𝓤) (A : Atoms 𝓤) (W : Given
       move ! (5 ∷ 6 ∷ []) $ free1 ! $ move ! (3 ∷ 4 ∷ []) $ free1 ! $ free0 ! $ keep ! (0 ∷ 2 ∷ []) $
       use1 W (‵ (fres γ (R.the-row .coded .code (renewed (a .stream) (ws′ .1)))))
       (W .names .obs-res γ (R.the-row .coded .code (renewed (a .stream) (ws′ .1)))) $ move ! (1 ∷ 0 ∷ []) $
-      by ! (exits (a .outcome) _ (of-back a v is .0) (renewed (a .stream) (ws′ .1)) e)))))))))))))))))))))))
+      by ! (exits (a .outcome) _ (of-back a v is .0) (renewed (a .stream) (ws′ .1)) e))))))))))))))))))))))
 
 -- a function #f of the code whose calls mean γ, where #callee means a routine that meets c
 module _ {M : Type 1} (𝓤 : URA M) (H : Heap 𝓤) (𝓜 : Model 𝓤 H) (𝓖 : GhostRules 𝓤 H) (𝓡 : Running 𝓤 H 𝓜) (γ : Meanings) (ws : List Width)

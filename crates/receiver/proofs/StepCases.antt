@@ -15,7 +15,7 @@ use borrow.Author.Tests.{ne-eqb, lt-ltb, le-ltb, le-leb, lt-leb, eqb-true, not-f
 use Rattle.rfc4737.specs.declared.Arrival.{Arrival}
 use Rattle.rfc4737.specs.Order.{FirstArrival}
 use Rattle.rfc4737.specs.Extent.{firstAbove}
-use Rattle.rfc4737.specs.Refusals.{inCase, stateUnfit, stateFull}
+use Rattle.rfc4737.specs.Refusals.{refusalIf, stateUnfit, stateFull}
 use Rattle.rfc4737.specs.Judge.{arrivalsMost, judgeOne}
 use Rattle.rfc4737.proofs.Due.{first-none, case-none}
 use Rattle.rfc4737.proofs.Judged.{one-split}
@@ -31,7 +31,7 @@ use Rattle.receiver.specs.Outcomes.{refusedOutcome, acceptedOutcome, lat
 use Rattle.receiver.specs.Marks.{markAt}
 use Rattle.receiver.specs.Kept.{placeAt, placesFrom, Held, heldOf, keptOf}
 use Rattle.receiver.specs.Fit.{fit, jumpFit}
-use Rattle.receiver.specs.Step.{stepRefusal, reorderedOutcome, lateOutcome, firstOutcome, lookedAt, outcomeOf, notedState, stepWith, stepOf}
+use Rattle.receiver.specs.Step.{stepRefusal, reorderedOutcome, lateOutcome, firstOutcome, unrefusedOutcome, outcomeOf, notedState, stepWith, stepOf}
 use Rattle.receiver.specs.Lent.{AsStep}
 use Rattle.receiver.specs.Private.{Unrefused}
 use Rattle.receiver.proofs.Fits.{and-true, stream-facts, places-facts, jump-facts}
@@ -80,8 +80,8 @@ module _ (r : Receiver) (number time : ℕ) where
   accepted-facts e =
       let arrival : Arrival = record { number = number; time = time } in
       let one = judgeOne (r .stream .sent) (r .stream .greatest) arrival in
-      let full = inCase (eqb (r .stream .arrived + r .stream .duplicates) arrivalsMost) stateFull in
-      let a = first-none (inCase (not (fit r)) stateUnfit) (full ∷ one ∷ []) e in
+      let full = refusalIf (eqb (r .stream .arrived + r .stream .duplicates) arrivalsMost) stateFull in
+      let a = first-none (refusalIf (not (fit r)) stateUnfit) (full ∷ one ∷ []) e in
       let g = and-true _ _ (not-false _ (case-none (not (fit r)) stateUnfit (lit< tt) (a .0))) in
       let n = one-split _ _ arrival (first-none one [] (first-none full (one ∷ []) (a .1) .1) .0) .0 in
       record {
@@ -110,17 +110,17 @@ module _ (r : Receiver) (number time : ℕ) where
 
   module _ (go : stepRefusal r number time ≡ 0) where
     pub outcome-duplicate : markAt (r .marks) number ≡ true → acceptedOutcome Duplicate ≡ outcomeOf r number time
-    unfolding outcomeOf lookedAt
+    unfolding outcomeOf unrefusedOutcome
     outcome-duplicate m = simp (go, m)
 
     pub outcome-in-order : markAt (r .marks) number ≡ false → r .stream .next ≤ number
         → acceptedOutcome (InOrder (number - r .stream .next)) ≡ outcomeOf r number time
-    unfolding outcomeOf lookedAt firstOutcome
+    unfolding outcomeOf unrefusedOutcome firstOutcome
     outcome-in-order m h = simp (go, m, le-leb _ _ h)
 
     pub outcome-late : (o : Outcome) → markAt (r .marks) number ≡ false → number < r .stream .next
         → o ≡ lateOutcome (r .stream) (r .places) (record { number = number; time = time }) → o ≡ outcomeOf r number time
-    unfolding outcomeOf lookedAt firstOutcome
+    unfolding outcomeOf unrefusedOutcome firstOutcome
     outcome-late o m h e = e ∙ simp (go, m, lt-leb _ _ h)
 
   module _ (room : Bool) (o : Outcome) (e : o ≡ outcomeOf r number time) where

@@ -15,7 +15,7 @@ use Rattle.rfc4737.specs.Order.{FirstArrival, jumpAfter, jumps}
 use Rattle.rfc4737.specs.Extent.{discontinuity}
 use Rattle.rfc4737.specs.Answer.{answerTo, answers}
 use Rattle.rfc4737.specs.Times.{greatestTime}
-use Rattle.rfc4737.specs.Refusals.{inCase, firstOf, stateFull}
+use Rattle.rfc4737.specs.Refusals.{refusalIf, firstRefusal, stateFull}
 use Rattle.rfc4737.specs.Judge.{arrivalsMost, judgeOne}
 use Rattle.receiver.specs.declared.Lateness.{Lateness}
 use Rattle.receiver.specs.declared.ReceiverAnswer.{ReceiverAnswer}
@@ -28,7 +28,7 @@ use Rattle.receiver.specs.Outcomes.{refusedOutcome, acceptedOutcome, lat
 -- the greatest time of the account, 0 at first
 unfoldable pub accountRefusal : ℕ → List Arrival → Arrival → ℕ
 accountRefusal k account a =
-    firstOf (inCase (eqb (length account) arrivalsMost) stateFull ∷ judgeOne k (greatestTime account) a ∷ [])
+    firstRefusal (refusalIf (eqb (length account) arrivalsMost) stateFull ∷ judgeOne k (greatestTime account) a ∷ [])
 
 -- the account after an arrival: refused it stays, any other arrival is added
 unfoldable pub accountWith : ℕ → List Arrival → Arrival → List Arrival

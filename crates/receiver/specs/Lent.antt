@@ -5,8 +5,8 @@ use Rattle.receiver.specs.declared.Receiver.{Receiver}
 use Rattle.receiver.specs.declared.Outcome.{Outcome}
 use Rattle.receiver.specs.Step.{stepOf}
 
--- what a call over a receiver lent says and leaves: the outcome is the step's, the receiver at exit holds the step's state,
--- and with a refusal it is equal
+-- what a step in place returns and leaves: the outcome is the step's, the receiver at exit is the step's state, and with a refusal it
+-- is as it was
 abbrev pub AsStep : Receiver → ℕ → ℕ → Outcome → Receiver → Type 0
 AsStep r number time outcome after =
     (outcome ≡ stepOf r number time .outcome)

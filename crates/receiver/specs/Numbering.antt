@@ -1,7 +1,7 @@
 -- The number of each case of what a receiver notes: those of an answer, and two more for its own case, one for each direction
 -- of its late time. Assumes nothing.
 use Prim.Native.Nat.{ℕ}
-use Rattle.rfc4737.specs.Numbering.{inOrderNumber, reorderedNumber, duplicateNumber, directed}
+use Rattle.rfc4737.specs.Numbering.{inOrderNumber, reorderedNumber, duplicateNumber, byDirection}
 use Rattle.receiver.specs.declared.ReceiverAnswer.{ReceiverAnswer}
 use Rattle.receiver.specs.declared.ReceiverAnswer.the-variants.{Duplicate, InOrder, Exact, Beyond}
 
@@ -18,4 +18,4 @@ abbrev pub notedNumber : ReceiverAnswer → ℕ
 notedNumber (InOrder jump) = inOrderNumber
 notedNumber (Exact l) = reorderedNumber (l .late)
 notedNumber Duplicate = duplicateNumber
-notedNumber (Beyond l) = directed beyondAfterNumber beyondBeforeNumber (l .late)
+notedNumber (Beyond l) = byDirection beyondAfterNumber beyondBeforeNumber (l .late)

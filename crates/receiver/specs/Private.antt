@@ -1,4 +1,5 @@
--- What private functions say to each other, which no public contract reaches: a fit state as facts, and what the functions of a step know and find. Assumes nothing.
+-- What private functions say to each other, which no public contract reaches: a fit state as facts, and what the functions of a step
+-- know and find. Assumes nothing.
 use Prim.Native.Nat.{ℕ, zero, suc, _+_, _<_, _≤_}
 use mathlib.Core.Bool.{Bool, true, false, cond, _&&_}
 use mathlib.Core.List.{List, _∷_, _++_, map}
@@ -46,20 +47,20 @@ pub record PlacesFit (s : Stream) (places : Places) : Type 0 where
 
 -- ---- a receiver in parts
 
--- the places are as many as an array of them has
+-- each array of places has 64 values
 abbrev pub Full : List ℕ → List ℕ → List ℕ → Type 0
 Full positions numbers times = (length positions ≡ windowPlaces) × ((length numbers ≡ windowPlaces) × (length times ≡ windowPlaces))
 
 -- ---- a step
 
--- what holds of a state and an arrival that meets no refusal before it is looked at
+-- what holds of a state and an arrival with no refusal by the state, its number and its time
 pub record Unrefused (r : Receiver) (number : ℕ) : Type 0 where
   pub stream : StreamFit (r .stream)
   pub places : PlacesFit (r .stream) (r .places)
   pub number-low : 1 ≤ number
   pub number-high : number ≤ r .stream .sent
 
--- the place of the first of some numbers that is above s; their count if none is
+-- the place of the first of `kept` numbers that is above s; `kept` if none is
 pub record FirstAbove (numbers : List ℕ) (kept s place : ℕ) : Type 0 where
   pub place-high : place ≤ kept
   pub before : (k : ℕ) → k < place → ltb s (getD numbers k 0) ≡ false
@@ -70,6 +71,6 @@ unfoldable pub firstPass : (ℕ → Bool) → List ℕ → ℕ → Bool
 firstPass t l zero = true
 firstPass t l (suc n) = firstPass t l n && t (getD l n 0)
 
--- values of n kept jumps under a new one: it stands after them; where there is no room for it, these move one place
+-- the values of n kept jumps with a new one after them; if there is no room for it, the oldest is dropped and the others move one place
 unfoldable pub pushed : Bool → ℕ → List ℕ → ℕ → List ℕ
 pushed room n l v = cond room (set l n v) (drop 1 (take n l) ++ (v ∷ drop n l))

@@ -11,7 +11,7 @@ use Rattle.rfc4737.specs.Order.{FirstArrival, nextAfter}
 use Rattle.rfc4737.specs.Extent.{firstAbove}
 use Rattle.rfc4737.specs.Runs.{lengthened, ended}
 use Rattle.rfc4737.specs.Times.{nextReference}
-use Rattle.rfc4737.specs.Refusals.{outside, inCase, firstOf, stateUnfit, stateFull}
+use Rattle.rfc4737.specs.Refusals.{outside, refusalIf, firstRefusal, stateUnfit, stateFull}
 use Rattle.rfc4737.specs.Judge.{sentMost, arrivalsMost, judgeSent, judgeOne}
 use Rattle.receiver.specs.declared.Stream.{Stream}
 use Rattle.receiver.specs.declared.Places.{Places}
@@ -57,18 +57,18 @@ freshOf k = record { refusal = judgeSent k; state = madeFor (cond (outside 1 sen
 
 -- ---- what is said of an arrival
 
--- the refusal that an arrival meets before it is looked at, 0 for none: unfit state 10, then 11, 6, 7
+-- the refusal of an arrival by the state, its number and its time, 0 for none: unfit state 10, then 11, 6, 7
 unfoldable pub stepRefusal : Receiver → ℕ → ℕ → ℕ
 stepRefusal r number time =
-    firstOf
-    (inCase (not (fit r)) stateUnfit
-    ∷ inCase (eqb (r .stream .arrived + r .stream .duplicates) arrivalsMost) stateFull
+    firstRefusal
+    (refusalIf (not (fit r)) stateUnfit
+    ∷ refusalIf (eqb (r .stream .arrived + r .stream .duplicates) arrivalsMost) stateFull
     ∷ judgeOne (r .stream .sent) (r .stream .greatest) (record { number = number; time = time })
     ∷ [])
 
--- what is said of an arrival a that is a reordered packet, over the stream's numbers and its kept jumps, d being the oldest kept
--- jump of a greater number. With none it is refused. It is beyond the window if its number is below the last dropped one, and the
--- oldest kept jump gives the figures; if not, d gives the exact figures
+-- the outcome of an arrival a that is a reordered packet, over the stream's numbers and its kept jumps; d is the oldest kept jump with
+-- a greater number. Without one the arrival is refused. If its number is below the last dropped one, it is beyond the window, with the
+-- figures from the oldest kept jump; else it is exact, with the figures from d
 unfoldable pub reorderedOutcome : Stream → List FirstArrival → Arrival → Option FirstArrival → Outcome
 reorderedOutcome s kept a none = refusedOutcome stateUnfit
 reorderedOutcome s kept a (some d) =
@@ -82,20 +82,20 @@ lateOutcome s places a =
     let kept = keptOf (heldOf s places) in
     reorderedOutcome s kept a (firstAbove (a .number) kept)
 
--- what is said of a first arrival: in order, with the jump size, if its number is at least NextExp, else reordered
+-- the outcome of a first arrival: in order, with the jump size, if its number is at least NextExp, else reordered
 unfoldable pub firstOutcome : Receiver → ℕ → ℕ → Outcome
 firstOutcome r number time =
     cond (leb (r .stream .next) number) (acceptedOutcome (InOrder (number - r .stream .next)))
     (lateOutcome (r .stream) (r .places) (record { number = number; time = time }))
 
--- an arrival that meets no refusal so far: a duplicate if the packet is marked, else a first arrival
-unfoldable pub lookedAt : Receiver → ℕ → ℕ → Outcome
-lookedAt r number time = cond (markAt (r .marks) number) (acceptedOutcome Duplicate) (firstOutcome r number time)
+-- the outcome of an arrival without such a refusal: a duplicate if the packet is marked, else a first arrival
+unfoldable pub unrefusedOutcome : Receiver → ℕ → ℕ → Outcome
+unrefusedOutcome r number time = cond (markAt (r .marks) number) (acceptedOutcome Duplicate) (firstOutcome r number time)
 
 -- what is said of an arrival
 unfoldable pub outcomeOf : Receiver → ℕ → ℕ → Outcome
 outcomeOf r number time =
-    cond (eqb (stepRefusal r number time) 0) (lookedAt r number time) (refusedOutcome (stepRefusal r number time))
+    cond (eqb (stepRefusal r number time) 0) (unrefusedOutcome r number time) (refusedOutcome (stepRefusal r number time))
 
 -- ---- the state after it
 
@@ -114,7 +114,7 @@ duplicateStream s time =
       dropped = s .dropped;
     }
 
--- after an in-order arrival, where this is held of the jumps then
+-- after an in-order arrival; h is what is held of the jumps then
 unfoldable pub inOrderStream : Stream → Held → ℕ → ℕ → Stream
 inOrderStream s h number time =
     record {
@@ -148,7 +148,7 @@ reorderedStream s number time =
 abbrev pub placedAt : Stream → ℕ → ℕ → FirstArrival
 placedAt s number time = record { position = s .arrived + 1; number = number; time = time }
 
--- the state after an in-order arrival with a jump size, where there is room for a new jump or not
+-- the state after an in-order arrival with a jump size; `room` says whether there is room for a new jump
 unfoldable pub inOrderState : Bool → Receiver → ℕ → ℕ → ℕ → Receiver
 inOrderState room r size number time =
     let h = heldAfter room (heldOf (r .stream) (r .places)) size (placedAt (r .stream) number time) in
@@ -171,7 +171,7 @@ notedState room r number time (InOrder size) = inOrderState room r size number t
 notedState room r number time (Exact l) = reorderedState r number time
 notedState room r number time (Beyond l) = reorderedState r number time
 
--- the step where there is room for a new jump or not: what is said, and the state after it; with a refusal it stays
+-- the step, where `room` says whether there is room for a new jump: the outcome, and the state after it; a refusal leaves it as it was
 unfoldable pub stepWith : Bool → Receiver → ℕ → ℕ → StepAnswer
 stepWith room r number time =
     let o = outcomeOf r number time in
@@ -181,6 +181,6 @@ stepWith room r number time =
 abbrev pub stepOf : Receiver → ℕ → ℕ → StepAnswer
 stepOf r number time = stepWith (ltb (r .stream .kept) windowPlaces) r number time
 
--- the same where at most so many are kept: at least 1, and at most 64
+-- the same where at most `most` are kept: 0 is taken as 1, and more than 64 as 64
 abbrev pub stepWithin : ℕ → Receiver → ℕ → ℕ → StepAnswer
 stepWithin most r number time = stepWith (ltb (r .stream .kept) (max 1 (min most windowPlaces))) r number time

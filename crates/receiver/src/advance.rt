@@ -1,5 +1,5 @@
-// The step on a receiver's parts: the stream's numbers go in and come back by value; the marks and the places of the kept jumps are
-// borrowed and written where they stand.
+// The step on a receiver's parts: the stream's numbers are passed and returned by value; the marks and the places of the kept jumps
+// are borrowed and written in place.
 
 use crate::MARK_WORDS;
 use crate::MOST;
@@ -22,7 +22,7 @@ ghost use Rattle.receiver.specs.Parts.{whole, wholeBy, stepAnswerOf, ste
 ghost use Rattle.receiver.specs.Step.{stepWith, stepOf};
 ghost use Rattle.receiver.specs.Private.{Full};
 
-// What is said of an arrival, and the stream's numbers after it.
+// The outcome of an arrival, and the stream's numbers after it.
 pub struct StreamStep {
     pub outcome: Outcome,
     pub stream: Stream,

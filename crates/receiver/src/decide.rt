@@ -1,4 +1,4 @@
-// What a step says of an arrival, decided from the state before it: this only reads.
+// Decides the outcome of an arrival from the state before it. Nothing here writes.
 
 use crate::Lateness;
 use crate::MARK_WORDS;
@@ -26,7 +26,7 @@ ghost use Rattle.receiver.specs.Limits.{windowPlaces};
 ghost use Rattle.receiver.specs.Parts.{oldestFirst, placesBy, wholeBy};
 ghost use Rattle.receiver.specs.Private.{Full, Unrefused};
 
-// The refusal that an arrival meets before it is looked at, 0 for none.
+// Returns the refusal of an arrival by the state, its number and its time; 0 for none.
 fn step_refusal<'a>(
     s: Stream,
     down: bool,
@@ -51,7 +51,7 @@ fn step_refusal<'a>(
     judge_one(s.sent as u64, s.greatest, number as u64, time)
 }
 
-// Extent and late time of the packet that arrives at a position and a time, from the jump in a place.
+// Returns extent and late time of the packet that arrives at `position` and `time`, measured from the jump in place `i`.
 fn lateness_from<'a>(
     positions: &'a [u16; Receiver::WINDOW],
     times: &'a [u64; Receiver::WINDOW],
@@ -70,7 +70,7 @@ fn lateness_from<'a>(
     }
 }
 
-// What is said of a reordered packet.
+// Returns the outcome of a reordered packet.
 fn late_outcome<'a>(
     s: Stream,
     down: bool,
@@ -104,7 +104,7 @@ fn late_outcome<'a>(
     }
 }
 
-// What is said of an arrival.
+// Returns the outcome of an arrival.
 pub(crate) fn decide<'a>(
     s: Stream,
     down: bool,

@@ -18,7 +18,7 @@ ghost use Rattle.receiver.specs.Private.{Full, firstPass};
 // The greatest sum of squares.
 const SQUARES_MOST: u32 = 16777216;
 
-// Whether the numbers are fit.
+// Returns whether the stream's numbers are fit.
 pub(crate) fn stream_fit(s: Stream) -> bool
     ensures { λ r. ⌜ r ≡ streamFit s ⌝ }
 {
@@ -55,14 +55,14 @@ pub(crate) fn stream_fit(s: Stream) -> bool
     true
 }
 
-// Whether both of two tests hold.
+// Returns whether both tests hold.
 fn both(a: bool, b: bool) -> bool
     ensures { λ r. ⌜ r ≡ (a && b) ⌝ }
 {
     if a { b } else { false }
 }
 
-// Whether a value lies from 1 to the most.
+// Returns whether a value is from 1 to `most`.
 fn is_within(most: u16, value: u16) -> bool
     ensures { λ r. ⌜ r ≡ within 1 most value ⌝ }
 {
@@ -72,7 +72,7 @@ fn is_within(most: u16, value: u16) -> bool
     value <= most
 }
 
-// Whether each of the first values lies from 1 to the most. All are looked at, several at a time.
+// Returns whether each of the first `count` values is from 1 to `most`. Without an early return LLVM compares several at a time.
 fn all_within(places: &[u16; Receiver::WINDOW], down: bool, count: usize, most: u16) -> bool
     requires { ⌜ (count ≤ windowPlaces) × (length (now places) ≡ windowPlaces) ⌝ }
     ensures { λ r. ⌜ r ≡ firstPass (within 1 most) (oldestFirst down (now (places .entry))) count ⌝ }
@@ -86,7 +86,7 @@ fn all_within(places: &[u16; Receiver::WINDOW], down: bool, count: usize, most: 
     fit
 }
 
-// Whether none of the first times is after the greatest. All are looked at, several at a time.
+// Returns whether none of the first `count` times is after `greatest`, likewise without an early return.
 fn none_after(times: &[u64; Receiver::WINDOW], down: bool, count: usize, greatest: u64) -> bool
     requires { ⌜ (count ≤ windowPlaces) × (length (now times) ≡ windowPlaces) ⌝ }
     ensures { λ r. ⌜ r ≡ firstPass (λ (t : ℕ). leb t greatest) (oldestFirst down (now (times .entry))) count ⌝ }
@@ -100,7 +100,7 @@ fn none_after(times: &[u64; Receiver::WINDOW], down: bool, count: usize, greates
     fit
 }
 
-// Whether the kept places are fit, under K, L and the greatest time.
+// Returns whether the kept places are fit under the stream's K, L and greatest time.
 pub(crate) fn places_fit<'a>(
     s: Stream,
     down: bool,

@@ -1,4 +1,4 @@
-// The kept jumps: the search for one of a greater number, and the places under a new jump.
+// The kept jumps: searching for one with a greater number, and storing a new one.
 
 use crate::Receiver;
 use crate::ends::LAST;
@@ -12,14 +12,14 @@ ghost use Rattle.receiver.specs.Limits.{windowPlaces};
 ghost use Rattle.receiver.specs.Parts.{oldestFirst};
 ghost use Rattle.receiver.specs.Private.{Full, FirstAbove, pushed};
 
-// A number of 16 bits in 32.
+// Widens a number of 16 bits to 32.
 pub(crate) fn wide(x: u16) -> u32
     ensures { λ r. ⌜ r ≡ x ⌝ }
 {
     x as u32
 }
 
-// The place of the oldest kept jump with a number above the given one; the count of kept jumps if there is none.
+// Returns the place of the oldest kept jump whose number is above `number`; `kept` if there is none.
 pub(crate) fn place_above(
     numbers: &[u16; Receiver::WINDOW],
     down: bool,
@@ -40,7 +40,7 @@ pub(crate) fn place_above(
     count
 }
 
-// How many jumps are kept after an in-order arrival with a jump size, where at most so many are.
+// Returns how many jumps are kept after an in-order arrival with jump size `size`, if at most `most` are kept.
 pub(crate) fn kept_after(kept: u32, most: u32, size: u32) -> u32
     ensures { λ r. ⌜ r ≡ cond (eqb size 0) kept (cond (ltb kept most) (kept + 1) kept) ⌝ }
 {
@@ -53,7 +53,7 @@ pub(crate) fn kept_after(kept: u32, most: u32, size: u32) -> u32
     kept
 }
 
-// The number of the last jump dropped, after an in-order arrival with a jump size, where at most so many are kept.
+// Returns the number of the last jump dropped after an in-order arrival with jump size `size`, if at most `most` are kept.
 pub(crate) fn dropped_after(
     dropped: u32,
     kept: u32,
@@ -74,7 +74,7 @@ pub(crate) fn dropped_after(
     wide(numbers[place(down, 0)])
 }
 
-// A new jump at a place, those up to it moved one place down: the first goes.
+// Drops the oldest jump, shifts the others up to `last` down by one and stores the new one at `last`.
 fn put_last<'a>(
     positions: &'a mut [u16; Receiver::WINDOW],
     numbers: &'a mut [u16; Receiver::WINDOW],
@@ -105,8 +105,8 @@ fn put_last<'a>(
     times[end] = time;
 }
 
-// A new jump after the kept ones, where at most so many are kept; if there is no room for it, they move by one. That all places
-// are taken is a case of its own, since a loop over a fixed number of places costs less.
+// Stores a new jump after the `kept` ones. If `most` are kept, the oldest is dropped and the others are shifted by one. The case that all
+// places are taken is apart, since a loop over a fixed number of places costs less.
 pub(crate) fn push<'a>(
     positions: &'a mut [u16; Receiver::WINDOW],
     numbers: &'a mut [u16; Receiver::WINDOW],

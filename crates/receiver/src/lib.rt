@@ -1,5 +1,5 @@
-// The receiver: fed one arrival at a time, it answers each and keeps a state of fixed size, handed in and
-// back by value, or lent and written where it stands. Its rule is specs/Step.antt, after the scope's "The receiver".
+// The receiver: fed one arrival at a time, it returns an outcome for each and keeps a state of fixed size, passed and
+// returned by value, or borrowed and written in place. Its rule is specs/Step.antt, after the scope's "The receiver".
 
 pub mod advance;
 mod decide;
@@ -66,7 +66,7 @@ pub struct Receiver {
     pub places: Places,
 }
 
-// Of a reordered packet: its extent and late time.
+// Extent and late time of a reordered packet.
 pub struct Lateness {
     pub extent: u32,
     pub late: LateTime,
@@ -81,35 +81,35 @@ pub enum ReceiverAnswer {
     Beyond(Lateness),
 }
 
-// What is said of an arrival: the refusal (0 for none), and what is noted.
+// The outcome of an arrival: the refusal (0 for none), and what is noted.
 pub struct Outcome {
     pub refusal: u32,
     pub noted: ReceiverAnswer,
 }
 
-// The answer of a step: what is said of the arrival, and the state after it.
+// The answer of a step: the outcome, and the state after it.
 pub struct StepAnswer {
     pub outcome: Outcome,
     pub state: Receiver,
 }
 
-// A receiver at its start: the refusal (0 for none), and the state.
+// The answer of `fresh`: the refusal (0 for none), and the state.
 #[repr(C)]
 pub struct FreshAnswer {
     pub refusal: u32,
     pub state: Receiver,
 }
 
-// The words that hold a bit for each of a receiver's packets.
+// How many words of 64 bits hold a bit for each packet.
 pub const MARK_WORDS: usize = (Receiver::PACKETS / 64) as usize;
 
 impl Receiver {
-    // How many jumps are kept.
+    // The greatest number of kept jumps.
     pub const WINDOW: usize = 64;
-    // How many packets a receiver is made for at most, and how many arrivals it accepts.
+    // The greatest K, and the greatest number of accepted arrivals.
     pub const PACKETS: u32 = SENT_MOST as u32;
 
-    // A fresh receiver for k packets; where k is refused, one for a single packet.
+    // Returns a fresh receiver for k packets; if k is refused, one for a single packet.
     pub fn fresh(k: u32) -> FreshAnswer
         ensures fresh { λ r. ⌜ r ≡ freshOf k ⌝ }
         ensures demand3 { λ r. ⌜ ((fed : List Arrival) → Demand3 (r .state .stream .sent) fed) ⌝ }
@@ -129,14 +129,14 @@ impl Receiver {
         }
     }
 
-    // The answer to an arrival, and the state after it.
+    // Steps the receiver with an arrival.
     pub fn step(self, number: u32, time: u64) -> StepAnswer
         ensures { λ r. ⌜ r ≡ stepOf self number time ⌝ }
     {
         self.step_within(MOST, number, time)
     }
 
-    // The same for a receiver that keeps at most so many jumps: the state's parts are taken out, advanced, and put back.
+    // The same for a receiver that keeps at most `most` jumps; 0 is taken as 1, and more than 64 as 64.
     pub fn step_within(mut self, most: u32, number: u32, time: u64) -> StepAnswer
         ensures { λ r. ⌜ r ≡ stepWithin most self number time ⌝ }
     {
@@ -171,7 +171,7 @@ impl Receiver {
         }
     }
 
-    // Whether the state is fit.
+    // Returns whether the state is fit.
     pub fn is_fit(self) -> bool
         ensures { λ r. ⌜ r ≡ fit self ⌝ }
     {
@@ -185,10 +185,10 @@ impl Receiver {
     }
 }
 
-// The most jumps that a receiver keeps.
+// Receiver::WINDOW as a number of 32 bits.
 const MOST: u32 = Receiver::WINDOW as u32;
 
-// How many jumps are kept at most, where so many are asked for.
+// Clamps `most` to 1 to 64.
 pub(crate) fn at_most(most: u32) -> u32
     ensures { λ r. ⌜ r ≡ max 1 (min most windowPlaces) ⌝ }
 {
@@ -201,7 +201,7 @@ pub(crate) fn at_most(most: u32) -> u32
     most
 }
 
-// The step in place: the numbers are read and stored, the arrays are lent on, and nothing else is copied.
+// Steps the borrowed receiver in place; returns the outcome of `Receiver::step`. Only the stream's numbers are copied.
 pub fn step_in_place(r: &mut Receiver, number: u32, time: u64) -> Outcome
     ensures { λ outcome. ⌜ AsStep (now (r .entry)) number time outcome (now (r .exit)) ⌝ }
 {
@@ -218,7 +218,7 @@ pub fn step_in_place(r: &mut Receiver, number: u32, time: u64) -> Outcome
     a.outcome
 }
 
-// The receiver for k packets, before any arrival.
+// Returns the receiver for k packets before any arrival.
 fn made_for(k: u32) -> Receiver
     ensures { λ r. ⌜ r ≡ madeFor k ⌝ }
 {

@@ -6,7 +6,7 @@ ghost use Prim.Native.Nat.{_≤_};
 ghost use Rattle.rfc4737.specs.Judge.{sentMost};
 ghost use Rattle.receiver.specs.Marks.{markAt, withMark};
 
-// Whether the packet is marked.
+// Returns whether the packet `number` is marked.
 pub(crate) fn is_marked(marks: &[u64; MARK_WORDS], number: u32) -> bool
     requires { ⌜ (1 ≤ number) × (number ≤ sentMost) ⌝ }
     ensures { λ r. ⌜ r ≡ markAt (now (marks .entry)) number ⌝ }
@@ -15,7 +15,7 @@ pub(crate) fn is_marked(marks: &[u64; MARK_WORDS], number: u32) -> bool
     (marks[at] >> ((number - 1) % 64)) % 2 == 1
 }
 
-// The marks with that of the packet.
+// Marks the packet `number`.
 pub(crate) fn mark(marks: &mut [u64; MARK_WORDS], number: u32)
     requires { ⌜ (1 ≤ number) × (number ≤ sentMost) ⌝ }
     ensures { λ _. ⌜ now (marks .exit) ≡ withMark (now (marks .entry)) number ⌝ }

@@ -1,5 +1,4 @@
-// The numbers of the one case of what is noted that an answer does not have, by the direction of its late time;
-// rfc4737::numbering has the others.
+// Codes for `Beyond`, the one case that only a receiver has, by the direction of its late time; rfc4737::numbering has the others.
 
 // Reordered beyond the window, and late after the arrival of the window's oldest jump.
 pub const BEYOND_AFTER: u32 = 4;

@@ -1,4 +1,4 @@
-// The stream's numbers after an arrival that is accepted.
+// The stream's numbers after an accepted arrival.
 
 use crate::Receiver;
 use crate::Stream;
@@ -20,7 +20,7 @@ ghost use Rattle.receiver.specs.Kept.{heldOf, heldAfter};
 ghost use Rattle.receiver.specs.Step.{placedAt, duplicateStream, inOrderStream, reorderedStream};
 ghost use Rattle.receiver.specs.Private.{StreamFit};
 
-// The numbers after a duplicate.
+// Returns the numbers after a duplicate.
 pub(crate) fn after_duplicate(s: Stream, time: u64) -> Stream
     requires { ⌜ s .duplicates ≤ sentMost ⌝ }
     ensures { λ r. ⌜ r ≡ duplicateStream s time ⌝ }
@@ -39,7 +39,8 @@ pub(crate) fn after_duplicate(s: Stream, time: u64) -> Stream
     }
 }
 
-// The numbers after an in-order arrival with a jump size, the kept jumps having these numbers, where at most so many are kept.
+// Returns the numbers after an in-order arrival with jump size `size`, if at most `most` jumps are kept; `numbers` are those of the kept
+// jumps before it.
 pub(crate) fn after_in_order(
     s: Stream,
     most: u32,
@@ -66,7 +67,7 @@ pub(crate) fn after_in_order(
     }
 }
 
-// The numbers after a reordered packet.
+// Returns the numbers after a reordered packet.
 pub(crate) fn after_reordered(s: Stream, number: u32, time: u64) -> Stream
     requires { ⌜ StreamFit s × (number ≤ sentMost) ⌝ }
     ensures { λ r. ⌜ r ≡ reorderedStream s number time ⌝ }
@@ -85,7 +86,7 @@ pub(crate) fn after_reordered(s: Stream, number: u32, time: u64) -> Stream
     }
 }
 
-// The runs after an in-order packet.
+// Returns the runs after an in-order packet.
 fn lengthened(runs: Runs) -> Runs
     requires { ⌜ runs .current ≤ sentMost ⌝ }
     ensures { λ r. ⌜ r ≡ lengthened runs ⌝ }
@@ -97,7 +98,7 @@ fn lengthened(runs: Runs) -> Runs
     }
 }
 
-// NextExp after a first arrival of a number.
+// Returns NextExp after the first arrival of the packet `number`.
 fn next_after(next: u32, number: u32) -> u32
     requires { ⌜ number ≤ sentMost ⌝ }
     ensures { λ r. ⌜ r ≡ nextAfter next number ⌝ }
@@ -108,7 +109,7 @@ fn next_after(next: u32, number: u32) -> u32
     next
 }
 
-// The runs after a reordered packet.
+// Returns the runs after a reordered packet.
 fn closed(runs: Runs) -> Runs
     requires { ⌜ (runs .current ≤ sentMost) × ((runs .closed ≤ sentMost) × (runs .squares ≤ squaresMost)) ⌝ }
     ensures { λ r. ⌜ r ≡ ended runs ⌝ }

@@ -1,4 +1,4 @@
-// The receiver's rule over borrowed parts, for a state of more than one stream: the places of a stream are counted from the first up,
+// The receiver's rule over borrowed parts, for a state of more than one stream. The places of a stream are counted from the first up,
 // or from the last down if `down`. All functions are total.
 
 use crate::MARK_WORDS;

@@ -1,16 +1,16 @@
--- The words of all refusals fit: each of the table's does, by computation. The answer for a number that is known to be a refusal (`named`), and
--- that another one is refused (`no-refusal`). Here n and m are numbers. Assumes nothing.
+-- The words of all refusals fit: each of the table's does, by computation. The answer for a number that is known to be a refusal (`named`),
+-- and that another one is refused (`no-refusal`). Here n and m are numbers. Assumes nothing.
 use Prim.Native.Nat.{ℕ, zero, suc, _+_, _≤_, _<_, max}
 use native.Mathlib.Omega.{arith}
 use mathlib.Core.List.{List, [], _∷_}
-use mathlib.Core.Bool.{Bool, true, false}
+use mathlib.Core.Bool.{Bool, true, false, not}
 use mathlib.Core.Path.{_≡_, refl, sym, ap, subst}
-use borrow.Author.Tests.{leb-true, leb-false}
+use borrow.Author.Tests.{leb-true}
 use lib.Dec.{leb}
 use lib.ListN.{length, getD}
 use Rattle.sample.specs.Output.{Output}
 use Rattle.sample.specs.declared.WriteAnswer.{WriteAnswer}
-use Rattle.rfc4737.specs.Refusals.{outside, inCase, askedOutside}
+use Rattle.rfc4737.specs.Refusals.{within, outside, refusalIf, askedOutside}
 use Rattle.sample.proofs.Output.{output-refused}
 use Rattle.refusals.specs.Words.{allWords, wordsOf, WordsFit, askedRefusal}
 
@@ -36,13 +36,15 @@ words-fit =
     record {
       most = λ n.
           let h = longest-most allWords n in
-          let e : longest allWords ≡ 109 = refl in
+          let e : longest allWords ≡ 111 = refl in
           omega arith;
     }
 
--- the answer for a number is the answer for the number that it is
+-- the answer for a number that is n, from the table
 pub named : (n : ℕ) {asked : ℕ} {out out′ : List ℕ} {answer : WriteAnswer} → asked ≡ n
-    → Output (askedRefusal n) (wordsOf n) out answer out′ → Output (askedRefusal asked) (wordsOf asked) out answer out′
+    → Output (refusalIf (not (within 1 18 n)) askedOutside) (getD allWords n []) out answer out′
+    → Output (askedRefusal asked) (wordsOf asked) out answer out′
+unfolding wordsOf askedRefusal outside
 named n {asked} {out} {out′} {answer} e w = subst (λ (m : ℕ). Output (askedRefusal m) (wordsOf m) out answer out′) (sym e) w
 
 -- a number is none of the m numbers above a limit
@@ -71,4 +73,4 @@ beyond n h = go (leb 1 n) refl (leb n 18) refl
 -- and is refused
 pub no-refusal : (n : ℕ) (out : List ℕ) → (1 ≤ n → n ≤ 18 → ⊥) → Output (askedRefusal n) (wordsOf n) out (record { refusal = askedOutside; length = 0 }) out
 unfolding askedRefusal
-no-refusal n out h = output-refused (askedRefusal n) (wordsOf n) out askedOutside (sym (ap (λ (b : Bool). inCase b askedOutside) (beyond n h))) (λ e. omega arith)
+no-refusal n out h = output-refused (askedRefusal n) (wordsOf n) out askedOutside (sym (ap (λ (b : Bool). refusalIf b askedOutside) (beyond n h))) (λ e. omega arith)

@@ -3,7 +3,7 @@ use Prim.Native.Nat.{ℕ, _≤_}
 use mathlib.Core.List.{List, [], _∷_}
 use lib.ListN.{length, getD}
 use Rattle.octets.specs.Text.{ascii}
-use Rattle.rfc4737.specs.Refusals.{outside, inCase, askedOutside}
+use Rattle.rfc4737.specs.Refusals.{outside, refusalIf, askedOutside}
 
 -- the words of each number, from 0, which is no refusal
 abbrev pub allWords : List (List ℕ)
@@ -17,7 +17,7 @@ allWords =
     ∷ ascii "sequence number outside 1 to K; a short number over its width, or of which the number found is outside 1 to K"
     ∷ ascii "arrival time over 1,000 below the greatest earlier time"
     ∷ ascii "lent output too short"
-    ∷ ascii "record outside 1 to A, n outside 1 to 100, or a share whose part is outside 1 to its whole"
+    ∷ ascii "record outside 1 to A, n outside 1 to 100, a share's part outside 1 to its whole, or no such measure or refusal"
     ∷ ascii "state of a receiver or of a meter unfit, or a reordered packet with no greater kept jump"
     ∷ ascii "receiver has accepted 4,096 arrivals"
     ∷ ascii "lists of arrivals that differ in length: those of numbers and of times, or any two of the lists of fragments"
@@ -33,10 +33,10 @@ allWords =
 unfoldable pub wordsOf : ℕ → List ℕ
 wordsOf refusal = getD allWords refusal []
 
--- 128 octets suffice for any
+-- 128 octets suffice for the words of any refusal
 pub record WordsFit : Type 0 where
   pub most : (refusal : ℕ) → length (wordsOf refusal) ≤ 128
 
--- what is refused of a number: 9 if it is no refusal, which is one of 1 to 18
+-- 9 for a number that is no refusal; the refusals are 1 to 18
 unfoldable pub askedRefusal : ℕ → ℕ
-askedRefusal refusal = inCase (outside 1 18 refusal) askedOutside
+askedRefusal refusal = refusalIf (outside 1 18 refusal) askedOutside

@@ -1,4 +1,4 @@
-// The words of the refusals: the one table that the programs, the header and the pages have.
+// The words of the refusals: one table for the programs, the header and the pages. The public call is total.
 ghost use Prim.Native.Nat.{_≤_, _<_};
 ghost use lib.ListN.{length};
 ghost use Rattle.sample.specs.Output.{Output};
@@ -10,7 +10,7 @@ use sample::WriteAnswer;
 // The octets that suffice for the words of any refusal.
 pub const OCTETS: usize = 128;
 
-// Writes octets from the start of `out`; where there is no room for all of them, nothing.
+// Writes octets from the start of `out`, or nothing if there is no room for all of them.
 fn write_whole(octets: &[u8], out: &mut [u8]) -> WriteAnswer
     requires { ⌜ length (now octets) ≤ 128 ⌝ }
     ensures { λ r. ⌜ Output 0 (now (octets .entry)) (now (out .entry)) r (now (out .exit)) ⌝ }
@@ -66,7 +66,7 @@ fn words_above_6(refusal: u32, out: &mut [u8]) -> WriteAnswer
         ),
         8 => write_whole(b"lent output too short", out),
         9 => write_whole(
-            b"record outside 1 to A, n outside 1 to 100, or a share whose part is outside 1 to its whole",
+            b"record outside 1 to A, n outside 1 to 100, a share's part outside 1 to its whole, or no such measure or refusal",
             out,
         ),
         10 => write_whole(
@@ -82,8 +82,8 @@ fn words_above_6(refusal: u32, out: &mut [u8]) -> WriteAnswer
     }
 }
 
-// Writes the words of a refusal from the start of `out`. Refused, `out` stays as it was: 9 for a number that is no refusal, 8 where
-// the words do not fit. Six arms to a function, for the time of the check.
+// Writes the words of a refusal from the start of `out`. Refusals: 9 for a number that is no refusal, 8 if the words do not fit; `out`
+// then stays as it was. Six arms to a function, for the time of the check.
 pub fn words(refusal: u32, out: &mut [u8]) -> WriteAnswer
     ensures { λ r. ⌜ Output (askedRefusal refusal) (wordsOf refusal) (now (out .entry)) r (now (out .exit)) ⌝ }
     ensures fit { λ _. ⌜ WordsFit ⌝ }

@@ -1,12 +1,11 @@
--- The judge goes from the front with the reference, and at each arrival the first refusal that is due is the arrival's own or that of
--- those after it. So a loop keeps that the refusal of all arrivals is that of those left, from the reference: it stops with the refusal of
--- the arrival at i (`judge-stop`), goes on where that is none (`judge-next`), and at the end none is due (`judge-done`); by the record
--- that `judge_next` returns these are `judged-stop` and `judged-next`. Where none is
--- refused, the first arrival is not, nor one of the others (`judge-split`). So by induction on the list every number lies in 1 to k
--- (`judged-number`), and no time is over 1,000 below an earlier one (`judged-times`), since the reference is at least every earlier time
--- (`reference-above`). `lists-fit` takes the four refusals of K and lists apart in their order, and `fit-lists` puts them together.
--- Here k is K, l are the arrivals, a is the one at i, z what stands past the end, and r the refusal that was returned for a.
--- Assumes nothing.
+-- The judge goes from the front with the reference, and at each arrival the first refusal that applies is the arrival's own or that of
+-- those after it. So a loop keeps that the refusal of all arrivals is that of those left, from the reference: it stops with the refusal
+-- of the arrival at i (`judge-stop`), goes on where that is none (`judge-next`), and at the end none applies (`judge-done`). By the record
+-- that `judge_next` returns these are `judged-stop` and `judged-next`. Where none is refused, the first arrival is not, nor one of the
+-- others (`judge-split`). So by induction on the list every number lies in 1 to k (`judged-number`), and no time is over 1,000 below an
+-- earlier one (`judged-times`), since the reference is at least every earlier time (`reference-above`). `lists-fit` takes the four
+-- refusals of K and lists apart in their order, and `fit-lists` puts them together. Here k is K, l are the arrivals, a is the one at i, z
+-- what stands past the end, and r the refusal that was returned for a. Assumes nothing.
 use Prim.Native.Nat.{ℕ, zero, suc, _+_, _-_, _≤_, _<_}
 use native.Mathlib.Numerals.{add-one}
 use native.Mathlib.Omega.{arith}
@@ -19,7 +18,7 @@ use lib.ListN.{length, getD, drop, drop-of-length-le}
 use lib.Seq.{drop-cons}
 use Rattle.rfc4737.specs.declared.Arrival.{Arrival}
 use Rattle.rfc4737.specs.declared.judge.Judged.{Judged}
-use Rattle.rfc4737.specs.Refusals.{outside, inCase, sentOutside, manyArrivals, numberOutside, timeBack, listsDiffer}
+use Rattle.rfc4737.specs.Refusals.{outside, refusalIf, sentOutside, manyArrivals, numberOutside, timeBack, listsDiffer}
 use Rattle.rfc4737.specs.Times.{backMost, tooEarly, nextReference}
 use Rattle.rfc4737.specs.Judge.{sentMost, arrivalsMost, arrivalsFrom, judgeSent, judgeArrivals, judgeOne, judge, refusalOfLists}
 use Rattle.rfc4737.proofs.Due.{first-none, each-none, first-stop, first-next, first-one, case-none, limit-none, not-outside}
@@ -79,8 +78,8 @@ pub one-split : (k reference : ℕ) (a : Arrival) → judgeOne k reference a ≡
     → ((1 ≤ a .number) × (a .number ≤ k)) × (tooEarly reference (a .time) ≡ false)
 unfolding judgeOne
 one-split k reference a e =
-    let p = first-none (inCase (outside 1 k (a .number)) numberOutside) (inCase (tooEarly reference (a .time)) timeBack ∷ []) e in
-    let q = first-none (inCase (tooEarly reference (a .time)) timeBack) [] (p .1) in
+    let p = first-none (refusalIf (outside 1 k (a .number)) numberOutside) (refusalIf (tooEarly reference (a .time)) timeBack ∷ []) e in
+    let q = first-none (refusalIf (tooEarly reference (a .time)) timeBack) [] (p .1) in
     (limit-none 1 k (a .number) numberOutside (omega arith) (p .0), case-none (tooEarly reference (a .time)) timeBack (omega arith) (q .0))
 
 -- every number lies in 1 to k
@@ -133,7 +132,7 @@ pub lists-fit : (k : ℕ) (numbers times : List ℕ) → refusalOfLists k number
 unfolding refusalOfLists
 lists-fit k numbers times e =
     let j = judge k 0 (arrivalsFrom numbers times) in
-    let d = inCase (not (eqb (length numbers) (length times))) listsDiffer in
+    let d = refusalIf (not (eqb (length numbers) (length times))) listsDiffer in
     let r = each-none (judgeSent k ∷ judgeArrivals (length numbers) ∷ d ∷ j ∷ []) e in
     let b = limit-none 1 sentMost k sentOutside (omega arith) (r 0) in
     let c = limit-none 0 arrivalsMost (length numbers) manyArrivals (omega arith) (r 1) in

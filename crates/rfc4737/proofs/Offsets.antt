@@ -1,6 +1,6 @@
--- The byte offset from the front of the first arrivals (`offset-front`), and what it is at most: 0 of a packet in order, since all numbers
--- before it are below NextExp (`below-next`, `offset-in-order`); and with sizes of 1 it counts the greater numbers, all of which stand from
--- the discontinuity on, so that the extent is no less (`extent-counts`).
+-- The byte offset from the front of the first arrivals (`offset-front`), and what it is at most: 0 of a packet in order, since all
+-- numbers before it are below NextExp (`below-next`, `offset-in-order`). With sizes of 1 it counts the greater numbers, all of which
+-- stand from the discontinuity on, so that the extent is no less (`extent-counts`).
 -- Here fs are first arrivals, s a number, z the size of each packet, l arrivals, `before` those before them. Assumes nothing.
 use mathlib.Core.Path.{_≡_, refl, subst, _∙_}
 use mathlib.Core.Bool.{Bool, true, false, cond}

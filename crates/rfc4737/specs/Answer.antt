@@ -1,5 +1,5 @@
--- The answer for a record: a duplicate, with the record of the first copy; in order, with its position and jump size; or
--- reordered, with its position, extent, late time, byte offset and largest n. Assumes nothing.
+-- The answer for a record. A duplicate has the record of the first copy, and an in-order packet its position and jump size. A reordered
+-- packet has its position, extent, late time, byte offset and largest n. Assumes nothing.
 use Prim.Native.Nat.{ℕ, _+_}
 use mathlib.Core.Bool.{cond}
 use mathlib.Core.List.{List}
@@ -12,11 +12,11 @@ use Rattle.rfc4737.specs.Arrivals.{has, firsts, firstRecord, each}
 use Rattle.rfc4737.specs.Order.{FirstArrival, isInOrder, jumpSize}
 use Rattle.rfc4737.specs.Extent.{discontinuity, extentFrom, lateFrom, byteOffset, largestN}
 
--- of an in-order packet a, after the first arrivals fs
+-- the answer for an in-order packet a, after the first arrivals fs
 unfoldable pub inOrderAnswer : List Arrival → Arrival → Answer
 inOrderAnswer fs a = InOrder (record { position = length fs + 1; jump = jumpSize fs (a .number) })
 
--- of a reordered packet a with the discontinuity d, after the first arrivals fs
+-- the answer for a reordered packet a with the discontinuity d, after the first arrivals fs
 unfoldable pub reorderedAnswer : (ℕ → ℕ) → List Arrival → Arrival → Option FirstArrival → Answer
 reorderedAnswer size fs a d =
     Reordered
@@ -28,17 +28,17 @@ reorderedAnswer size fs a d =
       largest = largestN fs (a .number);
     })
 
--- of a first arrival a, after the first arrivals fs
+-- the answer for a first arrival a, after the first arrivals fs
 unfoldable pub firstAnswer : (ℕ → ℕ) → List Arrival → Arrival → Answer
 firstAnswer size fs a =
     cond (isInOrder fs (a .number)) (inOrderAnswer fs a) (reorderedAnswer size fs a (discontinuity fs (a .number)))
 
--- of an arrival a, after the arrivals before it
+-- the answer for an arrival a, after the arrivals `earlier`
 unfoldable pub answerTo : (ℕ → ℕ) → List Arrival → Arrival → Answer
 answerTo size earlier a =
     cond (has (a .number) earlier) (Duplicate (record { first = firstRecord (a .number) earlier }))
     (firstAnswer size (firsts earlier) a)
 
--- of every record of a sample
+-- the answers for all records of a sample
 unfoldable pub answers : (ℕ → ℕ) → List Arrival → List Answer
 answers size l = each (answerTo size) l

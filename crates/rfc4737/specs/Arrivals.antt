@@ -12,7 +12,7 @@ unfoldable pub has : ℕ → List Arrival → Bool
 has s [] = false
 has s (a ∷ l) = eqb (a .number) s || has s l
 
--- first arrivals under one arrival more: it is one of them if its packet is not among them
+-- the first arrivals after the next arrival a: it is one of them if its packet is not among them
 unfoldable pub withArrival : List Arrival → Arrival → List Arrival
 withArrival fs a = cond (has (a .number) fs) fs (fs ++ (a ∷ []))
 
@@ -30,12 +30,12 @@ unfoldable pub firstRecord : ℕ → List Arrival → ℕ
 firstRecord s l = recordFrom 1 s l
 
 module _ {ℓ κ} {A : Type ℓ} {B : Type κ} where
-  -- f of each element, with the elements before it: those of `before`, and those of the list
+  -- f of each element and the elements before it: those of `before`, then those of the list
   unfoldable pub eachAfter : (List A → A → B) → List A → List A → List B
   eachAfter f before [] = []
   eachAfter f before (a ∷ l) = f before a ∷ eachAfter f (before ++ (a ∷ [])) l
 
-  -- f of each element of a list, with the elements before it
+  -- f of each element of a list and the elements before it
   unfoldable pub each : (List A → A → B) → List A → List B
   each f l = eachAfter f [] l
 

@@ -1,5 +1,5 @@
--- The cases P1 to P9 of the scope, with two that are added here, P10 for request 2 and P11 for request 5: what is sent, what arrives and
--- the figures that must come of it; and the statement that the definitions give these figures. Unless a case says otherwise, K is the
+-- The cases P1 to P9 of the scope, and two that are added here: P10 for request 2 and P11 for request 5. Each has what is sent, what
+-- arrives and the figures that must come of it; the definitions give these figures (`CasesHold`). Unless a case says otherwise, K is the
 -- greatest number that arrives, every size is 100, and record r arrives at 10 times r. A ratio stands as the quotient of its two counts;
 -- a table below gives some quotients as f64. Assumes nothing.
 use Prim.Native.Nat.{ℕ, _+_, _-_, _*_}
@@ -83,14 +83,14 @@ abbrev lateBefore : ℕ → ℕ → ℕ → ℕ → ℕ → Answer
 lateBefore position extent time offset largest =
     Reordered (record { position = position; extent = extent; late = Before time; offset = offset; largest = largest })
 
--- the gaps of n records, of which these have these and all others none
+-- the gaps of n records: those of `places`, each as record and gap, and none of the others
 unfoldable pub withGaps : ℕ → List (ℕ × ℕ) → List Gap
 withGaps n places = foldl (λ (g : List Gap) (p : ℕ × ℕ). set g (p .0 - 1) (Positions (p .1))) (replicate n None) places
 
 abbrev noGaps : ℕ → List Gap
 noGaps n = replicate n None
 
--- the tally with these counts at these places and 0 at all others
+-- the tally of `places`, each as place and count, and 0 at the others
 unfoldable pub tallied : List (ℕ × ℕ) → List ℕ
 tallied places = foldl (λ (t : List ℕ) (p : ℕ × ℕ). set t (p .0) (p .1)) (replicate tallying.tallyPlaces 0) places
 
@@ -286,8 +286,8 @@ p9 =
           };
     }
 
--- P10, added here for request 2: discontinuities at 1, 3, 4, discovered at positions 2, 6, 5. The one at 3 has the gap 2; the one at 4 has none,
--- since its neighbour 3 is discovered later
+-- P10, added here for request 2: discontinuities at 1, 3, 4, discovered at positions 2, 6, 5. The one at 3 has the gap 2; the one at 4
+-- has none, since its neighbour 3 is discovered later
 unfoldable pub p10 : Case
 p10 =
     record {
@@ -332,8 +332,8 @@ workedCases = p1 ∷ p2 ∷ p3 ∷ p4 ∷ p5 ∷ p6 ∷ p7 ∷ p8 ∷ p9 ∷ p10
 
 -- ---- quotients
 
--- two counts, and their quotient as f64: `fin false m (negsuc e)` is m over 2 to the e + 1, and m has at most 53 bits. So 1 / 5 is the nearest such
--- number to it: 5 times its m is 2 ^ 54 + 1
+-- two counts, and their quotient as f64. Here `fin false m (negsuc e)` is m over 2 to the e + 1, and m has at most 53 bits. The f64
+-- nearest to 1 / 5 has the m of which 5 times is 2 ^ 54 + 1
 unfoldable pub quotientTable : List ((ℕ × ℕ) × Float)
 quotientTable =
     ((0, 5), fin false 0 (pos 0))

@@ -12,7 +12,7 @@ use Rattle.rfc4737.specs.declared.LateTime.the-variants.{After}
 use Rattle.rfc4737.specs.Order.{FirstArrival, placed}
 use Rattle.rfc4737.specs.Times.{elapsed}
 
--- the earliest of some first arrivals, in order of position, with a number greater than s
+-- of first arrivals in order of position, the earliest with a number greater than s
 unfoldable pub firstAbove : ℕ → List FirstArrival → Option FirstArrival
 firstAbove s [] = none
 firstAbove s (p ∷ ps) = cond (ltb s (p .number)) (some p) (firstAbove s ps)
@@ -39,7 +39,7 @@ sizeIn sizes s = getD sizes (s - 1) 0
 unfoldable pub byteOffset : (ℕ → ℕ) → List Arrival → ℕ → ℕ
 byteOffset size fs s = foldl (λ (n : ℕ) (a : Arrival). n + cond (ltb s (a .number)) (size (a .number)) 0) 0 fs
 
--- the largest n, a term of the scope, for which a packet is n-reordered: how many positions directly before it hold
+-- the largest n for which a packet is n-reordered, a term of the scope. It counts the positions directly before the packet that hold
 -- greater numbers without a break
 unfoldable pub largestN : List Arrival → ℕ → ℕ
 largestN fs s = foldl (λ (n : ℕ) (a : Arrival). cond (ltb s (a .number)) (n + 1) 0) 0 fs

@@ -22,7 +22,7 @@ positionOf (Duplicate d) = none
 positionOf (InOrder d) = some (d .position)
 positionOf (Reordered d) = some (d .position)
 
--- the discoverer of the discontinuity at p: the position of the first reordered packet that has it as its own, if there is one
+-- the discoverer of the discontinuity at p: the position of the first reordered packet whose discontinuity it is, if there is one
 unfoldable pub discoverer : ℕ → List Answer → Option ℕ
 discoverer p [] = none
 discoverer p (a ∷ l) = cond (belongsTo p a) (positionOf a) (discoverer p l)
@@ -53,8 +53,8 @@ neighbour l zero = none
 neighbour l (suc zero) = none
 neighbour l (suc (suc q)) = cond (isSome (discoverer (suc q) l)) (some (suc q)) (neighbour l (suc q))
 
--- the gap of position p over its neighbour: p less the neighbour exactly if that was discovered by an earlier reordered packet than p;
--- so a position that is no discontinuity has none, and neither has the first discontinuity
+-- the gap of position p over its neighbour: p less the neighbour exactly if that was discovered by an earlier reordered packet than p.
+-- So neither a position that is no discontinuity nor the first discontinuity has a gap
 unfoldable pub gapOver : List Answer → ℕ → Option ℕ → Gap
 gapOver l p none = None
 gapOver l p (some q) = cond (earlier (discoverer q l) (discoverer p l)) (Positions (p - q)) None

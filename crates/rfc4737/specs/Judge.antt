@@ -6,7 +6,7 @@ use lib.Dec.{eqb}
 use lib.ListN.{length}
 use Rattle.rfc4737.specs.declared.Arrival.{Arrival}
 use Rattle.rfc4737.specs.Times.{tooEarly, nextReference}
-use Rattle.rfc4737.specs.Refusals.{outside, inCase, firstOf, sentOutside, manyArrivals, numberOutside, timeBack, listsDiffer}
+use Rattle.rfc4737.specs.Refusals.{outside, refusalIf, firstRefusal, sentOutside, manyArrivals, numberOutside, timeBack, listsDiffer}
 
 -- ---- limits
 
@@ -38,28 +38,28 @@ arrivalsFrom (n ∷ ns) (t ∷ ts) = record { number = n; time = t } ∷ arrival
 
 -- 4: K is 0 or over 4,096
 abbrev pub judgeSent : ℕ → ℕ
-judgeSent k = inCase (outside 1 sentMost k) sentOutside
+judgeSent k = refusalIf (outside 1 sentMost k) sentOutside
 
 -- 5: over 4,096 arrivals
 abbrev pub judgeArrivals : ℕ → ℕ
-judgeArrivals n = inCase (outside 0 arrivalsMost n) manyArrivals
+judgeArrivals n = refusalIf (outside 0 arrivalsMost n) manyArrivals
 
 -- one arrival, by K and the reference for its time: 6 before 7
 unfoldable pub judgeOne : ℕ → ℕ → Arrival → ℕ
 judgeOne k reference a =
-    firstOf (inCase (outside 1 k (a .number)) numberOutside ∷ inCase (tooEarly reference (a .time)) timeBack ∷ [])
+    firstRefusal (refusalIf (outside 1 k (a .number)) numberOutside ∷ refusalIf (tooEarly reference (a .time)) timeBack ∷ [])
 
 -- the arrivals in turn
 unfoldable pub judge : ℕ → ℕ → List Arrival → ℕ
 judge k reference [] = 0
-judge k reference (a ∷ l) = firstOf (judgeOne k reference a ∷ judge k (nextReference reference (a .time)) l ∷ [])
+judge k reference (a ∷ l) = firstRefusal (judgeOne k reference a ∷ judge k (nextReference reference (a .time)) l ∷ [])
 
--- the first refusal that is due of K and lists: 4, 5 by the list of numbers, 12, the arrivals in turn; 0 if none is
+-- the first refusal that applies to K and the lists, 0 if none does: 4, 5 by the list of numbers, 12, the arrivals in turn
 unfoldable pub refusalOfLists : ℕ → List ℕ → List ℕ → ℕ
 refusalOfLists k numbers times =
-    firstOf
+    firstRefusal
     (judgeSent k
     ∷ judgeArrivals (length numbers)
-    ∷ inCase (not (eqb (length numbers) (length times))) listsDiffer
+    ∷ refusalIf (not (eqb (length numbers) (length times))) listsDiffer
     ∷ judge k 0 (arrivalsFrom numbers times)
     ∷ [])

@@ -1,7 +1,7 @@
--- What a receiver that restores order needs of its buffer, for each record and for a whole sample. The buffer's size is finite "in terms
--- of packets, bytes, or time" (RFC 4737, section 1.1). For a reordered packet it must hold as many packets as its extent says (4.2.4, which
--- calls this an overestimate in some cases), wait for as long as its late time (4.3), and store as many octets as its byte offset (4.4). A
--- packet in order needs nothing, and a duplicate is not analysed. Nothing is said of packets that never arrived. Assumes nothing.
+-- The buffer that a receiver needs to restore order, for each record and for a whole sample. The buffer's size is finite "in terms of
+-- packets, bytes, or time" (RFC 4737, section 1.1). A reordered packet needs room for as many packets as its extent (4.2.4, which calls
+-- this an overestimate in some cases) and as many octets as its byte offset (4.4). It needs a wait of its late time (4.3). A packet in
+-- order needs nothing, and a duplicate is not analysed. Nothing is said of packets that never arrived. Assumes nothing.
 use Prim.Native.Nat.{ℕ}
 use mathlib.Core.Bool.{Bool, cond, not, _&&_}
 use mathlib.Core.List.{List, map, foldl}

@@ -1,5 +1,4 @@
--- The number of each case of an answer, wherever an answer is told as a number: for C, and in lists of flags. Beside it
--- stands the amount of a late time. Assumes nothing.
+-- The number of each case of an answer, for C and for lists of flags, and the amount of a late time. Assumes nothing.
 use Prim.Native.Nat.{ℕ}
 use Rattle.rfc4737.specs.declared.Answer.{Answer}
 use Rattle.rfc4737.specs.declared.Answer.the-variants.{Duplicate, InOrder, Reordered}
@@ -22,14 +21,14 @@ reorderedBeforeNumber = 2
 abbrev pub duplicateNumber : ℕ
 duplicateNumber = 3
 
--- of two numbers the one for a late time's direction
-abbrev pub directed : ℕ → ℕ → LateTime → ℕ
-directed after before (After t) = after
-directed after before (Before t) = before
+-- `after` or `before`, by the direction of a late time
+abbrev pub byDirection : ℕ → ℕ → LateTime → ℕ
+byDirection after before (After t) = after
+byDirection after before (Before t) = before
 
 -- the number of a reordered packet with this late time
 abbrev pub reorderedNumber : LateTime → ℕ
-reorderedNumber late = directed reorderedAfterNumber reorderedBeforeNumber late
+reorderedNumber late = byDirection reorderedAfterNumber reorderedBeforeNumber late
 
 -- the number of an answer's case
 abbrev pub answerNumber : Answer → ℕ

@@ -7,7 +7,7 @@ use lib.ListN.{length}
 use Rattle.rfc4737.specs.declared.Arrival.{Arrival}
 use Rattle.rfc4737.specs.Arrivals.{each}
 
--- NextExp after a first arrival of number s: s + 1 if it is in order, else as it was
+-- NextExp after the first arrival of packet s: s + 1 if it is in order, else as it was
 unfoldable pub nextAfter : ℕ → ℕ → ℕ
 nextAfter next s = cond (leb next s) (s + 1) next
 

@@ -35,7 +35,7 @@ share p l = quotient (count p l) (arrived l)
 unfoldable pub degree : ℕ → List Answer → Ratio
 degree n l = cond (eqb (arrived l) 0) Ratio.Undefined (Ratio.Known (share (isNReordered n) l))
 
--- the ratio figures of a sample: the share of the reordered packets, and the degrees for n = 1 and n = 3; undefined if L = 0
+-- the ratio figures of a sample, undefined if L = 0: the share of the reordered packets, and the degrees for n = 1 and n = 3
 unfoldable pub ratios : List Answer → Ratios
 ratios l =
     cond (eqb (arrived l) 0) Ratios.Undefined

@@ -1,4 +1,4 @@
--- The numbers given back instead of an answer, each with its case, and the rule that the first that is due is given.
+-- The numbers returned instead of an answer, each with its case, and the rule that the first that applies is returned.
 -- Assumes nothing.
 use Prim.Native.Nat.{ℕ, zero, suc}
 use mathlib.Core.Bool.{Bool, cond, not, _&&_}
@@ -25,7 +25,7 @@ sentOutside = 4
 abbrev pub manyArrivals : ℕ
 manyArrivals = 5
 
--- 6: sequence number outside 1 to K; a short number over its width, or of which the number found is outside 1 to K
+-- 6: sequence number outside 1 to K; or a short number that is over its width, or whose full number is outside 1 to K
 abbrev pub numberOutside : ℕ
 numberOutside = 6
 
@@ -85,12 +85,12 @@ within low high n = leb low n && leb n high
 unfoldable pub outside : ℕ → ℕ → ℕ → Bool
 outside low high n = not (within low high n)
 
--- a refusal in its case, else 0, which is no refusal
-abbrev pub inCase : Bool → ℕ → ℕ
-inCase due refusal = cond due refusal 0
+-- a refusal if it applies, else 0, which is no refusal
+abbrev pub refusalIf : Bool → ℕ → ℕ
+refusalIf applies refusal = cond applies refusal 0
 
--- of refusals in their order, each 0 where it is not due, the first that is due; 0 if none is
-abbrev pub firstOf : List ℕ → ℕ
-firstOf [] = 0
-firstOf (zero ∷ rs) = firstOf rs
-firstOf (suc r ∷ rs) = suc r
+-- of refusals in their order, each 0 if it does not apply, the first that applies; 0 if none does
+abbrev pub firstRefusal : List ℕ → ℕ
+firstRefusal [] = 0
+firstRefusal (zero ∷ rs) = firstRefusal rs
+firstRefusal (suc r ∷ rs) = suc r

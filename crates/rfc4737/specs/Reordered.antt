@@ -1,5 +1,5 @@
--- What holds of every reordered packet, by the definitions of its figures: it has a discontinuity, and its byte offset is bounded. Here
--- `earlier` are the arrivals before the arrival a of the packet, and f are its figures. Assumes nothing.
+-- Every reordered packet has a discontinuity, and its byte offset is bounded. Here `earlier` are the arrivals before the arrival a of the
+-- packet, and f are its figures. Assumes nothing.
 use Prim.Native.Nat.{ℕ, _-_, _*_, _≤_, _<_}
 use mathlib.Core.List.{List}
 use mathlib.Core.Option.{some}
@@ -41,7 +41,7 @@ OffsetsBounded =
     (size : ℕ → ℕ) → ((s : ℕ) → size s ≤ sizeMost) → (earlier : List Arrival) (a : Arrival) (f : ReorderedFigures)
     → length earlier < arrivalsMost → answerTo size earlier a ≡ Reordered f → f .offset ≤ offsetMost
 
--- both, of the answers of a call: of a reordered packet an extent of at least 1 and a byte offset of at most 268,365,825
+-- both, for the answer of a call: a reordered packet has an extent of at least 1 and a byte offset of at most 268,365,825
 abbrev pub FiguresBounded : Answer → Type 0
 FiguresBounded (Duplicate f) = Unit
 FiguresBounded (InOrder f) = Unit

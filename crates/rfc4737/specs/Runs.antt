@@ -8,7 +8,7 @@ use Rattle.rfc4737.specs.declared.Runs.{Runs}
 use Rattle.rfc4737.specs.declared.Counts.{Counts}
 use Rattle.rfc4737.specs.Arrivals.{count}
 
--- the limit of the sum of squares in a fit receiver state: 4,096 squared, over which no sum of 4,096 arrivals goes
+-- the limit of the sum of squares in a fit receiver state: 4,096 squared, the greatest sum of 4,096 arrivals
 abbrev pub squaresMost : ℕ
 squaresMost = 16777216
 
@@ -27,7 +27,7 @@ isReordered (Duplicate d) = false
 isReordered (InOrder d) = false
 isReordered (Reordered d) = true
 
--- L: how many first arrivals there are, those answers that are no duplicates
+-- L, the number of first arrivals: how many answers are no duplicates
 unfoldable pub arrived : List Answer → ℕ
 arrived l = count (λ (a : Answer). not (isDuplicate a)) l
 
@@ -40,7 +40,7 @@ lengthened r = record { closed = r .closed; squares = r .squares; current = r .c
 unfoldable pub ended : Runs → Runs
 ended r = record { closed = r .closed + 1; squares = r .squares + r .current * r .current; current = 0 }
 
--- the runs under one answer more; a duplicate does neither
+-- the runs after the next answer; a duplicate changes nothing
 unfoldable pub runsAfter : Runs → Answer → Runs
 runsAfter r (Duplicate d) = r
 runsAfter r (InOrder d) = lengthened r

@@ -1,5 +1,5 @@
--- The extent tally, a term of the scope, over the answers of a sample: 101 counts, place e for the extents 1 to 100 and
--- place 0 for all greater ones. Assumes nothing.
+-- The extent tally, a term of the scope, over the answers of a sample. It has 101 counts: place e for the extents 1 to 100, place 0 for
+-- all greater ones. Assumes nothing.
 use Prim.Native.Nat.{ℕ, _+_}
 use mathlib.Core.Bool.{cond}
 use mathlib.Core.List.{List, foldl}
@@ -20,11 +20,11 @@ tallyPlaces = 101
 unfoldable pub tallyPlace : ℕ → ℕ
 tallyPlace extent = cond (leb extent tallyMost) extent 0
 
--- one more at a place
+-- the count at place `at` raised by 1
 unfoldable pub oneMoreAt : ℕ → List ℕ → List ℕ
 oneMoreAt at t = set t at (getD t at 0 + 1)
 
--- the tally under one answer more
+-- the tally after the next answer
 unfoldable pub tallyAfter : List ℕ → Answer → List ℕ
 tallyAfter t (Duplicate d) = t
 tallyAfter t (InOrder d) = t

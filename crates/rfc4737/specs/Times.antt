@@ -1,4 +1,4 @@
--- What is asked of arrival times, which may be equal and go back a little. Each rule stands behind one name. Assumes nothing.
+-- The rules about arrival times, which may be equal and go back a little; one name for each rule. Assumes nothing.
 use Prim.Native.Nat.{ℕ, _-_}
 use mathlib.Core.Bool.{Bool, false, cond, _||_}
 use mathlib.Core.List.{List, [], _∷_, foldl}
@@ -15,7 +15,7 @@ backMost = 1000
 unfoldable pub tooEarly : ℕ → ℕ → Bool
 tooEarly reference time = ltb backMost (reference - time)
 
--- the reference for the arrival after one of this time: the greater of both; before the first arrival it is 0
+-- the reference for the arrival after one at `time`: the greater of both. Before the first arrival it is 0
 unfoldable pub nextReference : ℕ → ℕ → ℕ
 nextReference reference time = cond (ltb reference time) time reference
 
@@ -23,12 +23,11 @@ nextReference reference time = cond (ltb reference time) time reference
 unfoldable pub greatestTime : List Arrival → ℕ
 greatestTime l = foldl (λ (t : ℕ) (a : Arrival). nextReference t (a .time)) 0 l
 
--- the time from one arrival, of the time `past`, to another, of the time `own`: after it or before it; equal times are
--- after, by 0
+-- the time from an arrival at `past` to one at `own`: after it or before it. Equal times are after, by 0
 unfoldable pub elapsed : ℕ → ℕ → LateTime
 elapsed past own = cond (ltb own past) (Before (past - own)) (After (own - past))
 
--- whether the clock steps back, if it showed t last: an arrival is stamped before t, or before the arrival before it
+-- whether the clock steps back: the first arrival is stamped before t, or another before the one that precedes it
 unfoldable pub stepsBack : ℕ → List Arrival → Bool
 stepsBack t [] = false
 stepsBack t (a ∷ l) = ltb (a .time) t || stepsBack (a .time) l

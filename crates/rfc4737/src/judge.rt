@@ -1,4 +1,4 @@
-// The judge of K and the arrivals: one leaf for each case, which files, texts and lists share.
+// The judge of K and the arrivals, one function for each case. Files, texts and lists share it.
 ghost use mathlib.Core.Path.{_≡_};
 ghost use lib.ListN.{length};
 ghost use Rattle.rfc4737.specs.Refusals.{outside};
@@ -31,7 +31,7 @@ pub fn outside(low: u64, high: u64, n: u64) -> bool
     false
 }
 
-// One arrival: 6 before 7.
+// Judges one arrival: 6 before 7.
 pub fn judge_one(k: u64, reference: u64, number: u64, time: u64) -> u32
     ensures { λ r. ⌜ r ≡ judgeOne k reference (record { number = number; time = time }) ⌝ }
 {
@@ -46,14 +46,14 @@ pub fn judge_one(k: u64, reference: u64, number: u64, time: u64) -> u32
     0
 }
 
-// What the judge says of one arrival: the refusal (0 for none), and the reference for the time of the next arrival.
+// The judgement of one arrival: the refusal (0 for none), and the reference for the time of the next arrival.
 pub struct Judged {
     pub refusal: u32,
     pub reference: u64,
 }
 
-// Judges one arrival of several. A number in 1 to K at a time that does not go back is accepted by these two tests alone; any
-// other arrival is for `judge_one`.
+// Judges the next of several arrivals. Two tests accept a number in 1 to K at a time that does not go back; any other arrival goes
+// to `judge_one`.
 pub fn judge_next(k: u64, reference: u64, number: u64, time: u64) -> Judged
     ensures { λ r. ⌜ r ≡ record { refusal = judgeOne k reference (record { number = number; time = time }); reference = nextReference reference time } ⌝ }
 {
@@ -71,7 +71,7 @@ pub fn judge_next(k: u64, reference: u64, number: u64, time: u64) -> Judged
     }
 }
 
-// The arrivals of two lists in turn.
+// Judges the arrivals of two lists in turn.
 fn judge_lists(k: u64, numbers: &[u32], times: &[u64]) -> u32
     requires { ⌜ length (now times) ≡ length (now numbers) ⌝ }
     ensures { λ r. ⌜ r ≡ judge k 0 (arrivalsFrom (now (numbers .entry)) (now (times .entry))) ⌝ }
@@ -90,7 +90,7 @@ fn judge_lists(k: u64, numbers: &[u32], times: &[u64]) -> u32
     0
 }
 
-// The first refusal that is due of K and lists, 0 if none is.
+// The first refusal that applies to K and the lists, 0 if none does.
 pub fn refusal_of_lists(k: u64, numbers: &[u32], times: &[u64]) -> u32
     ensures { λ r. ⌜ r ≡ refusalOfLists k (now (numbers .entry)) (now (times .entry)) ⌝ }
 {

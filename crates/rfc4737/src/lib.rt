@@ -1,18 +1,17 @@
-// The values that the definitions of specs/ name: an arrival, the answer for a record, and the figures
-// of a sample. What each value means is said in specs/, after RFC 4737. Beside them stand the numbers of
-// an answer's cases and of the refusals, the three rules about times, and the judge of K and the arrivals,
-// which every crate above shares.
+// The values that the definitions of specs/ name: an arrival, the answer for a record, and the figures of a sample. What each value
+// means is said in specs/, after RFC 4737. The modules have the numbers of an answer's cases and of the refusals, the rules about
+// times, and the judge of K and the arrivals. Every crate above shares them.
 
 // The numbers of an answer's cases.
 pub mod numbering;
 
-// The numbers given back instead of an answer.
+// The numbers returned instead of an answer.
 pub mod refusal;
 
-// What is asked of arrival times.
+// The rules about arrival times.
 pub mod time;
 
-// What is refused of K and arrivals.
+// The judge of K and the arrivals.
 pub mod judge;
 
 // An arrival of a test packet: its sequence number, and its arrival time in microseconds.
@@ -21,12 +20,12 @@ pub struct Arrival {
     pub time: u64,
 }
 
-// Of a duplicate: the record of the packet's first arrival.
+// The figures of a duplicate: the record of the packet's first arrival.
 pub struct DuplicateFigures {
     pub first: u32,
 }
 
-// Of an in-order packet: its position among the first arrivals, and its jump size.
+// The figures of an in-order packet: its position among the first arrivals, and its jump size.
 pub struct InOrderFigures {
     pub position: u32,
     pub jump: u32,
@@ -39,7 +38,7 @@ pub enum LateTime {
     Before(u64),
 }
 
-// Of a reordered packet: its position, extent, late time, byte offset and largest n.
+// The figures of a reordered packet: its position, extent, late time, byte offset and largest n.
 pub struct ReorderedFigures {
     pub position: u32,
     pub extent: u32,
@@ -74,13 +73,13 @@ pub struct Counts {
     pub runs: Runs,
 }
 
-// The gap of a discontinuity, in positions, where it has one.
+// The gap of a discontinuity, in positions, if it has one.
 pub enum Gap {
     None,
     Positions(u32),
 }
 
-// A ratio of two counts, undefined where the lower one is 0.
+// A ratio of two counts, undefined if the denominator is 0.
 pub enum Ratio {
     Undefined,
     Known(f64),
@@ -93,7 +92,7 @@ pub struct RatioFigures {
     pub degree3: f64,
 }
 
-// The ratio figures of a sample, undefined where it has no first arrival.
+// The ratio figures of a sample, undefined if it has no first arrival.
 pub enum Ratios {
     Undefined,
     Known(RatioFigures),

@@ -1,9 +1,9 @@
-// The numbers of an answer's cases, wherever an answer is told as a number, and the amount of a late time, which the case's
-// number gives its direction; specs/Numbering.antt has each case's number.
+// The number of each case of an answer (specs/Numbering.antt), for C and for lists of flags, and the amount of a late time. The
+// case's number says the direction of the late time.
 
 use crate::LateTime;
 ghost use mathlib.Core.Path.{_≡_};
-ghost use Rattle.rfc4737.specs.Numbering.{directed, amountOf};
+ghost use Rattle.rfc4737.specs.Numbering.{byDirection, amountOf};
 
 pub const IN_ORDER: u32 = 0;
 
@@ -13,9 +13,9 @@ pub const REORDERED_BEFORE: u32 = 2;
 
 pub const DUPLICATE: u32 = 3;
 
-// Of two numbers the one for a late time's direction.
-pub fn directed(after: u32, before: u32, late: LateTime) -> u32
-    ensures { λ r. ⌜ r ≡ directed after before late ⌝ }
+// `after` or `before`, by the direction of the late time.
+pub fn by_direction(after: u32, before: u32, late: LateTime) -> u32
+    ensures { λ r. ⌜ r ≡ byDirection after before late ⌝ }
 {
     match late {
         LateTime::After(_) => after,

@@ -1,4 +1,4 @@
-// The numbers given back instead of an answer; 0 is no refusal. specs/Refusals.antt has each case's sentence.
+// The numbers returned instead of an answer; 0 is no refusal. specs/Refusals.antt says each case.
 
 pub const NONE: u32 = 0;
 

@@ -1,5 +1,5 @@
-// What is asked of arrival times: whether one goes back too far, what the next is compared with, and how far apart two
-// are. Files, lists and the receiver all ask here.
+// The rules about arrival times: whether one goes back too far, what the next is compared with, and how far apart two are. Files,
+// lists and the receiver share them.
 
 use crate::LateTime;
 ghost use mathlib.Core.Path.{_≡_};
@@ -8,7 +8,7 @@ ghost use Rattle.rfc4737.specs.Times.{tooEarly, nextReference, elapsed};
 // How far below the greatest earlier time an arrival may be stamped, in microseconds.
 pub const BACK_MOST: u64 = 1000;
 
-// Whether a time is too far below the reference.
+// Whether `time` is over `BACK_MOST` below the reference, which is the greatest earlier time.
 pub fn too_early(reference: u64, time: u64) -> bool
     ensures { λ r. ⌜ r ≡ tooEarly reference time ⌝ }
 {
@@ -18,7 +18,7 @@ pub fn too_early(reference: u64, time: u64) -> bool
     BACK_MOST < reference - time
 }
 
-// The reference for the arrival after one of this time.
+// The reference for the next arrival: the greater of `reference` and `time`.
 pub fn next_reference(reference: u64, time: u64) -> u64
     ensures { λ r. ⌜ r ≡ nextReference reference time ⌝ }
 {
@@ -28,7 +28,7 @@ pub fn next_reference(reference: u64, time: u64) -> u64
     reference
 }
 
-// The time from one arrival to another, with its direction.
+// The time from an arrival at `past` to one at `own`, with its direction.
 pub fn elapsed(past: u64, own: u64) -> LateTime
     ensures { λ r. ⌜ r ≡ elapsed past own ⌝ }
 {

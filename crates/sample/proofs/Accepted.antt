@@ -1,8 +1,8 @@
--- An accepted file, for the crates above. Its layout has the counts of the file, so a place by the layout is the place by the counts, and what
--- stands there is what the sample has at that place of its list (`size-found`, `arrival-found`). What the sample satisfies follows from `exact`: it
--- is fit, so it keeps its limits, and the file is its file, so its length is the end of the last section and at most that of the longest sample.
--- Here s is the sample, by e; y is the layout, by f; o says that the file is octets; i and j are places in the lists, z what is read past their
--- end. Assumes nothing.
+-- An accepted file, for the crates above. Its layout has the counts of the file, so a place by the layout is the place by the counts, and
+-- what stands there is what the sample has at that place of its list (`size-found`, `arrival-found`). What the sample satisfies follows
+-- from `exact`: it is fit, so it keeps its limits, and the file is its file, so its length is the end of the last section and at most
+-- that of the longest sample. Here s is the sample, by e; y is the layout, by f; o says that the file is octets; i and j are places in
+-- the lists, z what is read past their end. Assumes nothing.
 use Prim.Native.Nat.{ℕ, _+_, _*_, _^_, _≤_, _<_}
 use native.Mathlib.Omega.{arith}
 use mathlib.Core.Path.{_≡_, sym, ap, _∙_, subst}

@@ -1,9 +1,9 @@
--- What the reader and the writer answer, by cases. The reader: the file is refused, a list is too short (8), or the lists are filled; the first
--- refusal that is due settles what `decodeInto` gives, and with it the answer and the lists. Where nothing is refused the counts found are
--- those of the file, so what was read by the layout is what its sections hold (`read-filled`). The writer: the label or a list is refused, the
--- lent octets are too few, or three sections were written one after the other, which is one write of the file from the start (`write-filled`).
--- Here y is what the check found, e that it is the file's layout, z that it has no refusal; n is a refusal; sizes′, numbers′, times′ and out′
--- are what is lent after the call. Assumes nothing.
+-- What the reader and the writer answer, by cases. The reader: the file is refused, a list is too short (8), or the lists are filled. The
+-- first refusal that applies settles what `decodeInto` gives, and with it the answer and the lists. Where nothing is refused the counts
+-- found are those of the file, so what was read by the layout is what its sections hold (`read-filled`). The writer: the label or a list
+-- is refused, the lent octets are too few, or three sections were written one after the other, which is one write of the file from the
+-- start (`write-filled`). Here y is what the check found, e that it is the file's layout, z that it has no refusal; n is a refusal;
+-- sizes′, numbers′, times′ and out′ are what is lent after the call. Assumes nothing.
 use Prim.Native.Nat.{ℕ, _+_, _*_, _≤_, _<_, zero-le}
 use native.Mathlib.Omega.{arith}
 use mathlib.Core.Bool.{true, false, _||_}
@@ -33,7 +33,7 @@ use Rattle.sample.proofs.Output.{output-refused, output-short, output-w
 -- ---- what was found, y, is the layout of the file
 
 module _ (file : List ℕ) (y : Layout) (e : y ≡ layoutOf (decode file)) where
-  -- its refusal is the first that is due
+  -- its refusal is the first that applies
   pub found-refusal : fileRefusal file ≡ y .refusal
   unfolding decode
   found-refusal = sym (ap (λ (x : Layout). x .refusal) e ∙ decided-refusal (fileRefusal file) (sampleIn file))

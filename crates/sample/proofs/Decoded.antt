@@ -1,8 +1,8 @@
--- Decoding, by its stages. Where the first refusal is 0 every stage's is (`each-none`), and conversely. So nothing of a section is refused
--- exactly if its count is there and passes and its items are all there (`stage-none`, `none-stage`), and nothing of a file exactly if all that
--- `WholeFile` lists holds (`refused-none`, `none-refused`). The answer follows from the first refusal alone (`decode-refused`,
--- `decode-accepted`, `accepted-decode`), and the counts of a whole file are the lengths of what its sections hold (`layout-accepted`). Last, a
--- refusal by the stage that refuses: where those before it are 0 it is the first.
+-- Decoding, by its stages. Where the first refusal is 0 every stage's is (`each-none`), and conversely. So nothing of a section is
+-- refused exactly if its count is there and passes and its items are all there (`stage-none`, `none-stage`), and nothing of a file
+-- exactly if all that `WholeFile` lists holds (`refused-none`, `none-refused`). The answer follows from the first refusal alone
+-- (`decode-refused`, `decode-accepted`, `accepted-decode`), and the counts of a whole file are the lengths of what its sections hold
+-- (`layout-accepted`). Last, a refusal by the stage that refuses: where those before it are 0 it is the first.
 -- Here r and n are refusals, s and t samples; in the last part p, o, q and r say that the label's section, its octets, the sent packets'
 -- section and the arrivals' section are not refused. Assumes nothing.
 use Prim.Native.Nat.{ℕ, zero, suc, _≤_, _<_}
@@ -15,7 +15,7 @@ use lib.Dec.{ltb}
 use lib.ListN.{length}
 use Rattle.octets.specs.BigEndian.{beValue}
 use Rattle.octets.proofs.Memory.{part-length}
-use Rattle.rfc4737.specs.Refusals.{inCase, endsEarly, octetsFollow, longLabel, octetOutside, sentOutside, manyArrivals}
+use Rattle.rfc4737.specs.Refusals.{refusalIf, endsEarly, octetsFollow, longLabel, octetOutside, sentOutside, manyArrivals}
 use Rattle.rfc4737.specs.Judge.{sentMost, arrivalsMost, judgeSent, judgeArrivals, judge}
 use Rattle.sample.specs.Format.{Sample, labelMost, octetWidth, sizeWidth, arrivalWidth, itemsAt, endOf}
 use Rattle.sample.specs.Judge.{judgeLabel, someUnshown, judgeOctets}
@@ -23,8 +23,8 @@ use Rattle.sample.specs.Decode.{countAt, labelCount, sentAt, sentCount, 
 use Rattle.rfc4737.proofs.Due.{each-none, first-due, first-one, case-none, limit-none, not-outside}
 use Rattle.sample.proofs.Items.{items-length}
 
--- a refusal for a number below another is not due: it is not below
-below-none : (m n r : ℕ) → 0 < r → inCase (ltb m n) r ≡ 0 → n ≤ m
+-- a refusal for a number below another does not apply: it is not below
+below-none : (m n r : ℕ) → 0 < r → refusalIf (ltb m n) r ≡ 0 → n ≤ m
 below-none m n r h e = ltb-false m n (case-none (ltb m n) r h e)
 
 -- ---- a section
@@ -32,7 +32,7 @@ below-none m n r h e = ltb-false m n (case-none (ltb m n) r h e)
 -- what its stage judges
 abbrev sectionStages : ℕ → ℕ → (ℕ → ℕ) → List ℕ → List ℕ
 sectionStages at width judged file =
-    inCase (ltb (length file) (itemsAt at)) endsEarly ∷ judged (countAt at file) ∷ inCase (ltb (length file) (endOf at width (countAt at file))) endsEarly ∷ []
+    refusalIf (ltb (length file) (itemsAt at)) endsEarly ∷ judged (countAt at file) ∷ refusalIf (ltb (length file) (endOf at width (countAt at file))) endsEarly ∷ []
 
 -- nothing of it is refused: its count is there, is not refused, and its items are all there
 pub stage-none : (at width : ℕ) (judged : ℕ → ℕ) (file : List ℕ) → sectionStage at width judged file ≡ 0
@@ -66,7 +66,7 @@ arrivedStage file = sectionStage (arrivedAt file) arrivalWidth judgeArrivals fil
 
 -- of the file's end
 abbrev pub endStage : List ℕ → ℕ
-endStage file = inCase (ltb (fileEnd file) (length file)) octetsFollow
+endStage file = refusalIf (ltb (fileEnd file) (length file)) octetsFollow
 
 -- of the arrivals in turn
 abbrev pub arrivalsStage : List ℕ → ℕ
@@ -118,18 +118,18 @@ none-refused file w =
 
 -- ---- the answer
 
--- a refusal of an answer is the one that was due
+-- a refusal of an answer is the one that applied
 pub decided-refusal : (r : ℕ) (s : Sample) → decodedRefusal (decided r s) ≡ r
 decided-refusal zero s = refl
 decided-refusal (suc r) s = refl
 
--- a refusal that is due
+-- a refusal that applies
 pub decode-refused : (file : List ℕ) (r : ℕ) → 0 < r → fileRefusal file ≡ r → decode file ≡ refused r
 unfolding decode
 decode-refused file zero h e = absurd (omega arith)
 decode-refused file (suc r) h e = rw e
 
--- no refusal is due
+-- no refusal applies
 pub decode-accepted : (file : List ℕ) → fileRefusal file ≡ 0 → decode file ≡ accepted (sampleIn file)
 unfolding decode
 decode-accepted file e = rw e

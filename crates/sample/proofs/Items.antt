@@ -1,10 +1,10 @@
--- Items of `width` octets each, one after the other. By induction on their number item i stands at width * i (`items-getD`, `items-stand`), and
--- there are width times as many octets as items (`octets-many`). Where each item, written, reads back as itself so do all of them
--- (`read-written`), and where each item's octets, read, are written back as themselves so are all octets (`written-read`): both by splitting
--- off the first item. Then an arrival, two numbers one after the other, and a size, one number, have this; and their values, as the loops find
--- them in the part that is taken for each.
--- Here `item` reads an item from its octets and `octets` writes it; xs are items, os octets, n or count a number of items, at and start places,
--- i an item's place, z what is read past the end, a an arrival. Assumes nothing.
+-- Items of `width` octets each, one after the other. By induction on their number item i stands at width * i (`items-getD`,
+-- `items-stand`), and there are width times as many octets as items (`octets-many`). Where each item, written, reads back as itself so do
+-- all of them (`read-written`), and where each item's octets, read, are written back as themselves so are all octets (`written-read`):
+-- both by splitting off the first item. Then an arrival, two numbers one after the other, and a size, one number, have this. Last come
+-- their values, as the loops find them in the part that is taken for each.
+-- Here `item` reads an item from its octets and `octets` writes it; xs are items, os octets, n or count a number of items, at and start
+-- places, i an item's place, z what is read past the end, a an arrival. Assumes nothing.
 use Prim.Native.Nat.{ℕ, zero, suc, _+_, _*_, _^_, _-_, _≤_, _<_}
 use native.Mathlib.Nat.{mul-zero, mul-suc}
 use native.Mathlib.Omega.{arith}
@@ -23,11 +23,11 @@ use Rattle.sample.specs.Format.{sizeWidth, numberWidth, timeWidth, arriv
 use Rattle.sample.specs.Decode.{arrivalIn}
 use Rattle.sample.specs.Places.{noArrival}
 
--- the value of so many octets of a file
+-- the value of `width` octets of a file fits them
 pub part-fits : (width at : ℕ) (file : List ℕ) → Octets file → beValue (part at width file) < 256 ^ width
 part-fits width at file o = value-fits width (part at width file) (below-part 256 at width file o) (part-most at width file)
 
--- the value of so many octets of an item that is taken from a file
+-- so does the value of n octets of an item that is taken from a file
 pub taken-fits : (start width from n : ℕ) (file : List ℕ) {v : ℕ} → Octets file → v ≡ beValue (part from n (taken start width file)) → v < 256 ^ n
 taken-fits start width from n file o e = rw e (part-fits n from (taken start width file) (below-part 256 start (start + width - start) file o))
 
@@ -36,7 +36,7 @@ taken-stands : (start width from n at : ℕ) (file : List ℕ) {v : ℕ} → fro
     → v ≡ beValue (part at n file)
 taken-stands start width from n at file h p e = e ∙ ap beValue (taken-part start width from n file h ∙ ap (λ (k : ℕ). part k n file) p)
 
--- so many octets are written back as themselves
+-- `width` octets are written back as themselves
 pub value-back : (width : ℕ) (os : List ℕ) → Octets os → length os ≡ width → beOctets width (beValue os) ≡ os
 value-back width os o h = subst (λ (n : ℕ). beOctets n (beValue os) ≡ os) h (octets-value os o)
 
@@ -142,7 +142,7 @@ arrival-taken start file e =
     e ∙ ap (λ (n : ℕ). arrivalIn (part start n file)) w
 
 module _ (value : Arrival → ℕ) (count at : ℕ) (file : List ℕ) where
-  -- a value of each of so many arrivals, which stand from a place on
+  -- a value of each of the `count` arrivals from offset `at` on
   abbrev pub valuesFrom : List ℕ
   valuesFrom = map value (itemsIn arrivalWidth arrivalIn count (drop at file))
 

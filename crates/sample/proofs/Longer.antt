@@ -1,10 +1,10 @@
--- Files beside the longest sample. A longer file is refused by the first test that fails: of the label's count (3), of its octets (13), of K
--- (4), of the count of arrivals (5); if none fails, all sections end by the longest sample's length, and octets follow (2). No count or section
--- can be missing, since what passes the tests asks for no more octets than there are. All that is tested stands in the first 57,415 octets, so
--- these are refused alike (`longer-refused`, by the same tests in turn). A sample filled up to the limits is fit, and its file is as long as
--- the longest (`filled-fit`, `filled-length`).
--- Here f is a file longer than the longest sample, by h; a, o and b say that its label's count, its octets and K pass; k, l, n, s and r say of
--- its beginning that it is longer too and has the same count of the label, label, K and count of arrivals. Assumes nothing.
+-- Files beside the longest sample. A longer file is refused by the first test that fails: of the label's count (3), of its octets (13),
+-- of K (4), of the count of arrivals (5). If none fails, all sections end by the longest sample's length, and octets follow (2). No count
+-- or section can be missing, since what passes the tests asks for no more octets than there are. All that is tested stands in the first
+-- 57,415 octets, so these are refused alike (`longer-refused`, by the same tests in turn). A sample filled up to the limits is fit, and
+-- its file is as long as the longest (`filled-fit`, `filled-length`).
+-- Here f is a file longer than the longest sample, by h; a, o and b say that its label's count, its octets and K pass; k, l, n, s and r
+-- say of its beginning that it is longer too and has the same count of the label, label, K and count of arrivals. Assumes nothing.
 use Prim.Native.Nat.{ℕ, zero, suc, _+_, _-_, _^_, _≤_, _<_}
 use native.Mathlib.Omega.{arith}
 use mathlib.Core.Bool.{Bool, true, false}
@@ -21,7 +21,7 @@ use Rattle.octets.proofs.Below.{below-nil, below-cons}
 use Rattle.octets.proofs.Memory.{drop-take}
 use Rattle.rfc4737.specs.declared.Arrival.{Arrival}
 use Rattle.rfc4737.specs.Times.{tooEarly, nextReference}
-use Rattle.rfc4737.specs.Refusals.{outside, inCase, endsEarly, octetsFollow, longLabel, octetOutside, sentOutside, manyArrivals}
+use Rattle.rfc4737.specs.Refusals.{outside, refusalIf, endsEarly, octetsFollow, longLabel, octetOutside, sentOutside, manyArrivals}
 use Rattle.rfc4737.specs.Judge.{sentMost, arrivalsMost, timesOf, judgeSent, judgeArrivals, judgeOne, judge}
 use Rattle.sample.specs.Format.{fileOf, labelMost, shownLeast, longest, countWidth, octetWidth, sizeWidth, arrivalWidth, itemsAt, endOf, lastEnd}
 use Rattle.sample.specs.Judge.{judgeLabel, someUnshown, FitSample}
@@ -37,20 +37,20 @@ use Rattle.sample.proofs.Accepted.{accepted-most}
 stage-judged : (at width : ℕ) (judged : ℕ → ℕ) (file : List ℕ) (r : ℕ) → itemsAt at ≤ length file → 0 < r → judged (countAt at file) ≡ r → sectionStage at width judged file ≡ r
 unfolding sectionStage
 stage-judged at width judged file r h p e =
-    simp (le-ltb (length file) (itemsAt at) h, e) (first-due r (inCase (ltb (length file) (endOf at width (countAt at file))) endsEarly ∷ []) p)
+    simp (le-ltb (length file) (itemsAt at) h, e) (first-due r (refusalIf (ltb (length file) (endOf at width (countAt at file))) endsEarly ∷ []) p)
 
 -- a count that is not refused, of a section that the file has
 stage-passed : (at width least most r : ℕ) (file : List ℕ) → outside least most (countAt at file) ≡ false → endOf at width (countAt at file) ≤ length file
-    → sectionStage at width (λ (n : ℕ). inCase (outside least most n) r) file ≡ 0
+    → sectionStage at width (λ (n : ℕ). refusalIf (outside least most n) r) file ≡ 0
 stage-passed at width least most r file e h =
-    none-stage at width (λ (n : ℕ). inCase (outside least most n) r) file (ap (λ (t : Bool). inCase t r) e) h
+    none-stage at width (λ (n : ℕ). refusalIf (outside least most n) r) file (ap (λ (t : Bool). refusalIf t r) e) h
 
 -- ---- a file longer than the longest sample
 
 module _ (f : List ℕ) (h : longest < length f) where
   -- a long label
   three : outside 0 labelMost (labelCount f) ≡ true → fileRefusal f ≡ longLabel
-  three t = refused-label f longLabel (omega arith) (stage-judged 0 octetWidth judgeLabel f longLabel (omega arith) (omega arith) (ap (λ (b : Bool). inCase b longLabel) t))
+  three t = refused-label f longLabel (omega arith) (stage-judged 0 octetWidth judgeLabel f longLabel (omega arith) (omega arith) (ap (λ (b : Bool). refusalIf b longLabel) t))
 
   module _ (a : outside 0 labelMost (labelCount f) ≡ false) where
     -- the label is there
@@ -69,7 +69,7 @@ module _ (f : List ℕ) (h : longest < length f) where
       four t =
           let p = label-passed in
           refused-sent f (p .1) o sentOutside (omega arith)
-          (stage-judged (sentAt f) sizeWidth judgeSent f sentOutside (omega arith) (omega arith) (ap (λ (b : Bool). inCase b sentOutside) t))
+          (stage-judged (sentAt f) sizeWidth judgeSent f sentOutside (omega arith) (omega arith) (ap (λ (b : Bool). refusalIf b sentOutside) t))
 
       module _ (b : outside 1 sentMost (sentCount f) ≡ false) where
         -- the sizes are there
@@ -85,7 +85,7 @@ module _ (f : List ℕ) (h : longest < length f) where
             let p = label-passed in
             let q = sent-passed in
             refused-arrived f (p .1) o (q .1) manyArrivals (omega arith)
-            (stage-judged (arrivedAt f) arrivalWidth judgeArrivals f manyArrivals (omega arith) (omega arith) (ap (λ (c : Bool). inCase c manyArrivals) t))
+            (stage-judged (arrivedAt f) arrivalWidth judgeArrivals f manyArrivals (omega arith) (omega arith) (ap (λ (c : Bool). refusalIf c manyArrivals) t))
 
         -- octets that follow
         two : outside 0 arrivalsMost (arrivalCount f) ≡ false → fileRefusal f ≡ octetsFollow
@@ -94,7 +94,7 @@ module _ (f : List ℕ) (h : longest < length f) where
             let q = sent-passed in
             let r = between 0 arrivalsMost (arrivalCount f) t in
             refused-end f (p .1) o (q .1) (stage-passed (arrivedAt f) arrivalWidth 0 arrivalsMost manyArrivals f t (omega arith)) octetsFollow (omega arith)
-            (ap (λ (c : Bool). inCase c octetsFollow) (lt-ltb (fileEnd f) (length f) (omega arith)))
+            (ap (λ (c : Bool). refusalIf c octetsFollow) (lt-ltb (fileEnd f) (length f) (omega arith)))
 
 -- ---- its first octets
 
@@ -190,7 +190,7 @@ again-below : (m n : ℕ) → 0 < m → Below m (timesOf (replicate n again))
 again-below m zero h = below-nil m h
 again-below m (suc n) h = below-cons m 0 (timesOf (replicate n again)) h (again-below m n h)
 
--- so many times is never refused
+-- n copies of it are never refused
 again-judged : (k n : ℕ) → 1 ≤ k → judge k 0 (replicate n again) ≡ 0
 unfolding judge judgeOne tooEarly nextReference
 again-judged k zero h = refl

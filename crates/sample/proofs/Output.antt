@@ -1,7 +1,7 @@
--- What a call that writes answers, case by case: `own` is its own refusal, `os` the octets that it has to write, `out` the lent ones before it
--- and `out′` after it. Each case settles the first refusal, `own` before 8, and with it the octets, all or none. An answer
--- without a refusal says that there was none of its own and that the octets stand at the start (`own-none`, `output-read`). r is a refusal, n
--- the length that is answered, w that it is the call's answer. Assumes nothing.
+-- What a call that writes answers, case by case: `own` is its own refusal, `os` the octets that it has to write, `out` the lent ones
+-- before it and `out′` after it. Each case settles the first refusal, `own` before 8, and with it the octets, all or none. An answer
+-- without a refusal says that there was none of its own and that the octets stand at the start (`own-none`, `output-read`). r is a
+-- refusal, n the length that is answered, w that it is the call's answer. Assumes nothing.
 use Prim.Native.Nat.{ℕ, zero, suc, _≤_, _<_}
 use native.Mathlib.Omega.{arith}
 use mathlib.Core.Path.{_≡_, refl, sym, ap, ap₂, _∙_}
@@ -11,7 +11,7 @@ use lib.Dec.{ltb}
 use lib.ListN.{length, take}
 use Rattle.octets.specs.Memory.{over}
 use Rattle.octets.proofs.Memory.{over-read}
-use Rattle.rfc4737.specs.Refusals.{inCase, firstOf, outputShort}
+use Rattle.rfc4737.specs.Refusals.{refusalIf, firstRefusal, outputShort}
 use Rattle.rfc4737.proofs.Due.{first-none, first-one, case-none}
 use Rattle.sample.specs.Output.{ifNone, Output}
 use Rattle.sample.specs.declared.WriteAnswer.{WriteAnswer}
@@ -19,14 +19,14 @@ use Rattle.sample.specs.declared.WriteAnswer.{WriteAnswer}
 -- ---- the refusal
 
 module _ (own : ℕ) (os : List ℕ) (room : ℕ) where
-  -- where there is room for so many octets
+  -- the refusal, with `room` octets lent
   abbrev pub refusalInto : ℕ
-  refusalInto = firstOf (own ∷ inCase (ltb room (length os)) outputShort ∷ [])
+  refusalInto = firstRefusal (own ∷ refusalIf (ltb room (length os)) outputShort ∷ [])
 
   -- its own
   pub refusal-own : (r : ℕ) → r ≡ own → (r ≡ 0 → ⊥) → r ≡ refusalInto
   refusal-own zero e z = absurd (z refl)
-  refusal-own (suc r) e z = ap (λ (x : ℕ). firstOf (x ∷ inCase (ltb room (length os)) outputShort ∷ [])) e
+  refusal-own (suc r) e z = ap (λ (x : ℕ). firstRefusal (x ∷ refusalIf (ltb room (length os)) outputShort ∷ [])) e
 
   -- there is no room
   pub refusal-short : own ≡ 0 → room < length os → outputShort ≡ refusalInto
@@ -39,7 +39,7 @@ module _ (own : ℕ) (os : List ℕ) (room : ℕ) where
   -- where there is none, it has none of its own, and the octets fit
   pub none-refused : refusalInto ≡ 0 → (own ≡ 0) × (length os ≤ room)
   none-refused e =
-      let p = first-none own (inCase (ltb room (length os)) outputShort ∷ []) e in
+      let p = first-none own (refusalIf (ltb room (length os)) outputShort ∷ []) e in
       (p .0, ltb-false room (length os) (case-none (ltb room (length os)) outputShort (omega arith) (sym (first-one _) ∙ p .1)))
 
 -- ---- the answer

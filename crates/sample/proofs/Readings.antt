@@ -1,7 +1,7 @@
 -- What an answer of the readings says of the tests behind it. A number that is read, by cases on the test: `Ended` says that it holds, a
--- value that it fails and which value it is (`read-ended`, `read-valued`). A section: by the tests in their order each of its four answers
--- is that of `sectionReading` (`section-ended` to `section-whole`); and back, by cases on the stage's refusal, a whole section has none, and
--- a refused one the stage's (`whole-section`, `refusal-section`, `refused-section`).
+-- value that it fails and which value it is (`read-ended`, `read-valued`). A section: by the tests in their order each of its four
+-- answers is that of `sectionReading` (`section-ended` to `section-whole`). Back, by cases on the stage's refusal, a whole section has
+-- none, and a refused one the stage's (`whole-section`, `refusal-section`, `refused-section`).
 -- Here t is a test, n what is read where it fails, v the value of the answer, r a refusal. Assumes nothing.
 use Prim.Native.Nat.{ℕ, zero, suc, _*_, _^_, _≤_, _<_}
 use native.Mathlib.Nat.{mul-le-mul}
@@ -12,10 +12,10 @@ use mathlib.Core.List.{List, [], _∷_}
 use lib.Dec.{ltb}
 use lib.ListN.{length}
 use Rattle.octets.specs.Below.{Octets}
-use Rattle.rfc4737.specs.Refusals.{outside, inCase, firstOf, endsEarly}
+use Rattle.rfc4737.specs.Refusals.{outside, refusalIf, firstRefusal, endsEarly}
 use Rattle.sample.specs.Format.{countWidth, arrivalWidth, itemsAt, endOf}
 use Rattle.sample.specs.Decode.{countAt, sectionStage}
-use Rattle.sample.specs.Private.{readingTo, settled, sectionReading, refusalOfSection}
+use Rattle.sample.specs.Private.{readingTo, sectionOutcome, sectionReading, refusalOfSection}
 use Rattle.sample.specs.declared.sections.Reading.the-variants.{Value, Ended}
 use Rattle.sample.specs.declared.sections.Section.the-variants.{Whole, Refused}
 use Rattle.sample.proofs.Items.{part-fits}
@@ -68,7 +68,10 @@ module _ (at width least most refusal : ℕ) (file : List ℕ) where
     pub section-judged : 0 < refusal → outside least most (countAt at file) ≡ true → Refused refusal ≡ sectionReading at width least most refusal file
     unfolding sectionReading sectionStage
     section-judged p f = simp (e, f) (due refusal p) where
-      due : (r : ℕ) → 0 < r → Refused r ≡ settled (firstOf (r ∷ inCase (ltb (length file) (endOf at width (countAt at file))) endsEarly ∷ [])) (Whole (countAt at file) (endOf at width (countAt at file)))
+      due : (r : ℕ) → 0 < r
+          → Refused r
+          ≡ sectionOutcome (firstRefusal (r ∷ refusalIf (ltb (length file) (endOf at width (countAt at file))) endsEarly ∷ []))
+          (Whole (countAt at file) (endOf at width (countAt at file)))
       due zero p = absurd (omega arith)
       due (suc r) p = refl
 
@@ -86,28 +89,28 @@ module _ (at width least most refusal : ℕ) (file : List ℕ) where
 
   -- it is whole: nothing of it is refused, and it is that count and that end
   pub whole-section : {n e : ℕ} → sectionReading at width least most refusal file ≡ Whole n e
-      → (sectionStage at width (λ (k : ℕ). inCase (outside least most k) refusal) file ≡ 0) × (n ≡ countAt at file) × (e ≡ endOf at width (countAt at file))
+      → (sectionStage at width (λ (k : ℕ). refusalIf (outside least most k) refusal) file ≡ 0) × (n ≡ countAt at file) × (e ≡ endOf at width (countAt at file))
   unfolding sectionReading
-  whole-section {n} {e} p = go (sectionStage at width (λ (k : ℕ). inCase (outside least most k) refusal) file) refl p where
-    go : (r : ℕ) → sectionStage at width (λ (k : ℕ). inCase (outside least most k) refusal) file ≡ r
-        → settled r (Whole (countAt at file) (endOf at width (countAt at file))) ≡ Whole n e
+  whole-section {n} {e} p = go (sectionStage at width (λ (k : ℕ). refusalIf (outside least most k) refusal) file) refl p where
+    go : (r : ℕ) → sectionStage at width (λ (k : ℕ). refusalIf (outside least most k) refusal) file ≡ r
+        → sectionOutcome r (Whole (countAt at file) (endOf at width (countAt at file))) ≡ Whole n e
         → (r ≡ 0) × (n ≡ countAt at file) × (e ≡ endOf at width (countAt at file))
     go zero q p = (refl, cc, cc)
     go (suc r) q p = absurd (let z : _≡_ {A = ℕ} 0 1 = cc in omega arith)
 
-  -- its refusal is the one that is due
-  pub refusal-section : refusalOfSection (sectionReading at width least most refusal file) ≡ sectionStage at width (λ (k : ℕ). inCase (outside least most k) refusal) file
+  -- its refusal is the one that applies
+  pub refusal-section : refusalOfSection (sectionReading at width least most refusal file) ≡ sectionStage at width (λ (k : ℕ). refusalIf (outside least most k) refusal) file
   unfolding sectionReading
-  refusal-section = go (sectionStage at width (λ (k : ℕ). inCase (outside least most k) refusal) file) where
-    go : (r : ℕ) → refusalOfSection (settled r (Whole (countAt at file) (endOf at width (countAt at file)))) ≡ r
+  refusal-section = go (sectionStage at width (λ (k : ℕ). refusalIf (outside least most k) refusal) file) where
+    go : (r : ℕ) → refusalOfSection (sectionOutcome r (Whole (countAt at file) (endOf at width (countAt at file)))) ≡ r
     go zero = refl
     go (suc r) = refl
 
-  -- it is refused: a refusal is due
+  -- it is refused: a refusal applies
   pub refused-section : {r : ℕ} → sectionReading at width least most refusal file ≡ Refused r
-      → 0 < sectionStage at width (λ (k : ℕ). inCase (outside least most k) refusal) file
+      → 0 < sectionStage at width (λ (k : ℕ). refusalIf (outside least most k) refusal) file
   unfolding sectionReading
-  refused-section {r} p = go (sectionStage at width (λ (k : ℕ). inCase (outside least most k) refusal) file) p where
-    go : (n : ℕ) → settled n (Whole (countAt at file) (endOf at width (countAt at file))) ≡ Refused r → 0 < n
+  refused-section {r} p = go (sectionStage at width (λ (k : ℕ). refusalIf (outside least most k) refusal) file) p where
+    go : (n : ℕ) → sectionOutcome n (Whole (countAt at file) (endOf at width (countAt at file))) ≡ Refused r → 0 < n
     go zero p = absurd (let z : _≡_ {A = ℕ} 0 1 = cc in omega arith)
     go (suc n) p = omega arith

@@ -1,6 +1,6 @@
--- A loop that looks for an octet that cannot be shown. What is left of the octets l from i on is the one at i and the rest: if that one cannot
--- be shown it settles the answer, if it can the rest decides, and at the end nothing is left. Spaces can all be shown, by induction on their
--- number. Assumes nothing.
+-- A loop that looks for an octet that cannot be shown. What is left of the octets l from i on is the one at i and the rest: if that one
+-- cannot be shown it settles the answer, if it can the rest decides, and at the end nothing is left. Spaces can all be shown, by
+-- induction on their number. Assumes nothing.
 use Prim.Native.Nat.{ℕ, zero, suc, _+_, _≤_, _<_}
 use native.Mathlib.Numerals.{add-one}
 use mathlib.Core.Bool.{Bool, true, false, _||_}

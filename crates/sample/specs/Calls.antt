@@ -1,4 +1,4 @@
--- What the calls answer, and what lent memory holds after them. Assumes nothing.
+-- What the calls return, and what lent memory (the caller's buffers) holds after them. Assumes nothing.
 use Prim.Native.Nat.{ℕ}
 use mathlib.Core.Bool.{Bool, cond, _||_}
 use mathlib.Core.List.{List}
@@ -17,27 +17,27 @@ use Rattle.sample.specs.declared.WriteAnswer.{WriteAnswer}
 
 -- ---- the label
 
--- where the part of the file begins that is shown as the label: after the count, or with a refusal at the file's start
+-- the offset of the part of the file that is shown as the label: after the count, or with a refusal 0
 abbrev pub labelPlace : Decoded → ℕ
 labelPlace (refused r) = 0
 labelPlace (accepted s) = itemsAt 0
 
 -- ---- the reader
 
--- whether one of three lists of these lengths is too short for what was found
-unfoldable pub listsShort : (found : Layout) (sizes numbers times : ℕ) → Bool
-listsShort found sizes numbers times = ltb sizes (found .sent) || (ltb numbers (found .arrivals) || ltb times (found .arrivals))
+-- whether one of three lists, of these lengths, is too short for a file of this layout
+unfoldable pub listsShort : (layout : Layout) (sizes numbers times : ℕ) → Bool
+listsShort layout sizes numbers times = ltb sizes (layout .sent) || (ltb numbers (layout .arrivals) || ltb times (layout .arrivals))
 
--- a decoded file where what is lent may be too short for its sample: 8 comes after the file's own refusals
+-- a decoded file, refused with 8 if the lent lists are too short for its sample; the file's own refusals come first
 unfoldable pub unlessShort : (short : Bool) → Decoded → Decoded
 unlessShort short (refused r) = refused r
 unlessShort short (accepted s) = cond short (refused outputShort) (accepted s)
 
--- what a file decodes to where lists of these lengths are filled
+-- what a file decodes to if lists of these lengths are to be filled
 unfoldable pub decodeInto : (sizes numbers times : ℕ) (file : List ℕ) → Decoded
 decodeInto sizes numbers times file = unlessShort (listsShort (layoutOf (decode file)) sizes numbers times) (decode file)
 
--- what is answered of a decoded file, and three lists after it: the sample's values from their start, all else as it was
+-- the answer for a decoded file, and three lists after the call: the sample's values from their start, all else as it was
 pub record ListsFilled (d : Decoded) (sizes numbers times : List ℕ) (answer : Layout) (sizes′ numbers′ times′ : List ℕ) : Type 0 where
   pub layout : answer ≡ layoutOf d
   pub filledSizes : sizes′ ≡ over (sampleOf d .sizes) sizes

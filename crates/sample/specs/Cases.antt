@@ -10,7 +10,7 @@ use Rattle.sample.specs.Calls.{sampleFrom}
 abbrev pub twoSent : List ℕ → List ℕ → List ℕ
 twoSent numbers times = fileOf (sampleFrom [] (100 ∷ 100 ∷ []) numbers times)
 
--- files, each with the refusal that it is due
+-- files, each with its refusal
 abbrev pub refusalCases : List (List ℕ × ℕ)
 refusalCases =
     -- no count, half of one, a label that is not there
@@ -37,6 +37,6 @@ refusalCases =
     ∷ (twoSent (1 ∷ 3 ∷ []) (2000 ∷ 999 ∷ []), 6) ∷ (twoSent (1 ∷ 3 ∷ []) (2000 ∷ 999 ∷ []) ++ (0 ∷ []), 2)
     ∷ []
 
--- each is refused as it is due
+-- each file is refused as the table says
 pub record RefusalsInOrder : Type 0 where
   pub due : map (λ (c : List ℕ × ℕ). decodedRefusal (decode (c .0))) refusalCases ≡ map (λ (c : List ℕ × ℕ). c .1) refusalCases

@@ -7,19 +7,19 @@ use lib.ListN.{length, drop}
 use Rattle.octets.specs.BigEndian.{beValue}
 use Rattle.octets.specs.Memory.{part}
 use Rattle.rfc4737.specs.declared.Arrival.{Arrival}
-use Rattle.rfc4737.specs.Refusals.{inCase, firstOf, endsEarly, octetsFollow}
+use Rattle.rfc4737.specs.Refusals.{refusalIf, firstRefusal, endsEarly, octetsFollow}
 use Rattle.sample.specs.Format.{Sample, countWidth, octetWidth, sizeWidth, numberWidth, timeWidth, arrivalWidth, itemsAt, endOf, sentStart, arrivedStart, lastEnd, itemsIn}
 use Rattle.rfc4737.specs.Judge.{judgeSent, judgeArrivals, judge}
 use Rattle.sample.specs.Judge.{judgeLabel, judgeOctets}
 use Rattle.sample.specs.declared.Layout.{Layout}
 
--- ---- the counts of a file, and where its sections stand by them
+-- ---- the counts of a file, and the offsets of its sections by them
 
--- the count that stands at `at`
+-- the count at offset `at`
 unfoldable pub countAt : (at : ℕ) (file : List ℕ) → ℕ
 countAt at file = beValue (part at countWidth file)
 
--- the octets of the label
+-- the number of octets of the label
 abbrev pub labelCount : List ℕ → ℕ
 labelCount file = countAt 0 file
 
@@ -63,22 +63,22 @@ sampleIn file =
 -- the section that begins at `at`, with items of `width` octets each: its count is read (1), judged, then its length (1)
 unfoldable pub sectionStage : (at width : ℕ) (judged : ℕ → ℕ) (file : List ℕ) → ℕ
 sectionStage at width judged file =
-    firstOf
-    (inCase (ltb (length file) (itemsAt at)) endsEarly
+    firstRefusal
+    (refusalIf (ltb (length file) (itemsAt at)) endsEarly
     ∷ judged (countAt at file)
-    ∷ inCase (ltb (length file) (endOf at width (countAt at file))) endsEarly
+    ∷ refusalIf (ltb (length file) (endOf at width (countAt at file))) endsEarly
     ∷ [])
 
--- the first refusal that is due of a file, 0 if none is: of the label's section, its octets, the sent packets' section, the arrivals'
--- section, the end of the file, the arrivals in turn
+-- the first refusal that applies to a file, 0 if none does. In their order: those of the label's section, its octets, the sent packets'
+-- section, the arrivals' section, the end of the file, and the arrivals in turn
 unfoldable pub fileRefusal : List ℕ → ℕ
 fileRefusal file =
-    firstOf
+    firstRefusal
     (sectionStage 0 octetWidth judgeLabel file
     ∷ judgeOctets (sampleIn file .label)
     ∷ sectionStage (sentAt file) sizeWidth judgeSent file
     ∷ sectionStage (arrivedAt file) arrivalWidth judgeArrivals file
-    ∷ inCase (ltb (fileEnd file) (length file)) octetsFollow
+    ∷ refusalIf (ltb (fileEnd file) (length file)) octetsFollow
     ∷ judge (sentCount file) 0 (sampleIn file .arrivals)
     ∷ [])
 
@@ -89,7 +89,7 @@ pub data Decoded : Type 0 where
   refused : ℕ → Decoded
   accepted : Sample → Decoded
 
--- a sample, unless a refusal is due
+-- the sample, unless a refusal applies
 abbrev pub decided : ℕ → Sample → Decoded
 decided zero s = accepted s
 decided (suc r) s = refused (suc r)
@@ -108,7 +108,7 @@ abbrev pub decodedRefusal : Decoded → ℕ
 decodedRefusal (refused r) = r
 decodedRefusal (accepted s) = 0
 
--- the answer in numbers: the refusal, the octets of the label, K and A; all but the refusal are 0 with a refusal
+-- the answer in numbers: the refusal, the number of octets of the label, K and A. With a refusal the other three are 0
 abbrev pub layoutOf : Decoded → Layout
 layoutOf d =
     record {

@@ -6,8 +6,8 @@ use lib.ListN.{length, take, drop}
 use Rattle.octets.specs.BigEndian.{beOctets}
 use Rattle.rfc4737.specs.declared.Arrival.{Arrival}
 
--- a sample: its label, the payload size of each sent packet from packet 1 on (K is their number), and the arrivals in order of
--- arrival (A is their number)
+-- a sample: its label, the payload size of each sent packet from packet 1 on, and the arrivals in order of arrival. K is the number of
+-- sizes, A that of arrivals
 pub record Sample : Type 0 where
   pub label : List ℕ
   pub sizes : List ℕ

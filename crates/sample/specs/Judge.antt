@@ -1,30 +1,30 @@
--- What is refused of a sample, and what it must satisfy to be fit. Assumes nothing.
+-- The refusals of a sample, and fit samples. Assumes nothing.
 use Prim.Native.Nat.{ℕ, _^_}
 use mathlib.Core.Bool.{Bool, false, _||_}
 use mathlib.Core.List.{List, [], _∷_}
 use mathlib.Core.Path.{_≡_}
 use lib.ListN.{length}
 use Rattle.octets.specs.Below.{Below}
-use Rattle.rfc4737.specs.Refusals.{outside, inCase, firstOf, longLabel, octetOutside}
+use Rattle.rfc4737.specs.Refusals.{outside, refusalIf, firstRefusal, longLabel, octetOutside}
 use Rattle.rfc4737.specs.Judge.{numbersOf, timesOf, refusalOfLists}
 use Rattle.sample.specs.Format.{Sample, labelMost, shownLeast, shownMost}
 
 -- 3: label over 64 octets
 abbrev pub judgeLabel : ℕ → ℕ
-judgeLabel n = inCase (outside 0 labelMost n) longLabel
+judgeLabel n = refusalIf (outside 0 labelMost n) longLabel
 
--- whether one of some octets cannot be shown: it lies outside hexadecimal 20 to 7E
+-- whether one of the octets cannot be shown: it lies outside hexadecimal 20 to 7E
 unfoldable pub someUnshown : List ℕ → Bool
 someUnshown [] = false
 someUnshown (o ∷ os) = outside shownLeast shownMost o || someUnshown os
 
 -- 13: a label octet outside hexadecimal 20 to 7E
 abbrev pub judgeOctets : List ℕ → ℕ
-judgeOctets label = inCase (someUnshown label) octetOutside
+judgeOctets label = refusalIf (someUnshown label) octetOutside
 
--- the first refusal that is due of a label and lists: 3, 13, then those of K, the number of sizes, and the lists
+-- the first refusal that applies to a label and lists: 3, 13, then those of K, the number of sizes, and of the lists
 unfoldable pub sampleRefusal : (label sizes numbers times : List ℕ) → ℕ
-sampleRefusal label sizes numbers times = firstOf (judgeLabel (length label) ∷ judgeOctets label ∷ refusalOfLists (length sizes) numbers times ∷ [])
+sampleRefusal label sizes numbers times = firstRefusal (judgeLabel (length label) ∷ judgeOctets label ∷ refusalOfLists (length sizes) numbers times ∷ [])
 
 -- a fit sample: nothing of its label and lists is refused, and every value that is not judged fits its field
 pub record FitSample (s : Sample) : Type 0 where

@@ -12,7 +12,7 @@ use Rattle.sample.specs.Decode.{decode, accepted}
 abbrev pub movedSample : ℕ → Sample → Sample
 movedSample c s = record { label = s .label; sizes = s .sizes; arrivals = moved c (s .arrivals) }
 
--- of a file that decodes to a sample and an amount by which no time passes the field's range, the moved sample's file decodes to it
+-- if a file decodes to a sample, and no moved time passes the field's range, then the moved sample's file decodes to the moved sample
 abbrev pub MovedAccepted : List ℕ → Type 0
 MovedAccepted file =
     (s : Sample) (c : ℕ) → decode file ≡ accepted s → Below (2 ^ 64) (timesOf (movedSample c s .arrivals))

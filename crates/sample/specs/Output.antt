@@ -1,11 +1,11 @@
--- What a call answers that writes octets, and the lent octets after it. Assumes nothing.
+-- The answer of a call that writes octets, and the lent octets after it. Assumes nothing.
 use Prim.Native.Nat.{ℕ, zero, suc}
 use mathlib.Core.List.{List, [], _∷_}
 use mathlib.Core.Path.{_≡_}
 use lib.Dec.{ltb}
 use lib.ListN.{length}
 use Rattle.octets.specs.Memory.{over}
-use Rattle.rfc4737.specs.Refusals.{inCase, firstOf, outputShort}
+use Rattle.rfc4737.specs.Refusals.{refusalIf, firstRefusal, outputShort}
 use Rattle.sample.specs.declared.WriteAnswer.{WriteAnswer}
 
 module _ {ℓ} {A : Type ℓ} where
@@ -14,11 +14,11 @@ module _ {ℓ} {A : Type ℓ} where
   ifNone zero done kept = done
   ifNone (suc r) done kept = kept
 
--- the answer of a call that has a refusal of its own, or 0, and these octets to write; and the lent octets after it
+-- the answer of a call with the refusal `own` (0 for none) and the octets `os` to write, and the lent octets after it
 pub record Output (own : ℕ) (os out : List ℕ) (answer : WriteAnswer) (out′ : List ℕ) : Type 0 where
   -- its own refusal comes first, then 8
-  pub refusal : answer .refusal ≡ firstOf (own ∷ inCase (ltb (length out) (length os)) outputShort ∷ [])
-  -- how many octets are written; 0 with a refusal
+  pub refusal : answer .refusal ≡ firstRefusal (own ∷ refusalIf (ltb (length out) (length os)) outputShort ∷ [])
+  -- the number of octets written; 0 with a refusal
   pub octets : answer .length ≡ ifNone (answer .refusal) (length os) 0
   -- they stand from the start, all else as it was; with a refusal all is as it was
   pub filled : out′ ≡ ifNone (answer .refusal) (over os out) out

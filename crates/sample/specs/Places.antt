@@ -1,4 +1,4 @@
--- Where the values of a file stand, by its layout, and what is found there: the values of its sample. Assumes nothing.
+-- The offsets of a file's values, by its layout, and what stands there: the values of its sample. Assumes nothing.
 use Prim.Native.Nat.{ℕ, _+_, _*_, _≤_, _<_}
 use mathlib.Core.Path.{_≡_}
 use mathlib.Core.Bool.{cond}
@@ -12,41 +12,42 @@ use Rattle.sample.specs.Format.{sizeWidth, arrivalWidth, itemsAt, sentSt
 use Rattle.sample.specs.Decode.{arrivalIn, decode, sampleOf, layoutOf}
 use Rattle.sample.specs.declared.Layout.{Layout}
 
--- the first payload size
+-- the offset of the first payload size
 abbrev pub sizesAt : Layout → ℕ
-sizesAt y = itemsAt (sentStart (y .label))
+sizesAt layout = itemsAt (sentStart (layout .label))
 
--- the first arrival
+-- the offset of the first arrival
 abbrev pub arrivalsAt : Layout → ℕ
-arrivalsAt y = itemsAt (arrivedStart (y .label) (y .sent))
+arrivalsAt layout = itemsAt (arrivedStart (layout .label) (layout .sent))
 
 -- the payload size of packet j + 1
-unfoldable pub sizeFound : (file : List ℕ) (y : Layout) (j : ℕ) → ℕ
-sizeFound file y j = beValue (part (sizesAt y + sizeWidth * j) sizeWidth file)
+unfoldable pub sizeFound : (file : List ℕ) (layout : Layout) (j : ℕ) → ℕ
+sizeFound file layout j = beValue (part (sizesAt layout + sizeWidth * j) sizeWidth file)
 
--- what stands where there is no arrival
+-- what is read where there is no arrival
 abbrev pub noArrival : Arrival
 noArrival = record { number = 0; time = 0 }
 
--- the arrival of record i + 1: what its octets say, none where the file ends before them
-unfoldable pub arrivalFound : (file : List ℕ) (y : Layout) (i : ℕ) → Arrival
-arrivalFound file y i =
-    let at = arrivalsAt y + arrivalWidth * i in
+-- the arrival of record i + 1 in its octets; none if the file ends before them
+unfoldable pub arrivalFound : (file : List ℕ) (layout : Layout) (i : ℕ) → Arrival
+arrivalFound file layout i =
+    let at = arrivalsAt layout + arrivalWidth * i in
     cond (ltb (length file) (at + arrivalWidth)) noArrival (arrivalIn (part at arrivalWidth file))
 
--- ---- by the file's own layout they are the values of its sample
+-- ---- by the file's own layout these are the values of its sample
 
--- a size found, of packet j + 1
-abbrev pub SizeOfSample : (file : List ℕ) (y : Layout) (j size : ℕ) → Type 0
-SizeOfSample file y j size = y ≡ layoutOf (decode file) → j < y .sent → size ≡ getD (sampleOf (decode file) .sizes) j 0
+-- `size` is that of packet j + 1
+abbrev pub SizeOfSample : (file : List ℕ) (layout : Layout) (j size : ℕ) → Type 0
+SizeOfSample file layout j size = layout ≡ layoutOf (decode file) → j < layout .sent → size ≡ getD (sampleOf (decode file) .sizes) j 0
 
--- an arrival found, of record i + 1
-abbrev pub ArrivalOfSample : (file : List ℕ) (y : Layout) (i : ℕ) (arrival : Arrival) → Type 0
-ArrivalOfSample file y i arrival = y ≡ layoutOf (decode file) → i < y .arrivals → arrival ≡ getD (sampleOf (decode file) .arrivals) i noArrival
+-- `arrival` is that of record i + 1
+abbrev pub ArrivalOfSample : (file : List ℕ) (layout : Layout) (i : ℕ) (arrival : Arrival) → Type 0
+ArrivalOfSample file layout i arrival =
+    layout ≡ layoutOf (decode file) → i < layout .arrivals → arrival ≡ getD (sampleOf (decode file) .arrivals) i noArrival
 
--- the arrivals stand from a place on, in a file of this layout
-pub record ArrivalsFrom (file : List ℕ) (y : Layout) (place : ℕ) : Type 0 where
-  -- the octets of record i + 1 are there
-  pub inside : (i : ℕ) → y ≡ layoutOf (decode file) → i < y .arrivals → place + arrivalWidth * i + arrivalWidth ≤ length file
-  -- and say its arrival
-  pub arrival : (i : ℕ) → ArrivalOfSample file y i (arrivalIn (part (place + arrivalWidth * i) arrivalWidth file))
+-- the arrivals stand from offset `place` on, in a file of this layout
+pub record ArrivalsFrom (file : List ℕ) (layout : Layout) (place : ℕ) : Type 0 where
+  -- the octets of record i + 1 lie within the file
+  pub inside : (i : ℕ) → layout ≡ layoutOf (decode file) → i < layout .arrivals → place + arrivalWidth * i + arrivalWidth ≤ length file
+  -- and are those of its arrival
+  pub arrival : (i : ℕ) → ArrivalOfSample file layout i (arrivalIn (part (place + arrivalWidth * i) arrivalWidth file))

@@ -1,10 +1,11 @@
--- What private functions say to each other, which no public contract reaches: the readings that the check of a file is made of, by cases. Assumes nothing.
+-- Definitions for the contracts of private functions, which no public contract reaches: the readings of which a file's check is made.
+-- Assumes nothing.
 use Prim.Native.Nat.{ℕ, zero, suc}
 use mathlib.Core.Bool.{cond}
 use mathlib.Core.List.{List}
 use lib.Dec.{ltb}
 use lib.ListN.{length}
-use Rattle.rfc4737.specs.Refusals.{outside, inCase}
+use Rattle.rfc4737.specs.Refusals.{outside, refusalIf}
 use Rattle.sample.specs.Format.{endOf}
 use Rattle.sample.specs.Decode.{countAt, sectionStage}
 use Rattle.sample.specs.declared.sections.Reading.{Reading}
@@ -12,19 +13,20 @@ use Rattle.sample.specs.declared.sections.Reading.the-variants.{Value, E
 use Rattle.sample.specs.declared.sections.Section.{Section}
 use Rattle.sample.specs.declared.sections.Section.the-variants.{Whole, Refused}
 
--- a number that was read of the octets up to a place, unless the file ends before it
-unfoldable pub readingTo : ℕ → ℕ → List ℕ → Reading
+-- the value n, read from the octets before offset `place`, unless the file ends before it
+unfoldable pub readingTo : (place n : ℕ) → List ℕ → Reading
 readingTo place n file = cond (ltb (length file) place) Ended (Value n)
 
--- a section, unless a refusal is due
-abbrev pub settled : ℕ → Section → Section
-settled zero s = s
-settled (suc r) s = Refused (suc r)
+-- the section, unless a refusal applies
+abbrev pub sectionOutcome : ℕ → Section → Section
+sectionOutcome zero s = s
+sectionOutcome (suc r) s = Refused (suc r)
 
--- the section that begins at a place: its count, and where it ends
-unfoldable pub sectionReading : ℕ → ℕ → ℕ → ℕ → ℕ → List ℕ → Section
+-- the section that begins at offset `at`, with items of `width` octets: its count, and the offset after it
+unfoldable pub sectionReading : (at width least most refusal : ℕ) → List ℕ → Section
 sectionReading at width least most refusal file =
-    settled (sectionStage at width (λ (n : ℕ). inCase (outside least most n) refusal) file) (Whole (countAt at file) (endOf at width (countAt at file)))
+    sectionOutcome (sectionStage at width (λ (n : ℕ). refusalIf (outside least most n) refusal) file)
+    (Whole (countAt at file) (endOf at width (countAt at file)))
 
 -- the refusal of a section
 abbrev pub refusalOfSection : Section → ℕ

@@ -21,8 +21,8 @@ use Rattle.sample.specs.declared.WriteAnswer.{WriteAnswer}
 abbrev pub ExactFile : List ℕ → Type 0
 ExactFile file = (s : Sample) → (decode file ≡ accepted s) ↔ (FitSample s × (file ≡ fileOf s))
 
--- a sample with these counts of label octets, sent packets and arrivals: every octet is a space, every size and time is 0, every arrival is
--- of packet 1
+-- a sample with these counts of label octets, sent packets and arrivals. Every octet is a space, every size and time is 0, and every
+-- arrival is of packet 1
 unfoldable pub filled : (label sent arrivals : ℕ) → Sample
 filled label sent arrivals =
     record { label = replicate label shownLeast; sizes = replicate sent 0; arrivals = replicate arrivals (record { number = 1; time = 0 }) }
@@ -32,7 +32,7 @@ abbrev pub among : ℕ → List ℕ → Bool
 among n [] = false
 among n (m ∷ l) = eqb n m || among n l
 
--- a file beside the longest sample
+-- the length of a file, compared with the longest sample
 pub record Lengths (file : List ℕ) : Type 0 where
   -- an accepted file is no longer
   pub most : (s : Sample) → decode file ≡ accepted s → length file ≤ longest

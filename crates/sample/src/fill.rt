@@ -1,4 +1,4 @@
-// The values of a file, filled into lent lists from their start.
+// The values of a file, filled into the caller's lists from their start.
 ghost use mathlib.Core.Path.{_≡_};
 ghost use Prim.Native.Nat.{_+_, _*_, _≤_};
 ghost use lib.ListN.{length, drop};
@@ -8,10 +8,10 @@ ghost use Rattle.rfc4737.specs.Judge.{numbersOf, timesOf};
 ghost use Rattle.sample.specs.Format.{sizeWidth, arrivalWidth, itemsIn};
 ghost use Rattle.sample.specs.Decode.{arrivalIn};
 use crate::arrival_of;
-use crate::sections::ARRIVAL_WIDTH;
-use crate::sections::SIZE_WIDTH;
+use crate::widths::ARRIVAL_WIDTH;
+use crate::widths::SIZE_WIDTH;
 
-// Fills the payload sizes: so many, which stand from a place on. It goes from the last down: upward, LLVM takes eight sizes at a
+// Fills `sizes` with the `count` payload sizes from offset `at` on. It goes from the last down: upward, LLVM reads eight sizes at a
 // time by single octets, which is slower.
 pub(crate) fn fill_sizes(file: &[u8], at: usize, count: usize, sizes: &mut [u16])
     requires { ⌜ (at + sizeWidth * count ≤ length (now file)) × (count ≤ length (now sizes)) ⌝ }
@@ -27,7 +27,7 @@ pub(crate) fn fill_sizes(file: &[u8], at: usize, count: usize, sizes: &mut [u16]
     }
 }
 
-// Fills the numbers and times of arrivals: so many, which stand from a place on.
+// Fills `numbers` and `times` from the `count` arrivals from offset `at` on.
 pub(crate) fn fill_arrivals(
     file: &[u8],
     at: usize,

@@ -1,4 +1,4 @@
-// The octets of a label and the arrivals of a file, judged in turn.
+// The judges of a label's octets and of a file's arrivals.
 ghost use mathlib.Core.Path.{_≡_};
 ghost use Prim.Native.Nat.{_+_, _*_, _≤_};
 ghost use lib.ListN.{length, drop};
@@ -7,7 +7,7 @@ ghost use Rattle.sample.specs.Format.{arrivalWidth, itemsIn};
 ghost use Rattle.sample.specs.Judge.{someUnshown};
 ghost use Rattle.sample.specs.Decode.{arrivalIn};
 use crate::arrival_of;
-use crate::sections::ARRIVAL_WIDTH;
+use crate::widths::ARRIVAL_WIDTH;
 use rfc4737::judge::judge_next;
 use rfc4737::judge::outside;
 
@@ -17,7 +17,7 @@ const SHOWN_LEAST: u64 = 0x20;
 // The greatest octet of a label.
 const SHOWN_MOST: u64 = 0x7E;
 
-// Whether one of some octets cannot be shown.
+// Whether one of the octets cannot be shown.
 pub(crate) fn some_unshown(octets: &[u8]) -> bool
     ensures { λ r. ⌜ r ≡ someUnshown (now (octets .entry)) ⌝ }
 {
@@ -31,7 +31,7 @@ pub(crate) fn some_unshown(octets: &[u8]) -> bool
     false
 }
 
-// So many arrivals of a file, which stand from a place on, in turn.
+// Judges the `count` arrivals from offset `at` on, in turn.
 pub(crate) fn judge_file(file: &[u8], at: usize, sent: u64, count: usize) -> u32
     requires { ⌜ at + arrivalWidth * count ≤ length (now file) ⌝ }
     ensures { λ r. ⌜ r ≡ judge sent 0 (itemsIn arrivalWidth arrivalIn count (drop at (now (file .entry)))) ⌝ }

@@ -1,4 +1,4 @@
-// The sample file: checked, read and written. Every public call takes all input there is.
+// The sample file: checked, read and written. Every public call is total.
 ghost use mathlib.Core.Path.{_≡_};
 ghost use Prim.Native.Nat.{ℕ, _+_, _*_};
 ghost use mathlib.Core.List.{List};
@@ -13,6 +13,7 @@ ghost use Rattle.sample.specs.RoundTrip.{ExactFile, Lengths, WrittenAgai
 mod fill;
 mod judge;
 mod sections;
+pub mod widths;
 
 use judge::some_unshown;
 use rfc4737::Arrival;
@@ -26,16 +27,16 @@ use rfc4737::refusal::OCTET_OUTSIDE;
 use rfc4737::refusal::OCTETS_FOLLOW;
 use rfc4737::refusal::OUTPUT_SHORT;
 use rfc4737::refusal::SENT_OUTSIDE;
-use sections::ARRIVAL_WIDTH;
-use sections::COUNT_WIDTH;
-use sections::NUMBER_WIDTH;
-use sections::OCTET_WIDTH;
-use sections::SIZE_WIDTH;
 use sections::Section;
-use sections::TIME_WIDTH;
 use sections::end_of;
 use sections::refusal_of_section;
 use sections::section_at;
+use widths::ARRIVAL_WIDTH;
+use widths::COUNT_WIDTH;
+use widths::NUMBER_WIDTH;
+use widths::OCTET_WIDTH;
+use widths::SIZE_WIDTH;
+use widths::TIME_WIDTH;
 
 // The greatest number of octets of a label.
 const LABEL_MOST: u64 = 64;
@@ -43,8 +44,7 @@ const LABEL_MOST: u64 = 64;
 // The number of octets of the longest sample.
 pub const LONGEST: usize = 57_414;
 
-// What is found in a file: the refusal (0 for none), the octets of the label, K and A; all but the refusal
-// are 0 with a refusal.
+// The layout of a file: the refusal (0 for none), the number of octets of the label, K and A. With a refusal the other three are 0.
 #[repr(C)]
 pub struct Layout {
     pub refusal: u32,
@@ -53,14 +53,14 @@ pub struct Layout {
     pub arrivals: u32,
 }
 
-// What was written: the refusal (0 for none), and the octets of the file, 0 with a refusal.
+// A writer's answer: the refusal (0 for none), and the number of octets written, 0 with a refusal.
 #[repr(C)]
 pub struct WriteAnswer {
     pub refusal: u32,
     pub length: u32,
 }
 
-// The answer that a refusal has.
+// The layout of a refused file.
 pub fn refused_layout(refusal: u32) -> Layout
     ensures { λ r. ⌜ r ≡ layoutOf (refused refusal) ⌝ }
 {
@@ -72,8 +72,7 @@ pub fn refused_layout(refusal: u32) -> Layout
     }
 }
 
-// Checks a whole file: its sections in their order, the label's octets after the first, its end, then the arrivals in
-// turn.
+// Checks a whole file: its sections in their order, the label's octets after the first, its end, then the arrivals in turn.
 pub fn check(file: &[u8]) -> Layout
     ensures { λ r. ⌜ r ≡ layoutOf (decode (now (file .entry))) ⌝ }
     ensures exact { λ _. ⌜ ExactFile (now (file .entry)) ⌝ }
@@ -124,63 +123,62 @@ pub fn label(file: &[u8]) -> &[u8]
     ensures { λ r. ⌜ (now r ≡ sampleOf (decode (now (file .entry))) .label)
         × (r .ptr ≡ (file .entry .ptr .0, labelPlace (decode (now (file .entry))) + file .entry .ptr .1)) ⌝ }
 {
-    let found = check(file);
-    if found.refusal != 0 {
+    let layout = check(file);
+    if layout.refusal != 0 {
         return &file[0..0];
     }
-    let end = end_of(0, OCTET_WIDTH, found.label as usize);
+    let end = end_of(0, OCTET_WIDTH, layout.label as usize);
     &file[COUNT_WIDTH..end]
 }
 
-// Where the first payload size stands.
-fn sizes_at(found: Layout) -> usize
-    ensures { λ r. ⌜ r ≡ sizesAt found ⌝ }
+// The offset of the first payload size.
+fn sizes_at(layout: Layout) -> usize
+    ensures { λ r. ⌜ r ≡ sizesAt layout ⌝ }
 {
-    end_of(0, OCTET_WIDTH, found.label as usize) + COUNT_WIDTH
+    end_of(0, OCTET_WIDTH, layout.label as usize) + COUNT_WIDTH
 }
 
-// Where the first arrival of an accepted file stands.
-pub fn arrivals_at(found: Layout) -> usize
-    ensures { λ r. ⌜ r ≡ arrivalsAt found ⌝ }
-    ensures sample { λ r. ⌜ ((file : List ℕ) → ArrivalsFrom file found r) ⌝ }
+// The offset of the first arrival of an accepted file.
+pub fn arrivals_at(layout: Layout) -> usize
+    ensures { λ r. ⌜ r ≡ arrivalsAt layout ⌝ }
+    ensures sample { λ r. ⌜ ((file : List ℕ) → ArrivalsFrom file layout r) ⌝ }
 {
-    let sent_at = end_of(0, OCTET_WIDTH, found.label as usize);
-    end_of(sent_at, SIZE_WIDTH, found.sent as usize) + COUNT_WIDTH
+    let sent_at = end_of(0, OCTET_WIDTH, layout.label as usize);
+    end_of(sent_at, SIZE_WIDTH, layout.sent as usize) + COUNT_WIDTH
 }
 
-// Whether one of three lists, of so many places, is too short for what was found.
-fn too_short(found: Layout, sizes: usize, numbers: usize, times: usize) -> bool
-    ensures { λ r. ⌜ r ≡ listsShort found sizes numbers times ⌝ }
+// Whether one of three lists, of these lengths, is too short for a file of this layout.
+fn too_short(layout: Layout, sizes: usize, numbers: usize, times: usize) -> bool
+    ensures { λ r. ⌜ r ≡ listsShort layout sizes numbers times ⌝ }
 {
-    if sizes < found.sent as usize {
+    if sizes < layout.sent as usize {
         return true;
     }
-    if numbers < found.arrivals as usize {
+    if numbers < layout.arrivals as usize {
         return true;
     }
-    times < found.arrivals as usize
+    times < layout.arrivals as usize
 }
 
-// Reads a file: fills the lists of sizes, numbers and times from their start. With a refusal they stay as they
-// were.
+// Reads a file: fills the lists of sizes, numbers and times from their start. With a refusal they stay as they were.
 pub fn read(file: &[u8], sizes: &mut [u16], numbers: &mut [u32], times: &mut [u64]) -> Layout
     ensures { λ r. ⌜ ReadFrom (now (file .entry)) (now (sizes .entry)) (now (numbers .entry)) (now (times .entry)) r (now (sizes .exit)) (now (numbers .exit)) (now (times .exit)) ⌝ }
     ensures again { λ _. ⌜ WrittenAgain (now (file .entry)) ⌝ }
 {
-    let found = check(file);
-    if found.refusal != 0 {
-        return found;
+    let layout = check(file);
+    if layout.refusal != 0 {
+        return layout;
     }
-    if too_short(found, sizes.len(), numbers.len(), times.len()) {
+    if too_short(layout, sizes.len(), numbers.len(), times.len()) {
         return refused_layout(OUTPUT_SHORT);
     }
-    fill::fill_sizes(file, sizes_at(found), found.sent as usize, sizes);
-    let arrivals = found.arrivals as usize;
-    fill::fill_arrivals(file, arrivals_at(found), arrivals, numbers, times);
-    found
+    fill::fill_sizes(file, sizes_at(layout), layout.sent as usize, sizes);
+    let arrivals = layout.arrivals as usize;
+    fill::fill_arrivals(file, arrivals_at(layout), arrivals, numbers, times);
+    layout
 }
 
-// The first refusal that is due of a label and lists, 0 if none is.
+// The first refusal that applies to a label and lists, 0 if none does.
 fn refusal_of_sample(label: &[u8], sizes: &[u16], numbers: &[u32], times: &[u64]) -> u32
     ensures { λ r. ⌜ r ≡ sampleRefusal (now (label .entry)) (now (sizes .entry)) (now (numbers .entry)) (now (times .entry)) ⌝ }
 {
@@ -227,16 +225,16 @@ pub fn write(
 }
 
 // The payload size of packet j + 1 of an accepted file.
-pub fn payload_size(file: &[u8], found: Layout, j: u32) -> u16
-    ensures { λ r. ⌜ r ≡ sizeFound (now (file .entry)) found j ⌝ }
-    ensures sample { λ r. ⌜ SizeOfSample (now (file .entry)) found j r ⌝ }
+pub fn payload_size(file: &[u8], layout: Layout, j: u32) -> u16
+    ensures { λ r. ⌜ r ≡ sizeFound (now (file .entry)) layout j ⌝ }
+    ensures sample { λ r. ⌜ SizeOfSample (now (file .entry)) layout j r ⌝ }
 {
-    let at = sizes_at(found) + SIZE_WIDTH * (j as usize);
+    let at = sizes_at(layout) + SIZE_WIDTH * (j as usize);
     octets::number_at(file, at, SIZE_WIDTH) as u16
 }
 
-// The arrival in twelve octets. It is a function by itself so that the compiler reads each number's octets as one wherever
-// it is called with a part of twelve.
+// The arrival in twelve octets. It is a function of its own so that the compiler reads the octets of a number at once, wherever it sees
+// a part of that length.
 pub fn arrival_of(twelve: &[u8]) -> Arrival
     ensures { λ r. ⌜ r ≡ arrivalIn (now (twelve .entry)) ⌝ }
 {
@@ -246,11 +244,11 @@ pub fn arrival_of(twelve: &[u8]) -> Arrival
 }
 
 // The arrival of record i + 1 of an accepted file; zeros where the file ends before its octets.
-pub fn arrival(file: &[u8], found: Layout, i: u32) -> Arrival
-    ensures { λ r. ⌜ r ≡ arrivalFound (now (file .entry)) found i ⌝ }
-    ensures sample { λ r. ⌜ ArrivalOfSample (now (file .entry)) found i r ⌝ }
+pub fn arrival(file: &[u8], layout: Layout, i: u32) -> Arrival
+    ensures { λ r. ⌜ r ≡ arrivalFound (now (file .entry)) layout i ⌝ }
+    ensures sample { λ r. ⌜ ArrivalOfSample (now (file .entry)) layout i r ⌝ }
 {
-    let start = arrivals_at(found) + ARRIVAL_WIDTH * (i as usize);
+    let start = arrivals_at(layout) + ARRIVAL_WIDTH * (i as usize);
     let end = start + ARRIVAL_WIDTH;
     if file.len() < end {
         return Arrival { number: 0, time: 0 };

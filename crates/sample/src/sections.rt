@@ -7,23 +7,15 @@ ghost use Rattle.rfc4737.specs.Judge.{arrivalsFrom};
 ghost use Rattle.sample.specs.Format.{octetWidth, sizeWidth, arrivalWidth, itemsAt, endOf, section, sizeOctets, arrivalOctets, itemOctets};
 ghost use Rattle.sample.specs.Decode.{countAt};
 ghost use Rattle.sample.specs.Private.{readingTo, sectionReading, refusalOfSection};
+use crate::widths::ARRIVAL_WIDTH;
+use crate::widths::COUNT_WIDTH;
+use crate::widths::NUMBER_WIDTH;
+use crate::widths::SIZE_WIDTH;
+use crate::widths::TIME_WIDTH;
 use rfc4737::judge::outside;
 use rfc4737::refusal::ENDS_EARLY;
 
-// The octets of a section's count.
-pub(crate) const COUNT_WIDTH: usize = 2;
-// Of one octet of the label.
-pub(crate) const OCTET_WIDTH: usize = 1;
-// Of a payload size.
-pub(crate) const SIZE_WIDTH: usize = 2;
-// Of a sequence number.
-pub(crate) const NUMBER_WIDTH: usize = 4;
-// Of an arrival time.
-pub(crate) const TIME_WIDTH: usize = 8;
-// Of an arrival: its number, then its time.
-pub(crate) const ARRIVAL_WIDTH: usize = NUMBER_WIDTH + TIME_WIDTH;
-
-// Where a section ends that begins at a place, with so many items of so many octets each.
+// The offset after a section that begins at `at`, with `count` items of `width` octets each.
 pub(crate) fn end_of(at: usize, width: usize, count: usize) -> usize
     requires { ⌜ endOf at width count < 2 ^ 64 ⌝ }
     ensures { λ r. ⌜ r ≡ endOf at width count ⌝ }
@@ -31,19 +23,19 @@ pub(crate) fn end_of(at: usize, width: usize, count: usize) -> usize
     at + COUNT_WIDTH + width * count
 }
 
-// A number that was read, unless the file ends before it.
+// A value that was read, unless the file ends before it.
 enum Reading {
     Value(usize),
     Ended,
 }
 
-// A section: the count of its items and where it ends, or why it is refused.
+// A section: the count of its items and the offset after it, or its refusal.
 pub(crate) enum Section {
     Whole(usize, usize),
     Refused(u32),
 }
 
-// The count that stands at a place.
+// The count at offset `at`.
 fn count_at(file: &[u8], at: usize) -> Reading
     requires { ⌜ at ≤ length (now file) ⌝ }
     ensures { λ r. ⌜ r ≡ readingTo (itemsAt at) (countAt at (now (file .entry))) (now (file .entry)) ⌝ }
@@ -54,7 +46,7 @@ fn count_at(file: &[u8], at: usize) -> Reading
     Reading::Value(octets::number_at(file, at, COUNT_WIDTH) as usize)
 }
 
-// A place, where the file has as many octets.
+// `place`, unless the file ends before it.
 fn place_in(file: &[u8], place: usize) -> Reading
     ensures { λ r. ⌜ r ≡ readingTo place place (now (file .entry)) ⌝ }
 {
@@ -64,7 +56,7 @@ fn place_in(file: &[u8], place: usize) -> Reading
     Reading::Value(place)
 }
 
-// The section that begins at a place: its count is read, judged, then its length.
+// The section that begins at `at`: its count is read, judged, then its length.
 pub(crate) fn section_at(
     file: &[u8],
     at: usize,
@@ -107,7 +99,7 @@ pub(crate) fn write_label(label: &[u8], out: &mut [u8])
     octets::put_octets(out, COUNT_WIDTH, label);
 }
 
-// Writes the section of sent packets from a place on.
+// Writes the section of sent packets from offset `at` on.
 pub(crate) fn write_sizes(sizes: &[u16], out: &mut [u8], at: usize)
     requires { ⌜ endOf at sizeWidth (length (now sizes)) ≤ length (now out) ⌝ }
     ensures { λ _. ⌜ now (out .exit) ≡ splice at (section (length (now (sizes .entry))) (itemOctets sizeOctets (now (sizes .entry)))) (now (out .entry)) ⌝ }
@@ -123,7 +115,7 @@ pub(crate) fn write_sizes(sizes: &[u16], out: &mut [u8], at: usize)
     }
 }
 
-// Writes the section of arrivals from a place on.
+// Writes the section of arrivals from offset `at` on.
 pub(crate) fn write_arrivals(numbers: &[u32], times: &[u64], out: &mut [u8], at: usize)
     requires { ⌜ (length (now times) ≡ length (now numbers)) × (endOf at arrivalWidth (length (now numbers)) ≤ length (now out)) ⌝ }
     ensures { λ _. ⌜ now (out .exit) ≡ splice at (section (length (now (numbers .entry))) (itemOctets arrivalOctets (arrivalsFrom (now (numbers .entry)) (now (times .entry))))) (now (out .entry)) ⌝ }

@@ -15,7 +15,7 @@ use Rattle.octets.specs.Below.{Below}
 use Rattle.octets.specs.Memory.{over}
 use Rattle.rfc4737.specs.declared.Arrival.{Arrival}
 use Rattle.rfc4737.specs.Judge.{arrivalsFrom, refusalOfLists}
-use Rattle.rfc4737.specs.Refusals.{inCase, outputShort}
+use Rattle.rfc4737.specs.Refusals.{refusalIf, outputShort}
 use Rattle.rfc4737.proofs.Arrivals.{fold-take}
 use Rattle.rfc4737.proofs.Due.{first-due}
 use Rattle.rfc4737.proofs.Pairs.{arrivals-getD, times-back}
@@ -71,7 +71,7 @@ module _ (r k : ℕ) (shorts times numbers : List ℕ) where
   filled-refused zero e n = absurd (n refl)
   filled-refused (suc x) e n =
       record {
-        refusal = rw (sym e) (sym (first-due (suc x) (inCase (ltb (length numbers) (length shorts)) outputShort ∷ []) (omega arith)));
+        refusal = rw (sym e) (sym (first-due (suc x) (refusalIf (ltb (length numbers) (length shorts)) outputShort ∷ []) (omega arith)));
         filled = refl;
       }
 

@@ -175,13 +175,15 @@ module _ (r k : ℕ) (low : 1 ≤ k) (high : k ≤ sentMost) where
         demand3 = demand3 k low high (arrivalsFound r k shorts);
       }
 
+-- an arrival that keeps its distance is found from its short number
+pub found-again : (r : ℕ) → Even r → (g : ℕ) (a : Arrival) → Near r g (a .number) → withFound r g (shortened r a) ≡ a
+found-again r range g a near =
+    ap (λ (n : ℕ). record { number = n; time = a .time })
+    (sym (only r range g (shortOf r (a .number)) (a .number) (record { bits = refl; near = near })))
+
 receiver-true : (r k : ℕ) → Even r → TrueByReceiver r k
 receiver-true r k range l keeps =
-    turn-true (greatestAccepted k) (withFound r) (shortened r) (λ (g : ℕ) (a : Arrival). Near r g (a .number))
-    (λ g a near.
-    ap (λ (n : ℕ). record { number = n; time = a .time })
-    (sym (only r range g (shortOf r (a .number)) (a .number) (record { bits = refl; near = near }))))
-    l keeps
+    turn-true (greatestAccepted k) (withFound r) (shortened r) (λ (g : ℕ) (a : Arrival). Near r g (a .number)) (found-again r range) l keeps
 
 pub every-step : EveryStep
 every-step w h =

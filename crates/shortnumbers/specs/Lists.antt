@@ -1,4 +1,4 @@
--- The list calls: what they answer, what lent memory holds after them, and what their contracts carry. Assumes nothing.
+-- The list calls: what they return, what the caller's list holds after them, and what their contracts carry. Assumes nothing.
 use Prim.Native.Nat.{ℕ, _^_, _≤_}
 use mathlib.Core.List.{List, [], _∷_, map}
 use mathlib.Core.Path.{_≡_}
@@ -7,7 +7,7 @@ use lib.ListN.{length}
 use Rattle.octets.specs.Memory.{over}
 use Rattle.octets.specs.Below.{Below}
 use Rattle.rfc4737.specs.Judge.{refusalOfLists}
-use Rattle.rfc4737.specs.Refusals.{inCase, firstOf, outputShort}
+use Rattle.rfc4737.specs.Refusals.{refusalIf, firstRefusal, outputShort}
 use Rattle.sample.specs.Format.{fileOf}
 use Rattle.sample.specs.Decode.{decode, accepted}
 use Rattle.sample.specs.Calls.{sampleFrom}
@@ -20,12 +20,12 @@ use Rattle.shortnumbers.specs.InTurn.{greatestOf, inTurn, EachKeeps}
 abbrev pub numbersFound : ℕ → List ℕ → List ℕ
 numbersFound r shorts = inTurn greatestOf (numberFound r) [] shorts
 
--- the first refusal that is due where a list of so many places is filled: those of K, the numbers found and the times, then 8
+-- the first refusal that applies where a list of `room` places is filled: those of K, the numbers found and the times, then 8
 unfoldable pub fillRefusal : (r k room : ℕ) (shorts times : List ℕ) → ℕ
 fillRefusal r k room shorts times =
-    firstOf
+    firstRefusal
     (refusalOfLists k (numbersFound r shorts) times
-    ∷ inCase (ltb room (length shorts)) outputShort
+    ∷ refusalIf (ltb room (length shorts)) outputShort
     ∷ [])
 
 -- the answer, and the lent list after it: the numbers found from its start, all else as it was

@@ -1,5 +1,4 @@
-// Short sequence numbers: the full numbers back, for the radio of 8 bits and that of 10, by the idea of RFC 4737, section 6.
-// Every public call takes all input there is.
+// Short sequence numbers of 8 and of 10 bits: their full numbers, by the idea of RFC 4737, section 6. Every public call is total.
 ghost use mathlib.Core.Path.{_≡_};
 ghost use Prim.Native.Nat.{_+_, _-_, _/_, _≤_, max};
 ghost use lib.ListN.{length};
@@ -11,6 +10,9 @@ ghost use Rattle.shortnumbers.specs.Lists.{numbersFound, FilledTo, Every
 ghost use Rattle.shortnumbers.specs.Steps.{shortStep, AsShortStep, EveryStep};
 ghost use Rattle.shortnumbers.specs.Cases.{FoundAsGiven};
 ghost use Rattle.shortnumbers.specs.Private.{Narrow};
+
+pub mod number;
+
 use receiver::MARK_WORDS;
 use receiver::Outcome;
 use receiver::Receiver;
@@ -34,10 +36,10 @@ const RANGE_8: u32 = 256;
 // The range of 10 bits.
 const RANGE_10: u32 = 1024;
 
-// How many jumps a receiver keeps.
+// The greatest number of jumps that a receiver keeps.
 const MOST_KEPT: u32 = Receiver::WINDOW as u32;
 
-// The greater of two numbers.
+// Returns the greater of two numbers.
 fn greater_of(a: u32, b: u32) -> u32
     ensures { λ r. ⌜ r ≡ max a b ⌝ }
 {
@@ -47,7 +49,7 @@ fn greater_of(a: u32, b: u32) -> u32
     b
 }
 
-// A number less another, 0 where that is below 0.
+// Returns the difference of two numbers, 0 if it is below 0.
 fn less(a: u32, b: u32) -> u32
     ensures { λ r. ⌜ r ≡ a - b ⌝ }
 {
@@ -57,7 +59,7 @@ fn less(a: u32, b: u32) -> u32
     a - b
 }
 
-// The full number of a short one, after the greatest; 0 where there is none.
+// Returns the full number of `short`, found from `greatest`; 0 if there is none.
 fn full_number(range: u32, greatest: u32, short: u16) -> u32
     requires { ⌜ Narrow range × (greatest ≤ 2147483648) ⌝ }
     ensures { λ r. ⌜ (r ≡ numberFound range greatest short) × (r ≤ greatest + 512) ⌝ }
@@ -71,7 +73,7 @@ fn full_number(range: u32, greatest: u32, short: u16) -> u32
     less(up, half)
 }
 
-// The arrivals with the numbers found, in turn.
+// Judges the arrivals with the numbers found, in turn.
 fn judge_found(range: u32, k: u64, shorts: &[u16], times: &[u64]) -> u32
     requires { ⌜ Narrow range × (length (now shorts) ≤ arrivalsMost) × (length (now times) ≡ length (now shorts)) ⌝ }
     ensures { λ r. ⌜ r ≡ judge k 0 (arrivalsFrom (numbersFound range (now (shorts .entry))) (now (times .entry))) ⌝ }
@@ -93,7 +95,7 @@ fn judge_found(range: u32, k: u64, shorts: &[u16], times: &[u64]) -> u32
     0
 }
 
-// The first refusal that is due of K and lists, 0 if none is.
+// Returns the first refusal that applies to K and the lists, 0 if none does.
 fn refusal_of_found(range: u32, k: u64, shorts: &[u16], times: &[u64]) -> u32
     requires { ⌜ Narrow range ⌝ }
     ensures { λ r. ⌜ r ≡ refusalOfLists k (numbersFound range (now (shorts .entry))) (now (times .entry)) ⌝ }
@@ -125,7 +127,7 @@ fn fill_numbers(range: u32, shorts: &[u16], numbers: &mut [u32])
     }
 }
 
-// The list call over a range: all arrivals are judged, then the numbers are filled in.
+// The list call over a range: judges all arrivals, then fills in the numbers.
 fn full_numbers(range: u32, k: u32, shorts: &[u16], times: &[u64], numbers: &mut [u32]) -> u32
     requires { ⌜ Narrow range ⌝ }
     ensures { λ r. ⌜ FilledTo range k (now (shorts .entry)) (now (times .entry)) (now (numbers .entry)) r (now (numbers .exit)) ⌝ }
@@ -141,7 +143,8 @@ fn full_numbers(range: u32, k: u32, shorts: &[u16], times: &[u64], numbers: &mut
     0
 }
 
-// The full numbers of short ones of 8 bits, of K sent packets, from the start of a lent list. With a refusal it stays as it was.
+// Writes the full numbers of short ones of 8 bits, of K sent packets, to the start of the caller's list. A refused call leaves it as it
+// was.
 pub fn full_numbers_8(k: u32, shorts: &[u16], times: &[u64], numbers: &mut [u32]) -> u32
     ensures { λ r. ⌜ FilledTo (rangeOf 8) k (now (shorts .entry)) (now (times .entry)) (now (numbers .entry)) r (now (numbers .exit)) ⌝ }
     ensures everywidth { λ _. ⌜ EveryList ⌝ }
@@ -150,7 +153,7 @@ pub fn full_numbers_8(k: u32, shorts: &[u16], times: &[u64], numbers: &mut [u32]
     full_numbers(RANGE_8, k, shorts, times, numbers)
 }
 
-// The full numbers of short ones of 10 bits.
+// The same for 10 bits.
 pub fn full_numbers_10(k: u32, shorts: &[u16], times: &[u64], numbers: &mut [u32]) -> u32
     ensures { λ r. ⌜ FilledTo (rangeOf 10) k (now (shorts .entry)) (now (times .entry)) (now (numbers .entry)) r (now (numbers .exit)) ⌝ }
     ensures everywidth { λ _. ⌜ EveryList ⌝ }
@@ -159,7 +162,7 @@ pub fn full_numbers_10(k: u32, shorts: &[u16], times: &[u64], numbers: &mut [u32
     full_numbers(RANGE_10, k, shorts, times, numbers)
 }
 
-// The greatest number accepted: NextExp less 1, and 0 for a NextExp that no fit state has.
+// Returns the greatest number accepted: NextExp less 1; 0 for a NextExp that no fit state has.
 fn greatest_by(next: u32) -> u32
     ensures { λ r. ⌜ (r ≤ sentMost) × (next ≤ sentMost + 1 → r ≡ next - 1) ⌝ }
 {
@@ -172,7 +175,7 @@ fn greatest_by(next: u32) -> u32
     next - 1
 }
 
-// The receiver's step with a short number, over a range.
+// Steps a receiver with a short number, over a range.
 fn short_step(range: u32, state: Receiver, short: u16, time: u64) -> StepAnswer
     requires { ⌜ Narrow range ⌝ }
     ensures { λ r. ⌜ r ≡ shortStep range state short time ⌝ }
@@ -182,7 +185,7 @@ fn short_step(range: u32, state: Receiver, short: u16, time: u64) -> StepAnswer
     Receiver::step(state, number, time)
 }
 
-// The receiver's step with a short number of 8 bits.
+// Steps a receiver with a short number of 8 bits.
 pub fn step_8(state: Receiver, short: u16, time: u64) -> StepAnswer
     ensures { λ r. ⌜ r ≡ shortStep (rangeOf 8) state short time ⌝ }
     ensures everywidth { λ _. ⌜ EveryStep ⌝ }
@@ -190,7 +193,7 @@ pub fn step_8(state: Receiver, short: u16, time: u64) -> StepAnswer
     short_step(RANGE_8, state, short, time)
 }
 
-// The receiver's step with a short number of 10 bits.
+// Steps a receiver with a short number of 10 bits.
 pub fn step_10(state: Receiver, short: u16, time: u64) -> StepAnswer
     ensures { λ r. ⌜ r ≡ shortStep (rangeOf 10) state short time ⌝ }
     ensures everywidth { λ _. ⌜ EveryStep ⌝ }

@@ -1,6 +1,6 @@
--- A label in a string of JSON, octet by octet: the next octet stands after those before it (`escaped-next`), and the first octets of all are all
--- (`escaped-all`). A file's label has at most 64 octets (`label-short`). Here l are octets of a label, i the number of those written. Assumes
--- nothing.
+-- A label in a string of JSON, octet by octet: the next octet stands after those before it (`escaped-next`), and the first octets of all
+-- are all (`escaped-all`). A file's label has at most 64 octets (`label-short`). Here l are octets of a label, i the number of those
+-- written. Assumes nothing.
 use Prim.Native.Nat.{ℕ, _+_, _<_, _≤_}
 use native.Mathlib.Omega.{arith}
 use mathlib.Core.Path.{_≡_, refl, ap}

@@ -1,6 +1,6 @@
 -- Laws of the summary. Assumes nothing.
 mod Pieces
 mod Back
-mod Escapes
+pub mod Escapes
 mod Sections
 mod Counted

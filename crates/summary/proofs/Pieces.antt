@@ -1,5 +1,6 @@
--- Laws of the summary's parts. A number in a column has the first of sixteen spaces before it, as many as its digits leave (`column-spaces`); of nothing
--- there is no share (`percent-none`). Assumes nothing.
+-- Laws of the summary's parts. A number in a column has the first of sixteen spaces before it, as many as its digits leave
+-- (`column-spaces`); of nothing there is no share (`percent-none`). A text written at the start of memory is handed over (`handed`).
+-- Assumes nothing.
 use Prim.Native.Nat.{ℕ, zero, suc, _-_, _/_, _%_, _≤_}
 use native.Mathlib.Omega.{arith}
 use mathlib.Core.Path.{_≡_, refl, sym, ap, subst}
@@ -11,7 +12,10 @@ use Rattle.decimal.specs.Decimal.{decimalOf}
 use Rattle.listing.specs.Words.{space}
 use Rattle.sample.specs.declared.WriteAnswer.{WriteAnswer}
 use Rattle.sample.specs.Output.{Output}
-use Rattle.writing.specs.Parts.{joined}
+use Rattle.sample.specs.declared.Layout.{Layout}
+use Rattle.sample.specs.Decode.{Decoded, layoutOf, decodedRefusal}
+use Rattle.writing.specs.Parts.{joined, Written}
+use Rattle.writing.proofs.Parts.{stands}
 use Rattle.summary.specs.Text.{column, tenths, percent}
 
 -- ---- columns
@@ -54,3 +58,13 @@ percent-some none part whole h = sym (simp (ne-eqb whole 0 h))
 pub output-of : {own own′ : ℕ} {xs ys old new : List ℕ} {r : WriteAnswer} → own ≡ own′ → xs ≡ ys → Output own xs old r new → Output own′ ys old r new
 output-of {own} {own′} {xs} {ys} {old} {new} {r} e f w =
     subst (λ (n : ℕ). Output n ys old r new) e (subst (λ (l : List ℕ). Output own l old r new) f w)
+
+-- a text of n octets that is written at the start of memory: it has room in any greater memory, and what is handed over of memory is the
+-- text
+module _ {n most : ℕ} {xs old text : List ℕ} (w : Written 0 n xs old text × (n ≤ most)) where
+  pub at-most : length (take n text) ≤ most
+  at-most = omega (arith, stands (w .0) .0, w .1)
+
+  pub handed : (d : Decoded) {layout : Layout} {out new : List ℕ} {r : WriteAnswer} → layout ≡ layoutOf d
+      → Output (layout .refusal) (take n text) out r new → Output (decodedRefusal d) xs out r new × (length xs ≤ most)
+  handed d e o = (output-of (ap (λ (y : Layout). y .refusal) e) (stands (w .0) .1) o, omega (arith, w .0 .place, w .1))

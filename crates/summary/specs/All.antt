@@ -19,6 +19,7 @@ use Rattle.sample.specs.Decode.{Decoded, decodedRefusal}
 use Rattle.metrics.specs.Sample.{sampleArrivals, answersOf}
 use Rattle.metrics.specs.Figures.{atRecord}
 use Rattle.summary.specs.declared.all.Kind.{Kind}
+use Rattle.writing.specs.Numbers.{between}
 use Rattle.writing.specs.Parts.{joined}
 use Rattle.summary.specs.Text.{summaryText}
 
@@ -38,15 +39,15 @@ gapLine n Gap.None = []
 gapLine n (Gap.Positions gap) = pairLine n gap
 
 -- the line of a number: of an extent, of n, or of a record
-unfoldable pub lineOf : Kind → List Answer → ℕ → List ℕ
-lineOf Kind.Extent l e = extentLine e (getD (tally l) e 0)
-lineOf Kind.Degree l n = pairLine n (nReordered n l)
-lineOf Kind.Gap l n = gapLine n (atRecord Gap.None (gaps l) n)
+unfoldable pub sectionLine : Kind → List Answer → ℕ → List ℕ
+sectionLine Kind.Extent l e = extentLine e (getD (tally l) e 0)
+sectionLine Kind.Degree l n = pairLine n (nReordered n l)
+sectionLine Kind.Gap l n = gapLine n (atRecord Gap.None (gaps l) n)
 
 -- the lines of the numbers 1 to n
 unfoldable pub linesTo : Kind → List Answer → ℕ → List ℕ
 linesTo kind l zero = []
-linesTo kind l (suc n) = linesTo kind l n ++ lineOf kind l (suc n)
+linesTo kind l (suc n) = linesTo kind l n ++ sectionLine kind l (suc n)
 
 -- a section: its head, and the lines of the numbers 1 to n
 unfoldable pub section : List ℕ → Kind → List Answer → ℕ → List ℕ
@@ -54,19 +55,15 @@ section head kind l n = joined (head ∷ linesTo kind l n ∷ [])
 
 -- how many packets have an extent that has no line of its own
 unfoldable pub overLine : ℕ → List ℕ
-overLine n = joined (ascii "    over 100: " ∷ decimalOf n ∷ ascii "\n" ∷ [])
+overLine n = between (ascii "    over 100: ") n (ascii "\n")
 
 -- the runs
 unfoldable pub runsLine : (closed squares current : ℕ) → List ℕ
 runsLine closed squares current =
     joined
-    (ascii "\nRuns in order: "
-    ∷ decimalOf closed
-    ∷ ascii " ended, the sum of their squares "
-    ∷ decimalOf squares
-    ∷ ascii ", packets in the open one "
-    ∷ decimalOf current
-    ∷ ascii "\n"
+    (between (ascii "\nRuns in order: ") closed (ascii " ended, the sum of their squares ")
+    ∷ between [] squares (ascii ", packets in the open one ")
+    ∷ between [] current (ascii "\n")
     ∷ [])
 
 -- the tally of extents, and how many packets are n-reordered

@@ -31,7 +31,7 @@ figuresOf d =
       back = stepsBack 0 (sampleArrivals d);
     }
 
--- the least sizes for a share, so many in 100 of the packets that arrived
+-- the least sizes for `share` in 100 of the packets that arrived
 unfoldable pub sizesFor : List Answer → ℕ → Sizes
 sizesFor l share =
     record {

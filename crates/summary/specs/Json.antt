@@ -1,22 +1,25 @@
 -- The summary of a sample as one object of JSON (RFC 8259) and a line feed. Times are microseconds, shares and percents are in 100, and
--- where nothing arrived a percent is null. Assumes nothing.
+-- a percent is null if nothing arrived. Assumes nothing.
 use Prim.Native.Nat.{ℕ}
 use mathlib.Core.Bool.{Bool, cond, _||_}
 use mathlib.Core.List.{List, [], _∷_}
 use lib.Dec.{eqb}
+use lib.ListN.{length}
 use Rattle.octets.specs.Text.{ascii}
 use Rattle.decimal.specs.Decimal.{decimalOf}
 use Rattle.rfc4737.specs.declared.Answer.{Answer}
 use Rattle.sample.specs.declared.WriteAnswer.{WriteAnswer}
 use Rattle.sample.specs.Output.{Output}
 use Rattle.sample.specs.Format.{itemOctets}
+use Rattle.sample.specs.Judge.{judgeLabel}
 use Rattle.sample.specs.Decode.{Decoded, sampleOf, decodedRefusal}
 use Rattle.metrics.specs.Sample.{answersOf}
 use Rattle.summary.specs.declared.figures.Figures.{Figures}
 use Rattle.summary.specs.declared.figures.Sizes.{Sizes}
 use Rattle.summary.specs.Figures.{figuresOf, sizesFor}
+use Rattle.writing.specs.Numbers.{between}
 use Rattle.writing.specs.Parts.{joined}
-use Rattle.summary.specs.Text.{percent}
+use Rattle.summary.specs.Text.{ratio}
 
 -- ---- parts
 
@@ -62,45 +65,32 @@ countsMembers sent arrived copies =
 unfoldable pub sizesObject : List ℕ → ℕ → Sizes → List ℕ
 sizesObject start share s =
     joined
-    (numberMember start share
-    ∷ numberMember (ascii ",\"waiting_time_us\":") (s .time)
-    ∷ numberMember (ascii ",\"packets_held\":") (s .packets)
-    ∷ numberMember (ascii ",\"octets_held\":") (s .octets)
-    ∷ ascii "}"
+    (between start share (ascii ",\"waiting_time_us\":")
+    ∷ between [] (s .time) (ascii ",\"packets_held\":")
+    ∷ between [] (s .packets) (ascii ",\"octets_held\":")
+    ∷ between [] (s .octets) (ascii "}")
     ∷ [])
 
--- for 50, 90, 95 and 99 in 100 of those that arrived, and for all
-unfoldable pub sizesObjects : List Answer → List ℕ
-sizesObjects l =
+-- the array of them: for 50, 90, 95 and 99 in 100 of those that arrived, and for all
+unfoldable pub sizesMember : List Answer → List ℕ
+sizesMember l =
     joined
-    (sizesObject (ascii "{\"share_percent\":") 50 (sizesFor l 50)
+    (sizesObject (ascii ",\"least_sizes\":[{\"share_percent\":") 50 (sizesFor l 50)
     ∷ sizesObject (ascii ",{\"share_percent\":") 90 (sizesFor l 90)
     ∷ sizesObject (ascii ",{\"share_percent\":") 95 (sizesFor l 95)
     ∷ sizesObject (ascii ",{\"share_percent\":") 99 (sizesFor l 99)
     ∷ sizesObject (ascii ",{\"share_percent\":") 100 (sizesFor l 100)
+    ∷ ascii "]"
     ∷ [])
 
--- the array of them
-unfoldable pub sizesMember : List Answer → List ℕ
-sizesMember l = joined (ascii ",\"least_sizes\":[" ∷ sizesObjects l ∷ ascii "]" ∷ [])
-
--- what the sizes hold for: packets and octets held where no packet is lost, waiting times where the clock does not step back
+-- what the sizes hold for: packets and octets held if no packet is lost, waiting times if the clock does not step back
 unfoldable pub limitMembers : (lost back : Bool) → List ℕ
 limitMembers lost back =
     joined (flagMember (ascii ",\"packets_lost\":") lost ∷ flagMember (ascii ",\"clock_steps_back\":") back ∷ [])
 
 -- how many of those that arrived are of a kind
 unfoldable pub shareMember : List ℕ → ℕ → ℕ → List ℕ
-shareMember name part whole =
-    joined
-    (name
-    ∷ decimalOf part
-    ∷ ascii ",\"of\":"
-    ∷ decimalOf whole
-    ∷ ascii ",\"percent\":"
-    ∷ percent (ascii "null") part whole
-    ∷ ascii "}"
-    ∷ [])
+shareMember name part whole = ratio name (ascii ",\"of\":") (ascii ",\"percent\":") (ascii "null") (ascii "}") part whole
 
 -- the reordered ratio, and the degrees of n-reordering for n = 1 and 3
 unfoldable pub ratioMembers : (reordered reordered1 reordered3 arrived : ℕ) → List ℕ
@@ -113,7 +103,7 @@ ratioMembers reordered reordered1 reordered3 arrived =
 
 -- the total of disorder, and the end
 unfoldable pub disorderMember : ℕ → List ℕ
-disorderMember n = joined (numberMember (ascii ",\"disorder_pairs\":") n ∷ ascii "}\n" ∷ [])
+disorderMember n = between (ascii ",\"disorder_pairs\":") n (ascii "}\n")
 
 -- ---- the object
 
@@ -133,6 +123,14 @@ objectOf label f l =
 unfoldable pub summaryJson : Decoded → List ℕ
 summaryJson d = objectOf (sampleOf d .label) (figuresOf d) (answersOf d)
 
--- the call's answer, and the lent octets after it: those of the object
+-- the octets that suffice for a label as the first member
+abbrev pub labelOctets : ℕ
+labelOctets = 139
+
+-- what a label as the first member gives: 3 over 64 octets, then 8; and the caller's buffer after it
+abbrev pub LabelTo : List ℕ → List ℕ → WriteAnswer → List ℕ → Type 0
+LabelTo label old answer new = Output (judgeLabel (length label)) (labelMember label) old answer new
+
+-- the call's answer, and the caller's buffer after it, which holds the object
 abbrev pub SummaryJsonTo : Decoded → List ℕ → WriteAnswer → List ℕ → Type 0
 SummaryJsonTo d old answer new = Output (decodedRefusal d) (summaryJson d) old answer new

@@ -6,6 +6,7 @@ use lib.Dec.{eqb}
 use lib.ListN.{length, replicate}
 use Rattle.octets.specs.Text.{ascii}
 use Rattle.decimal.specs.Decimal.{decimalOf}
+use Rattle.writing.specs.Numbers.{between}
 use Rattle.writing.specs.Parts.{joined}
 use Rattle.rfc4737.specs.declared.Answer.{Answer}
 use Rattle.listing.specs.Words.{space}
@@ -33,10 +34,16 @@ milliseconds t =
 abbrev pub tenths : ℕ → ℕ → ℕ
 tenths part whole = (2000 * part + whole) / (2 * whole)
 
--- a share in percent with one decimal; of nothing there is none, which is written as `none`
+-- a share in percent with one decimal; `none` for the share of nothing
 unfoldable pub percent : (none : List ℕ) → ℕ → ℕ → List ℕ
 percent none part whole =
     cond (eqb whole 0) none (joined (decimalOf (tenths part whole / 10) ∷ ascii "." ∷ decimalOf (tenths part whole % 10) ∷ []))
+
+-- how many of `whole` packets are of a kind, and their share in percent: `name` stands before the count, `of` before `whole`, `share`
+-- before the percent, and `after` at the end
+unfoldable pub ratio : (name of share none after : List ℕ) → (part whole : ℕ) → List ℕ
+ratio name of share none after part whole =
+    joined (between name part of ∷ between [] whole share ∷ percent none part whole ∷ after ∷ [])
 
 -- ---- lines
 
@@ -44,13 +51,14 @@ percent none part whole =
 unfoldable pub countsLine : (sent arrived copies : ℕ) → List ℕ
 countsLine sent arrived copies =
     joined
-    (decimalOf sent ∷ ascii " packets sent, " ∷ decimalOf arrived ∷ ascii " arrived, " ∷ decimalOf copies ∷ ascii " copies besides\n" ∷ [])
+    (between [] sent (ascii " packets sent, ")
+    ∷ between [] arrived (ascii " arrived, ")
+    ∷ between [] copies (ascii " copies besides\n")
+    ∷ [])
 
 -- how many of those that arrived are of a kind
 unfoldable pub shareLine : List ℕ → ℕ → ℕ → List ℕ
-shareLine name part whole =
-    joined
-    (name ∷ decimalOf part ∷ ascii " of " ∷ decimalOf whole ∷ ascii ", " ∷ percent (ascii "-") part whole ∷ ascii " %\n" ∷ [])
+shareLine name part whole = ratio name (ascii " of ") (ascii ", ") (ascii "-") (ascii " %\n") part whole
 
 -- the least sizes for a share: waiting time, packets and octets
 unfoldable pub sizesLine : List ℕ → Sizes → List ℕ
@@ -77,11 +85,11 @@ needsLines l =
     ∷ ascii "\nPackets held is an extent, which can be more than a receiver has to hold. Packets that never arrived are not counted.\n"
     ∷ [])
 
--- a line that stands only where something is so
+-- a line that is there only if b
 unfoldable pub lineIf : Bool → List ℕ → List ℕ
 lineIf b line = cond b line []
 
--- what the sizes hold for: packets and octets held where no packet is lost, waiting times where the clock does not step back
+-- what the sizes hold for: packets and octets held if no packet is lost, waiting times if the clock does not step back
 unfoldable pub limitLines : (lost back : Bool) → List ℕ
 limitLines lost back =
     joined
@@ -100,7 +108,7 @@ ratioLines reordered reordered1 reordered3 arrived =
 
 -- the total of disorder
 unfoldable pub disorderLine : ℕ → List ℕ
-disorderLine n = joined (ascii "Total of disorder: " ∷ decimalOf n ∷ ascii " pairs in the wrong order\n" ∷ [])
+disorderLine n = between (ascii "Total of disorder: ") n (ascii " pairs in the wrong order\n")
 
 -- ---- the summary
 
@@ -123,6 +131,6 @@ summaryText d = textOf (figuresOf d) (answersOf d)
 abbrev pub summaryOctets : ℕ
 summaryOctets = 2048
 
--- the call's answer, and the lent octets after it: those of the summary
+-- the call's answer, and the caller's buffer after it, which holds the summary
 abbrev pub SummaryTo : Decoded → List ℕ → WriteAnswer → List ℕ → Type 0
 SummaryTo d old answer new = Output (decodedRefusal d) (summaryText d) old answer new

@@ -1,23 +1,24 @@
 // The figures of a whole sample that its summary leaves out, written part by part as its lines are. Each function returns the offset after its
 // part.
 ghost use mathlib.Core.Path.{_≡_};
-ghost use Prim.Native.Nat.{_+_, _*_, _≤_};
+ghost use Prim.Native.Nat.{_+_, _-_, _*_, _≤_};
 ghost use lib.ListN.{length, getD};
 ghost use Rattle.rfc4737.specs.Tally.{tally};
-ghost use Rattle.rfc4737.specs.declared.Gap.{Gap};
-ghost use Rattle.rfc4737.specs.Gaps.{gaps};
 ghost use Rattle.rfc4737.specs.Ratios.{nReordered};
 ghost use Rattle.sample.specs.Decode.{decode};
 ghost use Rattle.metrics.specs.Sample.{answersOf};
-ghost use Rattle.metrics.specs.Figures.{atRecord};
 ghost use Rattle.metrics.specs.Records.{FileLayout};
-ghost use Rattle.summary.specs.All.{pairLine, extentLine, gapLine, lineOf, linesTo, section, overLine, runsLine, countLines, moreText};
+ghost use Rattle.summary.specs.All.{pairLine, extentLine, sectionLine, linesTo, section, overLine, runsLine, countLines, moreText};
 ghost use Rattle.writing.specs.Parts.{Written};
-ghost use Rattle.summary.specs.Private.Limits.{mostOf};
+ghost use Rattle.summary.specs.Private.Limits.{mostOf, GapList};
+use crate::parts::write_between;
 use crate::parts::write_number;
 use crate::parts::write_word;
-use rfc4737::Gap;
+use rfc4737::judge::ARRIVALS_MOST;
 use sample::Layout;
+
+// The most records that a sample has.
+const RECORDS: usize = ARRIVALS_MOST as usize;
 
 // What the lines of a section are of.
 pub(crate) enum Kind {
@@ -47,15 +48,15 @@ fn packets_with(file: &[u8], extent: usize) -> u32
     tally[extent]
 }
 
-// Writes the line of an extent.
-fn write_extent(out: &mut [u8], at: usize, extent: u32, packets: u32) -> usize
+// Writes the line of an extent or of a record, if its figure is not 0.
+fn write_nonzero(out: &mut [u8], at: usize, n: u32, figure: u32) -> usize
     requires { ⌜ at + 47 ≤ length (now out) ⌝ }
-    ensures { λ r. ⌜ Written at r (extentLine extent packets) (now (out .entry)) (now (out .exit)) × (r ≤ at + 47) ⌝ }
+    ensures { λ r. ⌜ Written at r (extentLine n figure) (now (out .entry)) (now (out .exit)) × (r ≤ at + 47) ⌝ }
 {
-    if packets == 0 {
+    if figure == 0 {
         return at;
     }
-    write_pair(out, at, extent, packets)
+    write_pair(out, at, n, figure)
 }
 
 // How many packets are n-reordered.
@@ -66,39 +67,44 @@ fn reordered_by(file: &[u8], n: u32) -> u32
     metrics::n_reordered(file, n).reordered
 }
 
-// Writes the line of a record.
-fn write_gap(out: &mut [u8], at: usize, asked: u32, gap: Gap) -> usize
-    requires { ⌜ at + 47 ≤ length (now out) ⌝ }
-    ensures { λ r. ⌜ Written at r (gapLine asked gap) (now (out .entry)) (now (out .exit)) × (r ≤ at + 47) ⌝ }
+// The gap of record n, as a number.
+fn gap_of(gaps: &[u32; RECORDS], n: u32) -> u32
+    requires { ⌜ (1 ≤ n) × (n ≤ 4096) ⌝ }
+    ensures { λ r. ⌜ r ≡ getD (now (gaps .entry)) (n - 1) 0 ⌝ }
 {
-    match gap {
-        Gap::None => at,
-        Gap::Positions(positions) => write_pair(out, at, asked, positions),
-    }
-}
-
-// The gap of a record.
-fn gap_of(file: &[u8], asked: u32) -> Gap
-    ensures { λ r. ⌜ r ≡ atRecord Gap.None (gaps (answersOf (decode (now (file .entry))))) asked ⌝ }
-{
-    metrics::gap(file, asked).gap
+    let place = (n - 1) as usize;
+    gaps[place]
 }
 
 // Writes the line of a number.
-fn write_line(out: &mut [u8], at: usize, file: &[u8], kind: Kind, n: u32) -> usize
-    requires { ⌜ (at + 47 ≤ length (now out)) × (1 ≤ n) × (n ≤ mostOf kind) ⌝ }
-    ensures { λ r. ⌜ Written at r (lineOf kind (answersOf (decode (now (file .entry)))) n) (now (out .entry)) (now (out .exit)) × (r ≤ at + 47) ⌝ }
+fn write_line(
+    out: &mut [u8],
+    at: usize,
+    file: &[u8],
+    gaps: &[u32; RECORDS],
+    kind: Kind,
+    n: u32,
+) -> usize
+    requires { ⌜ (at + 47 ≤ length (now out)) × (1 ≤ n) × (n ≤ mostOf kind) × GapList (answersOf (decode (now file))) (now gaps) ⌝ }
+    ensures { λ r. ⌜ Written at r (sectionLine kind (answersOf (decode (now (file .entry)))) n) (now (out .entry)) (now (out .exit)) × (r ≤ at + 47) ⌝ }
 {
     match kind {
-        Kind::Extent => write_extent(out, at, n, packets_with(file, n as usize)),
+        Kind::Extent => write_nonzero(out, at, n, packets_with(file, n as usize)),
         Kind::Degree => write_pair(out, at, n, reordered_by(file, n)),
-        Kind::Gap => write_gap(out, at, n, gap_of(file, n)),
+        Kind::Gap => write_nonzero(out, at, n, gap_of(gaps, n)),
     }
 }
 
 // Writes the lines of the numbers 1 to `count`.
-fn write_lines(out: &mut [u8], start: usize, file: &[u8], kind: Kind, count: u32) -> usize
-    requires { ⌜ (start + 47 * count ≤ length (now out)) × (count ≤ mostOf kind) ⌝ }
+fn write_lines(
+    out: &mut [u8],
+    start: usize,
+    file: &[u8],
+    gaps: &[u32; RECORDS],
+    kind: Kind,
+    count: u32,
+) -> usize
+    requires { ⌜ (start + 47 * count ≤ length (now out)) × (count ≤ mostOf kind) × GapList (answersOf (decode (now file))) (now gaps) ⌝ }
     ensures { λ r. ⌜ Written start r (linesTo kind (answersOf (decode (now (file .entry)))) count) (now (out .entry)) (now (out .exit))
         × (r ≤ start + 47 * count) ⌝ }
 {
@@ -106,7 +112,7 @@ fn write_lines(out: &mut [u8], start: usize, file: &[u8], kind: Kind, count: u32
     let mut n: u32 = 0;
     while n < count {
         n += 1;
-        at = write_line(out, at, file, kind, n);
+        at = write_line(out, at, file, gaps, kind, n);
     }
     at
 }
@@ -116,16 +122,18 @@ fn write_section(
     out: &mut [u8],
     at: usize,
     file: &[u8],
+    gaps: &[u32; RECORDS],
     head: &[u8],
     kind: Kind,
     count: u32,
 ) -> usize
-    requires { ⌜ (at + (length (now head) + 47 * count) ≤ length (now out)) × (count ≤ mostOf kind) ⌝ }
+    requires { ⌜ (at + (length (now head) + 47 * count) ≤ length (now out)) × (count ≤ mostOf kind)
+        × GapList (answersOf (decode (now file))) (now gaps) ⌝ }
     ensures { λ r. ⌜ Written at r (section (now (head .entry)) kind (answersOf (decode (now (file .entry)))) count) (now (out .entry)) (now (out .exit))
         × (r ≤ at + (length (now (head .entry)) + 47 * count)) ⌝ }
 {
     let one = write_word(out, at, head);
-    write_lines(out, one, file, kind, count)
+    write_lines(out, one, file, gaps, kind, count)
 }
 
 // Writes how many packets have an extent over 100.
@@ -133,9 +141,7 @@ fn write_over(out: &mut [u8], at: usize, packets: u32) -> usize
     requires { ⌜ at + 40 ≤ length (now out) ⌝ }
     ensures { λ r. ⌜ Written at r (overLine packets) (now (out .entry)) (now (out .exit)) × (r ≤ at + 40) ⌝ }
 {
-    let one = write_word(out, at, b"    over 100: ");
-    let two = write_number(out, one, packets as u64);
-    write_word(out, two, b"\n")
+    write_between(out, at, b"    over 100: ", packets as u64, b"\n")
 }
 
 // Writes the line of the runs.
@@ -143,24 +149,27 @@ fn write_runs(out: &mut [u8], at: usize, closed: u32, squares: u32, current: u32
     requires { ⌜ at + 140 ≤ length (now out) ⌝ }
     ensures { λ r. ⌜ Written at r (runsLine closed squares current) (now (out .entry)) (now (out .exit)) × (r ≤ at + 140) ⌝ }
 {
-    let one = write_word(out, at, b"\nRuns in order: ");
-    let two = write_number(out, one, closed as u64);
-    let three = write_word(out, two, b" ended, the sum of their squares ");
-    let four = write_number(out, three, squares as u64);
-    let five = write_word(out, four, b", packets in the open one ");
-    let six = write_number(out, five, current as u64);
-    write_word(out, six, b"\n")
+    let one = write_between(
+        out,
+        at,
+        b"\nRuns in order: ",
+        closed as u64,
+        b" ended, the sum of their squares ",
+    );
+    let two = write_between(out, one, b"", squares as u64, b", packets in the open one ");
+    write_between(out, two, b"", current as u64, b"\n")
 }
 
 // Writes the tally of extents and how many packets are n-reordered.
-fn write_counts(out: &mut [u8], at: usize, file: &[u8]) -> usize
-    requires { ⌜ at + 5400 ≤ length (now out) ⌝ }
+fn write_counts(out: &mut [u8], at: usize, file: &[u8], gaps: &[u32; RECORDS]) -> usize
+    requires { ⌜ (at + 5400 ≤ length (now out)) × GapList (answersOf (decode (now file))) (now gaps) ⌝ }
     ensures { λ r. ⌜ Written at r (countLines (answersOf (decode (now (file .entry))))) (now (out .entry)) (now (out .exit)) × (r ≤ at + 5400) ⌝ }
 {
     let one = write_section(
         out,
         at,
         file,
+        gaps,
         b"\nExtents, and how many packets have each:\n",
         Kind::Extent,
         100,
@@ -170,6 +179,7 @@ fn write_counts(out: &mut [u8], at: usize, file: &[u8]) -> usize
         out,
         two,
         file,
+        gaps,
         b"\nn, and how many packets are n-reordered:\n",
         Kind::Degree,
         10,
@@ -183,11 +193,14 @@ pub(crate) fn write_more(file: &[u8], layout: Layout, out: &mut [u8], at: usize)
 {
     let counts = metrics::counts(file).counts;
     let runs = counts.runs;
-    let one = write_counts(out, at, file);
+    let mut gaps = [0u32; RECORDS];
+    metrics::record_gaps(file, &mut gaps);
+    let one = write_counts(out, at, file, &gaps);
     let two = write_section(
         out,
         one,
         file,
+        &gaps,
         b"\nRecords that have a gap, and the gap in positions:\n",
         Kind::Gap,
         layout.arrivals,

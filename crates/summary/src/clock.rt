@@ -6,7 +6,7 @@ ghost use Rattle.metrics.specs.Sample.{sampleArrivals};
 ghost use Rattle.metrics.specs.Records.{FileLayout};
 use sample::Layout;
 
-// Whether an arrival is stamped before the arrival before it: one pass.
+// Whether an arrival is stamped earlier than the arrival before it. Cost: one pass over the file.
 pub(crate) fn steps_back(file: &[u8], layout: Layout) -> bool
     requires { ⌜ FileLayout (decode (now file)) layout ⌝ }
     ensures { λ r. ⌜ r ≡ stepsBack 0 (sampleArrivals (decode (now (file .entry)))) ⌝ }

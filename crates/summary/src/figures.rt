@@ -10,8 +10,8 @@ use crate::clock::steps_back;
 use rfc4737::Measure;
 use sample::Layout;
 
-// K, the packets that arrived, the copies, the reordered packets, those that are 1- and 3-reordered, the total of disorder, whether packets were
-// lost and whether the clock steps back.
+// K, the packets that arrived, the copies, the reordered packets, those that are 1- and 3-reordered, the total of disorder, whether packets
+// were lost and whether the clock steps back.
 pub(crate) struct Figures {
     pub sent: u32,
     pub arrived: u32,
@@ -31,7 +31,7 @@ pub(crate) struct Sizes {
     pub octets: u64,
 }
 
-// The figures of a sample: seven passes over the file.
+// The figures of a sample. Cost: seven passes over the file.
 pub(crate) fn figures_of(file: &[u8], layout: Layout) -> Figures
     requires { ⌜ FileLayout (decode (now file)) layout ⌝ }
     ensures { λ r. ⌜ r ≡ figuresOf (decode (now (file .entry))) ⌝ }
@@ -62,7 +62,7 @@ fn size_for(file: &[u8], measure: Measure, share: u32) -> u64
     buffering::least(file, measure, share, 100).size
 }
 
-// The least sizes for `share` in 100 of the first arrivals: three searches.
+// The least sizes for `share` in 100 of the first arrivals. Cost: three searches by `buffering::least`.
 pub(crate) fn sizes_for(file: &[u8], share: u32) -> Sizes
     requires { ⌜ (1 ≤ share) × (share ≤ 100) ⌝ }
     ensures { λ r. ⌜ r ≡ sizesFor (answersOf (decode (now (file .entry)))) share ⌝ }

@@ -9,13 +9,14 @@ ghost use Rattle.sample.specs.Decode.{decode};
 ghost use Rattle.metrics.specs.Sample.{answersOf};
 ghost use Rattle.metrics.specs.Records.{FileLayout};
 ghost use Rattle.summary.specs.Figures.{sizesFor};
-ghost use Rattle.summary.specs.Json.{quote, backslash, escapedOctet, escaped, numberMember, flagMember, labelMember, countsMembers, sizesObject, sizesObjects, sizesMember, limitMembers, shareMember, ratioMembers, disorderMember, summaryJson};
+ghost use Rattle.summary.specs.Json.{quote, backslash, escapedOctet, escaped, numberMember, flagMember, labelMember, countsMembers, sizesObject, sizesMember, limitMembers, shareMember, ratioMembers, disorderMember, summaryJson};
 ghost use Rattle.writing.specs.Parts.{Written};
 use crate::figures::Sizes;
 use crate::figures::figures_of;
 use crate::figures::sizes_for;
+use crate::parts::write_between;
 use crate::parts::write_number;
-use crate::parts::write_percent;
+use crate::parts::write_ratio;
 use crate::parts::write_word;
 use sample::Layout;
 
@@ -84,7 +85,7 @@ fn write_flag(out: &mut [u8], at: usize, name: &[u8], flag: bool) -> usize
 }
 
 // Writes the start, and the label.
-fn write_start(out: &mut [u8], at: usize, label: &[u8]) -> usize
+pub(crate) fn write_start(out: &mut [u8], at: usize, label: &[u8]) -> usize
     requires { ⌜ (length (now label) ≤ 64) × (at + 139 ≤ length (now out)) ⌝ }
     ensures { λ r. ⌜ Written at r (labelMember (now (label .entry))) (now (out .entry)) (now (out .exit)) × (r ≤ at + 139) ⌝ }
 {
@@ -108,11 +109,10 @@ fn write_sizes(out: &mut [u8], at: usize, start: &[u8], share: u32, sizes: Sizes
     requires { ⌜ at + (length (now start) + 131) ≤ length (now out) ⌝ }
     ensures { λ r. ⌜ Written at r (sizesObject (now (start .entry)) share sizes) (now (out .entry)) (now (out .exit)) × (r ≤ at + (length (now (start .entry)) + 131)) ⌝ }
 {
-    let one = write_member(out, at, start, share as u64);
-    let two = write_member(out, one, b",\"waiting_time_us\":", sizes.time);
-    let three = write_member(out, two, b",\"packets_held\":", sizes.packets);
-    let four = write_member(out, three, b",\"octets_held\":", sizes.octets);
-    write_word(out, four, b"}")
+    let one = write_between(out, at, start, share as u64, b",\"waiting_time_us\":");
+    let two = write_between(out, one, b"", sizes.time, b",\"packets_held\":");
+    let three = write_between(out, two, b"", sizes.packets, b",\"octets_held\":");
+    write_between(out, three, b"", sizes.octets, b"}")
 }
 
 // Writes the object of the least sizes for `share` in 100 of the first arrivals.
@@ -125,26 +125,17 @@ fn write_row(out: &mut [u8], at: usize, file: &[u8], start: &[u8], share: u32) -
     write_sizes(out, at, start, share, sizes)
 }
 
-// Writes the objects of the least sizes.
-fn write_rows(out: &mut [u8], at: usize, file: &[u8]) -> usize
-    requires { ⌜ at + 750 ≤ length (now out) ⌝ }
-    ensures { λ r. ⌜ Written at r (sizesObjects (answersOf (decode (now (file .entry))))) (now (out .entry)) (now (out .exit)) × (r ≤ at + 750) ⌝ }
-{
-    let one = write_row(out, at, file, b"{\"share_percent\":", 50);
-    let two = write_row(out, one, file, b",{\"share_percent\":", 90);
-    let three = write_row(out, two, file, b",{\"share_percent\":", 95);
-    let four = write_row(out, three, file, b",{\"share_percent\":", 99);
-    write_row(out, four, file, b",{\"share_percent\":", 100)
-}
-
 // Writes the array of the least sizes.
 fn write_needs(out: &mut [u8], at: usize, file: &[u8]) -> usize
     requires { ⌜ at + 780 ≤ length (now out) ⌝ }
     ensures { λ r. ⌜ Written at r (sizesMember (answersOf (decode (now (file .entry))))) (now (out .entry)) (now (out .exit)) × (r ≤ at + 780) ⌝ }
 {
-    let one = write_word(out, at, b",\"least_sizes\":[");
-    let two = write_rows(out, one, file);
-    write_word(out, two, b"]")
+    let one = write_row(out, at, file, b",\"least_sizes\":[{\"share_percent\":", 50);
+    let two = write_row(out, one, file, b",{\"share_percent\":", 90);
+    let three = write_row(out, two, file, b",{\"share_percent\":", 95);
+    let four = write_row(out, three, file, b",{\"share_percent\":", 99);
+    let five = write_row(out, four, file, b",{\"share_percent\":", 100);
+    write_word(out, five, b"]")
 }
 
 // Writes whether packets were lost, and whether the clock steps back.
@@ -162,13 +153,17 @@ fn write_share(out: &mut [u8], at: usize, name: &[u8], part: u32, whole: u32) ->
     ensures { λ r. ⌜ Written at r (shareMember (now (name .entry)) part whole) (now (out .entry)) (now (out .exit))
         × (r ≤ at + (length (now (name .entry)) + 103)) ⌝ }
 {
-    let one = write_word(out, at, name);
-    let two = write_number(out, one, part as u64);
-    let three = write_word(out, two, b",\"of\":");
-    let four = write_number(out, three, whole as u64);
-    let five = write_word(out, four, b",\"percent\":");
-    let six = write_percent(out, five, b"null", part, whole);
-    write_word(out, six, b"}")
+    write_ratio(
+        out,
+        at,
+        name,
+        b",\"of\":",
+        b",\"percent\":",
+        b"null",
+        b"}",
+        part,
+        whole,
+    )
 }
 
 // Writes the ratios.
@@ -205,8 +200,7 @@ fn write_end(out: &mut [u8], at: usize, total: u32) -> usize
     requires { ⌜ at + 40 ≤ length (now out) ⌝ }
     ensures { λ r. ⌜ Written at r (disorderMember total) (now (out .entry)) (now (out .exit)) × (r ≤ at + 40) ⌝ }
 {
-    let one = write_member(out, at, b",\"disorder_pairs\":", total as u64);
-    write_word(out, one, b"}\n")
+    write_between(out, at, b",\"disorder_pairs\":", total as u64, b"}\n")
 }
 
 // Writes the summary of a sample.

@@ -4,9 +4,10 @@ ghost use mathlib.Core.Path.{_≡_};
 ghost use Prim.Native.Nat.{_≤_};
 ghost use lib.ListN.{length};
 ghost use Rattle.sample.specs.Decode.{decode};
+ghost use Rattle.sample.specs.Format.{labelMost};
 ghost use Rattle.sample.specs.Output.{Output};
 ghost use Rattle.summary.specs.All.{allText, allOctets, AllTo};
-ghost use Rattle.summary.specs.Json.{summaryJson, SummaryJsonTo};
+ghost use Rattle.summary.specs.Json.{labelMember, labelOctets, LabelTo, summaryJson, SummaryJsonTo};
 ghost use Rattle.summary.specs.Text.{summaryText, summaryOctets, SummaryTo};
 
 mod all;
@@ -18,7 +19,9 @@ mod parts;
 
 use all::write_more;
 use json::write_object;
+use json::write_start;
 use lines::write_text;
+use rfc4737::refusal::LONG_LABEL;
 use rfc4737::refusal::NONE;
 use rfc4737::refusal::OUTPUT_SHORT;
 use sample::WriteAnswer;
@@ -28,6 +31,12 @@ pub const SUMMARY_OCTETS: usize = 2048;
 
 // The octets that suffice for the summary and the other figures of any sample.
 pub const ALL_OCTETS: usize = 200_704;
+
+// The octets that suffice for a label as the first member of an object of JSON.
+pub const LABEL_OCTETS: usize = 139;
+
+// The most octets of a label.
+const LABEL_MOST: usize = 64;
 
 // Copies a text to the start of `out` if nothing was refused and `out` has room for it.
 fn hand_over(refusal: u32, text: &[u8], out: &mut [u8]) -> WriteAnswer
@@ -73,8 +82,25 @@ pub fn write_json(file: &[u8], out: &mut [u8]) -> WriteAnswer
     hand_over(layout.refusal, &text[..n], out)
 }
 
+// Writes a label as the first member of an object of JSON at the start of `out` if `out` has room for it, as LABEL_OCTETS octets
+// have for any of up to 64 octets. With a refusal, 3 or 8, `out` stays as it was.
+pub fn write_json_label(label: &[u8], out: &mut [u8]) -> WriteAnswer
+    ensures { λ r. ⌜ LabelTo (now (label .entry)) (now (out .entry)) r (now (out .exit)) ⌝ }
+    ensures room { λ _. ⌜ (length (now (label .entry)) ≤ labelMost → length (labelMember (now (label .entry))) ≤ labelOctets) ⌝ }
+{
+    if LABEL_MOST < label.len() {
+        return WriteAnswer {
+            refusal: LONG_LABEL,
+            length: 0,
+        };
+    }
+    let mut text = [0u8; LABEL_OCTETS];
+    let n = write_start(&mut text, 0, label);
+    hand_over(NONE, &text[..n], out)
+}
+
 // Writes the summary of a sample and the other figures of the whole sample, under the same rules; ALL_OCTETS octets have room for any. Cost:
-// besides, a pass over the file for each extent to 100, each n to 10, and each record, whose gap it finds: O(A (A + K)).
+// besides, a pass over the file for each extent to 100, each n to 10, and the gaps of all records: O(A + K).
 pub fn write_all(file: &[u8], out: &mut [u8]) -> WriteAnswer
     ensures { λ r. ⌜ AllTo (decode (now (file .entry))) (now (out .entry)) r (now (out .exit)) ⌝ }
     ensures room { λ _. ⌜ length (allText (decode (now (file .entry)))) ≤ allOctets ⌝ }

@@ -11,10 +11,10 @@ ghost use Rattle.writing.specs.Parts.{Written};
 use crate::figures::Sizes;
 use crate::figures::figures_of;
 use crate::figures::sizes_for;
+use crate::parts::write_between;
 use crate::parts::write_column;
 use crate::parts::write_milliseconds;
-use crate::parts::write_number;
-use crate::parts::write_percent;
+use crate::parts::write_ratio;
 use crate::parts::write_word;
 use sample::Layout;
 
@@ -23,12 +23,9 @@ fn write_counts(out: &mut [u8], at: usize, sent: u32, arrived: u32, copies: u32)
     requires { ⌜ at + 120 ≤ length (now out) ⌝ }
     ensures { λ r. ⌜ Written at r (countsLine sent arrived copies) (now (out .entry)) (now (out .exit)) × (r ≤ at + 120) ⌝ }
 {
-    let one = write_number(out, at, sent as u64);
-    let two = write_word(out, one, b" packets sent, ");
-    let three = write_number(out, two, arrived as u64);
-    let four = write_word(out, three, b" arrived, ");
-    let five = write_number(out, four, copies as u64);
-    write_word(out, five, b" copies besides\n")
+    let one = write_between(out, at, b"", sent as u64, b" packets sent, ");
+    let two = write_between(out, one, b"", arrived as u64, b" arrived, ");
+    write_between(out, two, b"", copies as u64, b" copies besides\n")
 }
 
 // Writes a line that says how many of the first arrivals are of a kind.
@@ -37,13 +34,7 @@ fn write_share(out: &mut [u8], at: usize, name: &[u8], part: u32, whole: u32) ->
     ensures { λ r. ⌜ Written at r (shareLine (now (name .entry)) part whole) (now (out .entry)) (now (out .exit))
         × (r ≤ at + (length (now (name .entry)) + 92)) ⌝ }
 {
-    let one = write_word(out, at, name);
-    let two = write_number(out, one, part as u64);
-    let three = write_word(out, two, b" of ");
-    let four = write_number(out, three, whole as u64);
-    let five = write_word(out, four, b", ");
-    let six = write_percent(out, five, b"-", part, whole);
-    write_word(out, six, b" %\n")
+    write_ratio(out, at, name, b" of ", b", ", b"-", b" %\n", part, whole)
 }
 
 // Writes the line of the least sizes for a share.
@@ -99,7 +90,7 @@ fn write_needs(out: &mut [u8], at: usize, file: &[u8]) -> usize
     )
 }
 
-// Writes a line where `due` is true, else nothing.
+// Writes a line if `due`, else nothing.
 fn write_if(out: &mut [u8], at: usize, due: bool, line: &[u8]) -> usize
     requires { ⌜ at + length (now line) ≤ length (now out) ⌝ }
     ensures { λ r. ⌜ Written at r (lineIf due (now (line .entry))) (now (out .entry)) (now (out .exit)) × (r ≤ at + length (now (line .entry))) ⌝ }
@@ -110,7 +101,7 @@ fn write_if(out: &mut [u8], at: usize, due: bool, line: &[u8]) -> usize
     at
 }
 
-// Writes the lines that say what the sizes hold for, where packets were lost and where the clock steps back.
+// Writes the lines that say what the sizes hold for: one if packets were lost, and one if the clock steps back.
 fn write_limits(out: &mut [u8], at: usize, lost: bool, back: bool) -> usize
     requires { ⌜ at + 220 ≤ length (now out) ⌝ }
     ensures { λ r. ⌜ Written at r (limitLines lost back) (now (out .entry)) (now (out .exit)) × (r ≤ at + 220) ⌝ }
@@ -151,9 +142,13 @@ fn write_disorder(out: &mut [u8], at: usize, total: u32) -> usize
     requires { ⌜ at + 70 ≤ length (now out) ⌝ }
     ensures { λ r. ⌜ Written at r (disorderLine total) (now (out .entry)) (now (out .exit)) × (r ≤ at + 70) ⌝ }
 {
-    let one = write_word(out, at, b"Total of disorder: ");
-    let two = write_number(out, one, total as u64);
-    write_word(out, two, b" pairs in the wrong order\n")
+    write_between(
+        out,
+        at,
+        b"Total of disorder: ",
+        total as u64,
+        b" pairs in the wrong order\n",
+    )
 }
 
 // Writes the summary of a sample.

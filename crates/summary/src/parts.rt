@@ -1,10 +1,10 @@
 // Parts of a text, each written at an offset of a buffer that has room for it. Each function returns the offset after its part.
 ghost use mathlib.Core.Path.{_≡_};
-ghost use mathlib.Core.List.{_++_};
 ghost use Prim.Native.Nat.{_+_, _≤_};
 ghost use lib.ListN.{length, take};
 ghost use Rattle.decimal.specs.Decimal.{decimalOf};
-ghost use Rattle.summary.specs.Text.{column, milliseconds, percent};
+ghost use Rattle.summary.specs.Text.{column, milliseconds, percent, ratio};
+ghost use Rattle.writing.specs.Numbers.{between};
 ghost use Rattle.writing.specs.Parts.{Written};
 
 // Writes a word.
@@ -33,6 +33,17 @@ pub(crate) fn write_number(out: &mut [u8], at: usize, v: u64) -> usize
     at + decimal::put_decimal(out, at, v)
 }
 
+// Writes a number between two words.
+pub(crate) fn write_between(out: &mut [u8], at: usize, before: &[u8], v: u64, after: &[u8]) -> usize
+    requires { ⌜ at + (length (now before) + (20 + length (now after))) ≤ length (now out) ⌝ }
+    ensures { λ r. ⌜ Written at r (between (now (before .entry)) v (now (after .entry))) (now (out .entry)) (now (out .exit))
+        × (r ≤ at + (length (now (before .entry)) + (20 + length (now (after .entry))))) ⌝ }
+{
+    let number = write_word(out, at, before);
+    let word = write_number(out, number, v);
+    write_word(out, word, after)
+}
+
 // Writes a number in a column of `width` octets.
 pub(crate) fn write_column(out: &mut [u8], at: usize, width: usize, v: u64) -> usize
     requires { ⌜ (width ≤ 16) × (at + 36 ≤ length (now out)) ⌝ }
@@ -59,7 +70,7 @@ pub(crate) fn write_milliseconds(out: &mut [u8], at: usize, time: u64) -> usize
     write_word(out, unit, b" ms")
 }
 
-// Writes the share that `part` is of `whole`, in percent; of nothing there is none, which is written as `none`.
+// Writes the share that `part` is of `whole`, in percent, or `none` if `whole` is 0.
 pub(crate) fn write_percent(out: &mut [u8], at: usize, none: &[u8], part: u32, whole: u32) -> usize
     requires { ⌜ at + (length (now none) + 41) ≤ length (now out) ⌝ }
     ensures { λ r. ⌜ Written at r (percent (now (none .entry)) part whole) (now (out .entry)) (now (out .exit)) × (r ≤ at + (length (now (none .entry)) + 41)) ⌝ }
@@ -71,4 +82,31 @@ pub(crate) fn write_percent(out: &mut [u8], at: usize, none: &[u8], part: u32, w
     let point = write_number(out, at, tenths / 10);
     let tenth = write_word(out, point, b".");
     write_number(out, tenth, tenths % 10)
+}
+
+// Writes how many of `whole` packets are of a kind, and their share in percent: `name` stands before the count, `of` before `whole`,
+// `share` before the percent, and `after` at the end; `none` stands for the share of nothing.
+pub(crate) fn write_ratio(
+    out: &mut [u8],
+    at: usize,
+    name: &[u8],
+    of: &[u8],
+    share: &[u8],
+    none: &[u8],
+    after: &[u8],
+    part: u32,
+    whole: u32,
+) -> usize
+    requires { ⌜ at + (length (now name) + (length (now of) + (length (now share) + (length (now none) + (length (now after) + 81)))))
+        ≤ length (now out) ⌝ }
+    ensures { λ r. ⌜ Written at r
+        (ratio (now (name .entry)) (now (of .entry)) (now (share .entry)) (now (none .entry)) (now (after .entry)) part whole)
+        (now (out .entry)) (now (out .exit))
+        × (r ≤ at + (length (now (name .entry)) + (length (now (of .entry)) + (length (now (share .entry))
+        + (length (now (none .entry)) + (length (now (after .entry)) + 81)))))) ⌝ }
+{
+    let one = write_between(out, at, name, part as u64, of);
+    let two = write_between(out, one, b"", whole as u64, share);
+    let three = write_percent(out, two, none, part, whole);
+    write_word(out, three, after)
 }

@@ -1,17 +1,17 @@
--- What is asked of a tree is a sum. Each place has the shares of the values that were added, modulo 2^32 (`place-shares`, by the additions in
--- turn). Of one value the share of place i and what the numbers up to `rest i` have of it are what those up to i have (`one-part`, by where
--- its number lies), so of all values too (`shares-part`); and so the places i, `rest i` and so on have together what the numbers from 1 to i
--- have (`parts-values`, by induction on the fuel).
+-- What is asked of a tree is a sum. Each place has the shares of the values that were added, modulo 2^32 (`place-shares`, by the
+-- additions in turn). Of one value the share of place i and what the numbers up to `rest i` have of it are what those up to i have
+-- (`one-part`, by where its number lies), so of all values too (`shares-part`). So the places i, `rest i` and so on have together what
+-- the numbers from 1 to i have (`parts-values`, by induction on the fuel).
 -- Here a is an addition, its number and its value, and vs are additions. Assumes nothing.
-use mathlib.Core.Path.{_≡_, refl, ap, _∙_}
+use mathlib.Core.Path.{_≡_, refl, _∙_}
 use mathlib.Core.Bool.{Bool, true, false, cond, _&&_}
 use mathlib.Core.List.{List, [], _∷_}
 use Prim.Native.Nat.{ℕ, zero, suc, _+_, _%_, _^_, _≤_, _<_}
 use native.Mathlib.Omega.{arith}
 use lib.Dec.{leb, ltb}
 use lib.ListN.{length, getD, length-replicate, getD-replicate}
-use borrow.Author.Tests.{lt-ltb, le-leb, leb-true, leb-false, ltb-true, ltb-false}
-use Rattle.sums.specs.Tree.{rest, share, Added, partsTo, sumTo, Holds, nothing, more, valuesTo, ExactSum}
+use borrow.Author.Tests.{lt-ltb, leb-true, leb-false, ltb-true, ltb-false}
+use Rattle.sums.specs.Tree.{rest, share, partsTo, sumTo, Holds, nothing, more, valuesTo, ExactSum}
 use Rattle.sums.proofs.Lowest.{rest-low}
 
 -- the shares that place i has of the values

@@ -1,8 +1,8 @@
--- A number without its lowest bit that is set, `rest i`: where the places stand that hold a number. The rest of h * 2 + 1 is h * 2, and
--- that of h * 2 is twice the rest of h, so all goes by induction on halves (`half-ind`). The next place after i is i + (i - rest i). Of an
--- odd i it is i + 1, and none is between; of an even i a place j between has a rest of at least i, as an odd j has j - 1 and an even j
--- goes by halves (`rest-between`). The next place has a rest of at most that of i, so it holds all that i holds (`rest-next`).
--- Assumes nothing.
+-- `rest i`, a number with its lowest set bit cleared: where the places stand that hold a number. The rest of h * 2 + 1 is h * 2, and
+-- that of h * 2 is twice the rest of h, so all goes by induction on halves (`half-ind`). The next place after i is i + (i - rest i). Of
+-- an odd i it is i + 1, and none is between. Of an even i a place j between has a rest of at least i, as an odd j has j - 1 and an even j
+-- goes by halves (`rest-between`). The next place has a rest of at most that of i, so it holds all that i holds (`rest-next`). Assumes
+-- nothing.
 use mathlib.Core.Path.{_≡_, refl, ap, _∙_}
 use mathlib.Core.Bool.{Bool, true, false}
 use Prim.Native.Nat.{ℕ, _+_, _-_, _*_, _/_, _%_, _≤_, _<_}

@@ -1,5 +1,5 @@
 -- What the places of the tree hold while a value is added at a number: those before i have their share of it, those from i on not yet
--- (`Partly`); the next place that holds the number is i + (i - rest i), and between the two no place has a share (`partly-next`, by
+-- (`Partly`). The next place that holds the number is i + (i - rest i), and between the two no place has a share (`partly-next`, by
 -- `rest-between`). It begins at the number itself, below which no place holds it (`partly-none`), and past the last place all have their
 -- share (`partly-all`). old and new are the tree before and now, j is a place. Assumes nothing.
 use mathlib.Core.Path.{_≡_, refl, ap, _∙_}

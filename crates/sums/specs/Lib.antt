@@ -1,2 +1,2 @@
--- A binary indexed tree of sums. Assumes nothing.
+-- A Fenwick tree of sums. Assumes nothing.
 pub mod Tree

@@ -1,13 +1,12 @@
-// Sums of values that stand at numbers, by a binary indexed tree in lent memory. Place i of the tree holds the sum of
-// the values at the numbers above `rest(i)` and up to i, where `rest(i)` is i without its lowest bit that is set; place
-// 0 is not used. A tree of zeros has no values. Both calls take at most as many steps as the greatest number has
-// binary digits, and sums wrap at 2^32.
+// Sums of values that stand at numbers, by a Fenwick tree in the caller's buffer. `tree[i]` holds the sum of the values at the
+// numbers above `rest(i)` and up to i. Here `rest(i)` is i with its lowest set bit cleared; `tree[0]` is not used. A tree of zeros has
+// no values. Sums wrap at 2^32. Cost of both calls: O(log N), where N is the length of the tree.
 ghost use mathlib.Core.Path.{_≡_};
 ghost use Prim.Native.Nat.{_≤_};
 ghost use Rattle.sums.specs.Tree.{rest, Added, sumTo, ExactSum};
 use std::num::wrapping_add_u32;
 
-// The number i without its lowest bit that is set.
+// i with its lowest set bit cleared.
 fn rest(i: usize) -> usize
     requires { ⌜ 1 ≤ i ⌝ }
     ensures { λ r. ⌜ r ≡ rest i ⌝ }
@@ -15,7 +14,7 @@ fn rest(i: usize) -> usize
     i & (i - 1)
 }
 
-// Adds a value at a number. At number 0, and at one for which the tree has no place, nothing changes.
+// Adds `value` at `number`. Nothing changes at number 0, and at a number from `tree.len()` on.
 pub fn add(tree: &mut [u32], number: u32, value: u32)
     ensures { λ _. ⌜ Added number value (now (tree .entry)) (now (tree .exit)) ⌝ }
 {
@@ -29,7 +28,7 @@ pub fn add(tree: &mut [u32], number: u32, value: u32)
     }
 }
 
-// The sum of the values at the numbers from 1 to a number; 0 where the tree has no place for it.
+// The sum of the values at the numbers from 1 to `number`; 0 from `tree.len()` on.
 pub fn sum_to(tree: &[u32], number: u32) -> u32
     ensures { λ r. ⌜ r ≡ sumTo (now (tree .entry)) number ⌝ }
     ensures exact { λ r. ⌜ ExactSum (now (tree .entry)) number r ⌝ }

@@ -1,11 +1,11 @@
 -- What the call answers. With the file's own refusal (`swept-refused`), or with 8 where what is lent is too short (`swept-short`), the
--- decoded file is one refused, so that nothing is set and all stays. Else all lists have room (`wide`), and with the table cleared the pass
--- can begin (`ready`). It leaves what lies behind the table's first numbers, so that the table, cleared again, is zeros over what it was
--- (`table-after`); and the lists have the figures of all answers over what they were. So at a record asked for there stand in each list the
--- figures of the answer that `metrics::answer` gives (`at-list`), and the first places of each list are the figures of all answers, whose
--- lines the report has (`first-list`): both engines agree (`swept`).
--- Here d is the decoded file, y its layout, e that it is, own that it is accepted, old what is lent before, table the cleared table, new what is lent after the
--- pass, f that it is filled, table′ the table cleared again, and after all that is lent then. Assumes nothing.
+-- decoded file is one refused, so that nothing is set and all stays. Else all lists have room (`wide`), and with the table cleared the
+-- pass can begin (`ready`). It leaves what lies behind the table's first numbers, so that the table, cleared again, is zeros over what it
+-- was (`table-after`). The lists have the figures of all answers over what they were. So at a record asked for there stand in each list
+-- the figures of the answer that `metrics::answer` gives (`at-list`), and the first places of each list are the figures of all answers,
+-- whose lines the report has (`first-list`): both engines agree (`swept`).
+-- Here d is the decoded file, y its layout, e that it is, own that it is accepted, old what is lent before, table the cleared table, new
+-- what is lent after the pass, f that it is filled, table′ the table cleared again, and after all that is lent then. Assumes nothing.
 use mathlib.Core.Path.{_≡_, refl, sym, ap, _∙_}
 use mathlib.Core.Bool.{Bool, true, false}
 use mathlib.Core.List.{List, _++_, map}

@@ -1,5 +1,5 @@
 -- The pass on plain values: what is lent after the first i records. LentAfter says that the lists hold these records' figures, then what
--- they held, and the table what these records left; one record more is `lent-next`, and after the last `lent-end` gives what the pass
+-- they held, and the table what these records left. One record more is `lent-next`, and after the last `lent-end` gives what the pass
 -- promises. d is the file as read, y its layout, old and new what was lent before and now. Assumes nothing.
 use mathlib.Core.Path.{_≡_, refl, sym, ap, subst, _∙_}
 use mathlib.Core.List.{List, [], _∷_, _++_, map, map-append}

@@ -1,12 +1,12 @@
 -- The figures of record i + 1 by what stands at its packet in the table, the mark, and the table after it. A packet that has arrived has
--- the mark 4,097, and any other 0 or the number of a record, which is at most 4,096; so the mark tells a copy (`is-copy`, `is-new`). The
+-- the mark 4,097, and any other 0 or the number of a record, which is at most 4,096. So the mark tells a copy (`is-copy`, `is-new`). The
 -- mark of a reordered packet is the record of its discontinuity: at that record stand its time in the file (`jump-time`) and its position
 -- in the list of positions (`jump-position`), which give late time and extent (`figures-late`). A copy leaves the table (`held-copy`).
 -- Under a first arrival `mark-more` says what must stand at each packet (`held-new`): where it is reordered only its own mark changes
 -- (`held-late`), and where it is in order the packets that it skips have been filled before (`held-in-order`).
 -- Here d is the decoded file, y its layout, i the records before, number and mark those of record i + 1, k what is known of them, h on
--- which side of 4,096 the mark is, late that the number is below NextExp, t that the table is that after the records before, s any packet's
--- number, which stands at place s - 1, and table′ the table after the record. Assumes nothing.
+-- which side of 4,096 the mark is, late that the number is below NextExp, t that the table is that after the records before, s any
+-- packet's number, which stands at place s - 1, and table′ the table after the record. Assumes nothing.
 use mathlib.Core.Path.{_≡_, refl, sym, ap, _∙_}
 use mathlib.Core.Bool.{Bool, true, false, cond, _&&_}
 use mathlib.Core.List.{List, [], _∷_, _++_}
@@ -127,11 +127,20 @@ module _ (d : Decoded) (y : Layout) (i number mark : ℕ) (state : State) (k : K
     jump-before h late = omega (arith, jump-position h late, at-jump h late .high, k .count)
 
     -- the figures of a reordered packet, by the time of its discontinuity and its own
-    pub figures-late : (h : mark ≤ arrivalsMost) (late : number < state .next) (past own : ℕ) → past ≡ arrivalAt d (mark - 1) .time → own ≡ arrivalAt d i .time
-        → record { flag = reorderedNumber (elapsed past own); position = state .count + 1; extent = state .count + 1 - getD positions (mark - 1) 0; late = amountOf (elapsed past own) }
+    pub figures-late : (h : mark ≤ arrivalsMost) (late : number < state .next) (past own : Arrival)
+        → past ≡ arrivalAt d (mark - 1)
+        → own ≡ arrivalAt d i
+        → record {
+          flag = reorderedNumber (elapsed (past .time) (own .time));
+          position = state .count + 1;
+          extent = state .count + 1 - getD positions (mark - 1) 0;
+          late = amountOf (elapsed (past .time) (own .time));
+        }
         ≡ figuresOf (answerAt d i)
     unfolding figuresOf reorderedAnswer extentFrom lateFrom
-    figures-late h late past own e f =
+    figures-late h late past own p o =
+        let e : past .time ≡ arrivalAt d (mark - 1) .time = ap (λ (a : Arrival). a .time) p in
+        let f : own .time ≡ arrivalAt d i .time = ap (λ (a : Arrival). a .time) o in
         sym (ap figuresOf
         (answer-first (sizeOf d) (before d i) (arrivalAt d i) (is-new h)
         ∙ first-reordered (sizeOf d) (firsts (before d i)) (arrivalAt d i) (omega (arith, k .is, k .next))

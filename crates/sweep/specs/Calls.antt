@@ -1,5 +1,5 @@
--- What the sweep answers, what the lent table and lists hold after it, that both engines give the same, and that moving the clock changes
--- nothing. Assumes nothing.
+-- The answer of the sweep, and the lent table and lists after it. Both engines give the same, and moving the clock changes nothing.
+-- Assumes nothing.
 use mathlib.Core.Path.{_≡_}
 use mathlib.Core.Bool.{Bool, _||_}
 use mathlib.Core.List.{List, []}
@@ -27,7 +27,7 @@ use Rattle.sweep.specs.Figures.{figuresOf, flagsOf, positionsOf, extents
 
 -- ---- what is lent
 
--- the numbers of the table: one for each packet that there can be
+-- the length of the table: one number for each packet that there can be
 abbrev pub tablePlaces : ℕ
 tablePlaces = sentMost
 
@@ -43,7 +43,7 @@ abbrev pub lent : (table flags positions extents lates : List ℕ) → Lent
 lent table flags positions extents lates =
     record { table = table; flags = flags; positions = positions; extents = extents; lates = lates }
 
--- whether a table or one of four lists, of these lengths, is too short for this number of arrivals
+-- whether the table or one of the four lists, of these lengths, is too short for a sample of `arrivals` arrivals
 unfoldable pub lentShort : (arrivals table flags positions extents lates : ℕ) → Bool
 lentShort arrivals table flags positions extents lates =
     ltb table tablePlaces || (ltb flags arrivals || (ltb positions arrivals || (ltb extents arrivals || ltb lates arrivals)))
@@ -61,8 +61,8 @@ abbrev pub cleared : Decoded → List ℕ
 cleared (refused r) = []
 cleared (accepted s) = replicate tablePlaces 0
 
--- what is answered of a decoded file, and what was lent after it: the table's first numbers are 0, the lists have the figures of every
--- record from their start, and all else is as it was
+-- the answer for a decoded file, and what was lent after it. The table's first numbers are 0, the lists have the figures of every record
+-- from their start, and all else is as it was
 pub record Swept (d : Decoded) (old : Lent) (answer : Layout) (new : Lent) : Type 0 where
   pub layout : answer ≡ layoutOf d
   pub table : new .table ≡ over (cleared d) (old .table)
@@ -77,7 +77,7 @@ SweptTo d old answer new = Swept (unlessShort (lentShortFor d old) d) old answer
 
 -- ---- both engines
 
--- what stands in the four lists at a record, counted from 1
+-- what stands in the four lists at the record `asked`, counted from 1
 abbrev pub figuresAt : Lent → ℕ → Figures
 figuresAt l asked =
     record {
@@ -87,13 +87,13 @@ figuresAt l asked =
       late = atRecord 0 (l .lates) asked;
     }
 
--- the second engine gives what the first does: after a sweep that is not refused there stand in the lists, at every record for which
--- `metrics::answer` is not refused, the figures of what that call answers, which is `recordAnswer`
+-- both engines agree. After a sweep that is not refused, the lists have at each record the figures of the answer of `metrics::answer`,
+-- which is `recordAnswer`, unless that call is refused
 pub record EnginesAgree (d : Decoded) (answer : Layout) (new : Lent) : Type 0 where
   pub at : answer .refusal ≡ 0 → (asked : ℕ) → recordAnswer d asked .refusal ≡ 0
       → figuresAt new asked ≡ figuresOf (recordAnswer d asked .answer)
 
--- the report, too: there are answers, one for each record, whose listing is the report that `metrics::listing` writes, and whose figures
+-- the report agrees, too. There are answers, one for each record, whose listing is the report that `metrics::listing` writes. Their figures
 -- stand in the lists after a sweep that is not refused
 pub record ReportAgrees (d : Decoded) (answer : Layout) (new : Lent) : Type 0 where
   pub answers : List Answer
@@ -111,7 +111,7 @@ pub record RowsAgree : Type 0 where
 
 -- ---- moving the clock
 
--- of the moved sample's file the sweep answers and leaves what it does of the file, where no time passes the field's range
+-- the sweep of the moved sample's file returns and leaves the same as that of the file, if no time passes the field's range
 abbrev pub SweepMoved : List ℕ → Type 0
 SweepMoved file =
     (s : Sample) (c : ℕ) → decode file ≡ accepted s → Below (2 ^ 64) (timesOf (movedSample c s .arrivals))

@@ -1,4 +1,4 @@
--- What the sweep answers (Calls, over Figures). Assumes nothing.
+-- The answer of the sweep (Calls, over Figures). Assumes nothing.
 pub mod Figures
 pub mod Calls
 pub mod Private

@@ -1,5 +1,5 @@
--- What private functions say to each other, which no public contract reaches: what the table holds after some arrivals, and what is lent
--- before, during and after the pass over them. Assumes nothing.
+-- Definitions for the contracts of private functions, which no public contract reaches: the table after some arrivals, and the lists
+-- before, during and after the pass. Assumes nothing.
 use mathlib.Core.Path.{_≡_}
 use mathlib.Core.Bool.{cond}
 use mathlib.Core.List.{List}
@@ -21,7 +21,7 @@ use Rattle.sweep.specs.declared.table.State.{State}
 use Rattle.sweep.specs.Figures.{flagsOf, positionsOf, extentsOf, latesOf}
 use Rattle.sweep.specs.Calls.{tablePlaces, Lent}
 
--- what stands at a packet that has arrived: no record has this number
+-- the mark of a packet that has arrived: no record has this number
 abbrev pub arrivedMark : ℕ
 arrivedMark = arrivalsMost + 1
 
@@ -30,12 +30,12 @@ unfoldable pub recordOf : List Arrival → Option FirstArrival → ℕ
 recordOf earlier none = 0
 recordOf earlier (some p) = firstRecord (p .number) earlier
 
--- what stands at packet s after some arrivals: whether it has arrived, else the record of its discontinuity, which is the jump that
--- skipped it; 0 if none has
+-- the mark of packet s after some arrivals: that it has arrived, else the record of its discontinuity, which is the jump that skipped it.
+-- If none has, it is 0
 unfoldable pub markOf : List Arrival → ℕ → ℕ
 markOf earlier s = cond (has s earlier) arrivedMark (recordOf earlier (discontinuity (firsts earlier) s))
 
--- the table, packet s at place s - 1, and the state after some arrivals
+-- the table, packet s at index s - 1, and the state after some arrivals
 pub record TableAfter (earlier : List Arrival) (table : List ℕ) (state : State) : Type 0 where
   pub room : tablePlaces ≤ length table
   pub at : (s : ℕ) → 1 ≤ s → s ≤ tablePlaces → getD table (s - 1) 0 ≡ markOf earlier s
@@ -50,11 +50,11 @@ pub record Room (n : ℕ) (f p e l : List ℕ) : Type 0 where
   pub lates : n ≤ length l
 
 -- a checked file, a table of zeros, and lists with room for every record
-pub record SweepReady (d : Decoded) (y : Layout) (l : Lent) : Type 0 where
-  pub file : FileLayout d y
+pub record SweepReady (d : Decoded) (layout : Layout) (l : Lent) : Type 0 where
+  pub file : FileLayout d layout
   pub table : tablePlaces ≤ length (l .table)
   pub zeros : (k : ℕ) → k < tablePlaces → getD (l .table) k 0 ≡ 0
-  pub lists : Room (y .arrivals) (l .flags) (l .positions) (l .extents) (l .lates)
+  pub lists : Room (layout .arrivals) (l .flags) (l .positions) (l .extents) (l .lates)
 
 -- the four lists after the figures of record i + 1 were put
 pub record Put (i : ℕ) (x : Figures) (f p e l f′ p′ e′ l′ : List ℕ) : Type 0 where
@@ -63,7 +63,7 @@ pub record Put (i : ℕ) (x : Figures) (f p e l f′ p′ e′ l′ : List ℕ) 
   pub extents : e′ ≡ set e i (x .extent)
   pub lates : l′ ≡ set l i (x .late)
 
--- what is lent after the records that have these answers: the lists have their figures from their start, all else but the table's first
+-- what is lent after the records with the answers m: the lists have their figures from their start. All else but the table's first
 -- numbers is as it was
 pub record FilledWith (m : List Answer) (old new : Lent) : Type 0 where
   pub table : drop tablePlaces (new .table) ≡ drop tablePlaces (old .table)

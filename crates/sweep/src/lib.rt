@@ -1,5 +1,5 @@
-// The second engine: after the checks one pass over the arrivals of a sample, with a lent table by packet number. It fills lent
-// lists with the flag, position, extent and late time of every record. The whole is linear in arrivals and packets.
+// The second engine: after the checks one pass over the arrivals of a sample, with a table by packet number in the caller's buffer.
+// It fills the caller's lists with the flag, position, extent and late time of every record. Cost: O(A + K).
 ghost use mathlib.Core.Path.{_≡_};
 ghost use Rattle.sample.specs.Decode.{decode};
 ghost use Rattle.sweep.specs.Calls.{lentShort, lent, SweptTo, EnginesAgree, ReportAgrees, SweepMoved, RowsAgree};
@@ -12,11 +12,11 @@ use rfc4737::refusal::NONE;
 use rfc4737::refusal::OUTPUT_SHORT;
 use sample::Layout;
 use sample::refused_layout;
-use table::PLACES;
+use table::PACKET_TABLE_LEN;
 use table::clear;
 
-// The figures of a record: the number of its answer's case, its position, extent, and the amount of its late time; those
-// that it lacks are 0.
+// The figures of a record: the number of its answer's case, its position, extent, and the amount of its late time. Figures that it
+// lacks are 0.
 pub struct Figures {
     pub flag: u8,
     pub position: u32,
@@ -24,7 +24,7 @@ pub struct Figures {
     pub late: u64,
 }
 
-// Whether a table or one of four lists, of so many places, is too short for so many arrivals.
+// Whether the table or one of the four lists, of these lengths, is too short for a sample of `arrivals` arrivals.
 fn too_short(
     arrivals: u32,
     table: usize,
@@ -36,7 +36,7 @@ fn too_short(
     ensures { λ r. ⌜ r ≡ lentShort arrivals table flags positions extents lates ⌝ }
 {
     let count = arrivals as usize;
-    if table < PLACES {
+    if table < PACKET_TABLE_LEN {
         return true;
     }
     if flags < count {
@@ -51,8 +51,8 @@ fn too_short(
     lates < count
 }
 
-// Fills the lists with the figures of every record of a file, and leaves the first 4,096 numbers of the table at 0,
-// whatever they were. With a refusal table and lists stay as they were. The answer is the check's, or 8.
+// Fills the lists with the figures of every record of a file, and sets the first 4,096 numbers of the table to 0. With a refusal table
+// and lists stay as they were. Returns the layout of `sample::check`, or refusal 8.
 pub fn sweep(
     file: &[u8],
     table: &mut [u16],
@@ -71,12 +71,12 @@ pub fn sweep(
     ensures rows { λ _. ⌜ RowsAgree ⌝ }
     ensures moved { λ _. ⌜ SweepMoved (now (file .entry)) ⌝ }
 {
-    let y = sample::check(file);
-    if y.refusal != NONE {
-        return y;
+    let layout = sample::check(file);
+    if layout.refusal != NONE {
+        return layout;
     }
     if too_short(
-        y.arrivals,
+        layout.arrivals,
         table.len(),
         flags.len(),
         positions.len(),
@@ -86,7 +86,7 @@ pub fn sweep(
         return refused_layout(OUTPUT_SHORT);
     }
     clear(table);
-    pass(file, y, table, flags, positions, extents, lates);
+    pass(file, layout, table, flags, positions, extents, lates);
     clear(table);
-    y
+    layout
 }

@@ -1,4 +1,4 @@
-// The pass over the arrivals: of each record the figures go into the lists, and what it changes into the table.
+// The pass over the arrivals: each record's figures go into the lists, and the table follows.
 ghost use mathlib.Core.Path.{_≡_};
 ghost use Prim.Native.Nat.{_+_, _≤_};
 ghost use lib.ListN.{take, drop};
@@ -19,6 +19,7 @@ use rfc4737::numbering::IN_ORDER;
 use rfc4737::numbering::REORDERED_AFTER;
 use rfc4737::numbering::REORDERED_BEFORE;
 use sample::Layout;
+use sample::widths::ARRIVAL_WIDTH;
 
 // The flags: the numbers of an answer's cases, in one octet.
 const FLAG_IN_ORDER: u8 = IN_ORDER as u8;
@@ -29,10 +30,10 @@ const FLAG_BEFORE: u8 = REORDERED_BEFORE as u8;
 
 const FLAG_DUPLICATE: u8 = DUPLICATE as u8;
 
-// The greatest number of a record: what stands at a packet that has arrived is over it.
+// The greatest number of a record; the mark of a packet that has arrived is over it.
 const RECORDS: usize = ARRIVALS_MOST as usize;
 
-// A number of the table, as a place.
+// A number of the table, as an index.
 fn index_of(x: u16) -> usize
     ensures { λ r. ⌜ r ≡ x ⌝ }
 {
@@ -51,18 +52,18 @@ fn figures(flag: u8, position: u32, extent: u32, late: u64) -> Figures
     }
 }
 
-// The arrival of record i + 1, read where it stands: no test of the file's length is in the loop.
-fn arrival_at(file: &[u8], y: Layout, i: usize) -> Arrival
-    requires { ⌜ HasRecord (decode (now file)) y i ⌝ }
+// The arrival of record i + 1, read where it stands, with no test of the file's length in the loop.
+fn arrival_at(file: &[u8], layout: Layout, i: usize) -> Arrival
+    requires { ⌜ HasRecord (decode (now file)) layout i ⌝ }
     ensures { λ r. ⌜ (r ≡ arrivalAt (decode (now (file .entry))) i) × (1 ≤ r .number) × (r .number ≤ tablePlaces) ⌝ }
 {
-    let start = sample::arrivals_at(y) + 12 * i;
-    let end = start + 12;
+    let start = sample::arrivals_at(layout) + ARRIVAL_WIDTH * i;
+    let end = start + ARRIVAL_WIDTH;
     let twelve = &file[start..end];
     sample::arrival_of(twelve)
 }
 
-// Puts the figures of record i + 1 into the lists.
+// Puts the figures of record i + 1 into the lists at index i.
 fn put_figures(
     flags: &mut [u8],
     positions: &mut [u32],
@@ -82,12 +83,11 @@ fn put_figures(
     lates[place] = f.late;
 }
 
-// Passes record i + 1: its figures into the lists, and what it changes in the table. In all, as many steps as there are
-// arrivals and packets. Each case puts its own figures and returns, so that the compiler decides it by a branch and keeps the
-// lists' places in registers.
+// Passes record i + 1: puts its figures into the lists and notes it in the table. Cost of all records: O(A + K). Each case puts its
+// own figures and returns, so that the compiler decides it by a branch and keeps the lists' addresses in registers.
 fn pass_record(
     file: &[u8],
-    y: Layout,
+    layout: Layout,
     i: u32,
     table: &mut [u16],
     flags: &mut [u8],
@@ -96,14 +96,14 @@ fn pass_record(
     lates: &mut [u64],
     state: State,
 ) -> State
-    requires { ⌜ HasRecord (decode (now file)) y i × TableAfter (before (decode (now file)) i) (now table) state
+    requires { ⌜ HasRecord (decode (now file)) layout i × TableAfter (before (decode (now file)) i) (now table) state
         × Room (i + 1) (now flags) (now positions) (now extents) (now lates) × (take i (now positions) ≡ positionsOf (answersTo (decode (now file)) i)) ⌝ }
     ensures { λ r. ⌜ TableAfter (before (decode (now (file .entry))) (i + 1)) (now (table .exit)) r
         × (drop tablePlaces (now (table .exit)) ≡ drop tablePlaces (now (table .entry)))
         × Put i (figuresOf (answerAt (decode (now (file .entry))) i)) (now (flags .entry)) (now (positions .entry)) (now (extents .entry)) (now (lates .entry))
         (now (flags .exit)) (now (positions .exit)) (now (extents .exit)) (now (lates .exit)) ⌝ }
 {
-    let arrival = arrival_at(file, y, i as usize);
+    let arrival = arrival_at(file, layout, i as usize);
     let number = arrival.number;
     let at = number as usize - 1;
     let mark = index_of(table[at]);
@@ -126,7 +126,7 @@ fn pass_record(
     table[at] = ARRIVED;
     let jump = mark - 1;
     let extent = count - positions[jump];
-    let past = arrival_at(file, y, jump).time;
+    let past = arrival_at(file, layout, jump).time;
     let own = arrival.time;
     if own < past {
         let f = figures(FLAG_BEFORE, count, extent, past - own);
@@ -141,22 +141,32 @@ fn pass_record(
 // Passes over all arrivals, with a table of zeros.
 pub(crate) fn pass(
     file: &[u8],
-    y: Layout,
+    layout: Layout,
     table: &mut [u16],
     flags: &mut [u8],
     positions: &mut [u32],
     extents: &mut [u32],
     lates: &mut [u64],
 )
-    requires { ⌜ SweepReady (decode (now file)) y (lent (now table) (now flags) (now positions) (now extents) (now lates)) ⌝ }
+    requires { ⌜ SweepReady (decode (now file)) layout (lent (now table) (now flags) (now positions) (now extents) (now lates)) ⌝ }
     ensures { λ _. ⌜ FilledWith (answersOf (decode (now (file .entry))))
         (lent (now (table .entry)) (now (flags .entry)) (now (positions .entry)) (now (extents .entry)) (now (lates .entry)))
         (lent (now (table .exit)) (now (flags .exit)) (now (positions .exit)) (now (extents .exit)) (now (lates .exit))) ⌝ }
 {
     let mut state = State { count: 0, next: 1 };
     let mut i: u32 = 0;
-    while i < y.arrivals {
-        state = pass_record(file, y, i, table, flags, positions, extents, lates, state);
+    while i < layout.arrivals {
+        state = pass_record(
+            file,
+            layout,
+            i,
+            table,
+            flags,
+            positions,
+            extents,
+            lates,
+            state,
+        );
         i += 1;
     }
 }

@@ -1,17 +1,18 @@
--- The first line of a text o ∷ t: o alone if it is a line feed (`feed`), else o before the first line of t (`other`). It is the start of the
--- text (`first-taken`), and line n + 1 is line n of what follows it (`next-line`). The search for its end: from an offset `end` before which no
--- line feed stands, as much of the line is left as the text from there begins with (`LeftFrom`). Assumes nothing.
+-- The first line of a text o ∷ t: o alone if it is a line feed (`feed`), else o before the first line of t (`other`). It is the start of
+-- the text (`first-taken`). Line n + 1 is line n of what follows it (`next-line`), and starts as far after it (`next-start`). The search
+-- for its end stands at an offset `end` before which there is no line feed. As much of the line is left as the text from there begins with
+-- (`LeftFrom`). Assumes nothing.
 use Prim.Native.Nat.{ℕ, zero, suc, _+_, _-_, _≤_, _<_}
 use native.Mathlib.Numerals.{add-one}
 use native.Mathlib.Omega.{arith}
 use mathlib.Core.Path.{_≡_, refl, sym, ap, _∙_}
-use mathlib.Core.List.{List, [], _∷_, _++_}
+use mathlib.Core.List.{List, [], _∷_, _++_, flatten}
 use borrow.Author.Tests.{eq-eqb, ne-eqb}
-use lib.ListN.{length, getD, take, drop, drop-of-length-le}
+use lib.ListN.{length, getD, take, drop, length-append, drop-of-length-le}
 use lib.Seq.{drop-cons, drop-at, drop-drop, take-append-seam}
 use Rattle.octets.specs.Text.{lineFeed, inFront, lines}
 use Rattle.octets.proofs.Text.{first-line}
-use Rattle.text_lines.specs.Line.{lineOf, FirstLineEnds}
+use Rattle.text_lines.specs.Line.{lineOf, lineStart, FirstLineEnds}
 
 pub feed : (o : ℕ) (t : List ℕ) → o ≡ lineFeed → lineOf 0 (o ∷ t) ≡ o ∷ []
 unfolding lineOf lines
@@ -34,6 +35,11 @@ next-none : (n : ℕ) → lineOf (suc n) [] ≡ lineOf n (drop (length (lineOf 0
 unfolding lineOf lines
 next-none n = refl
 
+start-none : (n : ℕ) → lineStart (suc n) [] ≡ length (lineOf 0 []) + lineStart n (drop (length (lineOf 0 [])) [])
+unfolding lineOf lineStart lines flatten
+start-none zero = refl
+start-none (suc n) = refl
+
 -- of a text o ∷ t whose first line and rest are known
 module _ (o : ℕ) (t text rest : List ℕ) (split : t ≡ text ++ rest) (lead : lines (o ∷ t) ≡ (o ∷ text) ∷ lines rest) where
   taken-some : lineOf 0 (o ∷ t) ≡ take (length (lineOf 0 (o ∷ t))) (o ∷ t)
@@ -43,6 +49,12 @@ module _ (o : ℕ) (t text rest : List ℕ) (split : t ≡ text ++ rest) (lead :
   next-some : (n : ℕ) → lineOf (suc n) (o ∷ t) ≡ lineOf n (drop (length (lineOf 0 (o ∷ t))) (o ∷ t))
   unfolding lineOf
   next-some n = rw (lead, split) (ap (λ (l : List ℕ). getD (lines l) n []) (sym (drop-at text rest (length text) refl)))
+
+  start-some : (n : ℕ) → lineStart (suc n) (o ∷ t) ≡ length (lineOf 0 (o ∷ t)) + lineStart n (drop (length (lineOf 0 (o ∷ t))) (o ∷ t))
+  unfolding lineOf lineStart flatten
+  start-some n =
+      rw (lead, split) (length-append (o ∷ text) (flatten (take n (lines rest)))
+      ∙ ap (λ (l : List ℕ). length (o ∷ text) + length (flatten (take n (lines l)))) (sym (drop-at text rest (length text) refl)))
 
 -- the first line is the start of the text
 pub first-taken : (t : List ℕ) → lineOf 0 t ≡ take (length (lineOf 0 t)) t
@@ -58,12 +70,34 @@ next-line n (o ∷ t) =
     let f = first-line o t in
     next-some o t (f .text) (f .rest) (f .split) (f .lead) n
 
+-- and starts where that does, after the first line
+next-start : (n : ℕ) (t : List ℕ) → lineStart (suc n) t ≡ length (lineOf 0 t) + lineStart n (drop (length (lineOf 0 t)) t)
+next-start n [] = start-none n
+next-start n (o ∷ t) =
+    let f = first-line o t in
+    start-some o t (f .text) (f .rest) (f .split) (f .lead) n
+
+-- the first line starts at 0
+pub start-first : (t : List ℕ) → lineStart 0 t ≡ 0
+unfolding lineStart flatten
+start-first t = refl
+
 -- the line after the first of what a text has from `at` on
 pub line-after : (text : List ℕ) (at end n : ℕ) → 0 < n → FirstLineEnds text at end → lineOf n (drop at text) ≡ lineOf (n - 1) (drop end text)
 line-after text at end zero h f = absurd (omega arith)
 line-after text at end (suc n) h f =
     let e : suc n - 1 ≡ n = omega arith in
     rw e (next-line n (drop at text) ∙ ap (lineOf n) (drop-drop (length (lineOf 0 (drop at text))) at text ∙ ap (λ (k : ℕ). drop k text) (sym (f .place))))
+
+-- and its start
+pub start-after : (text : List ℕ) (at end n : ℕ) → 0 < n → FirstLineEnds text at end
+    → at + lineStart n (drop at text) ≡ end + lineStart (n - 1) (drop end text)
+start-after text at end zero h f = absurd (omega arith)
+start-after text at end (suc n) h f =
+    let e : suc n - 1 ≡ n = omega arith in
+    let d = drop-drop (length (lineOf 0 (drop at text))) at text ∙ ap (λ (k : ℕ). drop k text) (sym (f .place)) in
+    let s = next-start n (drop at text) ∙ ap (λ (t : List ℕ). length (lineOf 0 (drop at text)) + lineStart n t) d in
+    rw e (omega (arith, s, f .place))
 
 -- the first line of what a text has from `at` on, as a part of it
 pub first-part : (text : List ℕ) (at end : ℕ) → FirstLineEnds text at end → take (end - at) (drop at text) ≡ lineOf 0 (drop at text)

@@ -1,8 +1,8 @@
-// Lines of a text: the line of a number, as a part of the text.
+// Lines of a text: line n, as a part of the text. The public call is total.
 ghost use mathlib.Core.Path.{_≡_};
 ghost use Prim.Native.Nat.{_+_, _≤_};
 ghost use lib.ListN.{length, drop};
-ghost use Rattle.text_lines.specs.Line.{lineOf, FirstLineEnds};
+ghost use Rattle.text_lines.specs.Line.{lineOf, lineStart, FirstLineEnds};
 
 // The offset after the line that begins at `at`: after its line feed, or the end of the text.
 fn line_end(text: &[u8], at: usize) -> usize
@@ -19,9 +19,10 @@ fn line_end(text: &[u8], at: usize) -> usize
     end
 }
 
-// The offset where line n begins, counted from 0; the end of the text where there is none.
+// The offset of line n, counted from 0; the end of the text if there is none.
 fn line_start(text: &[u8], n: usize) -> usize
-    ensures { λ r. ⌜ (r ≤ length (now (text .entry))) × (lineOf n (now (text .entry)) ≡ lineOf 0 (drop r (now (text .entry)))) ⌝ }
+    ensures { λ r. ⌜ (r ≤ length (now (text .entry))) × (lineOf n (now (text .entry)) ≡ lineOf 0 (drop r (now (text .entry))))
+        × (lineStart n (now (text .entry)) ≡ r) ⌝ }
 {
     let mut at = 0;
     let mut left = n;
@@ -32,9 +33,11 @@ fn line_start(text: &[u8], n: usize) -> usize
     at
 }
 
-// Line n of a text, counted from 0, with the line feed that ends it; nothing where there is none. Cost: O(n + octets).
+// Line n of a text, counted from 0, with the line feed that ends it, as a part of the text. If there is no line n, the empty part at
+// the end of the text. Cost: O(n + octets).
 pub fn line_of(text: &[u8], n: usize) -> &[u8]
-    ensures { λ r. ⌜ now r ≡ lineOf n (now (text .entry)) ⌝ }
+    ensures { λ r. ⌜ (now r ≡ lineOf n (now (text .entry)))
+        × (r .ptr ≡ (text .entry .ptr .0, lineStart n (now (text .entry)) + text .entry .ptr .1)) ⌝ }
 {
     let start = line_start(text, n);
     let end = line_end(text, start);

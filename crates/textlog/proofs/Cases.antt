@@ -8,11 +8,11 @@ use Rattle.rfc4737.specs.Refusals.{outside}
 use Rattle.rfc4737.specs.Times.{tooEarly, nextReference}
 use Rattle.sample.specs.Format.{itemOctets}
 use Rattle.textlog.specs.Form.{lineOf}
-use Rattle.textlog.specs.Decode.{isDecimalMark, inRange, fractionIn, timeIn, lineIn, decodeLine, judgeLines, judgeLog}
+use Rattle.textlog.specs.Decode.{isDecimalMark, inRange, fractionIn, timeIn, lineIn, decodeLine, judgeLines, judgeDecoded}
 use Rattle.textlog.specs.Cases.{LinesReadAsGiven, LinesWrittenAsGiven}
 
 pub read-as-given : LinesReadAsGiven
-unfolding digit isDecimalMark digitCount inRange fractionIn timeIn lineIn decodeLine outside decimalValue lines judgeLines judgeLog judgeOne tooEarly nextReference
+unfolding digit isDecimalMark digitCount inRange fractionIn timeIn lineIn decodeLine outside decimalValue lines judgeLines judgeDecoded judgeOne tooEarly nextReference
 read-as-given = record { decoded = refl; judged = refl }
 
 pub written-as-given : LinesWrittenAsGiven

@@ -1,7 +1,7 @@
--- What has the form of a line, and fits, is read, whatever follows it (u). By cases of the form: its digits are those with which the text
--- begins, since the octet after them, a line feed, a mark or a semicolon, is no digit (`begins-with`); so each test of the reading goes the way of the
--- form, and what follows is read in turn: decimals, a time, a line.
--- Here n is the number, τ the time, w the milliseconds, ds the decimals, at the place, e the end. Assumes nothing.
+-- What has the form of a line, and fits, is read, whatever follows it (u). The digits of the form are those with which the text begins: the
+-- octet after them, a line feed, a mark or a semicolon, is no digit (`begins-with`). So each test of the reading goes the way of the form,
+-- and what follows is read in turn: decimals, a time, a line.
+-- Here n is the number, τ the time, w the milliseconds, ds the decimals, at the offset, e the end. Assumes nothing.
 use Prim.Native.Nat.{ℕ, _+_, _*_, _≤_}
 use native.Mathlib.Omega.{arith}
 use mathlib.Core.Path.{_≡_}

@@ -1,9 +1,8 @@
--- The lines of a log in turn. What the first line decodes to decides, or the lines after it do (`judge-first`). In the loop the answer of all
--- lines is that of those from the place `at` on (inv). A line that is read there is their first, and the rest are those from its end on
--- (`read`): it is the 4,097th, or its arrival is refused, or the rest decides (`judge-many`, `judge-stop`, `judge-next`). Where none is read
--- the first line is malformed (`judge-bad`), and at the end none is left (`judge-done`).
--- Here r is a refusal, y an answer, l a line and ls those after it, d what a line decodes to, a its arrival; n, τ and end are what is read, and
--- `count` lines come before it. Assumes nothing.
+-- Decoded lines in turn. The first line decides, or the lines after it do (`judge-first`). In a loop the answer of all lines is that of
+-- those that are left (inv), of which the first is malformed (`judge-bad`), or is the 4,097th (`judge-many`), or its arrival is refused
+-- (`judge-stop`), or those after it decide (`judge-next`); at the end none is left (`judge-done`, `none-left`).
+-- Here r is a refusal, y an answer, d what a line decodes to and ds what those after it do, a its arrival; `count` lines
+-- come before it, and J is the answer of all lines. Assumes nothing.
 use Prim.Native.Nat.{ℕ, zero, suc, _+_, _≤_, _<_}
 use native.Mathlib.Omega.{arith}
 use mathlib.Core.Path.{_≡_, refl, sym, ap, _∙_}
@@ -16,10 +15,8 @@ use Rattle.rfc4737.specs.Judge.{arrivalsMost, judgeOne}
 use Rattle.rfc4737.specs.Refusals.{manyArrivals, lineMalformed}
 use Rattle.rfc4737.specs.Times.{nextReference}
 use Rattle.rfc4737.proofs.Due.{first-one}
-use Rattle.textlog.specs.Decode.{lineIn, DecodedLine, malformed, arrived, decodeLine, arrivalOr0, judgeLine, unless, judgeLines}
+use Rattle.textlog.specs.Decode.{DecodedLine, malformed, arrived, decodedLines, arrivalOr0, judgeLine, unless, judgeLines}
 use Rattle.textlog.specs.declared.LogJudgement.{LogJudgement}
-use Rattle.textlog.specs.declared.reading.Reading.the-variants.{Read, Malformed}
-use Rattle.textlog.proofs.Lines.{line-read, line-unread}
 
 -- ---- an answer, unless a refusal is due
 
@@ -40,71 +37,69 @@ unless-split (suc r) line y e = absurd (omega arith)
 
 -- ---- the first line decides, or what is left does
 
-module _ (k count reference : ℕ) (l : List ℕ) (ls : List (List ℕ)) where
+module _ (k count reference : ℕ) (ds : List DecodedLine) where
   -- by what it decodes to
-  pub judge-first : (d : DecodedLine) → decodeLine l ≡ d
-      → judgeLines k count reference (l ∷ ls)
-      ≡ unless (judgeLine k count reference d) (count + 1) (judgeLines k (count + 1) (nextReference reference (arrivalOr0 d .time)) ls)
+  pub judge-first : (d : DecodedLine)
+      → judgeLines k count reference (d ∷ ds)
+      ≡ unless (judgeLine k count reference d) (count + 1) (judgeLines k (count + 1) (nextReference reference (arrivalOr0 d .time)) ds)
   unfolding judgeLines
-  judge-first d g =
-      ap (λ (x : DecodedLine). unless (judgeLine k count reference x) (count + 1) (judgeLines k (count + 1) (nextReference reference (arrivalOr0 x .time)) ls)) g
+  judge-first d = refl
 
-  -- an arrival among the first 4,096: its own refusal is that of its line
-  few-one : (a : Arrival) → count < arrivalsMost → judgeLine k count reference (arrived a) ≡ judgeOne k reference a
-  few-one a few = rw (lt-leb arrivalsMost count few) (first-one (judgeOne k reference a))
+  module _ (a : Arrival) where
+    -- it is line 4,097
+    pub judge-over : arrivalsMost ≤ count → judgeLines k count reference (arrived a ∷ ds) ≡ record { refusal = manyArrivals; arrivals = 0; line = count + 1 }
+    judge-over h = judge-first (arrived a) ∙ rw (le-leb arrivalsMost count h)
 
-  -- an arrival of which nothing is refused
-  pub judge-passed : (a : Arrival) → decodeLine l ≡ arrived a → count < arrivalsMost → judgeOne k reference a ≡ 0
-      → judgeLines k count reference (l ∷ ls) ≡ judgeLines k (count + 1) (nextReference reference (a .time)) ls
-  judge-passed a g few j = judge-first (arrived a) g ∙ unless-none _ (count + 1) _ (few-one a few ∙ j)
+    -- an arrival among the first 4,096: its own refusal is that of its line
+    few-one : count < arrivalsMost → judgeLine k count reference (arrived a) ≡ judgeOne k reference a
+    few-one few = rw (lt-leb arrivalsMost count few) (first-one (judgeOne k reference a))
+
+    -- it is refused
+    pub judge-refused : count < arrivalsMost → (judgeOne k reference a ≡ 0 → ⊥)
+        → judgeLines k count reference (arrived a ∷ ds) ≡ record { refusal = judgeOne k reference a; arrivals = 0; line = count + 1 }
+    judge-refused few z =
+        judge-first (arrived a)
+        ∙ ap (λ (x : ℕ). unless x (count + 1) (judgeLines k (count + 1) (nextReference reference (a .time)) ds)) (few-one few)
+        ∙ unless-due (judgeOne k reference a) (count + 1) (judgeLines k (count + 1) (nextReference reference (a .time)) ds) z
+
+    -- nothing of it is refused
+    pub judge-passed : count < arrivalsMost → judgeOne k reference a ≡ 0
+        → judgeLines k count reference (arrived a ∷ ds) ≡ judgeLines k (count + 1) (nextReference reference (a .time)) ds
+    judge-passed few j = judge-first (arrived a) ∙ unless-none _ (count + 1) _ (few-one few ∙ j)
 
 -- ---- the loop: the answer of the whole is that of what is left
 
-module _ (k : ℕ) (log : List ℕ) (count reference at : ℕ)
-    (inv : judgeLines k 0 0 (lines log) ≡ judgeLines k count reference (lines (drop at log))) where
-  -- no line is read
-  pub judge-bad : at < length log → lineIn at (drop at log) ≡ Malformed
-      → record { refusal = lineMalformed; arrivals = 0; line = count + 1 } ≡ judgeLines k 0 0 (lines log)
-  judge-bad h e =
-      let b = line-unread log at h e in
-      sym (inv ∙ ap (judgeLines k count reference) (b .lead) ∙ judge-first k count reference (b .text) (b .others) malformed (b .gives))
+module _ (k : ℕ) (J : LogJudgement) (count reference : ℕ) (left : List DecodedLine) (inv : J ≡ judgeLines k count reference left) where
+  -- the next line is malformed
+  pub judge-bad : {ds : List DecodedLine} → left ≡ malformed ∷ ds → record { refusal = lineMalformed; arrivals = 0; line = count + 1 } ≡ J
+  judge-bad {ds} e = sym (inv ∙ ap (judgeLines k count reference) e ∙ judge-first k count reference ds malformed)
 
   -- no line is left
-  pub judge-done : length log ≤ at → record { refusal = 0; arrivals = count; line = 0 } ≡ judgeLines k 0 0 (lines log)
-  unfolding judgeLines lines
-  judge-done h = sym (inv ∙ ap (λ (x : List ℕ). judgeLines k count reference (lines x)) (drop-of-length-le log h))
+  pub judge-done : left ≡ [] → record { refusal = 0; arrivals = count; line = 0 } ≡ J
+  unfolding judgeLines
+  judge-done e = sym (inv ∙ ap (judgeLines k count reference) e)
 
-  module _ (n τ end : ℕ) (e : lineIn at (drop at log) ≡ Read n τ end) where
-    -- a line is read
-    read : judgeLines k 0 0 (lines log)
-        ≡ unless (judgeLine k count reference (arrived (record { number = n; time = τ }))) (count + 1)
-        (judgeLines k (count + 1) (nextReference reference τ) (lines (drop end log)))
-    read =
-        let b = line-read log at e in
-        inv
-        ∙ ap (judgeLines k count reference) (b .lead)
-        ∙ judge-first k count reference (b .text) (lines (drop end log)) (arrived (record { number = n; time = τ })) (b .gives)
+  module _ (a : Arrival) (ds : List DecodedLine) (e : left ≡ arrived a ∷ ds) where
+    next : J ≡ judgeLines k count reference (arrived a ∷ ds)
+    next = inv ∙ ap (judgeLines k count reference) e
 
     -- it is line 4,097
-    pub judge-many : arrivalsMost ≤ count → record { refusal = manyArrivals; arrivals = 0; line = count + 1 } ≡ judgeLines k 0 0 (lines log)
-    judge-many h = sym (read ∙ rw (le-leb arrivalsMost count h))
+    pub judge-many : arrivalsMost ≤ count → record { refusal = manyArrivals; arrivals = 0; line = count + 1 } ≡ J
+    judge-many h = sym (next ∙ judge-over k count reference ds a h)
 
-    module _ (few : count < arrivalsMost) (r : ℕ) (j : r ≡ judgeOne k reference (record { number = n; time = τ })) where
-      one : judgeLine k count reference (arrived (record { number = n; time = τ })) ≡ r
-      one = few-one k count reference [] [] (record { number = n; time = τ }) few ∙ sym j
-
+    module _ (few : count < arrivalsMost) (r : ℕ) (j : r ≡ judgeOne k reference a) where
       -- it is refused
-      pub judge-stop : (r ≡ 0 → ⊥) → record { refusal = r; arrivals = 0; line = count + 1 } ≡ judgeLines k 0 0 (lines log)
+      pub judge-stop : (r ≡ 0 → ⊥) → record { refusal = r; arrivals = 0; line = count + 1 } ≡ J
       judge-stop z =
-          sym
-          (read
-          ∙ ap (λ (x : ℕ). unless x (count + 1) (judgeLines k (count + 1) (nextReference reference τ) (lines (drop end log)))) one
-          ∙ unless-due r (count + 1) (judgeLines k (count + 1) (nextReference reference τ) (lines (drop end log))) z)
+          ap (λ (x : ℕ). record { refusal = x; arrivals = 0; line = count + 1 }) j
+          ∙ sym (next ∙ judge-refused k count reference ds a few (λ q. z (j ∙ q)))
 
       -- it is not
-      pub judge-next : r ≡ 0 → {reference′ : ℕ} → reference′ ≡ nextReference reference τ
-          → judgeLines k 0 0 (lines log) ≡ judgeLines k (count + 1) reference′ (lines (drop end log))
+      pub judge-next : r ≡ 0 → {reference′ : ℕ} → reference′ ≡ nextReference reference (a .time) → J ≡ judgeLines k (count + 1) reference′ ds
       judge-next z f =
-          read
-          ∙ unless-none _ (count + 1) _ (one ∙ z)
-          ∙ ap (λ (x : ℕ). judgeLines k (count + 1) x (lines (drop end log))) (sym f)
+          next ∙ judge-passed k count reference ds a few (sym j ∙ z) ∙ ap (λ (x : ℕ). judgeLines k (count + 1) x ds) (sym f)
+
+-- where the log ends no line is left
+pub none-left : (log : List ℕ) (at : ℕ) → length log ≤ at → decodedLines (drop at log) ≡ []
+unfolding lines
+none-left log at h = ap decodedLines (drop-of-length-le log h)

@@ -1,7 +1,7 @@
--- A text by the digits with which it begins, the octet after them, and what follows that. A text made of digits ds, an octet o that is none,
--- and u is found to be so: the count stops at o, by induction on the digits (`begins-with`). Any text t begins with the digits that are counted, by
--- induction with each octet a digit or not (`digits-lead`); and where the octet after them is not 0 it stands in the text, as past the end 0 is
--- read (`present`), so t is these three parts (`begins`). Assumes nothing.
+-- A text by the digits with which it begins, the octet after them, and what follows that. A text may be made of digits ds, an octet o that
+-- is none, and u. Then the count stops at o, by induction on the digits (`begins-with`). Any text t begins with the digits that are
+-- counted, by induction with each octet a digit or not (`digits-lead`). Where the octet after them is not 0 it stands in the text, as past
+-- the end 0 is read (`present`), so t is these three parts (`begins`). Assumes nothing.
 use Prim.Native.Nat.{ℕ, zero, suc, _+_, _≤_, _<_}
 use native.Mathlib.Numerals.{add-one}
 use native.Mathlib.Omega.{arith}

@@ -2,12 +2,13 @@
 mod LeadingDigits
 mod ReadHasForm
 mod FormIsRead
-mod Lines
+pub mod Lines
 mod LinesAtPlaces
-mod Judging
+pub mod Judging
+pub mod PartFilled
 pub mod Filling
 pub mod Accepted
 pub mod Answers
 mod WrittenLines
-mod RoundTrips
+pub mod RoundTrips
 mod Cases

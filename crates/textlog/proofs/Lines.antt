@@ -1,15 +1,16 @@
 -- The lines of a log. A line of the form has a line feed at its end and no other, so it is the first line of a text that begins with it
--- (`line-first`). A line decodes exactly if it has the form and fits (`exact-line`): `complete` reads what has the form, to its end; `sound`
--- gives the form of what is read, and as it is read to its end nothing is left over. So what is read at a place of a log is the first line from
--- there on, and the others are those of what follows (`line-read`); and where nothing is read the first line is malformed, since otherwise it
--- would be read (`line-unread`).
--- Here l and text are lines, a is an arrival, n its number, τ its time, u what follows a line; at and end are places in the log. Assumes nothing.
+-- (`line-first`). A line decodes exactly if it has the form and fits (`exact-line`): `complete` reads what has the form, to its end;
+-- `sound` gives the form of what is read, and as it is read to its end nothing is left over. So what is read at a place of a log is the
+-- first line from there on, and the others are those of what follows (`line-read`); and where nothing is read the first line is malformed,
+-- since otherwise it would be read (`line-unread`); both are said of what the lines decode to.
+-- Here l and text are lines, a is an arrival, n its number, τ its time, u what follows a line; at and end are places in the log. Assumes
+-- nothing.
 use Prim.Native.Nat.{ℕ, suc, _+_, _≤_, _<_}
 use native.Mathlib.Nat.{zero-add}
 use native.Mathlib.Omega.{arith}
 use mathlib.Core.Bool.{Bool, true, false, cond}
 use mathlib.Core.Path.{_≡_, refl, sym, ap, _∙_, subst}
-use mathlib.Core.List.{List, [], _∷_, _++_, append-assoc, append-nil}
+use mathlib.Core.List.{List, [], _∷_, _++_, map, append-assoc, append-nil}
 use borrow.Author.Tests.{eq-eqb, ne-eqb, eqb-true}
 use lib.Dec.{eqb}
 use lib.ListN.{length, getD, drop, length-append}
@@ -18,7 +19,7 @@ use Rattle.octets.specs.Text.{lineFeed, lines}
 use Rattle.octets.proofs.Text.{Plain, none, some, plain-append, plain-line, first-line}
 use Rattle.rfc4737.specs.declared.Arrival.{Arrival}
 use Rattle.textlog.specs.Form.{semicolon, numberMost, Digits, one, more, byComma, byPoint, Time, whole, parted, Line, line, LineFits}
-use Rattle.textlog.specs.Decode.{lineIn, DecodedLine, malformed, arrived, readWhole, decodeLine}
+use Rattle.textlog.specs.Decode.{lineIn, DecodedLine, malformed, arrived, readWhole, decodeLine, decodedLines}
 use Rattle.textlog.specs.RoundTrip.{ExactLine}
 use Rattle.textlog.specs.declared.reading.Reading.{Reading}
 use Rattle.textlog.specs.declared.reading.Reading.the-variants.{Read, Malformed}
@@ -87,11 +88,14 @@ exact-line = λ l a. (decoded l a, decodes l a)
 
 -- ---- what is read at a place of a log, and the first line from there on
 
+-- the lines of a text by its first line and the others, decoded
+decoded-first : (t : List ℕ) {text : List ℕ} {others : List (List ℕ)} {d : DecodedLine} → lines t ≡ text ∷ others → decodeLine text ≡ d
+    → decodedLines t ≡ d ∷ map decodeLine others
+decoded-first t {others = others} l g = ap (map decodeLine) l ∙ ap (λ (x : DecodedLine). x ∷ map decodeLine others) g
+
 -- a line is read there: it is the first, and the others are those of what follows
 pub record FirstLine (log : List ℕ) (at n τ end : ℕ) : Type 0 where
-  pub text : List ℕ
-  pub lead : lines (drop at log) ≡ text ∷ lines (drop end log)
-  pub gives : decodeLine text ≡ arrived (record { number = n; time = τ })
+  pub lead : decodedLines (drop at log) ≡ arrived (record { number = n; time = τ }) ∷ decodedLines (drop end log)
   pub onward : at < end
   pub number : n ≤ numberMost
 
@@ -104,9 +108,9 @@ line-read log at {n} {τ} {end} h =
     ∙ ap (drop (length (s .text))) (s .whole)
     ∙ drop-at (s .text) (s .rest) (length (s .text)) refl in
     record {
-      text = s .text;
-      lead = ap lines (s .whole) ∙ line-first (s .form) (s .rest) ∙ ap (λ (x : List ℕ). s .text ∷ lines x) (sym d);
-      gives = decodes (s .text) (record { number = n; time = τ }) (record { form = s .form; number = s .number; time = s .time });
+      lead =
+          decoded-first (drop at log) (ap lines (s .whole) ∙ line-first (s .form) (s .rest) ∙ ap (λ (x : List ℕ). s .text ∷ lines x) (sym d))
+          (decodes (s .text) (record { number = n; time = τ }) (record { form = s .form; number = s .number; time = s .time }));
       onward = omega (arith, s .ends, long (s .form));
       number = s .number;
     }
@@ -116,10 +120,8 @@ line-read log at {n} {τ} {end} h =
 
 -- none is: the first line is malformed
 pub record MalformedLine (log : List ℕ) (at : ℕ) : Type 0 where
-  pub text : List ℕ
-  pub others : List (List ℕ)
-  pub lead : lines (drop at log) ≡ text ∷ others
-  pub gives : decodeLine text ≡ malformed
+  pub others : List DecodedLine
+  pub lead : decodedLines (drop at log) ≡ malformed ∷ others
 
 pub line-unread : (log : List ℕ) (at : ℕ) → at < length log → lineIn at (drop at log) ≡ Malformed → MalformedLine log at
 line-unread log at h e =
@@ -130,7 +132,7 @@ line-unread log at h e =
   where
     go : (text rest : List ℕ) (others : List (List ℕ)) → drop at log ≡ text ++ rest → lines (drop at log) ≡ text ∷ others
         → (d : DecodedLine) → decodeLine text ≡ d → MalformedLine log at
-    go text rest others w l malformed g = record { text = text; others = others; lead = l; gives = g }
+    go text rest others w l malformed g = record { others = map decodeLine others; lead = decoded-first (drop at log) l g }
     go text rest others w l (arrived a) g =
         let f = decoded text a g in
         let r : lineIn at (drop at log) ≡ Read (a .number) (a .time) (at + length text) =

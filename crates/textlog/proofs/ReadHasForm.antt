@@ -1,9 +1,9 @@
 -- What is read of a text t has the form of a line, and fits. Each test on the way was passed (`kept`, `passed`), so the digits with which t
--- begins, the octet after them and what follows are the parts of the form; first of the decimals (`fraction-sound`), then of a time, with
--- decimals or without (`time-sound`), then of a line (`sound`). The records `FractionStands`, `TimeStands` and `LineStands` say which octets these
--- are, what they give and where they end.
--- Here at is the place of t in the log; n and τ are the number and the time that are read, e or end where the line ends, w the milliseconds, ds
--- the decimals, ts a time. Assumes nothing.
+-- begins, the octet after them and what follows are the parts of the form. So it goes for the decimals (`fraction-sound`), for a time, with
+-- decimals or without (`time-sound`), and for a line (`sound`). The records `FractionStands`, `TimeStands` and `LineStands` say which
+-- octets these are, what they give and where they end.
+-- Here at is the offset of t in the log; n and τ are the number and the time that are read, e or end where the line ends, w the
+-- milliseconds, ds the decimals, ts a time. Assumes nothing.
 use Prim.Native.Nat.{ℕ, suc, _+_, _*_, _≤_}
 use native.Mathlib.Omega.{arith}
 use mathlib.Core.Bool.{Bool, true, false, cond}

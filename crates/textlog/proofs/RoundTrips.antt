@@ -1,15 +1,15 @@
--- A log of the form is read as its arrivals: by induction over the form its first line is the first of the lines and decodes to the arrival
--- (`form-arrivals`), and no line is refused where no arrival is (`form-judged`); with Accepted.antt, a log is not refused exactly if it has the
--- form of arrivals that are not refused (`exact-log`). A written log has the form: digits of a number, by induction over them, three decimals,
--- a time, a line, then lines in turn (`log-form`). So what is written reads back (`read-again`): without a refusal the log stands at the start,
--- and there is room for its arrivals.
--- Here k is K, l are arrivals and a is one, rest those after it, n a number, t a time, d a digit's value. In `read-again` w and r say what was
--- written and read, out, numbers₀ and times₀ are what was lent, and with ′ what is left. Assumes nothing.
+-- A log of the form is read as its arrivals: by induction over the form its first line is the first of the lines and decodes to the
+-- arrival (`form-decoded`, `form-arrivals`), and no line is refused where no arrival is (`form-judged`); with Accepted.antt, a log is not
+-- refused exactly if it has the form of arrivals that are not refused (`exact-log`). A written log has the form: digits of a number, by
+-- induction over them, three decimals, a time, a line, then lines in turn (`log-form`). So what is written reads back (`read-again`):
+-- without a refusal the log stands at the start, and there is room for its arrivals.
+-- Here k is K, l are arrivals and a is one, rest those after it, n a number, t a time, d a digit's value. In `read-again` w and r say what
+-- was written and read, out, numbers₀ and times₀ are what was lent, and with ′ what is left. Assumes nothing.
 use Prim.Native.Nat.{ℕ, _+_, _*_, _/_, _%_, _^_, _≤_, _<_}
 use native.Mathlib.Nat.{add-zero, zero-add}
 use native.Mathlib.Omega.{arith}
 use mathlib.Core.Path.{_≡_, refl, sym, ap, _∙_, subst}
-use mathlib.Core.List.{List, [], _∷_, _++_, append-assoc}
+use mathlib.Core.List.{List, [], _∷_, _++_, map, append-assoc}
 use lib.ListN.{length, take, length-map}
 use Rattle.octets.specs.Memory.{over}
 use Rattle.octets.specs.Below.{Below}
@@ -26,47 +26,57 @@ use Rattle.sample.specs.Format.{itemOctets}
 use Rattle.sample.proofs.Output.{own-none, output-read}
 use Rattle.sample.specs.Output.{ifNone}
 use Rattle.textlog.specs.Form.{semicolon, comma, numberMost, Digits, one, more, byComma, thousandths, threeDigits, Time, parted, Line, line, Log, none, after, lineOf, logOf}
-use Rattle.textlog.specs.Decode.{DecodedLine, arrivalOr0, arrivalsOfLines, logArrivals, unless, judgeLines, judgeLog}
+use Rattle.textlog.specs.Decode.{DecodedLine, arrived, decodeLine, decodedLines, arrivalsOfLines, logArrivals, unless, judgeLines, judgeDecoded, judgeLog}
 use Rattle.textlog.specs.Calls.{importRefusal}
 use Rattle.textlog.specs.RoundTrip.{ExactLog, LogReadAgain}
 use Rattle.textlog.specs.declared.LogJudgement.{LogJudgement}
 use Rattle.textlog.proofs.Lines.{decodes, line-first}
 use Rattle.textlog.proofs.Judging.{judge-passed}
-use Rattle.textlog.proofs.Accepted.{accepted-log, accepted-lists}
+use Rattle.textlog.proofs.Accepted.{accepted-form, accepted-lists}
 use Rattle.textlog.proofs.Answers.{import-fits}
 
 -- ---- a log of the form is read as its arrivals
 
+-- its decoded lines
+pub form-decoded : {log : List ℕ} {l : List Arrival} → Log log l → decodedLines log ≡ map arrived l
+unfolding lines
+form-decoded none = refl
+form-decoded (after {l} {log} {a} {rest} f g) =
+    ap (map decodeLine) (line-first (f .form) log)
+    ∙ ap (λ (d : DecodedLine). d ∷ decodedLines log) (decodes l a f)
+    ∙ ap (λ (ds : List DecodedLine). arrived a ∷ ds) (form-decoded g)
+
+-- the arrivals of decoded lines, each of which is one
+pub arrived-back : (l : List Arrival) → arrivalsOfLines (map arrived l) ≡ l
+unfolding arrivalsOfLines
+arrived-back [] = refl
+arrived-back (a ∷ l) = ap (λ (y : List Arrival). a ∷ y) (arrived-back l)
+
 -- its arrivals
 form-arrivals : {log : List ℕ} {l : List Arrival} → Log log l → logArrivals log ≡ l
-unfolding lines arrivalsOfLines
-form-arrivals none = refl
-form-arrivals (after {l} {log} {a} {rest} f g) =
-    ap arrivalsOfLines (line-first (f .form) log)
-    ∙ ap (λ (d : DecodedLine). arrivalOr0 d ∷ logArrivals log) (decodes l a f)
-    ∙ ap (λ (y : List Arrival). a ∷ y) (form-arrivals g)
+form-arrivals {log} {l} g = ap arrivalsOfLines (form-decoded g) ∙ arrived-back l
 
 -- where no arrival is refused, no line is
-form-judged : (k count reference : ℕ) {log : List ℕ} {l : List Arrival} → Log log l → judge k reference l ≡ 0 → count + length l ≤ arrivalsMost
-    → judgeLines k count reference (lines log) ≡ record { refusal = 0; arrivals = count + length l; line = 0 }
-unfolding lines judgeLines
-form-judged k count reference none j few = ap (λ (n : ℕ). record { refusal = 0; arrivals = n; line = 0 }) (sym (add-zero count))
-form-judged k count reference (after {l} {log} {a} {rest} f g) j few =
+form-judged : (k count reference : ℕ) (l : List Arrival) → judge k reference l ≡ 0 → count + length l ≤ arrivalsMost
+    → judgeLines k count reference (map arrived l) ≡ record { refusal = 0; arrivals = count + length l; line = 0 }
+unfolding judgeLines
+form-judged k count reference [] j few = ap (λ (n : ℕ). record { refusal = 0; arrivals = n; line = 0 }) (sym (add-zero count))
+form-judged k count reference (a ∷ rest) j few =
     let s = judge-split k reference a rest j in
     let n : count + 1 + length rest ≡ count + length (a ∷ rest) = omega arith in
-    ap (judgeLines k count reference) (line-first (f .form) log)
-    ∙ judge-passed k count reference l (lines log) a (decodes l a f) (omega arith) (s .0)
-    ∙ form-judged k (count + 1) (nextReference reference (a .time)) g (s .1) (omega arith)
+    judge-passed k count reference (map arrived rest) a (omega arith) (s .0)
+    ∙ form-judged k (count + 1) (nextReference reference (a .time)) rest (s .1) (omega arith)
     ∙ ap (λ (n : ℕ). record { refusal = 0; arrivals = n; line = 0 }) n
 
 -- so the log is not refused where its arrivals, as lists, are not
 form-read : (k : ℕ) {log : List ℕ} {l : List Arrival} → Log log l → judge k 0 l ≡ 0 → ListsFit k (numbersOf l) (timesOf l)
     → judgeLog k log ≡ record { refusal = 0; arrivals = length l; line = 0 }
-unfolding judgeLog
+unfolding judgeDecoded
 form-read k {log} {l} g j f =
     let n : length (numbersOf l) ≡ length l = length-map l _ in
-    ap (λ (x : ℕ). unless x 0 (judgeLines k 0 0 (lines log))) (f .sent)
-    ∙ form-judged k 0 0 g j (omega (arith, f .few))
+    ap (λ (x : ℕ). unless x 0 (judgeLines k 0 0 (decodedLines log))) (f .sent)
+    ∙ ap (judgeLines k 0 0) (form-decoded g)
+    ∙ form-judged k 0 0 l j (omega (arith, f .few))
     ∙ ap (λ (n : ℕ). record { refusal = 0; arrivals = n; line = 0 }) (zero-add (length l))
 
 -- a log is not refused exactly if it has the form of arrivals of which nothing is refused
@@ -75,8 +85,8 @@ exact-log k log l = (there, back)
   where
     there : (judgeLog k log .refusal ≡ 0) × (logArrivals log ≡ l) → Log log l × (refusalOfLists k (numbersOf l) (timesOf l) ≡ 0)
     there h = (
-      subst (λ (x : List Arrival). Log log x) (h .1) (accepted-log k log (h .0) .form),
-      subst (λ (x : List Arrival). refusalOfLists k (numbersOf x) (timesOf x) ≡ 0) (h .1) (accepted-lists k log (h .0)),
+      subst (λ (x : List Arrival). Log log x) (h .1) (accepted-form k log (h .0)),
+      subst (λ (x : List Arrival). refusalOfLists k (numbersOf x) (timesOf x) ≡ 0) (h .1) (accepted-lists k (decodedLines log) (h .0)),
     )
 
     back : Log log l × (refusalOfLists k (numbersOf l) (timesOf l) ≡ 0) → (judgeLog k log .refusal ≡ 0) × (logArrivals log ≡ l)
@@ -149,8 +159,8 @@ read-again k numbers times b out out′ numbers₀ times₀ numbers′ times′ 
     let m : length (logArrivals (logOf (arrivalsFrom numbers times))) ≡ length numbers = ap length (form-arrivals g) ∙ l in
     let y : read .refusal ≡ 0 =
     r .refusal
-    ∙ ap (importRefusal k (length numbers₀) (length times₀)) t
-    ∙ import-fits k (length numbers₀) (length times₀) (logOf (arrivalsFrom numbers times)) (ap (λ (x : LogJudgement). x .refusal) j) (omega arith) (omega (arith, f .same)) in
+    ∙ ap (λ (x : List ℕ). importRefusal k (length numbers₀) (length times₀) (decodedLines x)) t
+    ∙ import-fits k (length numbers₀) (length times₀) (decodedLines (logOf (arrivalsFrom numbers times))) (ap (λ (x : LogJudgement). x .refusal) j) (omega arith) (omega (arith, f .same)) in
     let a : logArrivals (take (written .length) out′) ≡ arrivalsFrom numbers times = ap logArrivals t ∙ form-arrivals g in
     let n = r .arrivals ∙ ap (λ (x : ℕ). ifNone x (length (logArrivals (take (written .length) out′))) 0) y ∙ ap length a ∙ l in (
       (λ i. record { refusal = y i; arrivals = n i }),

@@ -1,7 +1,8 @@
--- The written form. A line is the digits of the number x, a semicolon, the digits of the milliseconds y, and z, a comma, three decimals and a line
--- feed; put one behind the other, each where the one before ends, these are one put of the line (`put-parts`). The log of the first i + 1 arrivals is
--- that of the first i and one line more (`log-next`), is never longer than the whole (`log-part`), and is the whole at the end. first and third are
--- the places of the semicolon and of z, old memory before and o₁ to o₄ after each put; same says that both lists are equally long. Assumes nothing.
+-- The written form. A line is the digits of the number x, a semicolon, the digits of the milliseconds y, and z, a comma, three decimals and
+-- a line feed. Put one behind the other, each where the one before ends, these are one put of the line (`put-parts`). The log of the first
+-- i + 1 arrivals is that of the first i and the next line (`log-next`). It is never longer than the whole (`log-part`), and is the whole at
+-- the end. `first` and `third` are the offsets of the semicolon and of z, `old` is memory before and o₁ to o₄ after each put; `same` says
+-- that both lists are equally long. Assumes nothing.
 use Prim.Native.Nat.{ℕ, _+_, _/_, _%_, _≤_, _<_}
 use native.Mathlib.Omega.{arith}
 use mathlib.Core.Path.{_≡_, sym, ap, _∙_}

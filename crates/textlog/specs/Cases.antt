@@ -20,7 +20,7 @@ lineTable =
     ∷ (ascii "1;4", malformed)
     ∷ []
 
--- logs, each with what is found of it for K = 2
+-- logs, each with its judgement for K = 2
 abbrev pub logTable : List (List ℕ × LogJudgement)
 logTable =
     ([], record { refusal = 0; arrivals = 0; line = 0 })

@@ -1,5 +1,5 @@
--- What a text log decodes to, line by line, and what is refused. Nobody need read the stages of a line: `ExactLine` (RoundTrip.antt) says that
--- a line decodes exactly if it has the form, and to the arrival that the form says. Assumes nothing.
+-- What a text log decodes to, line by line, and what is refused. The stages of a line need not be read: `ExactLine` (RoundTrip.antt) says
+-- that a line decodes exactly if it has the form, and to the form's arrival. Assumes nothing.
 use Prim.Native.Nat.{ℕ, zero, suc, _+_, _*_}
 use mathlib.Core.Bool.{Bool, cond, _||_}
 use mathlib.Core.List.{List, [], _∷_, map}
@@ -10,13 +10,13 @@ use Rattle.decimal.specs.Reading.{digitCount, leading, leadingValue}
 use Rattle.rfc4737.specs.declared.Arrival.{Arrival}
 use Rattle.rfc4737.specs.Judge.{arrivalsMost, judgeOne, judgeSent}
 use Rattle.rfc4737.specs.Times.{nextReference}
-use Rattle.rfc4737.specs.Refusals.{outside, inCase, firstOf, manyArrivals, lineMalformed}
+use Rattle.rfc4737.specs.Refusals.{outside, refusalIf, firstRefusal, manyArrivals, lineMalformed}
 use Rattle.textlog.specs.Form.{semicolon, comma, point, thousandths, numberMost, timeMost}
 use Rattle.textlog.specs.declared.LogJudgement.{LogJudgement}
 use Rattle.textlog.specs.declared.reading.Reading.{Reading}
 use Rattle.textlog.specs.declared.reading.Reading.the-variants.{Read, Malformed}
 
--- ---- a line, read in stages from where a text t begins; `at` and `end` are places in the log
+-- ---- a line, read in stages from where a text t begins; `at` and `end` are offsets in the log
 
 -- whether an octet is a comma or a point
 unfoldable pub isDecimalMark : ℕ → Bool
@@ -62,7 +62,7 @@ pub data DecodedLine : Type 0 where
   malformed : DecodedLine
   arrived : Arrival → DecodedLine
 
--- what is read, if it ends where a line of so many octets does
+-- what is read, if it ends where a line of `octets` octets does
 abbrev pub readWhole : (octets : ℕ) → Reading → DecodedLine
 readWhole octets (Read number time end) = cond (eqb end octets) (arrived (record { number = number; time = time })) malformed
 readWhole octets Malformed = malformed
@@ -78,34 +78,42 @@ abbrev pub arrivalOr0 : DecodedLine → Arrival
 arrivalOr0 malformed = record { number = 0; time = 0 }
 arrivalOr0 (arrived a) = a
 
--- the arrivals of lines
-unfoldable pub arrivalsOfLines : List (List ℕ) → List Arrival
-arrivalsOfLines ls = map (λ (l : List ℕ). arrivalOr0 (decodeLine l)) ls
+-- what the lines of a log decode to
+abbrev pub decodedLines : List ℕ → List DecodedLine
+decodedLines log = map decodeLine (lines log)
+
+-- the arrivals of decoded lines
+unfoldable pub arrivalsOfLines : List DecodedLine → List Arrival
+arrivalsOfLines ds = map arrivalOr0 ds
 
 -- the arrivals of a log
 abbrev pub logArrivals : List ℕ → List Arrival
-logArrivals log = arrivalsOfLines (lines log)
+logArrivals log = arrivalsOfLines (decodedLines log)
 
 -- ---- what is refused
 
--- one line, with so many lines before it: 14, 5 if it is line 4,097, 6, 7
+-- one line, after `count` lines: 14, 5 if it is line 4,097, 6, 7
 abbrev pub judgeLine : (k count reference : ℕ) → DecodedLine → ℕ
 judgeLine k count reference malformed = lineMalformed
 judgeLine k count reference (arrived a) =
-    firstOf (inCase (leb arrivalsMost count) manyArrivals ∷ judgeOne k reference a ∷ [])
+    firstRefusal (refusalIf (leb arrivalsMost count) manyArrivals ∷ judgeOne k reference a ∷ [])
 
--- what is found, unless a refusal comes before it, at a line or, for 0, at none
+-- the judgement y, unless a refusal comes before it; `line` is 0 if that is not the refusal of a line
 abbrev pub unless : (refusal line : ℕ) → LogJudgement → LogJudgement
 unless zero line y = y
 unless (suc r) line y = record { refusal = suc r; arrivals = 0; line = line }
 
--- the lines in turn, with so many lines before them
-unfoldable pub judgeLines : (k count reference : ℕ) → List (List ℕ) → LogJudgement
+-- decoded lines in turn, with `count` lines before them
+unfoldable pub judgeLines : (k count reference : ℕ) → List DecodedLine → LogJudgement
 judgeLines k count reference [] = record { refusal = 0; arrivals = count; line = 0 }
-judgeLines k count reference (l ∷ ls) =
-    unless (judgeLine k count reference (decodeLine l)) (count + 1)
-    (judgeLines k (count + 1) (nextReference reference (arrivalOr0 (decodeLine l) .time)) ls)
+judgeLines k count reference (d ∷ ds) =
+    unless (judgeLine k count reference d) (count + 1) (judgeLines k (count + 1) (nextReference reference (arrivalOr0 d .time)) ds)
 
--- a log: 4, then the lines in turn: its refusal, the number of its arrivals, and the number of the first line that is refused, from 1
-unfoldable pub judgeLog : ℕ → List ℕ → LogJudgement
-judgeLog k log = unless (judgeSent k) 0 (judgeLines k 0 0 (lines log))
+-- decoded lines of a log: 4, then the lines in turn: the refusal, the number of arrivals, and the number of the first line that is
+-- refused, from 1
+unfoldable pub judgeDecoded : ℕ → List DecodedLine → LogJudgement
+judgeDecoded k ds = unless (judgeSent k) 0 (judgeLines k 0 0 ds)
+
+-- a log, by its decoded lines
+abbrev pub judgeLog : ℕ → List ℕ → LogJudgement
+judgeLog k log = judgeDecoded k (decodedLines log)

@@ -1,5 +1,5 @@
--- The statements that the calls' contracts carry: what is accepted is what has the form; imported arrivals are those of a fit
--- sample; what is written reads back. Assumes nothing.
+-- The statements that the calls' contracts carry. What is accepted is what has the form, imported arrivals are those of a fit
+-- sample, and what is written reads back. Assumes nothing.
 use Prim.Native.Nat.{ℕ, _≤_, _<_, _^_}
 use mathlib.Core.List.{List, []}
 use mathlib.Core.Logic.{_↔_}
@@ -9,7 +9,7 @@ use lib.ListN.{length, take, replicate}
 use Rattle.octets.specs.Memory.{over}
 use Rattle.rfc4737.specs.declared.Arrival.{Arrival}
 use Rattle.rfc4737.specs.Judge.{numbersOf, timesOf, refusalOfLists}
-use Rattle.rfc4737.specs.Refusals.{inCase, outputShort}
+use Rattle.rfc4737.specs.Refusals.{refusalIf, outputShort}
 use Rattle.sample.specs.Format.{Sample, fileOf}
 use Rattle.sample.specs.Judge.{FitSample}
 use Rattle.sample.specs.Decode.{decode, accepted}
@@ -24,7 +24,7 @@ use Rattle.textlog.specs.declared.LogImport.{LogImport}
 abbrev pub ExactLine : Type 0
 ExactLine = (l : List ℕ) (a : Arrival) → (decodeLine l ≡ arrived a) ↔ LineFits l a
 
--- a log is not refused exactly if it has the form of arrivals of which, with K, nothing is refused, and has these arrivals then
+-- a log is accepted, with arrivals l, exactly if it has the form of arrivals l, of which with K nothing is refused
 abbrev pub ExactLog : ℕ → List ℕ → Type 0
 ExactLog k log =
     (l : List Arrival)
@@ -39,12 +39,12 @@ pub record Writable (s : Sample) : Type 0 where
   pub fit : FitSample s
   pub refusal : (out out′ : List ℕ) (written : WriteAnswer)
       → WrittenTo (s .label) (s .sizes) (numbersOf (s .arrivals)) (timesOf (s .arrivals)) out written out′
-      → written .refusal ≡ inCase (ltb (length out) (length (fileOf s))) outputShort
+      → written .refusal ≡ refusalIf (ltb (length out) (length (fileOf s))) outputShort
   pub decodes : (out out′ : List ℕ) (written : WriteAnswer)
       → WrittenTo (s .label) (s .sizes) (numbersOf (s .arrivals)) (timesOf (s .arrivals)) out written out′
       → written .refusal ≡ 0 → decode (take (written .length) out′) ≡ accepted s
 
--- the arrivals of a log that is not refused, with K payload sizes of any one size, are such a sample
+-- the arrivals of an accepted log, with K payload sizes of any one size, are such a sample
 abbrev pub ImportedIsFit : ℕ → List ℕ → Type 0
 ImportedIsFit k log = (size : ℕ) → size < 2 ^ 16 → judgeLog k log .refusal ≡ 0 → Writable (sampleWith k size (logArrivals log))
 

@@ -1,15 +1,15 @@
-// Text logs from suppliers: imported into lent lists, and written. Every public call takes all input there is.
+// Text logs from suppliers: imported into the caller's lists, read line by line, and written. Every public call is total.
 ghost use mathlib.Core.Path.{_≡_};
 ghost use Rattle.octets.specs.Memory.{over};
-ghost use Rattle.octets.specs.Text.{lines};
 ghost use Rattle.rfc4737.specs.Judge.{numbersOf, timesOf};
-ghost use Rattle.textlog.specs.Decode.{decodeLine, judgeLines, judgeLog, logArrivals};
+ghost use Rattle.rfc4737.specs.Refusals.{lineMalformed};
+ghost use Rattle.textlog.specs.Decode.{decodeLine, decodedLines, judgeLines, judgeLog, logArrivals};
 ghost use Rattle.textlog.specs.Calls.{logListsShort, LogImportedFrom, LogWrittenTo, logLine};
 ghost use Rattle.textlog.specs.RoundTrip.{ExactLine, ExactLog, ImportedIsFit, LogReadAgain};
 ghost use Rattle.textlog.specs.Cases.{LinesReadAsGiven, LinesWrittenAsGiven};
 ghost use Rattle.textlog.specs.Private.{Fillable};
 
-mod reading;
+pub mod reading;
 mod writing;
 
 use reading::Reading;
@@ -35,24 +35,24 @@ pub struct LogImport {
     pub arrivals: u32,
 }
 
-// What is read of one line: the refusal (0, or 14 for a line that is malformed), the sequence number and the time in microseconds, both 0
-// with a refusal.
+// A line as read: the refusal (0, or 14 for a malformed line), the sequence number and the time in microseconds. With a refusal both
+// are 0.
 pub struct LogLine {
     pub refusal: u32,
     pub number: u32,
     pub time: u64,
 }
 
-// What is found of a log: the refusal (0 for none), the number of arrivals, 0 with a refusal, and the number of the refused line, from
-// 1, or 0 where no line is refused.
-pub(crate) struct LogJudgement {
-    pub(crate) refusal: u32,
-    pub(crate) arrivals: u32,
-    pub(crate) line: u32,
+// A log as judged: the refusal (0 for none), the number of arrivals (0 with a refusal), and the refused line. Lines are numbered from 1;
+// 0 is no line.
+pub struct LogJudgement {
+    pub refusal: u32,
+    pub arrivals: u32,
+    pub line: u32,
 }
 
-// A log that is refused, at a line or, for 0, at none.
-fn refused_at(refusal: u32, line: u32) -> LogJudgement
+// A refused log; `line` is 0 if the refusal is not that of a line.
+pub fn refused_at(refusal: u32, line: u32) -> LogJudgement
     ensures { λ r. ⌜ r ≡ record { refusal = refusal; arrivals = 0; line = line } ⌝ }
 {
     LogJudgement {
@@ -62,9 +62,9 @@ fn refused_at(refusal: u32, line: u32) -> LogJudgement
     }
 }
 
-// The lines of a log in turn.
+// Judges the lines of a log in turn.
 fn judge_lines(log: &[u8], k: u32) -> LogJudgement
-    ensures { λ r. ⌜ r ≡ judgeLines k 0 0 (lines (now (log .entry))) ⌝ }
+    ensures { λ r. ⌜ r ≡ judgeLines k 0 0 (decodedLines (now (log .entry))) ⌝ }
 {
     let mut reference: u64 = 0;
     let mut at = 0;
@@ -91,7 +91,7 @@ fn judge_lines(log: &[u8], k: u32) -> LogJudgement
     }
 }
 
-// A whole log: K, then the lines.
+// Judges a whole log: K, then the lines.
 fn judge_log(log: &[u8], k: u32) -> LogJudgement
     ensures { λ r. ⌜ r ≡ judgeLog k (now (log .entry)) ⌝ }
 {
@@ -120,8 +120,8 @@ fn fill_arrivals(log: &[u8], numbers: &mut [u32], times: &mut [u64])
     }
 }
 
-// Whether one of two lists, of so many places, is too short for so many arrivals.
-fn too_short(arrivals: u32, numbers: usize, times: usize) -> bool
+// Whether one of two lists, of the lengths `numbers` and `times`, is too short for `arrivals`.
+pub fn too_short(arrivals: u32, numbers: usize, times: usize) -> bool
     ensures { λ r. ⌜ r ≡ logListsShort arrivals numbers times ⌝ }
 {
     if numbers < arrivals as usize {
@@ -130,8 +130,8 @@ fn too_short(arrivals: u32, numbers: usize, times: usize) -> bool
     times < arrivals as usize
 }
 
-// The answer of an import that is refused.
-fn refused_import(refusal: u32) -> LogImport
+// The answer of a refused import.
+pub fn refused_import(refusal: u32) -> LogImport
     ensures { λ r. ⌜ r ≡ record { refusal = refusal; arrivals = 0 } ⌝ }
 {
     LogImport {
@@ -141,29 +141,29 @@ fn refused_import(refusal: u32) -> LogImport
 }
 
 // Imports the log of K sent packets: fills the lists of numbers and times from their start. With a refusal they stay as
-// they were.
+// they were. Cost: O(octets of the log).
 pub fn import(log: &[u8], k: u32, numbers: &mut [u32], times: &mut [u64]) -> LogImport
     ensures { λ r. ⌜ LogImportedFrom k (now (log .entry)) (now (numbers .entry)) (now (times .entry)) r (now (numbers .exit)) (now (times .exit)) ⌝ }
     ensures exact { λ _. ⌜ ExactLine × ExactLog k (now (log .entry)) ⌝ }
     ensures fit { λ _. ⌜ ImportedIsFit k (now (log .entry)) ⌝ }
     ensures cases { λ _. ⌜ LinesReadAsGiven ⌝ }
 {
-    let found = judge_log(log, k);
-    if found.refusal != 0 {
-        return refused_import(found.refusal);
+    let judgement = judge_log(log, k);
+    if judgement.refusal != 0 {
+        return refused_import(judgement.refusal);
     }
-    if too_short(found.arrivals, numbers.len(), times.len()) {
+    if too_short(judgement.arrivals, numbers.len(), times.len()) {
         return refused_import(OUTPUT_SHORT);
     }
     fill_arrivals(log, numbers, times);
     LogImport {
         refusal: 0,
-        arrivals: found.arrivals,
+        arrivals: judgement.arrivals,
     }
 }
 
-// The number of the first line of a log that is refused, from 1, or 0 where no line is: none is where K itself is refused. Fills no
-// list, so 8 is not given.
+// The number of the first refused line of a log, from 1; 0 if no line is refused, as where K itself is. It fills no list, so a list
+// that is too short (8) is no matter here.
 pub fn refused_line(log: &[u8], k: u32) -> u32
     ensures { λ r. ⌜ r ≡ judgeLog k (now (log .entry)) .line ⌝ }
 {
@@ -172,7 +172,7 @@ pub fn refused_line(log: &[u8], k: u32) -> u32
 
 // The answer for a malformed line.
 fn malformed_line() -> LogLine
-    ensures { λ r. ⌜ r ≡ record { refusal = 14; number = 0; time = 0 } ⌝ }
+    ensures { λ r. ⌜ r ≡ record { refusal = lineMalformed; number = 0; time = 0 } ⌝ }
 {
     LogLine {
         refusal: LINE_MALFORMED,
@@ -198,7 +198,7 @@ pub fn read_line(line: &[u8]) -> LogLine
     }
 }
 
-// Writes the log of arrivals of K sent packets from the start of `out`. With a refusal `out` stays as it was.
+// Writes the log of the arrivals of K sent packets from the start of `out`. With a refusal `out` stays as it was.
 pub fn write(k: u32, numbers: &[u32], times: &[u64], out: &mut [u8]) -> WriteAnswer
     ensures { λ r. ⌜ LogWrittenTo k (now (numbers .entry)) (now (times .entry)) (now (out .entry)) r (now (out .exit)) ⌝ }
     ensures again { λ _. ⌜ LogReadAgain k (now (numbers .entry)) (now (times .entry)) ⌝ }

@@ -1,27 +1,31 @@
-// A line of a text log, read from the place where it begins. The digits are read by crate `decimal`, so a number may have
-// any number of digits.
+// A line of a text log, read from the offset where it begins. Crate `decimal` reads the digits, so a number may have any
+// number of them. What another crate needs to look at a line is public, and total.
 ghost use mathlib.Core.Path.{_≡_};
 ghost use Prim.Native.Nat.{_+_, _*_, _^_, _-_, _≤_, _<_};
 ghost use lib.ListN.{getD, drop};
 ghost use Rattle.textlog.specs.Decode.{isDecimalMark, inRange, fractionIn, timeIn, lineIn};
 use decimal::reading::number_at;
 
-// A line that is of the form and in range: its number, its time in microseconds and where it ends.
-pub(crate) enum Reading {
+// What was read. `Read`: a line of the form whose values fit their fields, with its number, its time in microseconds and
+// the offset after it.
+pub enum Reading {
     Read(u32, u64, usize),
     Malformed,
 }
 
 // The greatest sequence number that its field holds.
-const NUMBER_MOST: u64 = 4_294_967_295;
+pub const NUMBER_MOST: u64 = 4_294_967_295;
 
 // The greatest arrival time that its field holds, and the whole milliseconds in it.
 const TIME_MOST: u64 = 18_446_744_073_709_551_615;
 
 const WHOLE_MOST: u64 = 18_446_744_073_709_551;
 
-// The octet that stands at a place; 0 past the end.
-fn octet_at(log: &[u8], at: usize) -> u8
+// The most decimals of a time.
+pub const DECIMALS_MOST: usize = 3;
+
+// The octet at offset `at`; 0 past the end.
+pub fn octet_at(log: &[u8], at: usize) -> u8
     ensures { λ r. ⌜ r ≡ getD (now (log .entry)) at 0 ⌝ }
 {
     if at < log.len() {
@@ -30,8 +34,8 @@ fn octet_at(log: &[u8], at: usize) -> u8
     0
 }
 
-// Whether an octet may stand before the decimals.
-fn is_decimal_mark(octet: u8) -> bool
+// Whether an octet may stand before the decimals: a comma or a point.
+pub fn is_decimal_mark(octet: u8) -> bool
     ensures { λ r. ⌜ r ≡ isDecimalMark octet ⌝ }
 {
     if octet == b',' {
@@ -40,7 +44,7 @@ fn is_decimal_mark(octet: u8) -> bool
     octet == b'.'
 }
 
-// One to three decimals of a millisecond, in microseconds.
+// `count` decimals of a millisecond, one to three, in microseconds.
 fn thousandths(value: u64, count: usize) -> u64
     requires { ⌜ (1 ≤ count) × (count ≤ 3) × (value < 1000) ⌝ }
     ensures { λ r. ⌜ r ≡ value * 10 ^ (3 - count) ⌝ }
@@ -68,7 +72,7 @@ fn in_range(number: u32, whole: u64, fraction: u64, end: usize) -> Reading
     Reading::Read(number, time + fraction, end)
 }
 
-// A line whose decimals begin at a place.
+// Reads the rest of a line whose decimals begin at `at`.
 fn fraction_at(log: &[u8], at: usize, number: u32, whole: u64) -> Reading
     ensures { λ r. ⌜ r ≡ fractionIn number whole at (drop at (now (log .entry))) ⌝ }
 {
@@ -78,7 +82,7 @@ fn fraction_at(log: &[u8], at: usize, number: u32, whole: u64) -> Reading
     if count == 0 {
         return Reading::Malformed;
     }
-    if 3 < count {
+    if DECIMALS_MOST < count {
         return Reading::Malformed;
     }
     if octet_at(log, end) != b'\n' {
@@ -87,7 +91,7 @@ fn fraction_at(log: &[u8], at: usize, number: u32, whole: u64) -> Reading
     in_range(number, whole, thousandths(digits.value, count), end + 1)
 }
 
-// A line whose time begins at a place.
+// Reads the rest of a line whose time begins at `at`.
 fn time_at(log: &[u8], at: usize, number: u32) -> Reading
     ensures { λ r. ⌜ r ≡ timeIn number at (drop at (now (log .entry))) ⌝ }
 {
@@ -106,8 +110,8 @@ fn time_at(log: &[u8], at: usize, number: u32) -> Reading
     fraction_at(log, end + 1, number, digits.value)
 }
 
-// The line that begins at a place.
-pub(crate) fn line_at(log: &[u8], at: usize) -> Reading
+// Reads the line that begins at `at`.
+pub fn line_at(log: &[u8], at: usize) -> Reading
     ensures { λ r. ⌜ r ≡ lineIn at (drop at (now (log .entry))) ⌝ }
 {
     let digits = number_at(log, at);

@@ -6,14 +6,14 @@ ghost use Rattle.octets.specs.Memory.{over, put};
 ghost use Rattle.rfc4737.specs.Judge.{arrivalsMost, arrivalsFrom};
 ghost use Rattle.textlog.specs.Form.{lineOf, logOf};
 
-// The octets of a line.
+// The length of a line in octets.
 fn line_length(number: u32, time: u64) -> usize
     ensures { λ r. ⌜ (r ≡ length (lineOf (record { number = number; time = time }))) × (r ≤ 46) ⌝ }
 {
     decimal::count(number as u64) + decimal::count(time / 1000) + 6
 }
 
-// The octets of the log of two lists.
+// The length of the log of two lists in octets.
 pub(crate) fn log_length(numbers: &[u32], times: &[u64]) -> usize
     requires { ⌜ (length (now times) ≡ length (now numbers)) × (length (now numbers) ≤ arrivalsMost) ⌝ }
     ensures { λ r. ⌜ (r ≡ length (logOf (arrivalsFrom (now (numbers .entry)) (now (times .entry))))) × (r ≤ 188416) ⌝ }
@@ -27,7 +27,7 @@ pub(crate) fn log_length(numbers: &[u32], times: &[u64]) -> usize
     total
 }
 
-// One digit, of a number below 10.
+// The digit of a number below 10.
 fn digit_of(n: u64) -> u8
     requires { ⌜ n ≤ 9 ⌝ }
     ensures { λ r. ⌜ r ≡ 48 + n ⌝ }
@@ -35,7 +35,7 @@ fn digit_of(n: u64) -> u8
     (48 + n) as u8
 }
 
-// Writes a line from a place on, and answers where it ends.
+// Writes a line from offset `at` on; returns the offset after it.
 fn put_line(out: &mut [u8], at: usize, number: u32, time: u64) -> usize
     requires { ⌜ at + length (lineOf (record { number = number; time = time })) ≤ length (now out) ⌝ }
     ensures { λ r. ⌜ (r ≡ at + length (lineOf (record { number = number; time = time })))

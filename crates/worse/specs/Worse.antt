@@ -1,11 +1,11 @@
--- Of two samples the one with the greater reordered ratio (RFC 4737, section 4.1), compared as fractions of whole numbers, and its
--- label. Assumes nothing.
+-- Which of two samples has the greater reordered ratio (RFC 4737, section 4.1), compared as fractions of whole numbers, and its label.
+-- Assumes nothing.
 use Prim.Native.Nat.{ℕ, _+_, _*_}
 use mathlib.Core.Bool.{Bool, cond}
 use mathlib.Core.List.{List, [], _∷_}
 use lib.Dec.{ltb, eqb}
 use Rattle.rfc4737.specs.declared.Counts.{Counts}
-use Rattle.rfc4737.specs.Refusals.{firstOf}
+use Rattle.rfc4737.specs.Refusals.{firstRefusal}
 use Rattle.sample.specs.Decode.{Decoded, sampleOf, decodedRefusal}
 use Rattle.sample.specs.Calls.{labelPlace}
 use Rattle.metrics.specs.Figures.{sampleCounts}
@@ -17,11 +17,11 @@ use Rattle.worse.specs.declared.Link.the-variants.{Refused, First, Secon
 
 -- ---- the ratios
 
--- the reordered ratio by a sample's counts: the reordered packets over L; an undefined one, with L = 0, counts as 0, that is 0 over 1
+-- the reordered ratio by a sample's counts: the reordered packets over L. If L = 0 it is undefined, and counts as 0 over 1
 unfoldable pub reorderedRatio : Counts → Fraction
 reorderedRatio c = cond (eqb (c .arrived) 0) (record { part = 0; whole = 1 }) (record { part = c .reordered; whole = c .arrived })
 
--- whether a fraction is greater than another: over the product of both wholes its part is the greater
+-- whether f is greater than g: over the product of both wholes its part is the greater
 unfoldable pub greater : Fraction → Fraction → Bool
 greater f g = ltb (g .part * f .whole) (f .part * g .whole)
 
@@ -33,7 +33,7 @@ ratioIn d = reorderedRatio (sampleCounts d .counts)
 
 -- the refusal: the first sample's, then the second's
 unfoldable pub refusalOfBoth : Decoded → Decoded → ℕ
-refusalOfBoth a b = firstOf (decodedRefusal a ∷ decodedRefusal b ∷ [])
+refusalOfBoth a b = firstRefusal (decodedRefusal a ∷ decodedRefusal b ∷ [])
 
 -- the sample with the greater reordered ratio, none with a refusal; equal ratios give the first
 unfoldable pub worseOf : Decoded → Decoded → Link
@@ -52,18 +52,18 @@ module _ {ℓ} {A : Type ℓ} where
   chosen none first second First = first
   chosen none first second Second = second
 
--- the label of the worse sample; with a refusal nothing
+-- the label of the worse sample; empty with a refusal
 unfoldable pub worseLabel : Decoded → Decoded → List ℕ
 worseLabel a b = chosen [] (sampleOf a .label) (sampleOf b .label) (worseOf a b)
 
--- where the label begins in the worse sample; with a refusal 0
+-- the offset of the label in the worse sample; 0 with a refusal
 unfoldable pub worseStart : Decoded → Decoded → ℕ
 worseStart a b = chosen 0 (labelPlace a) (labelPlace b) (worseOf a b)
 
--- a place in memory is a lent slice and an offset into it: the place n octets after the place p
+-- a place in memory is a lent slice and an offset into it. This is the place n octets after the place p
 abbrev pub placeIn : ℕ × ℕ → ℕ → ℕ × ℕ
 placeIn p n = (p .0, n + p .1)
 
--- where the label stands, the samples standing at p and q: after the label's count in the worse one; with a refusal at the first's start
+-- the place of the label, where the samples stand at p and q: in the worse one after the label's count; with a refusal p
 unfoldable pub worsePlace : Decoded → Decoded → ℕ × ℕ → ℕ × ℕ → ℕ × ℕ
 worsePlace a b p q = chosen p (placeIn p (labelPlace a)) (placeIn q (labelPlace b)) (worseOf a b)

@@ -1,5 +1,5 @@
-// Of two samples the one with the greater reordered ratio: which it is, and its label as a part of that lent sample. Ratios are
-// compared exactly, as fractions of whole numbers.
+// Which of two samples has the greater reordered ratio, and its label as a part of that sample. Ratios are compared exactly, as
+// fractions of whole numbers.
 
 ghost use mathlib.Core.Path.{_≡_};
 ghost use denote.Ref.{now};
@@ -9,14 +9,14 @@ use metrics::counts;
 use rfc4737::Counts;
 use sample::label;
 
-// One of two samples, or none, where one of them is refused.
+// One of two samples, or none if one of them is refused.
 pub enum Link {
     Refused,
     First,
     Second,
 }
 
-// What is found of two samples: the refusal (0 for none), and the worse one, none with a refusal.
+// The comparison of two samples: the refusal (0 for none), and the worse one, none with a refusal.
 pub struct Comparison {
     pub refusal: u32,
     pub link: Link,
@@ -28,8 +28,8 @@ pub struct Fraction {
     pub whole: u32,
 }
 
-// The reordered ratio of a sample, by its counts: 0 of 1 where it is undefined.
-fn reordered_ratio(counts: Counts) -> Fraction
+// The reordered ratio of a sample, by its counts; 0 of 1 if it is undefined.
+pub fn reordered_ratio(counts: Counts) -> Fraction
     ensures { λ r. ⌜ r ≡ reorderedRatio counts ⌝ }
 {
     if counts.arrived == 0 {
@@ -41,8 +41,8 @@ fn reordered_ratio(counts: Counts) -> Fraction
     }
 }
 
-// Whether a fraction is greater than another. No product of two numbers of 32 bits passes 64.
-fn greater(f: Fraction, g: Fraction) -> bool
+// Whether f is greater than g. A product of two numbers of 32 bits fits 64.
+pub fn greater(f: Fraction, g: Fraction) -> bool
     ensures { λ r. ⌜ r ≡ greater f g ⌝ }
 {
     let ours = f.part as u64 * g.whole as u64;
@@ -50,29 +50,29 @@ fn greater(f: Fraction, g: Fraction) -> bool
     theirs < ours
 }
 
-// A refusal, and the worse sample.
-fn found_with(refusal: u32, link: Link) -> Comparison
+// A comparison with this refusal and this link.
+fn comparison_with(refusal: u32, link: Link) -> Comparison
     ensures { λ r. ⌜ r ≡ record { refusal = refusal; link = link } ⌝ }
 {
     Comparison { refusal, link }
 }
 
-// Which of two samples has the greater reordered ratio; equal ratios give the first. One pass over each.
+// Which of two samples has the greater reordered ratio; equal ratios give the first. Cost: one pass over each.
 pub fn compare(first: &[u8], second: &[u8]) -> Comparison
     ensures { λ r. ⌜ r ≡ comparisonOf (decode (now (first .entry))) (decode (now (second .entry))) ⌝ }
 {
     let one = counts(first);
     if one.refusal != 0 {
-        return found_with(one.refusal, Link::Refused);
+        return comparison_with(one.refusal, Link::Refused);
     }
     let other = counts(second);
     if other.refusal != 0 {
-        return found_with(other.refusal, Link::Refused);
+        return comparison_with(other.refusal, Link::Refused);
     }
     if greater(reordered_ratio(other.counts), reordered_ratio(one.counts)) {
-        return found_with(0, Link::Second);
+        return comparison_with(0, Link::Second);
     }
-    found_with(0, Link::First)
+    comparison_with(0, Link::First)
 }
 
 // The label of the worse of two samples, as a part of it; with a refusal the empty part at the first sample's start.

@@ -1,6 +1,7 @@
 -- Parts of a text. A part that is put where there is room stands after what stood before it (`part-put`). A part, and one at the offset
 -- after it, are one part (`then`): so a line is written part by part, and ends with nothing, as `joined` does.
--- Here at is the offset of a part, next the offset after it, xs and ys are octets, old, new and newer memory before and after. Assumes nothing.
+-- Here at is the offset of a part, next the offset after it, xs and ys are octets, old, new and newer memory before and after. Assumes
+-- nothing.
 use Prim.Native.Nat.{ℕ, _+_, _≤_}
 use native.Mathlib.Omega.{arith}
 use mathlib.Core.Path.{_≡_, refl, sym, ap, subst, _∙_}

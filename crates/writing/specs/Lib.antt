@@ -1,2 +1,3 @@
--- Parts of a text, written one after the other into memory that has room for them. Assumes nothing.
+-- Parts of a text, written one after the other into a buffer that has room for them. Assumes nothing.
 pub mod Parts
+pub mod Numbers

@@ -1,4 +1,4 @@
--- Parts of a text, and what the writer of one leaves. Assumes nothing.
+-- Parts of a text, and the buffer after one of them was written. Assumes nothing.
 use Prim.Native.Nat.{ℕ, _+_}
 use mathlib.Core.Path.{_≡_}
 use mathlib.Core.List.{List, [], _∷_, _++_}

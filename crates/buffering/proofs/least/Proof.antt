@@ -68,8 +68,11 @@ loop-again c = c .narrowed .ensures .0
 
 returns-3 : tie.Need-returns-3 Inv-loop μ-loop
 returns-3 c =
-    let q = c .before .before .before .before .before .before .before .before in (
-      least-found _ _ _ _ (sym (told (q .greatest-needs .result) _ (q .greatest-needs .ensures)) ∙ c .before .before .before .before .before .before .if1 .left) (sym (c .before .before .before .before .before .outside .ensures) ∙ c .before .before .before .before .if2 .left) _ (met _ _ _ _ _ (c .before .before .loop .inv) (c .if3 .left)),
+    let tests = c .before .before .before .before in
+    let q = tests .before .before .before .before in
+    let accepted = sym (told (q .greatest-needs .result) _ (q .greatest-needs .ensures)) ∙ tests .before .before .if1 .left in (
+      least-found _ _ _ _ accepted (sym (tests .before .outside .ensures) ∙ tests .if2 .left) _
+          (met _ _ _ _ _ (c .before .before .loop .inv) (c .if3 .left)),
       carries q,
     )
 

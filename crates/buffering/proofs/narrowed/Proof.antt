@@ -1,5 +1,5 @@
--- `buffering::narrowed` meets its contract: a size in the middle that is enough is the new high one (`closer-high`), and with one that is not
--- the low one goes past it (`closer-low`). Assumes nothing.
+-- `buffering::narrowed` meets its contract: a size in the middle that is enough is the new high one (`closer-high`), and with one that is
+-- not the low one goes past it (`closer-low`). Assumes nothing.
 use borrow.Author.Needs.{needs}
 use native.Mathlib.Omega.{arith}
 use Prim.Native.Nat.{ℕ, _+_, _-_, _/_, _*_, _≤_, _<_}

@@ -1,4 +1,4 @@
--- `checker::line_feeds_in` meets its contract. The loop's invariant: what was found are the line feeds of the first i octets; one octet more is
+-- `checker::line_feeds_in` meets its contract. The loop's invariant: `count` are the line feeds of the first i octets; one octet more is
 -- `feeds-next`, and there are at most i. The measure is what is left of the text. Assumes nothing.
 use Prim.Native.Nat.{_+_, _-_, _≤_}
 use native.Mathlib.Omega.{arith}
@@ -12,12 +12,12 @@ use Rattle.checker.proofs.Feeds.{feeds-next, feeds-take-le}
 use Rattle.checker.proofs.line_feeds_in.Statement.{statement}
 use Rattle.checker.proofs.line_feeds_in.Tie as tie
 
--- found₀ and i₀ are the values where the loop begins, found and i those at its head
+-- count₀ and i₀ are the values where the loop begins, count and i those at its head
 abbrev Inv-loop : tie.InvT-loop
-Inv-loop text found₀ i₀ found i = (i ≤ length text) × (found ≡ feeds (take i text))
+Inv-loop text count₀ i₀ count i = (i ≤ length text) × (count ≡ feeds (take i text))
 
 abbrev μ-loop : tie.MeasureT-loop
-μ-loop text found₀ i₀ found i = length text - i
+μ-loop text count₀ i₀ count i = length text - i
 
 loop-holds : tie.Need-loop-holds Inv-loop μ-loop
 unfolding feeds
@@ -25,13 +25,14 @@ loop-holds c = (omega arith, refl)
 
 -- with the octet at i
 next : (c : tie.After-one-if-line-feed Inv-loop μ-loop)
-    → c .before .before .before .loop .found + c .one-if-line-feed .result ≡ feeds (take (c .before .before .before .loop .i + 1) (now (c .before .before .before .before .before .args .text)))
+    → c .before .before .before .loop .count + c .one-if-line-feed .result ≡ feeds
+    (take (c .before .before .before .loop .i + 1) (now (c .before .before .before .before .before .args .text)))
 next c =
     let l = c .before .before .before .loop in
     rw (l .inv .1) (feeds-next _ (l .i) (c .one-if-line-feed .result) (omega arith) (c .one-if-line-feed .ensures))
 
-add-found : tie.Need-add-found Inv-loop μ-loop
-add-found c =
+add-count : tie.Need-add-count Inv-loop μ-loop
+add-count c =
     let i = c .before .before .before .loop .i in
     omega (arith, next c, feeds-take-le (i + 1) (now (c .before .before .before .before .before .args .text)))
 
@@ -50,7 +51,7 @@ line-feeds-in-spec =
     loop-holds
     (λ c. omega arith)
     (λ c κs. search needs)
-    add-found
+    add-count
     (λ c. omega arith)
     (λ c. omega arith)
     loop-again

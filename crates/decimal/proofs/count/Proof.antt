@@ -1,6 +1,6 @@
--- `decimal::count` meets its contract. The loop's invariant: `cut` and the number of digits of the rest are together the number of digits of
--- `v`. It is at most 20, so no sum wraps. A turn cuts four digits off a rest of more than four (`cut-off`); after the loop the tests place the
--- rest between powers of ten (`one-digit`, `exactly`). The measure is the rest. Assumes nothing.
+-- `decimal::count` meets its contract. The loop's invariant: `cut` and the number of digits of the rest are together the number of digits
+-- of `v`. It is at most 20, so no sum wraps. A turn cuts four digits off a rest of more than four (`cut-off`); after the loop the tests
+-- place the rest between powers of ten (`one-digit`, `exactly`). The measure is the rest. Assumes nothing.
 use mathlib.Core.Path.{_≡_, ap}
 use Prim.Native.Nat.{_+_, _≤_}
 use native.Mathlib.Omega.{arith}

@@ -1,5 +1,5 @@
--- `decimal::put_decimal` meets its contract: the two tests before `write_decimal` say together that there is room for the digits, which is the test of
--- `put`; where one fails memory stays. Assumes nothing.
+-- `decimal::put_decimal` meets its contract: the two tests before `write_decimal` say together that there is room for the digits, which
+-- is the test of `put`; where one fails memory stays. w is the place where they are written. Assumes nothing.
 use mathlib.Core.Path.{sym, _∙_}
 use native.Mathlib.Omega.{arith}
 use borrow.Author.Needs.{needs}
@@ -10,8 +10,9 @@ use Rattle.decimal.proofs.put_decimal.Tie as tie
 
 returns : tie.Need-returns
 returns c =
-    let a = c .before .before .before .before .before .before .before .before .args in
-    (search needs, c .before .before .write-decimal .ensures ∙ sym (put-room (a .at) (decimalOf (a .v)) (a .out .now) (omega arith)))
+    let w = c .before .before in
+    let a = w .before .before .before .before .before .before .args in
+    (search needs, w .write-decimal .ensures ∙ sym (put-room (a .at) (decimalOf (a .v)) (a .out .now) (omega arith)))
 
 returns-2 : tie.Need-returns-2
 returns-2 c =

@@ -1,6 +1,6 @@
--- `decimal::write_decimal` meets its contract. The loop's invariant: memory as it is with the last i digits of the rest still to be written from `at`
--- on is memory at the entry with all of `v`'s digits written there; i is at most `n`, and memory keeps its length. A turn is `write-two`, and a
--- digit that is left over after the loop `write-first`. The measure is i. Assumes nothing.
+-- `decimal::write_decimal` meets its contract. The loop's invariant: memory as it is with the last i digits of the rest still to be
+-- written from `at` on is memory at the entry with all of `v`'s digits written there; i is at most `n`, and memory keeps its length. A
+-- turn is `write-two`, and a digit that is left over after the loop `write-first`. The measure is i. Assumes nothing.
 use mathlib.Core.Path.{_≡_, refl, _∙_}
 use Prim.Native.Nat.{_≤_}
 use native.Mathlib.Omega.{arith}

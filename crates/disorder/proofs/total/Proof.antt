@@ -1,5 +1,5 @@
--- `disorder::total` meets its contract: the check lays the file out, so that `disorder_of` can be asked; that the total is the sum of byte
--- offsets and the least number of exchanges, and that moving the clock does not change it, are laws. Assumes nothing.
+-- `disorder::total` meets its contract. The check lays the file out, so that `disorder_of` can be asked. That the total is the sum of
+-- byte offsets and the least number of exchanges, and that moving the clock does not change it, are laws. Assumes nothing.
 use denote.Ref.{now}
 use borrow.Author.Needs.{needs}
 use Rattle.sample.specs.Decode.{decode}

@@ -1,5 +1,5 @@
--- `follow::line` meets its contract: the text of the line, of at most 256 octets, is put into `out` if it has room (`line-short`, `line-written`). Assumes nothing.
-use mathlib.Core.Path.{sym}
+-- `follow::line` meets its contract: the text of the line, of at most 256 octets, is put into `out` if it has room (`line-short`,
+-- `line-written`). Assumes nothing.
 use Rattle.writing.proofs.Parts.{stands}
 use Rattle.follow.proofs.Laws.{line-room, line-short, line-written}
 use borrow.Author.Needs.{needs}
@@ -29,17 +29,5 @@ returns-2 c =
     )
 
 pub line-spec : {M : Type 1} → statement M
-line-spec =
-    tie.close
-    (tie.spec
-    (λ c κs. search needs)
-    (λ c κs. search needs)
-    (λ c. search needs)
-    (λ c κs. search needs)
-    returns
-    (λ c. search needs)
-    slice-aggregate-put-octets
-    (λ c κs. search needs)
-    (λ c. search needs)
-    (λ c. search needs)
-    returns-2)
+line-spec = tie.close (tie.spec (λ c κs. search needs) (λ c κs. search needs) (λ c. search needs) (λ c κs. search needs) returns
+    (λ c. search needs) slice-aggregate-put-octets (λ c κs. search needs) (λ c. search needs) (λ c. search needs) returns-2)

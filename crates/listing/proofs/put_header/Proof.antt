@@ -5,19 +5,11 @@ use Rattle.listing.proofs.Parts.{read-length, copied}
 use Rattle.listing.proofs.put_header.Statement.{statement}
 use Rattle.listing.proofs.put_header.Tie as tie
 
-slice-aggregate-put-octets : tie.Need-slice-aggregate-put-octets
-slice-aggregate-put-octets c = read-length (c .before .before .before .write-header .ensures)
-
-returns : tie.Need-returns
-returns c =
-    let a = c .before .before .before .before .before .before .before .before .before .args in
-    copied (a .at) (a .out .now) (c .before .before .before .before .before .before .write-header .ensures) (c .before .before .put-octets .ensures)
-
 pub put-header-spec : {M : Type 1} → statement M
 put-header-spec =
     tie.close
     (tie.spec
     (λ c. search needs) (λ c κs. search needs) (λ c. search needs)
-    slice-aggregate-put-octets
+    (λ c. read-length (c .before .before .before .write-header .ensures))
     (λ c κs. search needs) (λ c. search needs)
-    returns)
+    (λ c. copied _ _ (c .before .before .before .before .before .before .write-header .ensures) (c .before .before .put-octets .ensures)))

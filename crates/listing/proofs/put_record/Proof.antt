@@ -1,5 +1,5 @@
 -- `listing::put_record` meets its contract: with room for the longest line it is written in place (`whole`), else at the start of a buffer,
--- and copied from there (`copied`). Assumes nothing.
+-- and copied from there (`copied`). w is where it is written, i where its room is tested. Assumes nothing.
 use Prim.Native.Nat.{_+_, _≤_}
 use mathlib.Core.Path.{sym, _∙_}
 use native.Mathlib.Omega.{arith}
@@ -15,9 +15,10 @@ write-record-requires c κs = leb-true _ _ (sym (c .before .before .has-room .en
 
 returns : tie.Need-returns
 returns c =
-    let a = c .before .before .before .before .before .before .before .args in
     let w = c .before .before .write-record .ensures in
-    let room : a .at + 93 ≤ length (a .out .now) = leb-true _ _ (sym (c .before .before .before .before .before .has-room .ensures) ∙ c .before .before .before .before .if1 .taken) in
+    let i = c .before .before .before .before in
+    let a = i .before .before .before .args in
+    let room : a .at + 93 ≤ length (a .out .now) = leb-true _ _ (sym (i .before .has-room .ensures) ∙ i .if1 .taken) in
     (omega (arith, w .place), whole room w)
 
 slice-aggregate-put-octets : tie.Need-slice-aggregate-put-octets
@@ -25,8 +26,9 @@ slice-aggregate-put-octets c = read-length (c .before .before .before .write-rec
 
 returns-2 : tie.Need-returns-2
 returns-2 c =
-    let a = c .before .before .before .before .before .before .before .before .before .before .before .args in
-    copied (a .at) (a .out .now) (c .before .before .before .before .before .before .write-record2 .ensures) (c .before .before .put-octets .ensures)
+    let w = c .before .before .before .before .before .before in
+    let a = w .before .before .before .before .before .args in
+    copied (a .at) (a .out .now) (w .write-record2 .ensures) (c .before .before .put-octets .ensures)
 
 pub put-record-spec : {M : Type 1} → statement M
 put-record-spec =

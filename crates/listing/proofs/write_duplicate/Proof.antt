@@ -1,11 +1,9 @@
--- `listing::write_duplicate` meets its contract: a word and a number, one after the other, are the fields of its line (`then`). Here e1 and e2
--- are these parts, s the start. Assumes nothing.
-use Prim.Native.Nat.{_≤_}
-use native.Mathlib.Omega.{arith}
-use mathlib.Core.List.{append-assoc}
-use lib.ListN.{length}
+-- `listing::write_duplicate` meets its contract: a word and a number, one after the other, are the fields of its line (`two-fields`).
+-- Here e1 and e2 are the places of these parts, s is the start. Assumes nothing.
 use borrow.Author.Needs.{needs}
-use Rattle.listing.proofs.Parts.{then}
+use Rattle.listing.specs.Words.{copyWord}
+use Rattle.listing.specs.Lines.{number}
+use Rattle.listing.proofs.Parts.{two-fields}
 use Rattle.listing.proofs.write_duplicate.Statement.{statement}
 use Rattle.listing.proofs.write_duplicate.Tie as tie
 
@@ -14,8 +12,7 @@ returns c =
     let e2 = c .before .before in
     let e1 = e2 .before .before .before .before in
     let s = e1 .before .before .before .before in
-    let h : s .args .at ≤ length (s .args .out .now) = omega arith in
-    simp append-assoc (simp append-assoc at (then h (e1 .write-word .ensures) (e2 .write-number .ensures)))
+    two-fields 16 copyWord (number (s .args .f .first)) (s .pre) (e1 .write-word .ensures) (e2 .write-number .ensures)
 
 pub write-duplicate-spec : {M : Type 1} → statement M
 write-duplicate-spec =

@@ -1,5 +1,5 @@
--- `listing::write_in_order` meets its contract: a word and two numbers, one after the other, are the fields of its line (`then`). Here e1 to e3
--- are these parts, s the start. Assumes nothing.
+-- `listing::write_in_order` meets its contract: a word and two numbers, one after the other, are the fields of its line (`then`). Here e1
+-- to e3 are these parts, s the start. Assumes nothing.
 use Prim.Native.Nat.{_≤_}
 use native.Mathlib.Omega.{arith}
 use mathlib.Core.List.{append-assoc}

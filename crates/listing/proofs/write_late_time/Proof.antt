@@ -1,5 +1,5 @@
--- `listing::write_late_time` meets its contract: at most a minus and then the digits of the amount, at most 20 for a number of 64 bits, are the
--- late time (`time-parts`). Assumes nothing.
+-- `listing::write_late_time` meets its contract: at most a minus and then the digits of the amount, at most 20 for a number of 64 bits,
+-- are the late time (`time-parts`). Assumes nothing.
 use Prim.Native.Nat.{_≤_}
 use native.Mathlib.Omega.{arith}
 use lib.ListN.{length}

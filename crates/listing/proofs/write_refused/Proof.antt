@@ -1,12 +1,9 @@
--- `listing::write_refused` meets its contract: a word and a number, one after the other, are the fields of its line (`then`). Here e1 and e2
--- are these parts, s the start. Assumes nothing.
-use Prim.Native.Nat.{_≤_}
-use native.Mathlib.Omega.{arith}
-use mathlib.Core.List.{append-assoc}
-use lib.ListN.{length}
+-- `listing::write_refused` meets its contract: a word and a number, one after the other, are the fields of its line (`two-fields`). Here e1
+-- and e2 are the places of these parts, s is the start. Assumes nothing.
 use borrow.Author.Needs.{needs}
-use Rattle.listing.specs.Lines.{refusedLine}
-use Rattle.listing.proofs.Parts.{then}
+use Rattle.listing.specs.Lines.{number, refusedLine}
+use Rattle.listing.specs.Words.{refusedWord}
+use Rattle.listing.proofs.Parts.{two-fields}
 use Rattle.listing.proofs.write_refused.Statement.{statement}
 use Rattle.listing.proofs.write_refused.Tie as tie
 
@@ -16,8 +13,7 @@ returns c =
     let e2 = c .before .before in
     let e1 = e2 .before .before .before .before in
     let s = e1 .before .before .before .before in
-    let h : s .args .at ≤ length (s .args .out .now) = omega arith in
-    simp append-assoc (simp append-assoc at (then h (e1 .write-word .ensures) (e2 .write-number .ensures)))
+    two-fields 19 refusedWord (number (s .args .n)) (s .pre) (e1 .write-word .ensures) (e2 .write-number .ensures)
 
 pub write-refused-spec : {M : Type 1} → statement M
 write-refused-spec =

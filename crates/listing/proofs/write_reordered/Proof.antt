@@ -1,5 +1,5 @@
--- `listing::write_reordered` meets its contract: a word, two numbers, a late time and two numbers, one after the other, are the fields of its
--- line (`then`). Here e1 to e6 are these parts, s the start. Assumes nothing.
+-- `listing::write_reordered` meets its contract: a word, two numbers, a late time and two numbers, one after the other, are the fields of
+-- its line (`then`). Here e1 to e6 are these parts, s the start. Assumes nothing.
 use Prim.Native.Nat.{_≤_}
 use native.Mathlib.Omega.{arith}
 use mathlib.Core.List.{append-assoc}

@@ -1,5 +1,5 @@
--- `listing::write_sign` meets its contract: a minus is stored only for a time before, by more than 0 (`one`), which is when the definition has
--- one; else nothing is written (`nothing`). Assumes nothing.
+-- `listing::write_sign` meets its contract: a minus is stored only for a time before, by more than 0 (`one`), which is when the
+-- definition has one; else nothing is written (`nothing`). Assumes nothing.
 use native.Mathlib.Omega.{arith}
 use borrow.Author.Needs.{needs}
 use borrow.Author.Tests.{lt-ltb, le-ltb}

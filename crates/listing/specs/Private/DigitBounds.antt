@@ -10,8 +10,8 @@ use Rattle.rfc4737.specs.Reordered.{offsetMost}
 use Rattle.rfc4737.specs.Runs.{squaresMost}
 use Rattle.rfc4737.specs.Times.{backMost}
 
--- at most four digits, as have K, A and every record, number, position, extent, jump size, largest n and count of a sample:
--- none is over 4,096
+-- at most four digits. So have K, A and every record, number, position, extent, jump size, largest n and count of a sample: none is over
+-- 4,096
 abbrev pub FourDigits : ℕ → Type 0
 FourDigits n = n < 10 ^ 4
 

@@ -1,12 +1,11 @@
--- What the writer of a part of a line leaves. Assumes nothing.
+-- The buffer after a part of a line was written. Assumes nothing.
 use Prim.Native.Nat.{ℕ, _+_, _≤_, _/_, _%_}
 use mathlib.Core.Path.{_≡_}
 use mathlib.Core.List.{List, [], _∷_, _++_}
 use lib.ListN.{length}
 use Rattle.octets.specs.Memory.{splice}
 
--- the octets xs, of which there are at most so many, were written in `old` from a place on, all else is as it was, and
--- `next` is the place after them
+-- `new` is `old` with the octets xs, at most `most` of them, written from offset `at` on; `next` is the offset after them
 pub record PartWritten (at most next : ℕ) (xs old new : List ℕ) : Type 0 where
   pub place : next ≡ at + length xs
   pub within : length xs ≤ most

@@ -13,10 +13,10 @@ use Rattle.sample.specs.Decode.{Decoded}
 use Rattle.metrics.specs.Sample.{sizeOf}
 use Rattle.metrics.specs.Records.{before, FileLayout}
 use Rattle.metrics.specs.Private.Tables.{NumberTable, Packets, EngineTables, LinkTable}
-use Rattle.metrics.specs.declared.totals.Totals.{Totals}
+use Rattle.metrics.specs.declared.byte_offset.Totals.{Totals}
 use Rattle.metrics.specs.declared.engine.Engine.{Engine}
 
--- a tree has the sums of the payload sizes of so many of some first arrivals, by pairs of packets, and their total is known
+-- a tree has the sums of the payload sizes of the first `filled` of some first arrivals, by pairs of packets, and their total is known
 pub record SizeTree (size : ℕ → ℕ) (fs : List Arrival) (tree : List ℕ) (t : Totals) : Type 0 where
   pub places : length tree ≡ 2049
   pub some : t .filled ≤ length fs

@@ -13,7 +13,7 @@ use Rattle.metrics.specs.declared.needs.Needs.{Needs}
 abbrev pub greaterOf : ℕ → ℕ → ℕ
 greaterOf a b = cond (ltb a b) b a
 
--- what is held under one answer more
+-- the needs after the next answer
 unfoldable pub needsAfter : Measure → ℕ → Needs → Answer → Needs
 needsAfter m size h (Answer.Duplicate d) = h
 needsAfter m size h (Answer.InOrder d) =

@@ -1,4 +1,5 @@
--- What the passes for single figures keep and find: the kind of an arrival, shares and ratios, discoverers of discontinuities. Assumes nothing.
+-- What the passes for single figures keep and find: the kind of an arrival, shares and ratios, discoverers of discontinuities. Assumes
+-- nothing.
 use mathlib.Core.Path.{_≡_}
 use mathlib.Core.Bool.{Bool, false, cond, not}
 use mathlib.Core.List.{List}
@@ -14,12 +15,13 @@ use Rattle.rfc4737.specs.Arrivals.{count, has, firsts}
 use Rattle.rfc4737.specs.Order.{nextExp}
 use Rattle.rfc4737.specs.Answer.{answers}
 use Rattle.rfc4737.specs.Runs.{isReordered, arrived}
-use Rattle.rfc4737.specs.Gaps.{discoverer}
+use Rattle.rfc4737.specs.Gaps.{positionOf, discoverer}
 use Rattle.rfc4737.specs.Ratios.{quotient, nReordered}
 use Rattle.rfc4737.specs.Judge.{sentMost}
-use Rattle.metrics.specs.Records.{numberPlaces}
+use Rattle.sample.specs.Decode.{Decoded}
+use Rattle.metrics.specs.Records.{before, answerAt, numberPlaces}
 use Rattle.metrics.specs.Private.Tables.{NumberTable, LinkTable}
-use Rattle.metrics.specs.declared.classes.Class.{Class}
+use Rattle.metrics.specs.declared.kind.Class.{Class}
 use Rattle.metrics.specs.declared.figures.Shares.{Shares}
 
 -- ---- counts
@@ -31,7 +33,7 @@ kindBy seen next number =
 
 -- ---- degrees and ratios
 
--- the n-reordered packets under a reordered one more, of this largest n
+-- the n-reordered packets after another reordered one, of this largest n
 abbrev pub reachedBy : ℕ → ℕ → ℕ → ℕ
 reachedBy n largest part = cond (leb n largest) (part + 1) part
 
@@ -81,3 +83,14 @@ pub record DiscoverersAt (l : List Answer) (found : List ℕ) : Type 0 where
 unfoldable pub lastTo : List ℕ → ℕ → ℕ
 lastTo found zero = 0
 lastTo found (suc p) = cond (eqb (getD found (suc p) 0) 0) (lastTo found p) (suc p)
+
+-- the first arrivals after a record of this position, 0 for a duplicate, and `count` first arrivals before it
+abbrev pub countAfter : (count position : ℕ) → ℕ
+countAfter count position = cond (eqb position 0) count position
+
+-- the position of record i + 1, 0 for a duplicate, after `count` first arrivals: the next one, and one of the places of a table
+pub record PositionAt (d : Decoded) (i count position : ℕ) : Type 0 where
+  pub is : known position ≡ positionOf (answerAt d i)
+  pub few : position ≤ sentMost
+  pub next : (position ≡ 0 → ⊥) → position ≡ count + 1
+  pub after : countAfter count position ≡ length (firsts (before d (i + 1)))

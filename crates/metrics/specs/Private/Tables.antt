@@ -15,8 +15,8 @@ use Rattle.rfc4737.specs.Extent.{discontinuity, largestN}
 use Rattle.rfc4737.specs.Judge.{sentMost, arrivalsMost}
 use Rattle.sample.specs.Places.{noArrival}
 use Rattle.metrics.specs.Records.{numberPlaces}
-use Rattle.metrics.specs.declared.classes.Class.{Class}
-use Rattle.metrics.specs.declared.tables.State.{State}
+use Rattle.metrics.specs.declared.kind.Class.{Class}
+use Rattle.metrics.specs.declared.seen.State.{State}
 
 -- a list after one value was put at the places from `from` to before `to`, all else as it was
 pub record Filled (from to value : ℕ) (old new : List ℕ) : Type 0 where
@@ -25,12 +25,12 @@ pub record Filled (from to value : ℕ) (old new : List ℕ) : Type 0 where
   pub below : (k : ℕ) → k < from → getD new k 0 ≡ getD old k 0
   pub past : (k : ℕ) → to ≤ k → getD new k 0 ≡ getD old k 0
 
--- a table has the numbers of some first arrivals, by position, and so many are there
+-- a table has the numbers of some first arrivals, by position, and there are `count` of them
 pub record NumberTable (fs : List Arrival) (numbers : List ℕ) (count : ℕ) : Type 0 where
   pub all : count ≡ length fs
   pub at : (p : ℕ) → p < length fs → getD numbers p 0 ≡ getD fs p noArrival .number
 
--- a table has the numbers of so many packets, from 1 to `most`
+-- a table has the numbers of `count` packets, from 1 to `most`
 pub record Packets (numbers : List ℕ) (count most : ℕ) : Type 0 where
   pub inside : (p : ℕ) → p < count → (1 ≤ getD numbers p 0) × (getD numbers p 0 ≤ most)
 
@@ -39,8 +39,8 @@ pub record Above (numbers : List ℕ) (s low high : ℕ) : Type 0 where
   pub order : low ≤ high
   pub at : (p : ℕ) → low ≤ p → p < high → s < getD numbers p 0
 
--- a table has, at the packet of each of so many first arrivals, what with `more` is 1 and a number of places directly before it that
--- hold greater numbers
+-- for each of the first `count` first arrivals, `more` and what a table has at its packet are 1 and some number of places directly before
+-- it, all of which hold greater numbers
 pub record Links (more : ℕ) (numbers links : List ℕ) (count : ℕ) : Type 0 where
   pub packet : (p : ℕ) → p < count → getD numbers p 0 ≤ sentMost
   pub inside : (p : ℕ) → p < count → (1 ≤ more + getD links (getD numbers p 0) 0) × (more + getD links (getD numbers p 0) 0 ≤ p + 1)
@@ -60,7 +60,7 @@ pub record EngineTables (earlier : List Arrival) (numbers records skipped : List
   pub skips : (s : ℕ) → 1 ≤ s → s < nextExp (firsts earlier) → has s earlier ≡ false
       → (p : FirstArrival) → discontinuity (firsts earlier) s ≡ some p → getD skipped s 0 ≡ p .position
 
--- a table has at the packet of each first arrival what with `more` is 1 and its own largest n, and 0 at every packet from NextExp on
+-- for each first arrival, `more` and what a table has at its packet are 1 and its own largest n; from NextExp on every packet has 0
 pub record LinkTable (more : ℕ) (fs : List Arrival) (links : List ℕ) : Type 0 where
   pub at : (p : ℕ) → p < length fs → more + getD links (getD fs p noArrival .number) 0 ≡ largestN (take p fs) (getD fs p noArrival .number) + 1
   pub ahead : (s : ℕ) → nextExp fs ≤ s → getD links s 0 ≡ 0
@@ -74,7 +74,7 @@ pub record NextRecord (numbers records skipped : List ℕ) (state : State) (i nu
   pub low : 1 ≤ number
   pub high : number ≤ sentMost
 
--- record i + 1, of a packet of this number, is noted: the tables and the state are those after one arrival more, and links stay links
+-- record i + 1, of a packet of this number, is noted: the tables and the state are those after this arrival, and links stay links
 -- if it is linked by its largest n where it is reordered
 pub record NotedRecord (i number largest : ℕ) (numbers records skipped : List ℕ) (state : State) (numbers′ records′ skipped′ : List ℕ) (state′ : State) : Type 0 where
   pub follows : (l : List Arrival) (a : Arrival) → length l ≡ i → a .number ≡ number → EngineTables l numbers records skipped state
@@ -90,14 +90,14 @@ classBy records skipped next number =
     (cond (leb next number) (Class.InOrder (number - next)) (Class.Reordered (getD skipped number 0)))
     (Class.Duplicate (getD records number 0))
 
--- the answer of a class after so many first arrivals, with those figures of a reordered packet that its class does not tell
+-- the answer of a class after `count` first arrivals, with those figures of a reordered packet that its class does not tell
 abbrev pub answerBy : ℕ → Class → ReorderedFigures → Answer
 answerBy count (Class.Duplicate first) f = Answer.Duplicate (record { first = first })
 answerBy count (Class.InOrder jump) f = Answer.InOrder (record { position = count + 1; jump = jump })
 answerBy count (Class.Reordered at) f =
     Answer.Reordered (record { position = count + 1; extent = count + 1 - at; late = f .late; offset = f .offset; largest = f .largest })
 
--- a class is that of an answer, after so many first arrivals
+-- a class is that of an answer, after `count` first arrivals
 pub record ClassOf (count : ℕ) (class : Class) (a : Answer) : Type 0 where
   pub figures : ReorderedFigures
   pub is : a ≡ answerBy count class figures

@@ -15,8 +15,8 @@ use Rattle.metrics.specs.Agreement.{common}
 use Rattle.metrics.specs.Report.{sampleText}
 use Rattle.metrics.specs.Sample.{answersOf}
 use Rattle.metrics.specs.Records.{before, answersTo}
-use Rattle.metrics.specs.declared.parts.Part.{Part}
-use Rattle.metrics.specs.declared.pass.PassResult.{PassResult}
+use Rattle.metrics.specs.declared.line_agreement.Part.{Part}
+use Rattle.metrics.specs.declared.listing_pass.PassResult.{PassResult}
 
 -- how many octets of some lines stand at a text's start, and whether all of them do
 pub record Agreed (lines text : List ℕ) (r : Part) : Type 0 where
@@ -38,7 +38,7 @@ pub record Taken (comparing : Bool) (lines text : List ℕ) (at : ℕ) (old new 
 abbrev pub linesTo : Decoded → Layout → ℕ → List ℕ
 linesTo d y i = headerLine (y .sent) (y .arrivals) ++ recordLines (before d i) (answersTo d i)
 
--- record i is behind: the lines up to it are taken, of so many octets
+-- record i is behind: the lines up to it are taken, of `at` octets together
 abbrev pub PassedTo : Decoded → Layout → List ℕ → Bool → ℕ → ℕ → List ℕ → List ℕ → Type 0
 PassedTo d y text comparing i at old new = Taken comparing (linesTo d y i) text 0 old new (record { octets = at; whole = true })
 

@@ -1,6 +1,6 @@
--- `octets::write_number` meets its contract. The loop's invariant: i is at most n, memory keeps its length, and memory as it is with `rest`
--- written in i octets is memory at the entry with all of `v` written in n. A turn stores the last of these i octets, and the others are those
--- of rest / 256 (`turn`); with i = 0 nothing is left to write. The measure is i. Assumes nothing.
+-- `octets::write_number` meets its contract. The loop's invariant: i is at most n, memory keeps its length, and memory as it is with
+-- `rest` written in i octets is memory at the entry with all of `v` written in n. A turn stores the last of these i octets, and the
+-- others are those of rest / 256 (`turn`); with i = 0 nothing is left to write. The measure is i. Assumes nothing.
 use Prim.Native.Nat.{ℕ, _+_, _-_, _/_, _%_, _≤_, _<_}
 use native.Mathlib.Omega.{arith}
 use mathlib.Core.Path.{_≡_, refl, sym, _∙_}

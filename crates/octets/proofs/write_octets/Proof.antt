@@ -1,5 +1,6 @@
--- `octets::write_octets` meets its contract. The loop's invariant: i is at most the length of s, memory keeps its length, and it is memory at
--- the entry with the first i octets of s written from `at` on; it is the loop of `copy-next`. The measure is what is left of s. Assumes nothing.
+-- `octets::write_octets` meets its contract. The loop's invariant: i is at most the length of s, memory keeps its length, and it is
+-- memory at the entry with the first i octets of s written from `at` on. It is the loop of `copy-next`. The measure is what is left of s.
+-- Assumes nothing.
 use Prim.Native.Nat.{_-_, _≤_}
 use native.Mathlib.Omega.{arith}
 use mathlib.Core.Path.{_≡_, refl}

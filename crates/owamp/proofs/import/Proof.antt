@@ -1,6 +1,7 @@
--- `owamp::import` meets its contract: `records_refusal` gives the refusal of K and the records; with none (`none`), a list with fewer places than
--- arrivals is 8; else `fill_arrivals` leaves the arrivals in order, whose times rise, so that `to_microseconds` may take off the first, which is the
--- smallest (`times-converted`). Beside each answer stand the theorems that the contract carries (`carried`). Assumes nothing.
+-- `owamp::import` meets its contract: `records_refusal` gives the refusal of K and the records. With none (`none`), a list with fewer
+-- places than arrivals is 8. Else `fill_arrivals` leaves the arrivals in order, whose times rise, so that `to_microseconds` may take off
+-- the first, which is the smallest (`times-converted`). Beside each answer stand the theorems that the contract carries (`carried`).
+-- Assumes nothing.
 use borrow.Author.Needs.{needs}
 use native.Mathlib.Omega.{arith}
 use Prim.Native.Nat.{ℕ}
@@ -29,7 +30,13 @@ use Rattle.owamp.proofs.import.Tie as tie
 carried : (k : ℕ) (os : List ℕ) → OnlyOne timeOf (recordsArrivals os) × (RoundedDown × (AcceptedLists k os × RecordsReadAsGiven))
 carried k os = (only-one timeOf (recordsArrivals os), (distance, (accepted-lists k os, read-as-given)))
 
--- the start, from where K and the records are not refused
+-- places: where the lists are filled, where they are long enough, and the start from where K and the records are not refused
+abbrev filled : tie.After-to-microseconds-arg → tie.After-fill-arrivals
+filled c = c .before .before .before .before .before
+
+abbrev long : tie.After-fill-arrivals → tie.Else3
+long c = c .before .before .before
+
 abbrev start : tie.Else1 → tie.Start
 start c = c .before .before .before .before .before .before
 
@@ -67,25 +74,31 @@ fill-arrivals-requires c κs =
 
 to-microseconds-requires : tie.Need-to-microseconds-requires
 to-microseconds-requires c κs =
-    let e = c .before .before .before .before .before .before .before .before .before .before in
-    let f = c .before .before .before .before .before .fill-arrivals in
+    let w = filled c in
+    let e = long w .before .before in
+    let f = w .fill-arrivals in
     let k = f .kept .1 .0 in
     let n = many e in
     (omega arith, λ i h. filled-first (records e) (now (start e .args .times)) (f .ensures .1) i (omega arith))
 
 cast-t18 : tie.Need-cast-t18
 cast-t18 c =
-    let e = c .before .before .before .before .before .before .before .before .before .before .before .before .before in
+    let e = long (filled (c .before .before .before)) .before .before in
     omega (arith, none-refused (start e .args .k) (records e) (none e) .few, many e)
 
 returns-4 : tie.Need-returns-4
 returns-4 c =
-    let e = c .before .before .before .before .before .before .before .before .before .before .before .before .before in
+    let w = filled (c .before .before .before) in
+    let r = long w in
+    let e = r .before .before in
     let a = start e .args in
     let l = recordsArrivals (records e) in
-    let f = c .before .before .before .before .before .before .before .before .fill-arrivals .ensures in
+    let f = w .fill-arrivals .ensures in
     let t = times-converted (inTimeOrder l) _ (now (a .times)) (in-order timeOf l .rising) (many e ∙ sym (order-length timeOf l)) (f .1) (c .before .before .to-microseconds .ensures) in
-    (import-filled (a .k) (records e) (now (a .numbers)) (now (a .times)) _ (none e) (many e) (c .before .before .before .before .before .before .before .before .before .before .before .before .if2 .left) (c .before .before .before .before .before .before .before .before .before .before .before .if3 .left) (f .0) t, carried (a .k) (records e))
+    let os = records e in
+    let h = r .before .if2 .left in
+    let answer = import-filled (a .k) os (now (a .numbers)) (now (a .times)) _ (none e) (many e) h (r .if3 .left) (f .0) t in
+    (answer, carried (a .k) os)
 
 pub import-spec : {M : Type 1} → statement M
 import-spec =

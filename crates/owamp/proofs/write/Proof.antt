@@ -1,6 +1,7 @@
--- `owamp::write` meets its contract: a refusal of `check` is the file's own; with none the layout is that of an accepted file (`found`), so
--- `judge_seconds` may judge its times (18); then too few lent octets are 8; else `write_records` writes the records. At each return the first
--- refusal is known, and what is written with it. Beside each answer stand the theorems that the contract carries (`carried`). Assumes nothing.
+-- `owamp::write` meets its contract: a refusal of `check` is the file's own. With none the layout is that of an accepted file (`found`), so
+-- `judge_seconds` may judge its times (18). Then too few lent octets are 8; else `write_records` writes the records. At each return the
+-- first refusal is known, and what is written with it. Beside each answer stand the theorems that the contract carries (`carried`). Assumes
+-- nothing.
 use borrow.Author.Needs.{needs}
 use native.Mathlib.Omega.{arith}
 use Prim.Native.Nat.{ℕ, _*_}
@@ -29,7 +30,10 @@ use Rattle.owamp.proofs.write.Tie as tie
 carried : (file : List ℕ) → Octets file → RecordsReadAgain file × RecordsWrittenAsGiven
 carried file o = (read-again file o, written-as-given)
 
--- the start, from where the sample is not refused
+-- places: where there is room, where the sample is not refused, and the start
+abbrev accepted : tie.Else3 → tie.Else1
+accepted c = c .before .before .before .before
+
 abbrev start : tie.Else1 → tie.Start
 start c = c .before .before .before .before .before
 
@@ -75,16 +79,18 @@ write-records-requires c κs = (found (c .before .before .before .before .before
 
 cast-t11 : tie.Need-cast-t11
 cast-t11 c =
-    let e = c .before .before .before .before .before .before .before .before in
+    let e = accepted (c .before .before .before .before) in
     let f = found e in
     let d = found-sample (file e) _ (f .0) (f .1) in
     omega (arith, accepted-limits (file e) (sampleOf (decode (file e))) d (octets e) .arrivalsFit, many e)
 
 returns-4 : tie.Need-returns-4
 returns-4 c =
-    let e = c .before .before .before .before .before .before .before .before in
-    let due = times-refusal (file e) 0 (none e) (sym (c .before .before .before .before .before .before .if2 .left) ∙ c .before .before .before .before .before .before .before .judge-seconds .ensures) in (
-      output-written _ _ (now (start e .args .out)) (sym due) (omega (arith, c .before .before .before .before .if3 .left, many e)) (omega (arith, many e))
+    let r = c .before .before .before .before in
+    let e = accepted r in
+    let j = r .before .before in
+    let due = times-refusal (file e) 0 (none e) (sym (j .if2 .left) ∙ j .before .judge-seconds .ensures) in (
+      output-written _ _ (now (start e .args .out)) (sym due) (omega (arith, r .if3 .left, many e)) (omega (arith, many e))
           (c .before .before .write-records .ensures ∙ sym (over-splice (recordsOf (arrivalsOfFile (file e))) (now (start e .args .out)))),
       carried (file e) (octets e),
     )

@@ -1,48 +1,27 @@
--- `refusals::words` meets its contract: in each arm the number is known, and the octets are its words (`named`); in the last it is above 6, or 0
--- (`above`). Assumes nothing.
+-- `refusals::words` meets its contract: in each arm the number is known, and the octets are its words (`named`). In the last it is above 6,
+-- or 0 (`above`). Assumes nothing.
 use borrow.Author.Needs.{needs}
-use Rattle.rfc4737.specs.Refusals.{outside}
-use Rattle.refusals.specs.Words.{wordsOf, askedRefusal}
 use Rattle.refusals.proofs.Asked.{words-fit, named, above}
 use Rattle.refusals.proofs.words.Statement.{statement}
 use Rattle.refusals.proofs.words.Tie as tie
-
-returns : tie.Need-returns
-unfolding wordsOf askedRefusal outside
-returns c = (named 1 (c .before .before .before .before .before .match .keys1) (c .before .before .write-whole .ensures), words-fit)
-
-returns-2 : tie.Need-returns-2
-unfolding wordsOf askedRefusal outside
-returns-2 c = (named 2 (c .before .before .before .before .before .match .keys2) (c .before .before .write-whole2 .ensures), words-fit)
-
-returns-3 : tie.Need-returns-3
-unfolding wordsOf askedRefusal outside
-returns-3 c = (named 3 (c .before .before .before .before .before .match .keys3) (c .before .before .write-whole3 .ensures), words-fit)
-
-returns-4 : tie.Need-returns-4
-unfolding wordsOf askedRefusal outside
-returns-4 c = (named 4 (c .before .before .before .before .before .match .keys4) (c .before .before .write-whole4 .ensures), words-fit)
-
-returns-5 : tie.Need-returns-5
-unfolding wordsOf askedRefusal outside
-returns-5 c = (named 5 (c .before .before .before .before .before .match .keys5) (c .before .before .write-whole5 .ensures), words-fit)
-
-returns-6 : tie.Need-returns-6
-unfolding wordsOf askedRefusal outside
-returns-6 c = (named 6 (c .before .before .before .before .before .match .keys6) (c .before .before .write-whole6 .ensures), words-fit)
-
-words-above-6-requires : tie.Need-words-above-6-requires
-words-above-6-requires c κs low =
-    let s = c .before .before .before in
-    above 0 6 (s .args .refusal) (c .before .match .rest) low
-
-returns-7 : tie.Need-returns-7
-returns-7 c = (c .before .before .words-above-6 .ensures, words-fit)
 
 pub words-spec : {M : Type 1} → statement M
 words-spec =
     tie.close
     (tie.spec
-    (λ c. search needs) (λ c κs. search needs) (λ c. search needs) (λ c κs. search needs) (λ c. search needs) (λ c κs. search needs) (λ c. search needs) (λ c κs. search needs) (λ c. search needs) (λ c κs. search needs) (λ c. search needs) (λ c κs. search needs)
-    words-above-6-requires
-    (λ c. search needs) returns (λ c. search needs) returns-2 (λ c. search needs) returns-3 (λ c. search needs) returns-4 (λ c. search needs) returns-5 (λ c. search needs) returns-6 (λ c. search needs) returns-7)
+    (λ c. search needs) (λ c κs. search needs) (λ c. search needs) (λ c κs. search needs) (λ c. search needs) (λ c κs. search needs)
+    (λ c. search needs) (λ c κs. search needs) (λ c. search needs) (λ c κs. search needs) (λ c. search needs) (λ c κs. search needs)
+    (λ c κs low. above 0 6 (c .before .before .before .args .refusal) (c .before .match .rest) low)
+    (λ c. search needs)
+    (λ c. (named 1 (c .before .before .before .before .before .match .keys1) (c .before .before .write-whole .ensures), words-fit))
+    (λ c. search needs)
+    (λ c. (named 2 (c .before .before .before .before .before .match .keys2) (c .before .before .write-whole2 .ensures), words-fit))
+    (λ c. search needs)
+    (λ c. (named 3 (c .before .before .before .before .before .match .keys3) (c .before .before .write-whole3 .ensures), words-fit))
+    (λ c. search needs)
+    (λ c. (named 4 (c .before .before .before .before .before .match .keys4) (c .before .before .write-whole4 .ensures), words-fit))
+    (λ c. search needs)
+    (λ c. (named 5 (c .before .before .before .before .before .match .keys5) (c .before .before .write-whole5 .ensures), words-fit))
+    (λ c. search needs)
+    (λ c. (named 6 (c .before .before .before .before .before .match .keys6) (c .before .before .write-whole6 .ensures), words-fit))
+    (λ c. search needs) (λ c. (c .before .before .words-above-6 .ensures, words-fit)))

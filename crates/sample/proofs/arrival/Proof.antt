@@ -1,5 +1,5 @@
 -- `sample::arrival` meets its contract: the test is that of `arrivalFound`, whether the file ends before the twelve octets at the arrival's
--- place; where it has them `arrival_of` reads them. By the file's own layout what is found is the sample's (`arrival-of-sample`).
+-- place; where it has them `arrival_of` reads them. By the file's own layout it is the sample's arrival (`arrival-of-sample`).
 -- Assumes nothing.
 use borrow.Author.Needs.{needs}
 use Prim.Native.Nat.{ℕ, _+_, _*_, _≤_}
@@ -20,15 +20,17 @@ use Rattle.sample.proofs.OfSample.{arrival-of-sample}
 use Rattle.sample.proofs.arrival.Statement.{statement}
 use Rattle.sample.proofs.arrival.Tie as tie
 
--- what is found, and that it is the sample's
-found : (file : List ℕ) (y : Layout) (i : ℕ) {a : Arrival} → a ≡ arrivalFound file y i → (a ≡ arrivalFound file y i) × ArrivalOfSample file y i a
-found file y i e = (e, arrival-of-sample file y i e)
+-- the arrival that is read, and that it is the sample's
+of-sample : (file : List ℕ) (y : Layout) (i : ℕ) {a : Arrival} → a ≡ arrivalFound file y i
+    → (a ≡ arrivalFound file y i) × ArrivalOfSample file y i a
+of-sample file y i e = (e, arrival-of-sample file y i e)
 
 returns : tie.Need-returns
 unfolding arrivalFound
 returns c =
     let a = c .before .before .before .args in
-    found (now (a .file)) (a .found) (a .i) (rw (lt-ltb (length (now (a .file))) (arrivalsAt (a .found) + arrivalWidth * a .i + arrivalWidth) (omega arith)))
+    of-sample (now (a .file)) (a .layout) (a .i)
+    (rw (lt-ltb (length (now (a .file))) (arrivalsAt (a .layout) + arrivalWidth * a .i + arrivalWidth) (omega arith)))
 
 returns-2 : tie.Need-returns-2
 unfolding arrivalFound
@@ -37,9 +39,9 @@ returns-2 c =
     let f = now (a .file) in
     let e = c .before .before .before .arrivals-at .ensures .0 in
     let start : ℕ = c .before .before .before .arrivals-at .result + arrivalWidth * a .i in
-    let r : arrivalsAt (a .found) + arrivalWidth * a .i + arrivalWidth ≤ length f = omega arith in
-    found f (a .found) (a .i)
-    (rw (le-ltb (length f) (arrivalsAt (a .found) + arrivalWidth * a .i + arrivalWidth) r)
+    let r : arrivalsAt (a .layout) + arrivalWidth * a .i + arrivalWidth ≤ length f = omega arith in
+    of-sample f (a .layout) (a .i)
+    (rw (le-ltb (length f) (arrivalsAt (a .layout) + arrivalWidth * a .i + arrivalWidth) r)
     (arrival-taken start f (c .arrival-of .ensures) ∙ ap (λ (n : ℕ). arrivalIn (part (n + arrivalWidth * a .i) arrivalWidth f)) e))
 
 pub arrival-spec : {M : Type 1} → statement M

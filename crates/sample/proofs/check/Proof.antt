@@ -1,8 +1,8 @@
--- `sample::check` meets its contract: each reading that passes says that its stage refuses nothing and gives the counts and places of the file
--- (`labelled`, `looked`, `counted`, `arrived`, `judged`). So at each `return` the stages before are known to be 0, and the refusal is that of
--- the stage that failed; at the last none is due, and the counts are the layout. Beside the answer stand the theorems that the contract carries
--- (`promised`). f is the file; l, o, k and b are places in the code: after the label, after its octets, and after the sections that follow.
--- Assumes nothing.
+-- `sample::check` meets its contract: each reading that passes says that its stage refuses nothing and gives the counts and places of the
+-- file (`labelled`, `looked`, `counted`, `arrived`, `judged`). So at each `return` the stages before are known to be 0, and the refusal
+-- is that of the stage that failed. At the last none applies, and the counts are the layout. Beside the answer stand the theorems that the
+-- contract carries (`promised`). f is the file; l, o, k and b are places in the code: after the label, after its octets, and after the
+-- sections that follow. Assumes nothing.
 use borrow.Author.Needs.{needs}
 use Prim.Native.Nat.{ℕ, _+_, _*_, _-_, _≤_, _<_}
 use native.Mathlib.Omega.{arith}
@@ -16,7 +16,7 @@ use denote.Ref.{now}
 use Rattle.octets.specs.Below.{Octets}
 use Rattle.octets.specs.Memory.{part}
 use Rattle.octets.proofs.Below.{below-fits}
-use Rattle.rfc4737.specs.Refusals.{inCase, octetsFollow, longLabel, octetOutside, sentOutside, manyArrivals}
+use Rattle.rfc4737.specs.Refusals.{refusalIf, octetsFollow, longLabel, octetOutside, sentOutside, manyArrivals}
 use Rattle.rfc4737.specs.Judge.{sentMost, arrivalsMost, judgeSent, judgeArrivals, judge}
 use Rattle.sample.specs.Format.{labelMost, longest, countWidth, octetWidth, sizeWidth, arrivalWidth, itemsAt, itemsIn}
 use Rattle.sample.specs.Judge.{judgeLabel, someUnshown}
@@ -33,7 +33,31 @@ use Rattle.sample.proofs.Cases.{in-order}
 use Rattle.sample.proofs.check.Statement.{statement}
 use Rattle.sample.proofs.check.Tie as tie
 
--- the answer with a refusal that is due
+-- ---- places in the code, each by one after it: after the label's section, after its octets and after the sent packets' section; and the
+-- file, at each of them and after the arrivals' section
+
+abbrev file : tie.After-known-told → List ℕ
+file l = now (l .before .before .before .before .before .args .file)
+
+abbrev label-at : tie.Else1 → tie.After-known-told
+label-at o = o .before .before .before
+
+abbrev octets-at : tie.After-known-told2 → tie.Else1
+octets-at k = k .before .before .before .before
+
+abbrev sent-at : tie.After-known-told3 → tie.After-known-told2
+sent-at b = b .before .before .before .before
+
+abbrev file-o : tie.Else1 → List ℕ
+file-o o = file (label-at o)
+
+abbrev file-k : tie.After-known-told2 → List ℕ
+file-k k = file-o (octets-at k)
+
+abbrev file-b : tie.After-known-told3 → List ℕ
+file-b b = file-k (sent-at b)
+
+-- the answer with a refusal that applies
 answer : (f : List ℕ) (n : ℕ) → 0 < n → fileRefusal f ≡ n → {r : ℕ} {y : Layout} → y ≡ layoutOf (refused r) → r ≡ n → y ≡ layoutOf (decode f)
 answer f n h e p q = p ∙ ap (λ (k : ℕ). layoutOf (refused k)) q ∙ ap layoutOf (sym (decode-refused f n h e))
 
@@ -43,85 +67,89 @@ promised f o = (exact f o, ((refl, lengths f o), in-order))
 
 -- after the label: nothing of its section is refused, and its count and its end are those of the file
 labelled : (c : tie.After-known-told)
-    → (labelStage (now (c .before .before .before .before .before .args .file)) ≡ 0)
-    × (c .before .label .given .0 .0 ≡ labelCount (now (c .before .before .before .before .before .args .file)))
-    × (c .before .label .given .0 .1 .0 ≡ sentAt (now (c .before .before .before .before .before .args .file)))
+    → (labelStage (file c) ≡ 0)
+    × (c .before .label .given .0 .0 ≡ labelCount (file c))
+    × (c .before .label .given .0 .1 .0 ≡ sentAt (file c))
 labelled c =
-    whole-section 0 octetWidth 0 labelMost longLabel (now (c .before .before .before .before .before .args .file)) (sym (c .before .before .before .section-at .ensures) ∙ c .before .label .given .1)
+    whole-section 0 octetWidth 0 labelMost longLabel (file c)
+    (sym (c .before .before .before .section-at .ensures) ∙ c .before .label .given .1)
 
 -- after its octets are looked at
-looked : (c : tie.After-some-unshown) → c .some-unshown .result ≡ someUnshown (sampleIn (now (c .before .before .before .before .before .before .before .args .file)) .label)
+looked : (c : tie.After-some-unshown) → c .some-unshown .result ≡ someUnshown (sampleIn (file (c .before .before)) .label)
 unfolding sampleIn
 looked c =
     let l = c .before .before in
-    let f = now (l .before .before .before .before .before .args .file) in
+    let f = file l in
     let w = labelled l in
     let e : l .before .label .given .0 .1 .0 - countWidth ≡ labelCount f = omega arith in
     c .some-unshown .ensures ∙ ap (λ (n : ℕ). someUnshown (part (itemsAt 0) n f)) e
 
 -- all of them can be shown
-shown : (c : tie.Else1) → someUnshown (sampleIn (now (c .before .before .before .before .before .before .before .before .args .file)) .label) ≡ false
+shown : (c : tie.Else1) → someUnshown (sampleIn (file-o c) .label) ≡ false
 shown c = sym (looked (c .before)) ∙ c .if1 .left
 
 -- after the sent packets
 counted : (c : tie.After-known-told2)
-    → (sentStage (now (c .before .before .before .before .before .before .before .before .before .before .before .before .args .file)) ≡ 0)
-    × (c .before .sent .given .0 .0 ≡ sentCount (now (c .before .before .before .before .before .before .before .before .before .before .before .before .args .file)))
-    × (c .before .sent .given .0 .1 .0 ≡ arrivedAt (now (c .before .before .before .before .before .before .before .before .before .before .before .before .args .file)))
+    → (sentStage (file-k c) ≡ 0)
+    × (c .before .sent .given .0 .0 ≡ sentCount (file-k c))
+    × (c .before .sent .given .0 .1 .0 ≡ arrivedAt (file-k c))
 counted c =
-    let l = c .before .before .before .before .before .before .before in
-    let f = now (l .before .before .before .before .before .args .file) in
+    let l = label-at (octets-at c) in
+    let f = file l in
     whole-section (sentAt f) sizeWidth 1 sentMost sentOutside f
     (sym (c .before .before .before .section-at2 .ensures ∙ ap (λ (n : ℕ). sectionReading n sizeWidth 1 sentMost sentOutside f) (labelled l .2)) ∙ c .before .sent .given .1)
 
 -- after the arrivals
 arrived : (c : tie.After-known-told3)
-    → (arrivedStage (now (c .before .before .before .before .before .before .before .before .before .before .before .before .before .before .before .before .args .file)) ≡ 0)
-    × (c .before .arrived .given .0 .0 ≡ arrivalCount (now (c .before .before .before .before .before .before .before .before .before .before .before .before .before .before .before .before .args .file)))
-    × (c .before .arrived .given .0 .1 .0 ≡ fileEnd (now (c .before .before .before .before .before .before .before .before .before .before .before .before .before .before .before .before .args .file)))
+    → (arrivedStage (file-b c) ≡ 0)
+    × (c .before .arrived .given .0 .0 ≡ arrivalCount (file-b c))
+    × (c .before .arrived .given .0 .1 .0 ≡ fileEnd (file-b c))
 arrived c =
     let k = c .before .before .before .before in
-    let f = now (k .before .before .before .before .before .before .before .before .before .before .before .before .args .file) in
+    let f = file-k k in
     whole-section (arrivedAt f) arrivalWidth 0 arrivalsMost manyArrivals f
     (sym (c .before .before .before .section-at3 .ensures ∙ ap (λ (n : ℕ). sectionReading n arrivalWidth 0 arrivalsMost manyArrivals f) (counted k .2)) ∙ c .before .arrived .given .1)
 
 -- the arrivals lie within the file
 sections-within : (c : tie.After-known-told3)
-    → itemsAt (c .before .before .before .before .before .sent .given .0 .1 .0) + arrivalWidth * c .before .arrived .given .0 .0 ≤ length (now (c .before .before .before .before .before .before .before .before .before .before .before .before .before .before .before .before .args .file))
+    → itemsAt (c .before .before .before .before .before .sent .given .0 .1 .0) + arrivalWidth * c .before .arrived .given .0 .0 ≤ length
+    (file-b c)
 sections-within c =
     let k = c .before .before .before .before in
-    let f = now (k .before .before .before .before .before .before .before .before .before .before .before .before .args .file) in
+    let f = file-k k in
     let u = arrived c in
     let v = counted k in
     let s = stage-none (arrivedAt f) arrivalWidth judgeArrivals f (u .0) in
     omega arith
 
 -- after the arrivals are judged: theirs is the first refusal, if any
-judged : (c : tie.After-judge-file) → fileRefusal (now (c .before .before .before .before .before .before .before .before .before .before .before .before .before .before .before .before .before .before .args .file)) ≡ c .judge-file .result
+judged : (c : tie.After-judge-file) → fileRefusal (file-b (c .before .before)) ≡ c .judge-file .result
 unfolding sampleIn
 judged c =
     let b = c .before .before in
     let k = b .before .before .before .before in
     let o = k .before .before .before .before in
     let l = o .before .before .before in
-    let f = now (l .before .before .before .before .before .args .file) in
+    let f = file l in
     let u = arrived b in
     let v = counted k in
-    let e : endStage f ≡ 0 = ap (λ t. inCase t octetsFollow) (le-ltb (fileEnd f) (length f) (omega arith)) in
+    let e : endStage f ≡ 0 = ap (λ t. refusalIf t octetsFollow) (le-ltb (fileEnd f) (length f) (omega arith)) in
     refused-arrivals f (labelled l .0) (shown o) (v .0) (u .0) (c .judge-file .result) e
     (sym (c .judge-file .ensures ∙ (λ i. judge (v .1 i) 0 (itemsIn arrivalWidth arrivalIn (u .1 i) (drop (itemsAt (v .2 i)) f)))))
 
 -- where nothing is refused
-accepted : (c : tie.Else3) → WholeFile (now (c .before .before .before .before .before .before .before .before .before .before .before .before .before .before .before .before .before .before .before .args .file))
-accepted c = refused-none (now (c .before .before .before .before .before .before .before .before .before .before .before .before .before .before .before .before .before .before .before .args .file)) (judged (c .before) ∙ c .if3 .left)
+accepted : (c : tie.Else3) → WholeFile (file-b (c .before .before .before))
+accepted c = refused-none (file-b (c .before .before .before)) (judged (c .before) ∙ c .if3 .left)
 
 -- and each count is within its limit
 within : (c : tie.Else3)
-    → (c .before .before .before .before .before .before .before .before .before .before .before .before .before .before .before .label .given .0 .0 ≤ labelMost) × (c .before .before .before .before .before .before .before .before .sent .given .0 .0 ≤ sentMost) × (c .before .before .before .before .arrived .given .0 .0 ≤ arrivalsMost)
+    → (label-at (octets-at (sent-at (c .before .before .before))) .before .label .given .0 .0 ≤ labelMost)
+    × (sent-at (c .before .before .before) .before .sent .given .0 .0 ≤ sentMost) ×
+    (c .before .before .before .before .arrived .given .0 .0 ≤ arrivalsMost)
 within c =
     let w = accepted c in
-    let p = labelled (c .before .before .before .before .before .before .before .before .before .before .before .before .before .before) in
-    let q = counted (c .before .before .before .before .before .before .before) in
+    let p = labelled (label-at (octets-at (sent-at (c .before .before .before)))) in
+    let q = counted (sent-at (c .before .before .before)) in
     let r = arrived (c .before .before .before) in
     (omega arith, omega arith, omega arith)
 
@@ -151,13 +179,13 @@ part-shown-start c =
 part-shown-end : tie.Need-part-shown-end
 part-shown-end c =
     let w = labelled c in
-    let s = stage-none 0 octetWidth judgeLabel (now (c .before .before .before .before .before .args .file)) (w .0) in
+    let s = stage-none 0 octetWidth judgeLabel (file c) (w .0) in
     omega arith
 
 returns-2 : tie.Need-returns-2
 returns-2 c =
     let l = c .before .before .before .before in
-    let f = now (l .before .before .before .before .before .args .file) in
+    let f = file l in
     let o = sym (looked (c .before .before)) ∙ c .before .if1 .taken in (
       answer f octetOutside (omega arith) (refused-octets f (labelled l .0) o) (c .refused-layout2 .ensures) refl,
       promised f (below-fits w8 f (l .before .before .before .before .shared-slice-known .given)),
@@ -167,14 +195,14 @@ section-at-requires-2 : tie.Need-section-at-requires-2
 section-at-requires-2 c κs =
     let l = c .before .before .before in
     let w = labelled l in
-    let s = stage-none 0 octetWidth judgeLabel (now (l .before .before .before .before .before .args .file)) (w .0) in
+    let s = stage-none 0 octetWidth judgeLabel (file l) (w .0) in
     (omega arith, omega arith, omega arith)
 
 returns-3 : tie.Need-returns-3
 returns-3 c =
     let o = c .before .before .before .before .before in
     let l = o .before .before .before in
-    let f = now (l .before .before .before .before .before .args .file) in
+    let f = file l in
     let w = labelled l in
     let s = c .before .before .before .before .section-at2 .ensures ∙ ap (λ (n : ℕ). sectionReading n sizeWidth 1 sentMost sentOutside f) (w .2) in
     let r = c .before .refusal-of-section2 .ensures ∙ ap refusalOfSection s ∙ refusal-section (sentAt f) sizeWidth 1 sentMost sentOutside f in
@@ -186,7 +214,7 @@ returns-3 c =
 section-at-requires-3 : tie.Need-section-at-requires-3
 section-at-requires-3 c κs =
     let w = counted c in
-    let f = now (c .before .before .before .before .before .before .before .before .before .before .before .before .args .file) in
+    let f = file-k c in
     let s = stage-none (sentAt f) sizeWidth judgeSent f (w .0) in
     (omega arith, omega arith, omega arith)
 
@@ -195,7 +223,7 @@ returns-4 c =
     let b = c .before .before .before .before .before in
     let o = b .before .before .before .before in
     let l = o .before .before .before in
-    let f = now (l .before .before .before .before .before .args .file) in
+    let f = file l in
     let v = counted b in
     let s = c .before .before .before .before .section-at3 .ensures ∙ ap (λ (n : ℕ). sectionReading n arrivalWidth 0 arrivalsMost manyArrivals f) (v .2) in
     let r = c .before .refusal-of-section3 .ensures ∙ ap refusalOfSection s ∙ refusal-section (arrivedAt f) arrivalWidth 0 arrivalsMost manyArrivals f in
@@ -210,9 +238,9 @@ returns-5 c =
     let k = b .before .before .before .before in
     let o = k .before .before .before .before in
     let l = o .before .before .before in
-    let f = now (l .before .before .before .before .before .args .file) in
+    let f = file l in
     let u = arrived b in
-    let e : endStage f ≡ octetsFollow = ap (λ t. inCase t octetsFollow) (lt-ltb (fileEnd f) (length f) (omega arith)) in (
+    let e : endStage f ≡ octetsFollow = ap (λ t. refusalIf t octetsFollow) (lt-ltb (fileEnd f) (length f) (omega arith)) in (
       answer f octetsFollow (omega arith) (refused-end f (labelled l .0) (shown o) (counted k .0) (u .0) octetsFollow (omega arith) e) (c .refused-layout5 .ensures) refl,
       promised f (below-fits w8 f (l .before .before .before .before .shared-slice-known .given)),
     )
@@ -229,8 +257,8 @@ judge-file-requires c κs =
 
 returns-6 : tie.Need-returns-6
 returns-6 c =
-    let l = c .before .before .before .before .before .before .before .before .before .before .before .before .before .before .before in
-    let f = now (l .before .before .before .before .before .args .file) in
+    let l = label-at (octets-at (sent-at (c .before .before .before .before))) in
+    let f = file l in
     let j = judged (c .before .before) in
     let n : 0 < c .before .before .judge-file .result = omega (arith, c .before .if3 .taken) in (
       answer f (c .before .before .judge-file .result) n j (c .refused-layout6 .ensures) refl,
@@ -256,8 +284,8 @@ returns-7 : tie.Need-returns-7
 returns-7 c =
     let b = c .before .before .before in
     let k = b .before .before .before .before in
-    let l = k .before .before .before .before .before .before .before in
-    let f = now (l .before .before .before .before .before .args .file) in
+    let l = label-at (octets-at k) in
+    let f = file l in
     let j = judged (c .before) ∙ c .if3 .left in
     let p = labelled l .1 in
     let q = counted k .1 in

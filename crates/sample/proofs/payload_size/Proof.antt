@@ -28,7 +28,7 @@ unfolding sizeFound
 returns c =
     let a = c .before .before .before .args in
     let e = c .number-at .ensures ∙ ap (λ (n : ℕ). beValue (part (n + sizeWidth * a .j) sizeWidth (now (a .file)))) (c .before .sizes-at .ensures) in
-    (e, size-of-sample (now (a .file)) (a .found) (a .j) e)
+    (e, size-of-sample (now (a .file)) (a .layout) (a .j) e)
 
 pub payload-size-spec : {M : Type 1} → statement M
 payload-size-spec =

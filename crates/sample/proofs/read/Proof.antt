@@ -1,6 +1,7 @@
--- `sample::read` meets its contract: a refusal of `check` is answered, and a list that is too short is 8, both with the lists as they were;
--- else what was found lies within the file and the lists have places for it (`found`), so both calls may fill them (`read-filled`). Beside each
--- answer stands the round trip (`written-again`). a are the arguments, f is the file, y what `check` answers. Assumes nothing.
+-- `sample::read` meets its contract. A refusal of `check` is answered, and a list that is too short is 8, both with the lists as they
+-- were. Else the values lie within the file and the lists have room for them (`room`), so both calls may fill them (`read-filled`).
+-- Beside each answer stands the round trip (`written-again`). a are the arguments, f is the file, y the layout that `check` returns.
+-- Assumes nothing.
 use borrow.Author.Needs.{needs}
 use Prim.Native.Nat.{ℕ}
 use native.Mathlib.Omega.{arith}
@@ -21,54 +22,74 @@ use Rattle.sample.proofs.RoundTrips.{written-again}
 use Rattle.sample.proofs.read.Statement.{statement}
 use Rattle.sample.proofs.read.Tie as tie
 
+-- ---- places in the code: the start, after `check`, after the lists were room long enough, after the sizes were filled
+
+abbrev start : tie.After-check → tie.Start
+start q = q .before .before .before .before .before
+
+abbrev checked : tie.Else2 → tie.After-check
+checked k = k .before .before .before .before
+
+abbrev long-enough : tie.After-fill-sizes → tie.Else2
+long-enough s = s .before .before .before .before
+
+abbrev sizes-filled : tie.After-arrivals-at → tie.After-fill-sizes
+sizes-filled n = n .before .before .before .before
+
 -- where the lists are long enough
-found : (c : tie.Else2)
-    → Room (now (c .before .before .before .before .before .before .before .before .before .args .file)) (now (c .before .before .before .before .before .before .before .before .before .args .sizes)) (now (c .before .before .before .before .before .before .before .before .before .args .numbers)) (now (c .before .before .before .before .before .before .before .before .before .args .times)) (c .before .before .before .before .check .result)
-found c =
-    let a = c .before .before .before .before .before .before .before .before .before .args in
-    room-found (now (a .file)) (now (a .sizes)) (now (a .numbers)) (now (a .times)) (c .before .before .before .before .check .result) (c .before .before .before .before .check .ensures .0) (c .before .before .if1 .left)
+room : (c : tie.Else2)
+    → Room (now (start (checked c) .args .file)) (now (start (checked c) .args .sizes)) (now (start (checked c) .args .numbers))
+    (now (start (checked c) .args .times))
+    (checked c .check .result)
+room c =
+    let q = checked c in
+    let a = start q .args in
+    room-found (now (a .file)) (now (a .sizes)) (now (a .numbers)) (now (a .times)) (q .check .result) (q .check .ensures .0)
+    (c .before .before .if1 .left)
     (sym (c .before .too-short .ensures) ∙ c .if2 .left)
 
 returns : tie.Need-returns
 returns c =
-    let a = c .before .before .before .before .before .before .before .args in
+    let q = c .before .before in
+    let a = start q .args in
     let f = now (a .file) in (
-      read-refused f (now (a .sizes)) (now (a .numbers)) (now (a .times)) (c .before .before .check .result) (c .before .before .check .ensures .0) (omega (arith, c .if1 .taken)),
-      written-again f (below-fits w8 f (c .before .before .before .before .before .before .shared-slice-known .given)),
+      read-refused f (now (a .sizes)) (now (a .numbers)) (now (a .times)) (q .check .result) (q .check .ensures .0)
+          (omega (arith, c .if1 .taken)),
+      written-again f (below-fits w8 f (q .before .before .before .before .shared-slice-known .given)),
     )
 
 returns-2 : tie.Need-returns-2
 returns-2 c =
-    let k = c .before .before .before .before .before in
-    let a = k .before .before .before .before .before .args in
+    let q = c .before .before .before .before .before in
+    let a = start q .args in
     let f = now (a .file) in (
       subst (λ (y : Layout). ReadFrom f (now (a .sizes)) (now (a .numbers)) (now (a .times)) y (now (a .sizes)) (now (a .numbers)) (now (a .times))) (sym (c .refused-layout .ensures))
-          (read-short f (now (a .sizes)) (now (a .numbers)) (now (a .times)) (k .check .result) (k .check .ensures .0) (c .before .before .before .if1 .left)
+          (read-short f (now (a .sizes)) (now (a .numbers)) (now (a .times)) (q .check .result) (q .check .ensures .0) (c .before .before .before .if1 .left)
           (sym (c .before .before .too-short .ensures) ∙ c .before .if2 .taken)),
-      written-again f (below-fits w8 f (k .before .before .before .before .shared-slice-known .given)),
+      written-again f (below-fits w8 f (q .before .before .before .before .shared-slice-known .given)),
     )
 
 fill-sizes-requires : tie.Need-fill-sizes-requires
 fill-sizes-requires c κs =
-    let w = found (c .before .before .before) in
+    let w = room (c .before .before .before) in
     let p = c .before .before .sizes-at .ensures in
     omega arith
 
 fill-arrivals-requires : tie.Need-fill-arrivals-requires
 fill-arrivals-requires c κs =
-    let w = found (c .before .before .before .before .before .before .before .before .before .before) in
+    let w = room (long-enough (sizes-filled (c .before .before))) in
     let p = c .before .before .arrivals-at .ensures .0 in
     omega arith
 
 returns-3 : tie.Need-returns-3
 returns-3 c =
-    let k = c .before .before .before .before .before .before .before .before .before .before .before .before .before .before .before in
-    let q = k .before .before .before .before in
-    let a = q .before .before .before .before .before .args in
+    let t = c .before .before .before .before in
+    let s = sizes-filled (t .before .before .before) in
+    let k = long-enough s in
+    let q = checked k in
+    let a = start q .args in
     let f = now (a .file) in
     let y = q .check .result in
-    let s = c .before .before .before .before .before .before .before .before .before .before .before in
-    let t = c .before .before .before .before in
     let m = s .before .before .before .sizes-at .ensures in
     let n = t .before .before .before .arrivals-at .ensures .0 in (
       read-filled f (now (a .sizes)) (now (a .numbers)) (now (a .times)) y (q .check .ensures .0) (k .before .before .if1 .left)

@@ -1,5 +1,5 @@
--- `sample::too_short` meets its contract: the tests are the three parts of `listsShort` in its order; the first that holds settles it, and the
--- last is what is returned. Assumes nothing.
+-- `sample::too_short` meets its contract: the tests are the three parts of `listsShort` in its order; the first that holds settles it,
+-- and the last is what is returned. Assumes nothing.
 use borrow.Author.Needs.{needs}
 use borrow.Author.Tests.{lt-ltb, le-ltb}
 use Rattle.sample.specs.Calls.{listsShort}

@@ -1,4 +1,5 @@
--- `summary::hand_over` meets its contract: the refusal comes first, and 8 if the text does not fit; else the text is copied. Assumes nothing.
+-- `summary::hand_over` meets its contract: the refusal comes first, and 8 if the text does not fit; else the text is copied. Assumes
+-- nothing.
 use Prim.Native.Nat.{_+_, _≤_}
 use native.Mathlib.Omega.{arith}
 use mathlib.Core.Path.{refl, _∙_}
@@ -27,7 +28,4 @@ returns-3 c =
     (c .before .before .put-octets .ensures ∙ put-over 0 [] (now (a .text)) (now (a .out)) refl whole)
 
 pub hand-over-spec : {M : Type 1} → statement M
-hand-over-spec =
-    tie.close
-    (tie.spec
-    returns returns-2 (λ c κs. search needs) (λ c. search needs) (λ c. search needs) returns-3)
+hand-over-spec = tie.close (tie.spec returns returns-2 (λ c κs. search needs) (λ c. search needs) (λ c. search needs) returns-3)

@@ -1,36 +1,24 @@
--- `summary::write_json` meets its contract: the check lays the file out, so that `write_object` writes the text into a buffer that has room for any, and
--- `hand_over` copies it. Here t is the text written. Assumes nothing.
+-- `summary::write_json` meets its contract: the check lays the file out, so that `write_object` writes the text into a buffer that has room
+-- for any, and `hand_over` copies it (`handed`). Here t is the text written, y the layout, d the decoded file. Assumes nothing.
 use native.Mathlib.Omega.{arith}
-use mathlib.Core.Path.{ap}
-use Rattle.sample.specs.declared.Layout.{Layout}
+use denote.Ref.{now}
+use Rattle.sample.specs.Decode.{decode}
 use Rattle.metrics.proofs.FoundInFile.{laid}
 use Rattle.writing.proofs.Parts.{stands}
-use Rattle.summary.proofs.Pieces.{output-of}
+use Rattle.summary.proofs.Pieces.{at-most, handed}
 use borrow.Author.Needs.{needs}
 use Rattle.summary.proofs.write_json.Statement.{statement}
 use Rattle.summary.proofs.write_json.Tie as tie
 
-write-object-requires : tie.Need-write-object-requires
-write-object-requires c κs =
-    (rw (c .before .check .ensures .0) (laid _ (λ i. c .before .before .before .shared-slice-known .given i .fits)), omega arith)
-
-slice-aggregate-hand-over : tie.Need-slice-aggregate-hand-over
-slice-aggregate-hand-over c = stands (c .before .before .write-object .ensures .0) .0
-
-hand-over-requires : tie.Need-hand-over-requires
-hand-over-requires c κs =
-    let t = c .before .before .before .write-object .ensures in
-    omega (arith, t .1, stands (t .0) .0)
-
 returns : tie.Need-returns
 returns c =
     let t = c .before .before .before .before .before .before in
-    let own = ap (λ (y : Layout). y .refusal) (t .before .before .check .ensures .0) in
-    (output-of own (stands (t .write-object .ensures .0) .1) (c .before .before .hand-over .ensures), omega (arith, t .write-object .ensures .0 .place, t .write-object .ensures .1))
+    let y = t .before .before in
+    let d = decode (now (y .before .before .before .args .file)) in
+    handed (t .write-object .ensures) d (y .check .ensures .0) (c .before .before .hand-over .ensures)
 
 pub write-json-spec : {M : Type 1} → statement M
-write-json-spec =
-    tie.close
-    (tie.spec
-    (λ c κs. search needs) (λ c. search needs) write-object-requires (λ c. search needs) slice-aggregate-hand-over hand-over-requires
-    (λ c. search needs) returns)
+write-json-spec = tie.close (tie.spec (λ c κs. search needs) (λ c. search needs)
+    (λ c κs. (rw (c .before .check .ensures .0) (laid _ (λ i. c .before .before .before .shared-slice-known .given i .fits)), omega arith))
+    (λ c. search needs) (λ c. stands (c .before .before .write-object .ensures .0) .0)
+    (λ c κs. omega (arith, at-most (c .before .before .before .write-object .ensures))) (λ c. search needs) returns)

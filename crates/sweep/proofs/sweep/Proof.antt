@@ -1,4 +1,4 @@
--- `sweep::sweep` meets its contract: the file's own refusal comes first (`swept-refused`), then 8 (`swept-short`); else the cleared table
+-- `sweep::sweep` meets its contract. The file's own refusal comes first (`swept-refused`), then 8 (`swept-short`). Else the cleared table
 -- is ready for the pass (`ready`), which leaves its length, so that it can be cleared again, and the lists have all figures (`swept`).
 -- Beside each stands what is carried of rows and of a moved clock (`with-moved`).
 -- Here q is the place after the check, k after the lists are found long enough, t after the table is cleared, and p after the pass.

@@ -1,24 +1,26 @@
--- `text_lines::line_start` meets its contract. Invariant: line n of the text is line `left` of what it has from `at` on (`line-after`). Measure:
--- the lines that are left. Assumes nothing.
-use Prim.Native.Nat.{ℕ, _≤_}
+-- `text_lines::line_start` meets its contract. Invariant: line n of the text is line `left` of what it has from `at` on (`line-after`), and
+-- starts where that does (`start-after`). Measure: the lines that are left. Assumes nothing.
+use Prim.Native.Nat.{ℕ, _+_, _≤_}
 use native.Mathlib.Omega.{arith}
-use mathlib.Core.Path.{_≡_, refl, ap, _∙_}
+use native.Mathlib.Nat.{zero-add}
+use mathlib.Core.Path.{_≡_, refl, sym, ap, _∙_}
 use borrow.Author.Needs.{needs}
 use denote.Ref.{now}
 use lib.ListN.{length, drop}
-use Rattle.text_lines.specs.Line.{lineOf}
-use Rattle.text_lines.proofs.Firsts.{line-after}
+use Rattle.text_lines.specs.Line.{lineOf, lineStart}
+use Rattle.text_lines.proofs.Firsts.{line-after, start-first, start-after}
 use Rattle.text_lines.proofs.line_start.Statement.{statement}
 use Rattle.text_lines.proofs.line_start.Tie as tie
 
 abbrev Inv-loop : tie.InvT-loop
-Inv-loop text n at₀ left₀ at left = (at ≤ length text) × (lineOf n text ≡ lineOf left (drop at text))
+Inv-loop text n at₀ left₀ at left =
+    (at ≤ length text) × (lineOf n text ≡ lineOf left (drop at text)) × (lineStart n text ≡ at + lineStart left (drop at text))
 
 abbrev μ-loop : tie.MeasureT-loop
 μ-loop text n at₀ left₀ at left = left
 
 loop-holds : tie.Need-loop-holds Inv-loop μ-loop
-loop-holds c = (omega arith, refl)
+loop-holds c = (omega arith, refl, sym (zero-add _))
 
 line-end-requires : tie.Need-line-end-requires Inv-loop μ-loop
 line-end-requires c κs = search needs
@@ -27,14 +29,20 @@ loop-again : tie.Need-loop-again Inv-loop μ-loop
 loop-again c =
     let l = c .before .before .loop in
     let text = now (c .before .before .before .before .args .text) in
-    (c .line-end .ensures .within, l .inv .1 ∙ line-after text (l .at) (c .line-end .result) (l .left) (c .before .loop-test .taken) (c .line-end .ensures))
+    let e = c .line-end in
+    let some = c .before .loop-test .taken in (
+      e .ensures .within,
+      l .inv .1 ∙ line-after text (l .at) (e .result) (l .left) some (e .ensures),
+      l .inv .2 ∙ start-after text (l .at) (e .result) (l .left) some (e .ensures),
+    )
 
 returns : tie.Need-returns Inv-loop μ-loop
 returns c =
     let l = c .before .loop in
     let text = now (c .before .before .before .args .text) in
     let z : l .left ≡ 0 = omega (arith, c .loop-test .left) in
-    (l .inv .0, l .inv .1 ∙ ap (λ (k : ℕ). lineOf k (drop (l .at) text)) z)
+    let s = l .inv .2 ∙ ap (λ (k : ℕ). l .at + lineStart k (drop (l .at) text)) z in
+    (l .inv .0, l .inv .1 ∙ ap (λ (k : ℕ). lineOf k (drop (l .at) text)) z, omega (arith, s, start-first (drop (l .at) text)))
 
 pub line-start-spec : {M : Type 1} → statement M
 line-start-spec =

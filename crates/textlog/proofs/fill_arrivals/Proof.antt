@@ -1,15 +1,15 @@
--- `textlog::fill_arrivals` meets its contract. The loop's invariant is `Filled`: i lines are passed, which end at `at`, and the lists hold their
--- values, then what they held. Every line decodes, so the return for a malformed one is never reached (`none-bad`); a line that is read is line i
--- and its values are stored there (`filled-next`). The measure is what is left of the log: a line has at least an octet. Assumes nothing.
+-- `textlog::fill_arrivals` meets its contract. The loop's invariant is `Filled`: i lines are passed, which end at `at`, and the lists hold
+-- their values, then what they held. Every line decodes, so the return for a malformed one is never reached (`none-bad`); a line that is
+-- read is line i and its values are stored there (`filled-next`). The measure is what is left of the log: a line has at least an octet.
+-- Assumes nothing.
 use Prim.Native.Nat.{_-_, _<_}
 use native.Mathlib.Omega.{arith}
 use mathlib.Core.Path.{_≡_, sym, _∙_}
 use borrow.Author.Needs.{needs}
 use lib.ListN.{length, drop}
 use denote.Ref.{now}
-use Rattle.octets.specs.Text.{lines}
 use Rattle.octets.proofs.Memory.{fill-next}
-use Rattle.textlog.specs.Decode.{lineIn}
+use Rattle.textlog.specs.Decode.{lineIn, decodedLines}
 use Rattle.textlog.specs.declared.reading.Reading.the-variants.{Read}
 use Rattle.textlog.proofs.Lines.{line-read}
 use Rattle.textlog.proofs.Filling.{Filled, filled-none, kept-numbers, kept-times, within-lines, filled-next, none-bad, filled-done}
@@ -32,7 +32,7 @@ read c = sym (c .before .before .before .line-at .ensures) ∙ c .before .number
 
 -- it is one of the log's
 within : (c : tie.After-known-told Inv-loop μ-loop)
-    → c .before .before .before .before .before .loop .i < length (lines (now (c .before .before .before .before .before .before .before .before .before .args .log)))
+    → c .before .before .before .before .before .loop .i < length (decodedLines (now (c .before .before .before .before .before .before .before .before .before .args .log)))
 within c =
     within-lines _ _ _ (c .before .before .before .before .before .before .before .before .before .pre) _ _ _ _
     (c .before .before .before .before .before .loop .inv) _ _ _ (read c)

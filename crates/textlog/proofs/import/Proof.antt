@@ -1,21 +1,24 @@
--- `textlog::import` meets its contract: a refusal of `judge_log` is the answer; with none, a list too short is 8; else every line decodes and has its
--- places (`fillable`), and `fill_arrivals` fills both. Beside each answer stand the theorems that the contract carries (`carried`).
--- j, n and f are places: after `judge_log`, where it refuses nothing, and where both lists have room. Assumes nothing.
+-- `textlog::import` meets its contract: a refusal of `judge_log` is the answer; with none, a list too short is 8; else every line decodes
+-- and has its places (`accepted-decoded`, `rooms`), and `fill_arrivals` fills both. Beside each answer stand the theorems that the
+-- contract carries (`carried`). j, n and f are places: after `judge_log`, where it refuses nothing, and where both lists have room.
+-- Assumes nothing.
 use Prim.Native.Nat.{ℕ}
 use mathlib.Core.Bool.{false}
-use mathlib.Core.Path.{_≡_, sym, _∙_}
+use mathlib.Core.Path.{_≡_, sym, ap, _∙_}
 use mathlib.Core.List.{List}
 use lib.ListN.{length}
 use borrow.Author.Needs.{needs}
 use denote.Ref.{now}
+use Rattle.textlog.specs.Decode.{decodedLines}
 use Rattle.textlog.specs.Calls.{logListsShort}
 use Rattle.textlog.specs.RoundTrip.{ExactLine, ExactLog, ImportedIsFit}
 use Rattle.textlog.specs.Cases.{LinesReadAsGiven}
+use Rattle.textlog.specs.declared.LogJudgement.{LogJudgement}
 use Rattle.textlog.proofs.Lines.{exact-line}
 use Rattle.textlog.proofs.RoundTrips.{exact-log}
-use Rattle.textlog.proofs.Accepted.{fit-log}
+use Rattle.textlog.proofs.Accepted.{accepted-decoded, fit-log}
 use Rattle.textlog.proofs.Cases.{read-as-given}
-use Rattle.textlog.proofs.Answers.{import-refused, import-short, fillable, import-filled}
+use Rattle.textlog.proofs.Answers.{import-refused, import-short, rooms, import-filled}
 use Rattle.textlog.proofs.import.Statement.{statement}
 use Rattle.textlog.proofs.import.Tie as tie
 
@@ -46,7 +49,7 @@ returns : tie.Need-returns
 returns c =
     let j = c .before .before .before in
     let a = start j .args in (
-      import-refused (a .k) (now (a .log)) (now (a .numbers)) (now (a .times)) (j .judge-log .result) (j .judge-log .ensures) (c .before .if1 .taken) (c .refused-import .ensures),
+      import-refused (a .k) (decodedLines (now (a .log))) (now (a .numbers)) (now (a .times)) (j .judge-log .result) (j .judge-log .ensures) (c .before .if1 .taken) (c .refused-import .ensures),
       carried (a .k) (now (a .log)),
     )
 
@@ -56,7 +59,7 @@ returns-2 c =
     let j = judged n in
     let a = start j .args in
     let short = sym (c .before .before .too-short .ensures) ∙ c .before .if2 .taken in (
-      import-short (a .k) (now (a .log)) (now (a .numbers)) (now (a .times)) (j .judge-log .result) (j .judge-log .ensures) (n .if1 .left) short (c .refused-import2 .ensures),
+      import-short (a .k) (decodedLines (now (a .log))) (now (a .numbers)) (now (a .times)) (j .judge-log .result) (j .judge-log .ensures) (n .if1 .left) short (c .refused-import2 .ensures),
       carried (a .k) (now (a .log)),
     )
 
@@ -65,7 +68,11 @@ fill-arrivals-requires c κs =
     let f = c .before .before in
     let j = judged (accepted f) in
     let a = start j .args in
-    fillable (a .k) (now (a .log)) (now (a .numbers)) (now (a .times)) (j .judge-log .result) (j .judge-log .ensures) (accepted f .if1 .left) (room f)
+    let ds = decodedLines (now (a .log)) in
+    let y = j .judge-log .result in
+    let none = ap (λ (x : LogJudgement). x .refusal) (sym (j .judge-log .ensures)) ∙ accepted f .if1 .left in
+    let r = rooms (a .k) ds (now (a .numbers)) (now (a .times)) y (j .judge-log .ensures) (accepted f .if1 .left) (room f) in
+    record { decodes = accepted-decoded (a .k) ds none .inTurn .decodes; numbersRoom = r .0; timesRoom = r .1 }
 
 returns-3 : tie.Need-returns-3
 returns-3 c =
@@ -74,7 +81,7 @@ returns-3 c =
     let j = judged (accepted f) in
     let a = start j .args in
     let e = filled .fill-arrivals .ensures in (
-      import-filled (a .k) (now (a .log)) (now (a .numbers)) (now (a .times)) (j .judge-log .result) (j .judge-log .ensures) (accepted f .if1 .left) (room f) (e .0) (e .1),
+      import-filled (a .k) (decodedLines (now (a .log))) (now (a .numbers)) (now (a .times)) (j .judge-log .result) (j .judge-log .ensures) (accepted f .if1 .left) (room f) (e .0) (e .1),
       carried (a .k) (now (a .log)),
     )
 

@@ -1,5 +1,5 @@
--- `textlog::read_line` meets its contract: each `return` is one case of `decodeLine`, by what is read from the start of the line, and by where it
--- ends (`line-malformed`, `line-followed`, `line-whole`). Here l is a line. Assumes nothing.
+-- `textlog::read_line` meets its contract: each `return` is one case of `decodeLine`, by what is read from the start of the line, and by
+-- where it ends (`line-malformed`, `line-followed`, `line-whole`). Here l is a line. Assumes nothing.
 use Prim.Native.Nat.{ℕ}
 use mathlib.Core.List.{List}
 use mathlib.Core.Path.{_≡_, refl, sym, _∙_}

@@ -1,6 +1,6 @@
--- `textlog::write` meets its contract: a refusal of the lists is answered; with none they are equally long and at most 4,096, which
--- `log_length` asks for; with fewer lent octets than it counts the answer is 8; else `put_lines` writes the log. Beside each answer stand the
--- theorems that the contract carries (`carried`). Assumes nothing.
+-- `textlog::write` meets its contract: a refusal of the lists is answered. With none they are equally long and at most 4,096, which
+-- `log_length` asks for. With fewer lent octets than it counts the answer is 8. Else `put_lines` writes the log. Beside each answer stand
+-- the theorems that the contract carries (`carried`). Assumes nothing.
 use native.Mathlib.Omega.{arith}
 use mathlib.Core.Path.{sym, _∙_}
 use borrow.Author.Needs.{needs}
@@ -16,6 +16,16 @@ use Rattle.textlog.proofs.RoundTrips.{read-again}
 use Rattle.textlog.proofs.write.Statement.{statement}
 use Rattle.textlog.proofs.write.Tie as tie
 
+-- places: where the log is counted, where the lists are judged, and the entry
+abbrev counted : tie.After-put-lines-arg → tie.After-log-length
+counted c = c .before .before
+
+abbrev judged : tie.After-log-length → tie.After-refusal-of-lists
+judged c = c .before .before
+
+abbrev entry : tie.After-slice-known → tie.Start
+entry c = c .before .before .before
+
 -- the theorems that the contract carries
 carried : (c : tie.After-slice-known)
     → LogReadAgain (c .before .before .before .args .k) (now (c .before .before .before .args .numbers)) (now (c .before .before .before .args .times))
@@ -27,7 +37,7 @@ carried c =
 
 returns : tie.Need-returns
 returns c =
-    let a = c .before .before .before .before .before .args in
+    let a = entry (c .before .before) .args in
     let r = c .before .refusal-of-lists in (
       output-refused _ _ (now (a .out)) (r .result) (r .ensures) (c .if1 .taken),
       carried (c .before .before),
@@ -35,41 +45,41 @@ returns c =
 
 log-length-requires : tie.Need-log-length-requires
 log-length-requires c κs =
-    let a = c .before .before .before .before .before .args in
+    let a = entry (c .before .before) .args in
     let none = sym (c .before .refusal-of-lists .ensures) ∙ c .if1 .left in
     let f = lists-fit (a .k) (now (a .numbers)) (now (a .times)) none in
     (f .same, f .few)
 
 returns-2 : tie.Need-returns-2
 returns-2 c =
-    let a = c .before .before .before .before .before .before .before .args in
+    let a = entry (judged (c .before) .before) .args in
     let none = sym (c .before .before .before .refusal-of-lists .ensures) ∙ c .before .before .if1 .left in
     let e = c .before .log-length .ensures .0 in (
       output-short _ _ (now (a .out)) none (omega (arith, c .if2 .taken)),
-      carried (c .before .before .before .before),
+      carried (judged (c .before) .before),
     )
 
 put-lines-requires : tie.Need-put-lines-requires
 put-lines-requires c κs =
-    let a = c .before .before .before .before .before .before .before .before .args in
-    let none = sym (c .before .before .before .before .refusal-of-lists .ensures) ∙ c .before .before .before .if1 .left in
+    let a = entry (judged (counted c) .before) .args in
+    let none = sym (judged (counted c) .refusal-of-lists .ensures) ∙ c .before .before .before .if1 .left in
     let f = lists-fit (a .k) (now (a .numbers)) (now (a .times)) none in
     let e = c .before .before .log-length .ensures .0 in
     (f .same, omega (arith, c .before .if2 .left))
 
 cast-t13 : tie.Need-cast-t13
-cast-t13 c = omega (arith, c .before .before .before .before .before .log-length .ensures .1)
+cast-t13 c = omega (arith, counted (c .before .before .before) .log-length .ensures .1)
 
 returns-3 : tie.Need-returns-3
 returns-3 c =
-    let a = c .before .before .before .before .before .before .before .before .before .before .before .args in
-    let r = c .before .before .before .before .before .before .before .refusal-of-lists in
-    let none = sym (r .ensures) ∙ c .before .before .before .before .before .before .if1 .left in
-    let length = c .before .before .before .before .before .log-length in
+    let a = entry (judged (counted (c .before .before .before)) .before) .args in
+    let r = judged (counted (c .before .before .before)) .refusal-of-lists in
+    let none = sym (r .ensures) ∙ counted (c .before .before .before) .before .if1 .left in
+    let length = counted (c .before .before .before) .log-length in
     let e = length .ensures .0 in
     let room = c .before .before .before .before .if2 .left in (
       output-written _ _ (now (a .out)) none (omega (arith, room)) e (c .before .before .put-lines .ensures),
-      carried (c .before .before .before .before .before .before .before .before),
+      carried (judged (counted (c .before .before .before)) .before),
     )
 
 pub write-spec : {M : Type 1} → statement M

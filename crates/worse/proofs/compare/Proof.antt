@@ -1,6 +1,6 @@
--- `worse::compare` meets its contract: a sample's counts have its file's refusal (`counted`), the first's before the second's; with none,
--- `greater` of the two ratios is the test that the definition makes (`tested`). f is the first file, a and b are both, decoded.
--- Assumes nothing.
+-- `worse::compare` meets its contract. A sample's counts have its file's refusal (`counted`), the first's before the second's. With none,
+-- `greater` of the two ratios is the test that the definition makes (`tested`). f is the first file, a and b are both, decoded. Assumes
+-- nothing.
 use borrow.Author.Needs.{needs}
 use native.Mathlib.Omega.{arith}
 use Prim.Native.Nat.{ℕ, _<_}
@@ -67,7 +67,8 @@ returns c =
     let b = decode (now (c .before .before .before .before .before .before .args .second)) in
     let one = c .before .before .before .counts in
     let h : 0 < one .result .refusal = omega (arith, c .before .if1 .taken) in
-    c .found-with .ensures ∙ compared-refused a b (one .result .refusal) (first-refused a b (one .result .refusal) (counted (one .result) f (one .ensures)) h) h
+    c .comparison-with .ensures ∙ compared-refused a b (one .result .refusal)
+    (first-refused a b (one .result .refusal) (counted (one .result) f (one .ensures)) h) h
 
 returns-2 : tie.Need-returns-2
 returns-2 c =
@@ -75,15 +76,15 @@ returns-2 c =
     let other = c .before .before .before .counts2 in
     let r = other .result .refusal in
     let h : 0 < r = omega (arith, c .before .if2 .taken) in
-    c .found-with2 .ensures
+    c .comparison-with2 .ensures
     ∙ compared-refused (one-at m) (other-at m) r
     (second-refusal (one-at m) (other-at m) (accepted-first m) r (counted (other .result) (now (start m .args .second)) (other .ensures))) h
 
 returns-3 : tie.Need-returns-3
-returns-3 c = c .found-with3 .ensures ∙ tested (c .before .before) true (c .before .if3 .taken)
+returns-3 c = c .comparison-with3 .ensures ∙ tested (c .before .before) true (c .before .if3 .taken)
 
 returns-4 : tie.Need-returns-4
-returns-4 c = c .found-with4 .ensures ∙ tested (c .before .before) false (c .before .if3 .left)
+returns-4 c = c .comparison-with4 .ensures ∙ tested (c .before .before) false (c .before .if3 .left)
 
 pub compare-spec : {M : Type 1} → statement M
 compare-spec =

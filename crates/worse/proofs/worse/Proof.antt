@@ -1,5 +1,6 @@
--- `worse::worse` meets its contract: the link of the comparison chooses the label and its place (`label-at`, `place-at`): the empty part at the
--- first sample's start, or the label of that sample, a part of it. j is the place in the code after `compare`, l the link. Assumes nothing.
+-- `worse::worse` meets its contract. The link of the comparison chooses the label and its place (`label-at`, `place-at`): the empty part
+-- at the first sample's start, or the label of that sample, a part of it. j is the place in the code after `compare`, l the link. Assumes
+-- nothing.
 use borrow.Author.Needs.{needs}
 use Prim.Native.Nat.{ℕ, _+_}
 use native.Mathlib.Omega.{arith}

@@ -5,16 +5,16 @@ use native.Mathlib.Omega.{arith}
 use mathlib.Core.Path.{_≡_, sym, ap, _∙_}
 use Prim.Native.Nat.{ℕ, _<_}
 use mathlib.Core.List.{[], _∷_}
-use Rattle.rfc4737.specs.Refusals.{firstOf, askedOutside}
+use Rattle.rfc4737.specs.Refusals.{firstRefusal, askedOutside}
 use Rattle.rfc4737.proofs.Due.{first-due, first-next}
 use Rattle.sample.specs.declared.Layout.{Layout}
 use Rattle.capi.proofs.buffering_calls.no_measure.Statement.{statement}
 use Rattle.capi.proofs.buffering_calls.no_measure.Tie as tie
 
-own : (r s : ℕ) → r ≡ s → 0 < r → r ≡ firstOf (s ∷ askedOutside ∷ [])
-own r s e h = sym (first-due r (askedOutside ∷ []) h) ∙ ap (λ (x : ℕ). firstOf (x ∷ askedOutside ∷ [])) e
+own : (r s : ℕ) → r ≡ s → 0 < r → r ≡ firstRefusal (s ∷ askedOutside ∷ [])
+own r s e h = sym (first-due r (askedOutside ∷ []) h) ∙ ap (λ (x : ℕ). firstRefusal (x ∷ askedOutside ∷ [])) e
 
-asked : (r s : ℕ) → r ≡ s → r ≡ 0 → askedOutside ≡ firstOf (s ∷ askedOutside ∷ [])
+asked : (r s : ℕ) → r ≡ s → r ≡ 0 → askedOutside ≡ firstRefusal (s ∷ askedOutside ∷ [])
 asked r s e z = sym (first-next s (askedOutside ∷ []) (sym e ∙ z))
 
 returns : tie.Need-returns

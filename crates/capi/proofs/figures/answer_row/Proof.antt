@@ -17,7 +17,7 @@ unfolding rowOf
 returns-3 c =
     rw (
       c .before .before .before .before .before .before .before .answer3 .given .1,
-      c .before .before .before .before .before .directed .ensures,
+      c .before .before .before .before .before .by-direction .ensures,
       c .before .before .amount .ensures,
     )
 

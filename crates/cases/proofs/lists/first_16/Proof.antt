@@ -1,4 +1,5 @@
--- `cases::lists::first_16` meets its contract: the first values end at the lesser of their number and the length (`first-taken`). Assumes nothing.
+-- `cases::lists::first_16` meets its contract: the first values end at the lesser of their number and the length (`first-taken`). Assumes
+-- nothing.
 use borrow.Author.Needs.{needs}
 use denote.Ref.{now}
 use Rattle.cases.proofs.Filled.{first-taken}

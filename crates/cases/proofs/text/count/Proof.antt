@@ -1,6 +1,6 @@
--- `cases::text::count` meets its contract. The loop's invariant: the text has `n` parts more than what stands from `at` on, and n is at most
--- `at`, so no sum wraps. A turn passes one part (`count-more`); past the end there is none (`count-none`). The measure is what is left of the
--- text. Assumes nothing.
+-- `cases::text::count` meets its contract. The loop's invariant: the text has `n` parts more than what stands from `at` on, and n is at
+-- most `at`, so no sum wraps. A turn passes one part (`count-more`); past the end there is none (`count-none`). The measure is what is left
+-- of the text. Assumes nothing.
 use borrow.Author.Needs.{needs}
 use Prim.Native.Nat.{_+_, _-_, _≤_}
 use native.Mathlib.Nat.{zero-add}

@@ -1,5 +1,5 @@
--- `cases::text::end_at` meets its contract. The loop's invariant is `Counted`: no separator stands from `from` up to `end`. The octet at `end`
--- is a separator, or one more that is none, or the text ends there. The measure is what is left of the text. Assumes nothing.
+-- `cases::text::end_at` meets its contract. The loop's invariant is `Counted`: no separator stands from `from` up to `end`. The octet at
+-- `end` is a separator, or one more that is none, or the text ends there. The measure is what is left of the text. Assumes nothing.
 use borrow.Author.Needs.{needs}
 use borrow.Author.Tests.{eq-eqb, ne-eqb}
 use Prim.Native.Nat.{_-_, _≤_}

@@ -1,5 +1,5 @@
--- `cases::text::number` meets its contract: `part` gives part n, `number_at` the number that it begins with, and that is number n of the text
--- (`number-found`). Assumes nothing.
+-- `cases::text::number` meets its contract: `part` gives part n, `number_at` the number that it begins with, and that is number n of the
+-- text (`number-found`). Assumes nothing.
 use borrow.Author.Needs.{needs}
 use mathlib.Core.Path.{ap, _∙_}
 use denote.Ref.{now}

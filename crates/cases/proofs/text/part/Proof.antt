@@ -1,6 +1,6 @@
--- `cases::text::part` meets its contract. The loop's invariant: part `n` of the text is part `left` of what stands from `at` on, a place of the
--- text or its end. Where no separator follows there is no later part (`part-none`); else what stands after it has one part less before the one
--- asked for (`part-later`), and with none left it is the first (`part-first`). The measure is `left`. Assumes nothing.
+-- `cases::text::part` meets its contract. The loop's invariant: part `n` of the text is part `left` of what stands from `at` on, a place of
+-- the text or its end. Where no separator follows there is no later part (`part-none`). Else what stands after it has one part less before
+-- the one asked for (`part-later`), and with none left it is the first (`part-first`). The measure is `left`. Assumes nothing.
 use borrow.Author.Needs.{needs}
 use Prim.Native.Nat.{ℕ, _-_, _≤_}
 use native.Mathlib.Omega.{arith}

@@ -24,11 +24,11 @@ use Rattle.disorder.proofs.pairs.disorder_in.Tie as tie
 
 -- counts₀ to i₀ are the values where the loop begins, counts to i those at its head; counts is the tree, d the decoded file
 abbrev Inv-loop : tie.InvT-loop
-Inv-loop file y counts₀ seen₀ p₀ i₀ counts seen p i =
-    (i ≤ y .arrivals) × SeenTable (decode file) i seen × PairTree (y .sent) (firsts (before (decode file) i)) counts p
+Inv-loop file layout counts₀ seen₀ p₀ i₀ counts seen p i =
+    (i ≤ layout .arrivals) × SeenTable (decode file) i seen × PairTree (layout .sent) (firsts (before (decode file) i)) counts p
 
 abbrev μ-loop : tie.MeasureT-loop
-μ-loop file y counts₀ seen₀ p₀ i₀ counts seen p i = y .arrivals - i
+μ-loop file layout counts₀ seen₀ p₀ i₀ counts seen p i = layout .arrivals - i
 
 -- ---- places
 
@@ -44,7 +44,8 @@ read c = c .before .before .before .before
 -- ---- the needs
 
 -- record i + 1 is there
-here : (t : tie.Then1 Inv-loop μ-loop) → HasRecord (decode (now (start (head t) .args .file))) (start (head t) .args .y) (head t .loop .i)
+here : (t : tie.Then1 Inv-loop μ-loop)
+    → HasRecord (decode (now (start (head t) .args .file))) (start (head t) .args .layout) (head t .loop .i)
 here t = record { file = start (head t) .pre .0; inside = t .if1 .taken }
 
 -- its number
@@ -60,7 +61,7 @@ loop-holds : tie.Need-loop-holds Inv-loop μ-loop
 loop-holds c =
     let s = c .before .before .before in
     let d = decode (now (s .args .file)) in
-    let k = s .args .y .sent in (
+    let k = s .args .layout .sent in (
       omega arith,
       arrived-start d,
       subst (λ (tree : List ℕ). PairTree k (firsts (before d 0)) tree (c .no-pairs .result)) (sym (s .pre .1))
@@ -108,7 +109,7 @@ same-length : tie.Need-same-length Inv-loop μ-loop
 same-length c =
     let l = c .before .before in
     let s = start l in
-    l .loop .inv .2 .places ∙ sym (ap length (s .pre .1) ∙ length-replicate (s .args .y .sent + 1) 0)
+    l .loop .inv .2 .places ∙ sym (ap length (s .pre .1) ∙ length-replicate (s .args .layout .sent + 1) 0)
 
 returns : tie.Need-returns Inv-loop μ-loop
 returns c =

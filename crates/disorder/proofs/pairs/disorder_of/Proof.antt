@@ -26,7 +26,7 @@ slice-aggregate-tree c = sym (many _ (omega (arith, c .before .before .before .p
 disorder-in-requires : tie.Need-disorder-in-requires
 disorder-in-requires c κs =
     let s = c .before .before .before in
-    (s .pre, zeros (s .args .y .sent + 1) (omega (arith, s .pre .sentFew)))
+    (s .pre, zeros (s .args .layout .sent + 1) (omega (arith, s .pre .sentFew)))
 
 pub disorder-of-spec : {M : Type 1} → statement M
 disorder-of-spec =

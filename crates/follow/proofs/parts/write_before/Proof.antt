@@ -1,6 +1,7 @@
--- `follow::parts::write_before` meets its contract: a minus stands before an amount above 0 (`before-none`, `before-some`). Assumes nothing.
+-- `follow::parts::write_before` meets its contract: a minus stands before an amount above 0 (`before-none`, `before-some`). Assumes
+-- nothing.
 use native.Mathlib.Omega.{arith}
-use Rattle.writing.proofs.Parts.{named}
+use Rattle.writing.proofs.Parts.{then, named}
 use Rattle.follow.proofs.Laws.{before-none, before-some}
 use borrow.Author.Needs.{needs}
 use Rattle.follow.proofs.parts.write_before.Statement.{statement}
@@ -13,17 +14,11 @@ returns c =
 
 returns-2 : tie.Need-returns-2
 returns-2 c =
-    let w = c .before .before .write-field .ensures in
-    (named (before-some _ (c .before .before .before .before .before .if1 .left)) (w .0), omega (arith, w .1))
+    let v = c .before .before .write-number2 .ensures in
+    let e1 = c .before .before .before .before .before .before in
+    let w = e1 .write-word .ensures in
+    (named (before-some _ (e1 .before .before .before .if1 .left)) (then (w .0) (v .0)), omega (arith, w .1, v .1))
 
 pub write-before-spec : {M : Type 1} → statement M
-write-before-spec =
-    tie.close
-    (tie.spec
-    (λ c κs. search needs)
-    (λ c. search needs)
-    returns
-    (λ c. search needs)
-    (λ c κs. search needs)
-    (λ c. search needs)
-    returns-2)
+write-before-spec = tie.close (tie.spec (λ c κs. search needs) (λ c. search needs) returns (λ c. search needs) (λ c κs. search needs)
+    (λ c κs. search needs) (λ c. search needs) returns-2)

@@ -19,14 +19,5 @@ returns-2 c =
     (named (sym (ap lateTime (c .before .before .before .before .before .late2 .given .1))) (w .0), omega (arith, w .1))
 
 pub write-late-spec : {M : Type 1} → statement M
-write-late-spec =
-    tie.close
-    (tie.spec
-    (λ c. search needs)
-    (λ c κs. search needs)
-    (λ c. search needs)
-    (λ c κs. search needs)
-    (λ c. search needs)
-    returns
-    (λ c. search needs)
-    returns-2)
+write-late-spec = tie.close (tie.spec (λ c. search needs) (λ c κs. search needs) (λ c. search needs) (λ c κs. search needs)
+    (λ c. search needs) returns (λ c. search needs) returns-2)

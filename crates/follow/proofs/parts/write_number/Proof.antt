@@ -1,11 +1,11 @@
--- `follow::parts::write_number` meets its contract: the digits, of which there are at most 20, are put where there is room (`part-put`). Assumes
--- nothing.
-use native.Mathlib.Omega.{arith}
+-- `follow::parts::write_number` meets its contract: the digits, of which there are at most 20, are put where there is room (`number-put`).
+-- Assumes nothing.
 use Prim.Native.Nat.{_≤_}
+use native.Mathlib.Omega.{arith}
 use lib.ListN.{length}
 use Rattle.decimal.specs.Decimal.{decimalOf}
 use Rattle.decimal.proofs.Laws.{at-most-20}
-use Rattle.writing.proofs.Parts.{part-put}
+use Rattle.writing.proofs.Numbers.{number-put}
 use borrow.Author.Needs.{needs}
 use Rattle.follow.proofs.parts.write_number.Statement.{statement}
 use Rattle.follow.proofs.parts.write_number.Tie as tie
@@ -19,12 +19,8 @@ add-result c = omega (arith, c .before .before .put-decimal .ensures .0, few c)
 
 returns : tie.Need-returns
 returns c =
-    let a = c .before .before .before .before .before .args in
-    let digits = c .before .before .put-decimal .ensures in
-    rw (digits .0, digits .1) (part-put (a .at) (decimalOf (a .v)) (a .out .now) (omega (arith, few c)), omega (arith, few c))
+    let put = c .before .before .put-decimal .ensures in
+    number-put _ _ _ _ _ (few c) (put .0) (put .1) (omega arith)
 
 pub write-number-spec : {M : Type 1} → statement M
-write-number-spec =
-    tie.close
-    (tie.spec
-    (λ c κs. search needs) add-result (λ c. search needs) returns)
+write-number-spec = tie.close (tie.spec (λ c κs. search needs) add-result (λ c. search needs) returns)

@@ -17,7 +17,7 @@ read : (w : tie.After-words2)
     × ((w .words2 .result .length ≤ length (w .words2 .last .1 .0)) × (take (w .words2 .result .length) (w .words2 .last .1 .0) ≡ wordsOf (w .before .before .before .args .refusal)))
 read w = words-read (w .before .before .before .args .refusal) (w .words2 .ensures .0) (w .words2 .ensures .1) (length-replicate {A = ℕ} 128 0)
 
--- so many are taken
+-- the octets taken are `length` many
 taken : (w : tie.After-words2) → length (take (w .words2 .result .length) (w .words2 .last .1 .0)) ≡ w .words2 .result .length
 taken w = length-take-le (w .words2 .result .length) (w .words2 .last .1 .0) (read w .1 .0)
 
@@ -37,14 +37,5 @@ returns c =
     (named (read w .1 .1) (v .0), omega (arith, v .1, read w .0, taken w))
 
 pub write-words-spec : {M : Type 1} → statement M
-write-words-spec =
-    tie.close
-    (tie.spec
-    (λ c. search needs)
-    (λ c κs. search needs)
-    (λ c. search needs)
-    array-share-prefix-words
-    slice-aggregate-write-word
-    write-word-requires
-    (λ c. search needs)
-    returns)
+write-words-spec = tie.close (tie.spec (λ c. search needs) (λ c κs. search needs) (λ c. search needs) array-share-prefix-words
+    slice-aggregate-write-word write-word-requires (λ c. search needs) returns)

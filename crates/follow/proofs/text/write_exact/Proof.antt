@@ -1,4 +1,5 @@
--- `follow::text::write_exact` meets its contract: the parts are written one after the other (`then`). Assumes nothing.
+-- `follow::text::write_exact` meets its contract: the parts are written one after the other (`then`). Here e1 and so on are the calls.
+-- Assumes nothing.
 use native.Mathlib.Omega.{arith}
 use Rattle.writing.proofs.Parts.{nothing, then}
 use Rattle.follow.specs.Text.{exactText}
@@ -9,28 +10,13 @@ use Rattle.follow.proofs.text.write_exact.Tie as tie
 returns : tie.Need-returns
 unfolding exactText
 returns c =
-    let e4 = c .before .before in
-    let e3 = e4 .before .before .before .before .before in
-    let e2 = e3 .before .before .before .before in
-    let e1 = e2 .before .before .before .before .before in (
-      then (e1 .write-field .ensures .0)
-          (then (e2 .write-word .ensures .0)
-          (then (e3 .write-late .ensures .0)
-          (then (e4 .write-word2 .ensures .0) (nothing _ _)))),
-      omega (arith, e1 .write-field .ensures .1, e2 .write-word .ensures .1, e3 .write-late .ensures .1, e4 .write-word2 .ensures .1),
+    let e3 = c .before .before in
+    let e2 = e3 .before .before .before .before .before in
+    let e1 = e2 .before .before .before .before in (
+      then (e1 .write-between .ensures .0) (then (e2 .write-late .ensures .0) (then (e3 .write-word .ensures .0) (nothing _ _))),
+      omega (arith, e1 .write-between .ensures .1, e2 .write-late .ensures .1, e3 .write-word .ensures .1),
     )
 
 pub write-exact-spec : {M : Type 1} → statement M
-write-exact-spec =
-    tie.close
-    (tie.spec
-    (λ c. search needs)
-    (λ c. search needs)
-    (λ c κs. search needs)
-    (λ c. search needs)
-    (λ c κs. search needs)
-    (λ c κs. search needs)
-    (λ c. search needs)
-    (λ c κs. search needs)
-    (λ c. search needs)
-    returns)
+write-exact-spec = tie.close (tie.spec (λ c. search needs) (λ c. search needs) (λ c. search needs) (λ c κs. search needs)
+    (λ c κs. search needs) (λ c. search needs) (λ c κs. search needs) (λ c. search needs) returns)

@@ -1,4 +1,5 @@
--- `follow::text::write_outcome` meets its contract: the refusal is written, or else what is noted (`outcome-refused`, `outcome-noted`). Assumes nothing.
+-- `follow::text::write_outcome` meets its contract: the refusal is written, or else what is noted (`outcome-refused`, `outcome-noted`).
+-- Assumes nothing.
 use native.Mathlib.Omega.{arith}
 use Rattle.writing.proofs.Parts.{named}
 use Rattle.follow.proofs.Laws.{outcome-refused, outcome-noted}
@@ -17,12 +18,5 @@ returns-2 c =
     (named (outcome-noted _ (c .before .before .before .before .if1 .left)) (w .0), omega (arith, w .1))
 
 pub write-outcome-spec : {M : Type 1} → statement M
-write-outcome-spec =
-    tie.close
-    (tie.spec
-    (λ c κs. search needs)
-    (λ c. search needs)
-    returns
-    (λ c κs. search needs)
-    (λ c. search needs)
+write-outcome-spec = tie.close (tie.spec (λ c κs. search needs) (λ c. search needs) returns (λ c κs. search needs) (λ c. search needs)
     returns-2)

@@ -1,4 +1,5 @@
--- `fragments::cover::complete` meets its contract: a whole packet is complete (`whole-found`), else the search for the end decides. Assumes nothing.
+-- `fragments::cover::complete` meets its contract: a whole packet is complete (`whole-found`), else the search for the end decides. Assumes
+-- nothing.
 use borrow.Author.Needs.{needs}
 use native.Mathlib.Omega.{arith}
 use mathlib.Core.List.{List}

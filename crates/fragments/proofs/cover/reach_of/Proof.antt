@@ -1,5 +1,5 @@
--- `fragments::cover::reach_of` meets its contract. The loop's invariant is `OnePass`: the packet is covered up to r, and none of the arrivals before m has
--- the octet r. The measure is what is left of the run. Assumes nothing.
+-- `fragments::cover::reach_of` meets its contract. The loop's invariant is `OnePass`: the packet is covered up to r, and none of the
+-- arrivals before m has the octet r. The measure is what is left of the run. Assumes nothing.
 use borrow.Author.Needs.{needs}
 use native.Mathlib.Omega.{arith}
 use Prim.Native.Nat.{_-_}

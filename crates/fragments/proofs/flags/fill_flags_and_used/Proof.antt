@@ -1,6 +1,7 @@
--- `fragments::flags::fill_flags_and_used` meets its contract. The loop's invariant: both lists hold the values of the first i arrivals, then what
--- was noted (`read-left`), and e is what is expected after these. What one arrival gives is Filling's (`flag-here`, `usable-here`, `expected-here`), and that its
--- number is a place of the tables follows from `NumbersWithin`. The measure is the number of arrivals left. Assumes nothing.
+-- `fragments::flags::fill_flags_and_used` meets its contract. The loop's invariant: both lists hold the values of the first i arrivals,
+-- then what was noted (`read-left`), and e is what is expected after these. What one arrival gives is Filling's (`flag-here`,
+-- `usable-here`, `expected-here`), and that its number is a place of the tables follows from `NumbersWithin`. The measure is the number of
+-- arrivals left. Assumes nothing.
 use borrow.Author.Needs.{needs}
 use native.Mathlib.Omega.{arith}
 use Prim.Native.Nat.{ℕ, _+_, _-_, _≤_, _<_}
@@ -47,9 +48,16 @@ Inv-loop numbers times lengths mores offsets flagged₀ used₀ seen₀ e₀ i�
 abbrev μ-loop : tie.MeasureT-loop
 μ-loop numbers times lengths mores offsets flagged₀ used₀ seen₀ e₀ i₀ flagged used seen e i = length numbers - i
 
--- the start, from the loop
+-- the place where the arrival is read, from where it is known to be a copy or not
+abbrev read : tie.After-is-copy Inv-loop μ-loop → tie.After-piece-at Inv-loop μ-loop
+read c = c .before .before .before
+
+-- the start, from where the first five lists are known and from the loop
+abbrev entry : tie.After-shared-slice-known5 Inv-loop μ-loop → tie.Start Inv-loop μ-loop
+entry c = c .before .before .before .before .before
+
 abbrev start : tie.At-loop Inv-loop μ-loop → tie.Start Inv-loop μ-loop
-start c = c .before .before .before .before .before .before .before .before
+start c = entry (c .before .before .before)
 
 -- the arrivals
 abbrev pieces : tie.At-loop Inv-loop μ-loop → List Piece
@@ -100,42 +108,48 @@ slice-read-is-copy : tie.Need-slice-read-is-copy Inv-loop μ-loop
 slice-read-is-copy c = let l = c .before .before .before .before in omega (arith, kept-flagged l, start l .pre .3, c .before .before .before .loop-test .taken)
 
 array-write-seen : tie.Need-array-write-seen Inv-loop μ-loop
-array-write-seen c = omega (arith, within (c .before .before .before .before), c .before .before .before .before .before .before .loop .inv .4 .long)
+array-write-seen c = omega (arith, within (c .before .before .before .before), read (c .before) .before .before .loop .inv .4 .long)
 
 slice-write-flagged : tie.Need-slice-write-flagged Inv-loop μ-loop
 slice-write-flagged c =
-    let l = c .before .before .before .before .before .before .before in
-    omega (arith, kept-flagged l, start l .pre .3, c .before .before .before .before .before .before .loop-test .taken)
+    let l = read (c .before .before) .before .before in
+    omega (arith, kept-flagged l, start l .pre .3, read (c .before .before) .before .loop-test .taken)
 
 slice-read-usable-of : tie.Need-slice-read-usable-of Inv-loop μ-loop
-slice-read-usable-of c = let l = c .before .before .before .before .before .before .before .before in omega (arith, kept-used l, start l .pre .4, c .before .before .before .before .before .before .before .loop-test .taken)
+slice-read-usable-of c =
+    let l = read (c .before .before .before) .before .before in
+    omega (arith, kept-used l, start l .pre .4, read (c .before .before .before) .before .loop-test .taken)
 
 slice-write-used : tie.Need-slice-write-used Inv-loop μ-loop
 slice-write-used c =
-    let l = c .before .before .before .before .before .before .before .before .before in
-    omega (arith, kept-used l, start l .pre .4, c .before .before .before .before .before .before .before .before .loop-test .taken)
+    let l = read (c .before .before .before .before) .before .before in
+    omega (arith, kept-used l, start l .pre .4, read (c .before .before .before .before) .before .loop-test .taken)
 
 expected-after-requires : tie.Need-expected-after-requires Inv-loop μ-loop
-expected-after-requires c κs = omega (arith, within (c .before .before .before .before .before .before .before))
+expected-after-requires c κs = omega (arith, within (read (c .before .before .before .before)))
 
 add-i : tie.Need-add-i Inv-loop μ-loop
-add-i c = omega (arith, c .before .before .before .before .before .before .before .before .before .loop-test .taken, start (c .before .before .before .before .before .before .before .before .before .before) .pre .2)
+add-i c =
+    let r = read (c .before .before .before .before .before) in
+    omega (arith, r .before .loop-test .taken, start (r .before .before) .pre .2)
 
 loop-less : tie.Need-loop-less Inv-loop μ-loop
-loop-less c = omega (arith, c .before .before .before .before .before .before .before .before .before .loop-test .taken)
+loop-less c = omega (arith, read (c .before .before .before .before .before) .before .loop-test .taken)
 
 loop-again : tie.Need-loop-again Inv-loop μ-loop
 loop-again c =
-    let l = c .before .before .before .before .before .before .before .before .before .before in
-    let b = c .before .before .before .before .before .before .before .before .piece-at in
-    let found = c .before .before .before .before .before .is-copy in
+    let k = c .before .before .before .before .before in
+    let r = k .before .before .before in
+    let l = r .before .before in
+    let b = r .piece-at in
+    let found = k .is-copy in
     let a = start l .args in
     let q = start l .pre in
     let xs = pieces l in
     let i = l .loop .i in
     let m = many l in
-    let v = within (c .before .before .before .before .before .before .before .before) in
-    let h : i < length xs = omega (arith, c .before .before .before .before .before .before .before .before .before .loop-test .taken) in
+    let v = within r in
+    let h : i < length xs = omega (arith, r .before .loop-test .taken) in
     let copy = copy-here (b .result) (take i xs) (found .result) (getD (l .loop .flagged) i 0) (getD (l .loop .seen) (b .result .number - 1) 0) (found .ensures) (read-left (flags xs) (now (a .flagged)) i (omega arith) (l .loop .inv .1) ∙ rw (b .ensures) (q .5 .at i h .0)) (l .loop .inv .4 .at (b .result .number) (v .0) (v .1)) in (
       omega arith,
       fill-next (flags xs) (now (a .flagged)) i 0 (omega arith) (omega (arith, q .3)) (l .loop .inv .1)

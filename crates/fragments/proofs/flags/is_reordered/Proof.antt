@@ -6,6 +6,10 @@ use borrow.Author.Needs.{needs}
 use Rattle.fragments.proofs.flags.is_reordered.Statement.{statement}
 use Rattle.fragments.proofs.flags.is_reordered.Tie as tie
 
+-- places: the end of the second test, from there the end of the first
+abbrev first : tie.Else2 → tie.Else1
+first c = c .before .before .before
+
 returns : tie.Need-returns
 unfolding isReorderedFragment
 returns c = rw (lt-ltb _ _ (c .if1 .taken))
@@ -16,11 +20,17 @@ returns-2 c = rw (le-ltb _ _ (c .before .before .before .if1 .left), lt-ltb _ _ 
 
 returns-3 : tie.Need-returns-3
 unfolding isReorderedFragment
-returns-3 c = rw (le-ltb _ _ (c .before .before .before .before .before .before .if1 .left), le-ltb _ _ (c .before .before .before .if2 .left), le-leb _ _ (c .before .before .before .before .before .before .if1 .left), ne-eqb _ _ (c .if3 .taken))
+returns-3 c =
+    let e = c .before .before .before in
+    let f = first e .if1 .left in
+    rw (le-ltb _ _ f, le-ltb _ _ (e .if2 .left), le-leb _ _ f, ne-eqb _ _ (c .if3 .taken))
 
 returns-4 : tie.Need-returns-4
 unfolding isReorderedFragment
-returns-4 c = rw (le-ltb _ _ (c .before .before .before .before .before .before .before .before .if1 .left), le-ltb _ _ (c .before .before .before .before .before .if2 .left), le-leb _ _ (c .before .before .before .before .before .before .before .before .if1 .left), eq-eqb _ _ (c .before .before .if3 .left))
+returns-4 c =
+    let e = c .before .before .before .before .before in
+    let f = first e .if1 .left in
+    rw (le-ltb _ _ f, le-ltb _ _ (e .if2 .left), le-leb _ _ f, eq-eqb _ _ (c .before .before .if3 .left))
 
 pub is-reordered-spec : {M : Type 1} → statement M
 is-reordered-spec = tie.close (tie.spec returns returns-2 returns-3 (λ c. search needs) returns-4)

@@ -1,5 +1,5 @@
--- `fragments::judge::judge_piece` meets its contract: the tests are those of `judgePiece` in its order, so at each `return` the refusal, 6, 17 or
--- 7, is the first after those that are 0. Assumes nothing.
+-- `fragments::judge::judge_piece` meets its contract: the tests are those of `judgePiece` in its order. So at each `return` the refusal, 6,
+-- 17 or 7, is the first after those that are 0. Assumes nothing.
 use Rattle.fragments.specs.Judge.{judgePiece}
 use mathlib.Core.Path.{sym, _∙_}
 use borrow.Author.Needs.{needs}

@@ -1,6 +1,6 @@
--- `fragments::judge::judge_pieces` meets its contract. The loop's invariant: the reference is the greatest time of the first i arrivals, and the
--- first refusal of all is that of those from i on. The arrival at i settles it, or the rest decides (`turn-stop`, `turn-next`, `past-next`).
--- The measure is the number of arrivals left. Assumes nothing.
+-- `fragments::judge::judge_pieces` meets its contract. The loop's invariant: the reference is the greatest time of the first i arrivals,
+-- and the first refusal of all is that of those from i on. The arrival at i settles it, or the rest decides (`turn-stop`, `turn-next`,
+-- `past-next`). The measure is the number of arrivals left. Assumes nothing.
 use Prim.Native.Nat.{ℕ, _-_, _≤_, _<_}
 use native.Mathlib.Omega.{arith}
 use mathlib.Core.Path.{_≡_, _∙_}
@@ -9,7 +9,7 @@ use borrow.Author.Needs.{needs}
 use lib.ListN.{length, drop, take}
 use denote.Ref.{now}
 use Rattle.rfc4737.specs.Arrivals.{each}
-use Rattle.rfc4737.specs.Refusals.{firstOf}
+use Rattle.rfc4737.specs.Refusals.{firstRefusal}
 use Rattle.rfc4737.specs.Times.{greatestTime}
 use Rattle.rfc4737.proofs.Arrivals.{length-each}
 use Rattle.rfc4737.proofs.JudgedInTurn.{turn-stop, turn-next, turn-done}
@@ -26,7 +26,7 @@ abbrev Inv-loop : tie.InvT-loop
 Inv-loop k numbers times lengths mores offsets reference₀ i₀ reference i =
     (i ≤ length numbers)
     × (reference ≡ greatestTime (map arrivalOf (take i (piecesOf numbers times lengths mores offsets))))
-    × (judgePieces k (piecesOf numbers times lengths mores offsets) ≡ firstOf (drop i (each (judgeAfter k) (piecesOf numbers times lengths mores offsets))))
+    × (judgePieces k (piecesOf numbers times lengths mores offsets) ≡ firstRefusal (drop i (each (judgeAfter k) (piecesOf numbers times lengths mores offsets))))
 
 abbrev μ-loop : tie.MeasureT-loop
 μ-loop k numbers times lengths mores offsets reference₀ i₀ reference i = length numbers - i

@@ -1,5 +1,5 @@
--- `fragments::notes::note_arrivals` meets its contract: the counts of zeros, their sums, which are how many arrivals the packets before each have (`counts-sums`), and the places filled in
--- from there are what the next function asks. Assumes nothing.
+-- `fragments::notes::note_arrivals` meets its contract: each function gives what the next one asks. From zeros come the counts, from these
+-- their sums, which are the arrivals of the packets before each (`counts-sums`), and from there the places are filled in. Assumes nothing.
 use borrow.Author.Needs.{needs}
 use native.Mathlib.Omega.{arith}
 use Prim.Native.Nat.{ℕ, _≤_, _<_}

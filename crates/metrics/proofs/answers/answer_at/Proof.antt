@@ -15,10 +15,15 @@ use Rattle.sample.specs.Decode.{decode}
 use Rattle.metrics.specs.Sample.{sizeOf}
 use Rattle.metrics.specs.Records.{arrivalAt, before, answerAt}
 use Rattle.metrics.specs.Private.Tables.{Packets, ClassOf}
-use Rattle.metrics.specs.declared.classes.Class.{Class}
+use Rattle.metrics.specs.declared.kind.Class.{Class}
 use Rattle.metrics.proofs.AnswersByClass.{told, packets, late-place, late-alone}
 use Rattle.metrics.proofs.answers.answer_at.Statement.{statement}
 use Rattle.metrics.proofs.answers.answer_at.Tie as tie
+
+-- ---- places
+
+abbrev start : tie.At-match-keys3 → tie.Start
+start c = c .before .before .before .before
 
 -- the number that is read is that of record i + 1
 number : (c : tie.After-arrival-at) → c .arrival-at .result .number ≡ arrivalAt (decode (now (c .before .before .args .file))) (c .before .before .args .i) .number
@@ -31,12 +36,12 @@ class-answer c =
     told (decode (now (c .before .before .before .args .file))) (c .before .before .before .args .i) _ _ _ _ (c .before .before .before .pre .1) _ (number (c .before)) (n .1) (n .2) _ (c .class-of .ensures)
 
 -- where it is reordered, that of such a packet
-late : (c : tie.After-known-told) → ClassOf (c .before .before .before .before .before .before .args .state .count) (Class.Reordered (c .before .class .given .0 .0)) (answerAt (decode (now (c .before .before .before .before .before .before .args .file))) (c .before .before .before .before .before .before .args .i))
+late : (c : tie.After-known-told) → ClassOf (start (c .before .before) .args .state .count) (Class.Reordered (c .before .class .given .0 .0)) (answerAt (decode (now (start (c .before .before) .args .file))) (start (c .before .before) .args .i))
 late c = rw (c .before .class .given .1) at (class-answer (c .before .before .before))
 
 -- there are few first arrivals before it, and their numbers are those of packets
-known : (c : tie.After-known-told) → (c .before .before .before .before .before .before .args .state .count ≤ sentMost) × Packets (now (c .before .before .before .before .before .before .args .numbers)) (c .before .before .before .before .before .before .args .state .count) (c .before .before .before .before .before .before .args .y .sent)
-known c = let p = c .before .before .before .before .before .before .pre in packets _ _ (c .before .before .before .before .before .before .args .i) (p .0 .file) _ _ (p .1 .numbered) (omega (arith, p .0 .inside))
+known : (c : tie.After-known-told) → (start (c .before .before) .args .state .count ≤ sentMost) × Packets (now (start (c .before .before) .args .numbers)) (start (c .before .before) .args .state .count) (start (c .before .before) .args .y .sent)
+known c = let p = start (c .before .before) .pre in packets _ _ (start (c .before .before) .args .i) (p .0 .file) _ _ (p .1 .numbered) (omega (arith, p .0 .inside))
 
 class-of-requires : tie.Need-class-of-requires
 class-of-requires c κs = c .arrival-at .ensures .2
@@ -57,20 +62,20 @@ answer-by-requires-2 c κs =
     (p .0, c .before .before .before .arrival-at .ensures .0, p .1 .numbered, p .1 .recorded, class-answer (c .before .before), rw is tt)
 
 sub-offset : tie.Need-sub-offset
-sub-offset c = let p = c .before .before .before .before .before .before .pre in late-place _ _ _ _ _ (p .0) (late c) _ _ (p .1 .numbered) (p .1 .recorded) .0
+sub-offset c = let p = start (c .before .before) .pre in late-place _ _ _ _ _ (p .0) (late c) _ _ (p .1 .numbered) (p .1 .recorded) .0
 
 offset-requires : tie.Need-offset-requires
-offset-requires c κs = (c .before .before .before .before .before .before .pre .0 .file, known c .0, known c .1)
+offset-requires c κs = (start (c .before .before) .pre .0 .file, known c .0, known c .1)
 
 largest-requires : tie.Need-largest-requires
 largest-requires c κs = known (c .before) .0
 
 answer-by-requires-3 : tie.Need-answer-by-requires-3
 answer-by-requires-3 c κs =
-    let p = c .before .before .before .before .before .before .before .before .pre in
+    let p = start (c .before .before .before .before) .pre in
     let at = c .before .before .before .class .given .0 .0 in
-    let d = decode (now (c .before .before .before .before .before .before .before .before .args .file)) in
-    let fs = firsts (before d (c .before .before .before .before .before .before .before .before .args .i)) in
+    let d = decode (now (start (c .before .before .before .before) .args .file)) in
+    let fs = firsts (before d (start (c .before .before .before .before) .args .i)) in
     let n = number (c .before .before .before .before .before .before) in
     let alone = ap (byteOffset (sizeOf d) (take (at - 1) fs)) n ∙ late-alone _ _ _ _ _ (p .0) (late (c .before .before)) _ _ (p .1 .numbered) (p .1 .recorded) in (
       p .0,

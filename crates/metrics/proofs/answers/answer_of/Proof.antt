@@ -13,6 +13,17 @@ use borrow.Author.Needs.{needs}
 use Rattle.metrics.proofs.answers.answer_of.Statement.{statement}
 use Rattle.metrics.proofs.answers.answer_of.Tie as tie
 
+-- ---- places
+
+abbrev start : tie.Else1 → tie.Start
+start c = c .before .before .before
+
+abbrev start-of-note-records : tie.After-note-records → tie.Start
+start-of-note-records c = c .before .before .before .before .before .before .before
+
+abbrev if1-left : tie.After-note-records → tie.Else1
+if1-left c = c .before .before .before .before
+
 -- the refusal is that of the call
 refusal : (c : tie.After-asked-refusal) → c .asked-refusal .result ≡ recordRefusal (decode (now (c .before .before .args .file))) (c .before .before .args .asked)
 refusal c = laid-record _ _ (c .before .before .pre) _ (c .before .before .args .asked) (c .asked-refusal .ensures)
@@ -31,13 +42,13 @@ sub-i : tie.Need-sub-i
 sub-i c = inside c .0
 
 note-records-requires : tie.Need-note-records-requires
-note-records-requires c κs = (c .before .before .before .before .before .before .pre, omega (arith, inside (c .before .before .before)), follows-start (decode (now (c .before .before .before .before .before .before .args .file))))
+note-records-requires c κs = (start (c .before .before .before) .pre, omega (arith, inside (c .before .before .before)), follows-start (decode (now (start (c .before .before .before) .args .file))))
 
 answer-at-requires : tie.Need-answer-at-requires
-answer-at-requires c κs = (record { file = c .before .before .before .before .before .before .before .before .before .before .pre; inside = omega (arith, inside (c .before .before .before .before .before .before .before)) }, c .before .before .before .note-records .ensures)
+answer-at-requires c κs = (record { file = start-of-note-records (c .before .before .before) .pre; inside = omega (arith, inside (if1-left (c .before .before .before))) }, c .before .before .before .note-records .ensures)
 
 returns-2 : tie.Need-returns-2
-returns-2 c = answered _ _ _ (refusal (c .before .before .before .before .before .before .before .before .before)) (c .before .before .before .before .before .before .before .before .if1 .left) _ (c .answer-at .ensures)
+returns-2 c = answered _ _ _ (refusal (if1-left (c .before .before .before .before) .before)) (if1-left (c .before .before .before .before) .if1 .left) _ (c .answer-at .ensures)
 
 pub answer-of-spec : {M : Type 1} → statement M
 answer-of-spec =

@@ -3,7 +3,7 @@
 use mathlib.Core.Path.{sym}
 use mathlib.Core.List.{[], _∷_}
 use native.Mathlib.Omega.{arith}
-use Rattle.rfc4737.specs.Refusals.{outside, inCase, askedOutside}
+use Rattle.rfc4737.specs.Refusals.{outside, refusalIf, askedOutside}
 use Rattle.rfc4737.proofs.Due.{first-due}
 use borrow.Author.Needs.{needs}
 use Rattle.metrics.proofs.answers.asked_refusal.Statement.{statement}
@@ -12,7 +12,7 @@ use Rattle.metrics.proofs.answers.asked_refusal.Tie as tie
 returns : tie.Need-returns
 returns c =
     let a = c .before .args in
-    sym (first-due (a .own) (inCase (outside (a .low) (a .high) (a .asked)) askedOutside ∷ []) (omega (arith, c .if1 .taken)))
+    sym (first-due (a .own) (refusalIf (outside (a .low) (a .high) (a .asked)) askedOutside ∷ []) (omega (arith, c .if1 .taken)))
 
 returns-2 : tie.Need-returns-2
 returns-2 c = rw (c .before .before .if1 .left, ← c .before .outside .ensures, c .if2 .taken)

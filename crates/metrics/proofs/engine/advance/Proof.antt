@@ -18,6 +18,17 @@ use borrow.Author.Needs.{needs}
 use Rattle.metrics.proofs.engine.advance.Statement.{statement}
 use Rattle.metrics.proofs.engine.advance.Tie as tie
 
+-- ---- places
+
+abbrev start : tie.After-class-of → tie.Start
+start c = c .before .before .before .before .before .before .before
+
+abbrev after-class-of : tie.After-late-figures → tie.After-class-of
+after-class-of c = c .before .before .before .before
+
+abbrev after-late-figures : tie.After-answer-by-arg2 → tie.After-late-figures
+after-late-figures c = c .before .before .before .before
+
 -- the arrival's number is that of record i + 1, and that of a packet
 number : (c : tie.Start) → (c .args .arrival .number ≡ arrivalAt (decode (now (c .args .file))) (c .args .i) .number)
     × (1 ≤ c .args .arrival .number) × (c .args .arrival .number ≤ sentMost)
@@ -28,19 +39,19 @@ class-of-requires c κs = number (c .before .before .before .before .before .bef
 
 late-figures-requires : tie.Need-late-figures-requires
 late-figures-requires c κs =
-    let s = c .before .before .before .before .before .before .before .before .before .before in
+    let s = start (c .before .before .before) in
     let p = s .pre in
     (engine-filling _ _ _ (p .0) _ _ _ _ _ (p .2), number s .1, number s .2, links-laid _ _ _ (p .0) _ _ _ _ (p .2 .follows .numbered) (p .2 .linked) .1)
 
 answer-by-requires : tie.Need-answer-by-requires
 answer-by-requires c κs =
-    let s = c .before .before .before .before .before .before .before .before .before .before .before .before .before .before .before in
+    let s = start (after-class-of (after-late-figures c)) in
     let p = s .pre in
     let n = number s in
     let d = decode (now (s .args .file)) in
     let fs = firsts (before d (s .args .i)) in
-    let k = c .before .before .before .before .before .before .before .before .class-of .result in
-    let e = c .before .before .before .before .before .before .before .before .class-of .ensures in
+    let k = after-class-of (after-late-figures c) .class-of .result in
+    let e = after-class-of (after-late-figures c) .class-of .ensures in
     let f = p .2 .follows in
     let late = c .before .before .before .before .late-figures .ensures .1 fs (f .numbered) (p .2 .totalled) in (
       p .0,
@@ -53,15 +64,15 @@ answer-by-requires c κs =
     )
 
 note-requires : tie.Need-note-requires
-note-requires c κs = let s = c .before .before .before .before .before .before .before .before .before .before .before .before .before .before .before .before .before .before .before in noting _ _ _ (s .pre .0) _ _ _ _ (s .pre .2 .follows) _ (number s .0)
+note-requires c κs = let s = start (after-class-of (after-late-figures (c .before .before .before .before))) in noting _ _ _ (s .pre .0) _ _ _ _ (s .pre .2 .follows) _ (number s .0)
 
 returns : tie.Need-returns
 returns c =
-    let s = c .before .before .before .before .before .before .before .before .before .before .before .before .before .before .before .before .before .before .before .before .before in
+    let s = start (after-class-of (after-late-figures (c .before .before .before .before .before .before))) in
     let n = number s in
     let f = s .pre .2 .follows in
-    let e = c .before .before .before .before .before .before .before .before .before .before .before .before .before .before .class-of .ensures in
-    let late = c .before .before .before .before .before .before .before .before .before .before .late-figures .ensures .1 _ (f .numbered) (s .pre .2 .totalled) in (
+    let e = after-class-of (after-late-figures (c .before .before .before .before .before .before)) .class-of .ensures in
+    let late = after-late-figures (c .before .before .before .before .before .before) .late-figures .ensures .1 _ (f .numbered) (s .pre .2 .totalled) in (
       c .before .before .before .before .before .answer-by .ensures,
       told (decode (now (s .args .file))) (s .args .i) _ _ _ _ f _ (n .0) (n .1) (n .2) _ e,
       engine-next _ _ _ (s .pre .0) _ _ _ _ f _ (n .0) (n .1) (n .2) _ e _ _ (late .1) _ _ _ _ (c .before .note .ensures) _ _ (s .pre .2 .linked) (late .0),

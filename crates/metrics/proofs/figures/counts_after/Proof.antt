@@ -12,6 +12,11 @@ use borrow.Author.Needs.{needs}
 use Rattle.metrics.proofs.figures.counts_after.Statement.{statement}
 use Rattle.metrics.proofs.figures.counts_after.Tie as tie
 
+-- ---- places
+
+abbrev start : tie.After-struct-known5 → tie.Start
+start c = c .before .before .before .before
+
 enum-told : tie.Need-enum-told
 enum-told c = search needs
 
@@ -20,10 +25,10 @@ square : {n : ℕ} → FourDigits n → n * n ≤ 10 ^ 4 * 10 ^ 4
 square {n} h = mul-le-mul {n₁ = n} {m₁ = n} {n₂ = 10 ^ 4} {m₂ = 10 ^ 4} (omega arith) (omega arith)
 
 mul-t13 : tie.Need-mul-t13
-mul-t13 c = record { fits = omega (arith, square (c .before .before .before .before .before .before .before .pre .current)) }
+mul-t13 c = record { fits = omega (arith, square (start (c .before .before .before) .pre .current)) }
 
 add-t14 : tie.Need-add-t14
-add-t14 c = let p = c .before .before .before .before .before .before .before .before .pre in record { fits = omega (arith, square (p .current), p .squares) }
+add-t14 c = let p = start (c .before .before .before .before) .pre in record { fits = omega (arith, square (p .current), p .squares) }
 
 returns : tie.Need-returns
 unfolding counts runsAfter

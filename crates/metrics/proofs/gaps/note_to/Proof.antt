@@ -10,7 +10,6 @@ use Rattle.sample.specs.Decode.{decode, Decoded}
 use Rattle.metrics.specs.Records.{before, answerAt, answersTo, HasRecord}
 use Rattle.metrics.specs.Private.Tables.{EngineTables, ClassOf}
 use Rattle.metrics.specs.Private.Steps.{DiscoverersAt}
-use borrow.Author.Needs.{needs}
 use Rattle.rfc4737.specs.Judge.{arrivalsMost}
 use Rattle.metrics.proofs.TablesFollow.{numbered-le}
 use Rattle.metrics.proofs.NotingArrivals.{noting, noted-follows}

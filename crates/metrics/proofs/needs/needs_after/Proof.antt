@@ -15,12 +15,13 @@ returns-2 c = rw (c .before .before .enum-told2 .given .1)
 returns-3 : tie.Need-returns-3
 unfolding needsAfter
 returns-3 c =
+    let packets = c .before .before .before .before .before in
     rw (
-      c .before .before .before .before .before .before .before .before .before .before .answer .given .1,
-      c .before .before .before .before .before .before .one-more-if .ensures,
-      c .before .before .before .before .before .before .before .needed-by .ensures,
+      packets .before .before .before .before .before .answer .given .1,
+      packets .before .one-more-if .ensures,
+      packets .before .before .needed-by .ensures,
       c .before .before .before .before .greater-of .ensures,
-      c .before .before .before .before .before .needed-by2 .ensures,
+      packets .needed-by2 .ensures,
       c .before .before .greater-of2 .ensures,
       c .before .before .before .needed-by3 .ensures,
       c .greater-of3 .ensures,

@@ -25,13 +25,27 @@ Inv-loop file y measure size numbers₀ records₀ skipped₀ tree₀ engine₀ 
 abbrev μ-loop : tie.MeasureT-loop
 μ-loop file y measure size numbers₀ records₀ skipped₀ tree₀ engine₀ held₀ i₀ numbers records skipped tree engine held i = y .arrivals - i
 
+-- ---- places
+
+abbrev start-of-head : tie.At-loop Inv-loop μ-loop → tie.Start Inv-loop μ-loop
+start-of-head c = c .before .before .before
+
+abbrev start : tie.Then1 Inv-loop μ-loop → tie.Start Inv-loop μ-loop
+start c = c .before .before .before .before .before
+
+abbrev head : tie.After-tree Inv-loop μ-loop → tie.At-loop Inv-loop μ-loop
+head c = c .before .before .before .before .before .before .before
+
+abbrev turn : tie.After-tree Inv-loop μ-loop → tie.Then1 Inv-loop μ-loop
+turn c = c .before .before .before .before .before
+
 -- record i + 1 is there
-here : (c : tie.Then1 Inv-loop μ-loop) → HasRecord (decode (now (c .before .before .before .before .before .args .file))) (c .before .before .before .before .before .args .y) (c .before .before .loop .i)
-here c = record { file = c .before .before .before .before .before .pre; inside = c .if1 .taken }
+here : (c : tie.Then1 Inv-loop μ-loop) → HasRecord (decode (now (start c .args .file))) (start c .args .y) (c .before .before .loop .i)
+here c = record { file = start c .pre; inside = c .if1 .taken }
 
 -- it is one of few
 few : (c : tie.Then1 Inv-loop μ-loop) → c .before .before .loop .i < arrivalsMost
-few c = omega (arith, c .if1 .taken, c .before .before .before .before .before .pre .few)
+few c = omega (arith, c .if1 .taken, start c .pre .few)
 
 loop-holds : tie.Need-loop-holds Inv-loop μ-loop
 loop-holds c =
@@ -45,35 +59,35 @@ arrival-at-requires : tie.Need-arrival-at-requires Inv-loop μ-loop
 arrival-at-requires c κs = here c
 
 advance-requires : tie.Need-advance-requires Inv-loop μ-loop
-advance-requires c κs = (here (c .before .before .before .before .before), c .before .before .before .before .arrival-at .ensures .0, c .before .before .before .before .before .before .before .loop .inv .1)
+advance-requires c κs = (here (turn c), c .before .before .before .before .arrival-at .ensures .0, head c .loop .inv .1)
 
 needs-after-requires : tie.Need-needs-after-requires Inv-loop μ-loop
 needs-after-requires c κs =
-    let l = c .before .before .before .before .before .before .before .before .before .loop in
-    let h = needs-few (c .before .before .before .before .before .before .before .before .before .before .before .before .args .measure) (c .before .before .before .before .before .before .before .before .before .before .before .before .args .size) (answersTo (decode (now (c .before .before .before .before .before .before .before .before .before .before .before .before .args .file))) (l .i)) in
-    let n = answers-length _ _ _ (here (c .before .before .before .before .before .before .before)) in
-    rw (l .inv .2) (omega (arith, h .0, n, few (c .before .before .before .before .before .before .before)), omega (arith, h .1, n, few (c .before .before .before .before .before .before .before)))
+    let l = head (c .before .before) .loop in
+    let h = needs-few (start-of-head (head (c .before .before)) .args .measure) (start-of-head (head (c .before .before)) .args .size) (answersTo (decode (now (start-of-head (head (c .before .before)) .args .file))) (l .i)) in
+    let n = answers-length _ _ _ (here (turn (c .before .before))) in
+    rw (l .inv .2) (omega (arith, h .0, n, few (turn (c .before .before))), omega (arith, h .1, n, few (turn (c .before .before))))
 
 add-i : tie.Need-add-i Inv-loop μ-loop
-add-i c = omega (arith, few (c .before .before .before .before .before .before .before .before .before))
+add-i c = omega (arith, few (turn (c .before .before .before .before)))
 
 loop-less : tie.Need-loop-less Inv-loop μ-loop
-loop-less c = omega (arith, c .before .before .before .before .before .before .before .before .before .if1 .taken)
+loop-less c = omega (arith, turn (c .before .before .before .before) .if1 .taken)
 
 loop-again : tie.Need-loop-again Inv-loop μ-loop
 loop-again c =
-    let l = c .before .before .before .before .before .before .before .before .before .before .before .loop in
-    let h = here (c .before .before .before .before .before .before .before .before .before) in
+    let l = head (c .before .before .before .before) .loop in
+    let h = here (turn (c .before .before .before .before)) in
     let step = c .before .before .before .advance .ensures in (
       omega (arith, h .inside),
       step .2,
-      c .before .needs-after .ensures ∙ rw (l .inv .2, step .0) (sym (needs-next (c .before .before .before .before .before .before .before .before .before .before .before .before .before .before .args .measure) (c .before .before .before .before .before .before .before .before .before .before .before .before .before .before .args .size) _ _ _ h)),
+      c .before .needs-after .ensures ∙ rw (l .inv .2, step .0) (sym (needs-next (start-of-head (head (c .before .before .before .before)) .args .measure) (start-of-head (head (c .before .before .before .before)) .args .size) _ _ _ h)),
     )
 
 returns : tie.Need-returns Inv-loop μ-loop
 returns c =
-    let a = c .before .before .before .before .before .args in
-    c .before .before .loop .inv .2 ∙ ap (needsOf (a .measure) (a .size)) (answers-end _ _ _ (c .before .before .before .before .before .pre) (c .if1 .left))
+    let a = start-of-head (c .before .before) .args in
+    c .before .before .loop .inv .2 ∙ ap (needsOf (a .measure) (a .size)) (answers-end _ _ _ (start-of-head (c .before .before) .pre) (c .if1 .left))
 
 pub needs-of-spec : {M : Type 1} → statement M
 needs-of-spec =

@@ -10,23 +10,28 @@ use Rattle.octets.proofs.Below.{below-fits}
 use Rattle.octets.proofs.Memory.{over-splice}
 use Rattle.sample.specs.Decode.{decode}
 use Rattle.metrics.specs.Report.{sampleText}
-use Rattle.metrics.specs.declared.parts.Part.{Part}
+use Rattle.metrics.specs.declared.line_agreement.Part.{Part}
 use Rattle.metrics.proofs.Listed.{sample-within}
 use Rattle.metrics.proofs.report.write_listing.Statement.{statement}
 use Rattle.metrics.proofs.report.write_listing.Tie as tie
+
+-- ---- places
+
+abbrev start : tie.After-take-all-arg2 → tie.Start
+start c = c .before .before .before .before
 
 take-all-requires : tie.Need-take-all-requires
 take-all-requires c κs = (c .before .before .before .before .pre, record { room = λ e. absurd (true≢false (sym e)); inside = λ e. absurd (true≢false (sym e)) })
 
 cast-result : tie.Need-cast-result
 cast-result c =
-    let a = c .before .before .before .before .before .before .before .before .args in
-    omega (arith, ap (λ (r : Part). r .octets) (c .before .before .before .take-all .ensures .listed refl .0), sample-within (now (a .file)) (a .y) (c .before .before .before .before .before .before .before .before .pre) (below-fits w8 (now (a .file)) (c .before .before .before .before .before .before .before .shared-slice-known .given)))
+    let a = start (c .before .before .before .before) .args in
+    omega (arith, ap (λ (r : Part). r .octets) (c .before .before .before .take-all .ensures .listed refl .0), sample-within (now (a .file)) (a .y) (start (c .before .before .before .before) .pre) (below-fits w8 (now (a .file)) (c .before .before .before .before .before .before .before .shared-slice-known .given)))
 
 returns : tie.Need-returns
 returns c =
     let r = c .before .before .before .take-all .ensures .listed refl in
-    let a = c .before .before .before .before .before .before .before .before .args in
+    let a = start (c .before .before .before .before) .args in
     let n = ap (λ (r : Part). r .octets) (r .0) in
     (n, λ fits. r .1 (omega (arith, fits, n)) ∙ sym (over-splice (sampleText (decode (now (a .file)))) (now (a .out))))
 

@@ -14,7 +14,7 @@ returns-2 c = rw (c .before .before .before .answer2 .given .1)
 
 returns-3 : tie.Need-returns-3
 unfolding rowOf
-returns-3 c = rw (c .before .before .before .before .before .before .before .answer3 .given .1, c .before .before .before .before .before .directed .ensures, c .before .before .amount .ensures)
+returns-3 c = rw (c .before .before .before .before .before .before .before .answer3 .given .1, c .before .before .before .before .before .by-direction .ensures, c .before .before .amount .ensures)
 
 pub row-of-spec : {M : Type 1} → statement M
 row-of-spec =

@@ -1,10 +1,10 @@
--- `owamp::judge::judge_arrivals` meets its contract. The loop's invariant is `Judging`: the arrivals of the first i records are counted, and `refusal` is
--- the first of theirs; the count is at most i, so no sum wraps. A lost record is `judging-lost`, an arrival `judging-next`. The measure is the
--- number of records left. Assumes nothing.
+-- `owamp::judge::judge_arrivals` meets its contract. The loop's invariant is `Judging`: the arrivals of the first i records are counted,
+-- and `refusal` is the first of theirs. The count is at most i, so no sum wraps. A lost record is `judging-lost`, an arrival
+-- `judging-next`. The measure is the number of records left. Assumes nothing.
 use borrow.Author.Needs.{needs}
 use native.Mathlib.Omega.{arith}
 use Prim.Native.Nat.{_-_}
-use mathlib.Core.Path.{_≡_, sym, _∙_}
+use mathlib.Core.Path.{sym, _∙_}
 use denote.Ref.{now}
 use Rattle.owamp.specs.Record.{recordCount}
 use Rattle.owamp.proofs.InTurn.{Judging, judging-start, judging-lost, judging-next, judging-done}

@@ -1,22 +1,22 @@
--- `owamp::judge::judge_seconds` meets its contract. The loop's invariant: the first refusal of all arrivals is that of the greatest time so far or, if
--- there is none, of the arrivals from i on. The arrival read at i is the sample's (`found`), and the refusals of two times one after the other are
--- that of the greater one (`greater`). The measure is the number of arrivals left.
+-- `owamp::judge::judge_seconds` meets its contract. The loop's invariant: the first refusal of all arrivals is that of the greatest time so
+-- far or, if there is none, of the arrivals from i on. The arrival read at i is the sample's (`found`), and the refusals of two times one
+-- after the other are that of the greater one (`greater`). The measure is the number of arrivals left.
 -- Here g and t are times, rs refusals. Assumes nothing.
 use borrow.Author.Needs.{needs}
 use borrow.Author.Tests.{ltb-true, ltb-false}
 use native.Mathlib.Omega.{arith}
 use native.Mathlib.Numerals.{add-one}
-use Prim.Native.Nat.{ℕ, suc, _+_, _-_, _≤_, _<_}
+use Prim.Native.Nat.{ℕ, suc, _-_, _≤_, _<_}
 use mathlib.Core.Bool.{Bool, true, false, cond}
 use mathlib.Core.Path.{_≡_, refl, sym, ap, _∙_}
-use mathlib.Core.List.{List, [], _∷_, map}
+use mathlib.Core.List.{List, _∷_, map}
 use lib.Dec.{ltb}
 use lib.ListN.{length, getD, drop, length-map, List·getD-map, drop-of-length-le}
 use lib.Seq.{drop-cons}
 use denote.Ref.{now}
 use Rattle.rfc4737.specs.declared.Arrival.{Arrival}
 use Rattle.rfc4737.specs.Times.{nextReference}
-use Rattle.rfc4737.specs.Refusals.{inCase, firstOf, secondsOver}
+use Rattle.rfc4737.specs.Refusals.{refusalIf, firstRefusal, secondsOver}
 use Rattle.rfc4737.proofs.Due.{first-one}
 use Rattle.owamp.specs.Clock.{writtenSeconds}
 use Rattle.owamp.specs.Judge.{secondsMost, judgeTime, judgeSeconds}
@@ -32,12 +32,12 @@ use Rattle.owamp.proofs.judge.judge_seconds.Tie as tie
 apart : (g t : ℕ) → g ≤ t → ltb secondsMost (writtenSeconds g) ≡ true → ltb secondsMost (writtenSeconds t) ≡ false → ⊥
 apart g t h p q = omega (arith, h, ltb-true secondsMost (writtenSeconds g) p, ltb-false secondsMost (writtenSeconds t) q)
 
-greater : (g t : ℕ) (rs : List ℕ) → firstOf (judgeTime g ∷ judgeTime t ∷ rs) ≡ firstOf (judgeTime (nextReference g t) ∷ rs)
+greater : (g t : ℕ) (rs : List ℕ) → firstRefusal (judgeTime g ∷ judgeTime t ∷ rs) ≡ firstRefusal (judgeTime (nextReference g t) ∷ rs)
 unfolding judgeTime nextReference
 greater g t rs = go (ltb g t) refl (ltb secondsMost (writtenSeconds g)) refl (ltb secondsMost (writtenSeconds t)) refl
   where
     go : (b : Bool) → ltb g t ≡ b → (x : Bool) → ltb secondsMost (writtenSeconds g) ≡ x → (y : Bool) → ltb secondsMost (writtenSeconds t) ≡ y
-        → firstOf (inCase x secondsOver ∷ inCase y secondsOver ∷ rs) ≡ firstOf (inCase (ltb secondsMost (writtenSeconds (cond b t g))) secondsOver ∷ rs)
+        → firstRefusal (refusalIf x secondsOver ∷ refusalIf y secondsOver ∷ rs) ≡ firstRefusal (refusalIf (ltb secondsMost (writtenSeconds (cond b t g))) secondsOver ∷ rs)
     go true p true q true r = rw r
     go true p false q true r = rw r
     go true p false q false r = rw r
@@ -59,16 +59,16 @@ refusals file = map judgeArrival (arrivalsOfFile file)
 
 -- greatest₀ and i₀ are the values where the loop begins, greatest and i those at its head
 abbrev Inv-loop : tie.InvT-loop
-Inv-loop file found count greatest₀ i₀ greatest i = (i ≤ count) × (firstOf (refusals file) ≡ firstOf (judgeTime greatest ∷ drop i (refusals file)))
+Inv-loop file found count greatest₀ i₀ greatest i = (i ≤ count) × (firstRefusal (refusals file) ≡ firstRefusal (judgeTime greatest ∷ drop i (refusals file)))
 
 abbrev μ-loop : tie.MeasureT-loop
 μ-loop file found count greatest₀ i₀ greatest i = count - i
 
 -- as many as the layout says
-many : (c : tie.At-loop Inv-loop μ-loop) → length (refusals (now (c .before .before .args .file))) ≡ c .before .before .args .found .arrivals
+many : (c : tie.At-loop Inv-loop μ-loop) → let a = c .before .before .args in length (refusals (now (a .file))) ≡ a .layout .arrivals
 many c =
     let a = c .before .before in
-    length-map (arrivalsOfFile (now (a .args .file))) judgeArrival ∙ sym (found-many (now (a .args .file)) (a .args .found) (a .pre .0))
+    length-map (arrivalsOfFile (now (a .args .file))) judgeArrival ∙ sym (found-many (now (a .args .file)) (a .args .layout) (a .pre .0))
 
 -- the one at i is that of the arrival that was read
 found : (c : tie.After-arrival Inv-loop μ-loop)
@@ -91,10 +91,10 @@ loop-again c =
     let h : i < length rs = omega (arith, many l, c .before .before .loop-test .taken) in (
       search needs,
       l .loop .inv .1
-          ∙ ap (λ (x : List ℕ). firstOf (judgeTime g ∷ x)) (drop-cons rs i (judgeArrival noArrival) h ∙ ap (λ (x : ℕ). x ∷ drop (suc i) rs) (sym (found (c .before))))
+          ∙ ap (λ (x : List ℕ). firstRefusal (judgeTime g ∷ x)) (drop-cons rs i (judgeArrival noArrival) h ∙ ap (λ (x : ℕ). x ∷ drop (suc i) rs) (sym (found (c .before))))
           ∙ greater g (c .before .arrival .result .time) (drop (suc i) rs)
-          ∙ ap (λ (x : ℕ). firstOf (judgeTime x ∷ drop (suc i) rs)) (sym (c .next-reference .ensures))
-          ∙ ap (λ (x : ℕ). firstOf (judgeTime (c .next-reference .result) ∷ drop x rs)) (sym (add-one i)),
+          ∙ ap (λ (x : ℕ). firstRefusal (judgeTime x ∷ drop (suc i) rs)) (sym (c .next-reference .ensures))
+          ∙ ap (λ (x : ℕ). firstRefusal (judgeTime (c .next-reference .result) ∷ drop x rs)) (sym (add-one i)),
     )
 
 returns : tie.Need-returns Inv-loop μ-loop
@@ -104,7 +104,7 @@ returns c =
     let rs = refusals (now (l .before .before .args .file)) in
     let h : length rs ≤ l .loop .i = omega (arith, many l, c .before .loop-test .left) in
     c .judge-time .ensures
-    ∙ sym (l .loop .inv .1 ∙ ap (λ (x : List ℕ). firstOf (judgeTime (l .loop .greatest) ∷ x)) (drop-of-length-le rs h) ∙ first-one (judgeTime (l .loop .greatest)))
+    ∙ sym (l .loop .inv .1 ∙ ap (λ (x : List ℕ). firstRefusal (judgeTime (l .loop .greatest) ∷ x)) (drop-of-length-le rs h) ∙ first-one (judgeTime (l .loop .greatest)))
 
 pub judge-seconds-spec : {M : Type 1} → statement M
 judge-seconds-spec =

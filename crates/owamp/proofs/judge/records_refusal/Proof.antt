@@ -1,5 +1,5 @@
--- `owamp::judge::records_refusal` meets its contract: the tests are the stages of `recordsRefusal` in its order, so each return is the first refusal
--- after those that are 0; the last is that of the numbers. Assumes nothing.
+-- `owamp::judge::records_refusal` meets its contract: the tests are the stages of `recordsRefusal` in its order, so each return is the
+-- first refusal after those that are 0. The last is that of the numbers. Assumes nothing.
 use borrow.Author.Needs.{needs}
 use mathlib.Core.Path.{_≡_, sym, ap, _∙_}
 use lib.ListN.{length}

@@ -1,4 +1,5 @@
--- `rfc4737::judge::judge_one` meets its contract: at each `return` the tests that led there say which refusal is the first. Assumes nothing.
+-- `rfc4737::judge::judge_one` meets its contract: at each `return` the tests that led there say which refusal is the first. Assumes
+-- nothing.
 use mathlib.Core.Path.{sym, _∙_}
 use Rattle.rfc4737.specs.Judge.{judgeOne}
 use borrow.Author.Needs.{needs}

@@ -1,4 +1,4 @@
--- `rfc4737::judge::refusal_of_lists` meets its contract: at each `return` the tests that led there say which refusal is the first, and at
+-- `rfc4737::judge::refusal_of_lists` meets its contract. At each `return` the tests that led there say which refusal is the first, and at
 -- the last one it is that of the arrivals, which `judge_lists` returns. Assumes nothing.
 use borrow.Author.Needs.{needs}
 use mathlib.Core.Path.{sym, _∙_}

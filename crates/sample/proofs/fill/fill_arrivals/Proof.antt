@@ -1,6 +1,6 @@
--- `sample::fill::fill_arrivals` meets its contract. The loop's invariant: each list holds the values of the first i arrivals, then what it
--- held. A turn stores those of the arrival that is read at i, which is the one that stands there (`value-found`, `fill-next`). The measure is
--- the number of arrivals left. Assumes nothing.
+-- `sample::fill::fill_arrivals` meets its contract. The loop's invariant: each list holds the values of the first i arrivals, then what
+-- it held. A turn stores those of the arrival that is read at i, which is the one that stands there (`value-found`, `fill-next`). The
+-- measure is the number of arrivals left. Assumes nothing.
 use borrow.Author.Needs.{needs}
 use Prim.Native.Nat.{ℕ, _+_, _*_, _-_, _≤_}
 use native.Mathlib.Omega.{arith}

@@ -1,6 +1,6 @@
--- `sample::fill::fill_sizes` meets its contract. The loop's invariant: the list holds the sizes from place i on, all else as it was. A turn
--- stores the size that is read at i - 1, which is the one that stands there (`size-taken`), before them (`down`). The measure is i. xs are the
--- sizes, `old` is the list as it was. Assumes nothing.
+-- `sample::fill::fill_sizes` meets its contract. The loop's invariant: the list holds the sizes from place i on, all else as it was. A
+-- turn stores the size that is read at i - 1, which is the one that stands there (`size-taken`), before them (`down`). The measure is i.
+-- xs are the sizes, `old` is the list as it was. Assumes nothing.
 use borrow.Author.Needs.{needs}
 use Prim.Native.Nat.{ℕ, suc, _+_, _*_, _^_, _-_, _≤_, _<_}
 use native.Mathlib.Omega.{arith}
@@ -19,7 +19,7 @@ use Rattle.sample.proofs.Items.{items-length, taken-fits, size-taken}
 use Rattle.sample.proofs.fill.fill_sizes.Statement.{statement}
 use Rattle.sample.proofs.fill.fill_sizes.Tie as tie
 
--- the payload sizes, so many, which stand from a place on
+-- the `count` payload sizes from offset `at` on
 abbrev sizesFrom : List ℕ → ℕ → ℕ → List ℕ
 sizesFrom file at count = itemsIn sizeWidth beValue count (drop at file)
 

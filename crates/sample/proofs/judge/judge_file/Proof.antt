@@ -1,11 +1,11 @@
 -- `sample::judge::judge_file` meets its contract. The loop's invariant: judging all arrivals is judging what is left of them from the
--- reference. The arrival read at i is the first of these (`found`): refused, its refusal is that of all (`judged-stop`); else the rest is judged
--- from the next reference (`judged-next`). The measure is the number of arrivals left. In a turn l is the loop's head, t after its test, and f
--- after the arrival is read. Assumes nothing.
+-- reference. The arrival read at i is the first of these (`arrival-there`): refused, its refusal is that of all (`judged-stop`); else the
+-- rest is judged from the next reference (`judged-next`). The measure is the number of arrivals left. In a turn l is the loop's head, t
+-- after its test, and f after the arrival is read. Assumes nothing.
 use borrow.Author.Needs.{needs}
 use Prim.Native.Nat.{ℕ, _+_, _*_, _-_, _≤_, _<_}
 use native.Mathlib.Omega.{arith}
-use mathlib.Core.Path.{_≡_, refl, ap, sym, _∙_}
+use mathlib.Core.Path.{_≡_, refl, sym, _∙_}
 use mathlib.Core.List.{List}
 use lib.ListN.{length, getD, drop}
 use denote.Ref.{now}
@@ -19,7 +19,7 @@ use Rattle.rfc4737.proofs.Judged.{judged-stop, judged-next, judge-done}
 use Rattle.sample.proofs.judge.judge_file.Statement.{statement}
 use Rattle.sample.proofs.judge.judge_file.Tie as tie
 
--- the arrivals, so many, which stand from a place on
+-- the `count` arrivals from offset `at` on
 abbrev standing : List ℕ → ℕ → ℕ → List Arrival
 standing file at count = itemsIn arrivalWidth arrivalIn count (drop at file)
 
@@ -40,10 +40,10 @@ turn c =
     omega arith
 
 -- it is the one that was read
-found : (c : tie.After-arrival-of Inv-loop μ-loop)
+arrival-there : (c : tie.After-arrival-of Inv-loop μ-loop)
     → c .arrival-of .result
     ≡ getD (standing (now (c .before .before .before .before .before .args .file)) (c .before .before .before .before .before .args .at) (c .before .before .before .before .before .args .count)) (c .before .before .before .loop .i) noArrival
-found c =
+arrival-there c =
     let a = c .before .before .before .before .before .args in
     arrival-taken (a .at + arrivalWidth * c .before .before .before .loop .i) (now (a .file)) (c .arrival-of .ensures) ∙ sym (items-stand arrivalWidth arrivalIn (a .count) (a .at) (now (a .file)) (c .before .before .before .loop .i) noArrival (c .before .before .loop-test .taken))
 
@@ -58,7 +58,7 @@ returns c =
     let l = t .before in
     let a = l .before .before .args in
     judged-stop (a .sent) (standing (now (a .file)) (a .at) (a .count)) (l .loop .reference) (l .loop .i) noArrival
-    (f .arrival-of .result) (turn t) (found f) (l .loop .inv .1)
+    (f .arrival-of .result) (turn t) (arrival-there f) (l .loop .inv .1)
     (c .before .before .judge-next .result) (c .before .before .judge-next .ensures) (c .if1 .taken)
 
 loop-again : tie.Need-loop-again Inv-loop μ-loop
@@ -69,7 +69,7 @@ loop-again c =
     let a = l .before .before .args in (
       search needs,
       judged-next (a .sent) (standing (now (a .file)) (a .at) (a .count)) (l .loop .reference) (l .loop .i) noArrival
-          (f .arrival-of .result) (turn t) (found f) (l .loop .inv .1)
+          (f .arrival-of .result) (turn t) (arrival-there f) (l .loop .inv .1)
           (c .before .before .judge-next .result) (c .before .before .judge-next .ensures) (c .if1 .left),
     )
 

@@ -1,5 +1,6 @@
 -- `sample::judge::some_unshown` meets its contract. The loop's invariant: of all octets one cannot be shown exactly if one of those left
--- cannot. The octet at i settles it or is passed (`unshown-stop`, `unshown-next`). The measure is the number of octets left. Assumes nothing.
+-- cannot. The octet at i settles it or is passed (`unshown-stop`, `unshown-next`). The measure is the number of octets left. Assumes
+-- nothing.
 use borrow.Author.Needs.{needs}
 use Prim.Native.Nat.{ℕ, _-_, _≤_}
 use native.Mathlib.Omega.{arith}

@@ -1,4 +1,5 @@
--- `sample::sections::place_in` meets its contract: the test is that of `readingTo`, whether the file ends before the place. Assumes nothing.
+-- `sample::sections::place_in` meets its contract: the test is that of `readingTo`, whether the file ends before the place. Assumes
+-- nothing.
 use borrow.Author.Tests.{lt-ltb, le-ltb}
 use Rattle.sample.specs.Private.{readingTo}
 use Rattle.sample.proofs.sections.place_in.Statement.{statement}

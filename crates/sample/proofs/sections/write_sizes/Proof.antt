@@ -1,6 +1,6 @@
--- `sample::sections::write_sizes` meets its contract. The loop's invariant: after the count stand the octets of the first i sizes, all else is
--- as where the loop begins. A turn lends a size's octets and puts it into them (`write-next`); at the end count and items are the section
--- (`section-done`). The measure is the number of sizes left. Assumes nothing.
+-- `sample::sections::write_sizes` meets its contract. The loop's invariant: after the count stand the octets of the first i sizes, all
+-- else is as where the loop begins. A turn lends a size's octets and puts it into them (`write-next`); at the end count and items are the
+-- section (`section-done`). The measure is the number of sizes left. Assumes nothing.
 use borrow.Author.Needs.{needs}
 use Prim.Native.Nat.{_+_, _*_, _-_, _≤_}
 use native.Mathlib.Omega.{arith}

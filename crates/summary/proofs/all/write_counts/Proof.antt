@@ -24,5 +24,5 @@ pub write-counts-spec : {M : Type 1} → statement M
 write-counts-spec =
     tie.close
     (tie.spec
-    (λ c. search needs) (λ c κs. (omega arith, omega arith)) (λ c κs. search needs) (λ c κs. search needs) (λ c. search needs)
-    (λ c κs. (omega arith, omega arith)) (λ c. search needs) returns)
+    (λ c. search needs) (λ c κs. (omega arith, omega arith, search needs)) (λ c κs. search needs) (λ c κs. search needs) (λ c. search needs)
+    (λ c κs. (omega arith, omega arith, search needs)) (λ c. search needs) returns)

@@ -17,11 +17,11 @@ use Rattle.summary.proofs.all.write_lines.Tie as tie
 
 -- out₀, at₀ and n₀ are the values where the loop begins, out, at and n those at its head
 abbrev Inv-loop : tie.InvT-loop
-Inv-loop out₀ start file kind count at₀ n₀ out at n =
+Inv-loop out₀ start file gaps kind count at₀ n₀ out at n =
     (n ≤ count) × (length out ≡ length out₀) × Written start at (linesTo kind (answersOf (decode file)) n) out₀ out × (at ≤ start + 47 * n)
 
 abbrev μ-loop : tie.MeasureT-loop
-μ-loop out₀ start file kind count at₀ n₀ out at n = count - n
+μ-loop out₀ start file gaps kind count at₀ n₀ out at n = count - n
 
 loop-holds : tie.Need-loop-holds Inv-loop μ-loop
 loop-holds c =
@@ -33,7 +33,7 @@ write-line-requires c κs =
     let s = c .before .before .before .before .before in
     let l = c .before .before .loop in
     let t = c .before .loop-test .taken in
-    (omega (arith, t, l .inv .1, l .inv .3, s .pre .0), omega arith, omega (arith, t, s .pre .1))
+    (omega (arith, t, l .inv .1, l .inv .3, s .pre .0), omega arith, omega (arith, t, s .pre .1), s .pre .2)
 
 loop-again : tie.Need-loop-again Inv-loop μ-loop
 loop-again c =

@@ -1,24 +1,13 @@
--- `summary::all::write_over` meets its contract: the parts are written one after the other (`then`).
--- Here e1 and so on are the calls. Assumes nothing.
+-- `summary::all::write_over` meets its contract: the number stands between its words. Assumes nothing.
 use native.Mathlib.Omega.{arith}
 use Rattle.summary.specs.All.{overLine}
-use Rattle.writing.proofs.Parts.{nothing, then}
 use borrow.Author.Needs.{needs}
 use Rattle.summary.proofs.all.write_over.Statement.{statement}
 use Rattle.summary.proofs.all.write_over.Tie as tie
 
 returns : tie.Need-returns
 unfolding overLine
-returns c =
-    let e3 = c .before .before in
-    let e2 = e3 .before .before .before .before .before in
-    let e1 = e2 .before .before .before .before in (
-      then (e1 .write-word .ensures .0) (then (e2 .write-number .ensures .0) (then (e3 .write-word2 .ensures .0) (nothing _ _))),
-      omega (arith, e1 .write-word .ensures .1, e2 .write-number .ensures .1, e3 .write-word2 .ensures .1),
-    )
+returns c = (c .before .before .write-between .ensures .0, omega (arith, c .before .before .write-between .ensures .1))
 
 pub write-over-spec : {M : Type 1} → statement M
-write-over-spec =
-    tie.close
-    (tie.spec
-    (λ c. search needs) (λ c κs. search needs) (λ c κs. search needs) (λ c. search needs) (λ c κs. search needs) (λ c. search needs) returns)
+write-over-spec = tie.close (tie.spec (λ c. search needs) (λ c. search needs) (λ c κs. search needs) (λ c. search needs) returns)

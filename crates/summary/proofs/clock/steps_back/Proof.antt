@@ -1,6 +1,6 @@
--- `summary::clock::steps_back` meets its contract. The loop's invariant: whether the clock steps back in all arrivals is whether it does in those
--- from record i + 1 on, if it showed `last` before it (`back-next`). The measure is what is left of the arrivals. Assumes nothing.
-use mathlib.Core.Path.{_≡_, refl, sym, ap, _∙_}
+-- `summary::clock::steps_back` meets its contract. The loop's invariant: whether the clock steps back in all arrivals is whether it does in
+-- those from record i + 1 on, if it showed `last` before it (`back-next`). The measure is what is left of the arrivals. Assumes nothing.
+use mathlib.Core.Path.{_≡_, refl, sym, _∙_}
 use Prim.Native.Nat.{_≤_, _-_}
 use native.Mathlib.Omega.{arith}
 use borrow.Author.Tests.{lt-ltb, le-ltb}
@@ -60,15 +60,4 @@ returns-2 c =
     sym (l .inv .1 ∙ back-end _ _ (c .before .before .before .before .pre) (l .i) (l .last) (c .if1 .left))
 
 pub steps-back-spec : {M : Type 1} → statement M
-steps-back-spec =
-    tie.close
-    (tie.spec
-    Inv-loop
-    μ-loop
-    loop-holds
-    (λ c κs. search needs)
-    returns
-    add-i
-    loop-less
-    loop-again
-    returns-2)
+steps-back-spec = tie.close (tie.spec Inv-loop μ-loop loop-holds (λ c κs. search needs) returns add-i loop-less loop-again returns-2)

@@ -1,5 +1,5 @@
--- `summary::figures::figures_of` meets its contract: each figure is that of a call (`counted`, `several`, `disordered`), and K that of the layout.
--- Here d is the decoded file, r what a call answers; k, first, third, total and back are the calls, s the start. Assumes nothing.
+-- `summary::figures::figures_of` meets its contract: each figure is that of a call (`counted`, `several`, `disordered`), and K that of the
+-- layout. Here d is the decoded file, r what a call answers; k, first, third, total and back are the calls, s the start. Assumes nothing.
 use native.Mathlib.Omega.{arith}
 use mathlib.Core.Path.{_≡_, ap}
 use lib.Dec.{ltb}
@@ -51,7 +51,5 @@ returns c =
     }
 
 pub figures-of-spec : {M : Type 1} → statement M
-figures-of-spec =
-    tie.close
-    (tie.spec
-    (λ c κs. search needs) (λ c κs. search needs) (λ c κs. search needs) (λ c κs. search needs) steps-back-requires returns)
+figures-of-spec = tie.close (tie.spec (λ c κs. search needs) (λ c κs. search needs) (λ c κs. search needs) (λ c κs. search needs)
+    steps-back-requires returns)

@@ -1,4 +1,5 @@
--- `summary::figures::size_for` meets its contract: the share is in its limits, so the size is that of the sample's answers. Assumes nothing.
+-- `summary::figures::size_for` meets its contract: the share is in its limits, so the size is that of the sample's answers. Assumes
+-- nothing.
 use mathlib.Core.Path.{_≡_, ap, _∙_}
 use mathlib.Core.Bool.{Bool, cond}
 use mathlib.Core.List.{[]}
@@ -25,7 +26,4 @@ returns c =
     inside _ (s .args .measure) (s .args .share) (c .least .result) (s .pre .0) (s .pre .1) (c .least .ensures .0)
 
 pub size-for-spec : {M : Type 1} → statement M
-size-for-spec =
-    tie.close
-    (tie.spec
-    (λ c κs. search needs) returns)
+size-for-spec = tie.close (tie.spec (λ c κs. search needs) returns)

@@ -11,7 +11,5 @@ returns c =
     λ i. record { time = e1 .size-for .ensures i; packets = e2 .size-for2 .ensures i; octets = c .size-for3 .ensures i }
 
 pub sizes-for-spec : {M : Type 1} → statement M
-sizes-for-spec =
-    tie.close
-    (tie.spec
-    (λ c κs. c .before .pre) (λ c κs. c .before .before .pre) (λ c κs. c .before .before .before .pre) returns)
+sizes-for-spec = tie.close (tie.spec (λ c κs. c .before .pre) (λ c κs. c .before .before .pre) (λ c κs. c .before .before .before .pre)
+    returns)

@@ -15,8 +15,5 @@ returns-2 c =
     rw (c .before .before .before .before .before .if1 .left) (w .0, omega (arith, w .1))
 
 pub write-bool-spec : {M : Type 1} → statement M
-write-bool-spec =
-    tie.close
-    (tie.spec
-    (λ c. search needs) (λ c κs. search needs) (λ c. search needs) returns
-    (λ c. search needs) (λ c κs. search needs) (λ c. search needs) returns-2)
+write-bool-spec = tie.close (tie.spec (λ c. search needs) (λ c κs. search needs) (λ c. search needs) returns (λ c. search needs)
+    (λ c κs. search needs) (λ c. search needs) returns-2)

@@ -17,7 +17,4 @@ returns c =
     )
 
 pub write-flag-spec : {M : Type 1} → statement M
-write-flag-spec =
-    tie.close
-    (tie.spec
-    (λ c κs. search needs) (λ c κs. search needs) (λ c. search needs) returns)
+write-flag-spec = tie.close (tie.spec (λ c κs. search needs) (λ c κs. search needs) (λ c. search needs) returns)

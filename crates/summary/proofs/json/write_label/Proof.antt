@@ -1,5 +1,6 @@
--- `summary::json::write_label` meets its contract. The loop's invariant: the first i octets of the label are written from `start` on, and each
--- took two octets at most. The next one stands after them (`then`, `escaped-next`). The measure is the number of octets left. Assumes nothing.
+-- `summary::json::write_label` meets its contract. The loop's invariant: the first i octets of the label are written from `start` on, and
+-- each took two octets at most. The next one stands after them (`then`, `escaped-next`). The measure is the number of octets left. Assumes
+-- nothing.
 use Prim.Native.Nat.{_+_, _-_, _*_, _≤_}
 use native.Mathlib.Omega.{arith}
 use mathlib.Core.Path.{_≡_, refl, sym}
@@ -54,15 +55,5 @@ returns c =
     (named (escaped-all (now (a .label)) (l .i) (c .loop-test .left)) (l .inv .2), omega (arith, l .inv .0, l .inv .3))
 
 pub write-label-spec : {M : Type 1} → statement M
-write-label-spec =
-    tie.close
-    (tie.spec
-    Inv-loop
-    μ-loop
-    loop-holds
-    (λ c. search needs)
-    write-octet-requires
-    (λ c. search needs) (λ c. search needs)
-    loop-again
-    same-length
-    returns)
+write-label-spec = tie.close (tie.spec Inv-loop μ-loop loop-holds (λ c. search needs) write-octet-requires (λ c. search needs)
+    (λ c. search needs) loop-again same-length returns)

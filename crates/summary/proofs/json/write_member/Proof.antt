@@ -17,7 +17,4 @@ returns c =
     )
 
 pub write-member-spec : {M : Type 1} → statement M
-write-member-spec =
-    tie.close
-    (tie.spec
-    (λ c κs. search needs) (λ c κs. search needs) (λ c. search needs) returns)
+write-member-spec = tie.close (tie.spec (λ c κs. search needs) (λ c κs. search needs) (λ c. search needs) returns)

@@ -64,8 +64,6 @@ returns c =
     )
 
 pub write-object-spec : {M : Type 1} → statement M
-write-object-spec =
-    tie.close
-    (tie.spec
-    (λ c κs. c .before .before .pre .0) (λ c κs. search needs) write-start-requires (λ c κs. search needs) (λ c κs. search needs)
-    (λ c κs. search needs) (λ c κs. search needs) write-end-requires (λ c. search needs) returns)
+write-object-spec = tie.close (tie.spec (λ c κs. c .before .before .pre .0) (λ c κs. search needs) write-start-requires
+    (λ c κs. search needs) (λ c κs. search needs) (λ c κs. search needs) (λ c κs. search needs) write-end-requires (λ c. search needs)
+    returns)

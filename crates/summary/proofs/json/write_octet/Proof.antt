@@ -23,8 +23,5 @@ returns-2 c =
     (rw e (w .0), omega (arith, w .1))
 
 pub write-octet-spec : {M : Type 1} → statement M
-write-octet-spec =
-    tie.close
-    (tie.spec
-    (λ c κs. search needs) (λ c. search needs) (λ c κs. search needs) (λ c. search needs) returns
+write-octet-spec = tie.close (tie.spec (λ c κs. search needs) (λ c. search needs) (λ c κs. search needs) (λ c. search needs) returns
     (λ c. search needs) (λ c κs. search needs) (λ c. search needs) returns-2)

@@ -1,5 +1,5 @@
 -- `summary::lines::write_counts` meets its contract: the parts are written one after the other (`then`).
--- Here e1 and so on are the parts, s the start. Assumes nothing.
+-- Here e1 and so on are the calls. Assumes nothing.
 use native.Mathlib.Omega.{arith}
 use Rattle.summary.specs.Text.{countsLine}
 use Rattle.writing.proofs.Parts.{nothing, then}
@@ -10,25 +10,13 @@ use Rattle.summary.proofs.lines.write_counts.Tie as tie
 returns : tie.Need-returns
 unfolding countsLine
 returns c =
-    let e6 = c .before .before in
-    let e5 = e6 .before .before .before .before .before in
-    let e4 = e5 .before .before .before .before in
-    let e3 = e4 .before .before .before .before .before in
-    let e2 = e3 .before .before .before .before in
-    let e1 = e2 .before .before .before .before .before in
-    let s = e1 .before .before .before in (
-      then (e1 .write-number .ensures .0)
-          (then (e2 .write-word .ensures .0)
-          (then (e3 .write-number2 .ensures .0)
-          (then (e4 .write-word2 .ensures .0)
-          (then (e5 .write-number3 .ensures .0)
-          (then (e6 .write-word3 .ensures .0) (nothing _ _)))))),
-      omega (arith, e1 .write-number .ensures .1, e2 .write-word .ensures .1, e3 .write-number2 .ensures .1, e4 .write-word2 .ensures .1, e5 .write-number3 .ensures .1, e6 .write-word3 .ensures .1),
+    let e3 = c .before .before in
+    let e2 = e3 .before .before .before .before .before .before in
+    let e1 = e2 .before .before .before .before .before .before in (
+      then (e1 .write-between .ensures .0) (then (e2 .write-between2 .ensures .0) (then (e3 .write-between3 .ensures .0) (nothing _ _))),
+      omega (arith, e1 .write-between .ensures .1, e2 .write-between2 .ensures .1, e3 .write-between3 .ensures .1),
     )
 
 pub write-counts-spec : {M : Type 1} → statement M
-write-counts-spec =
-    tie.close
-    (tie.spec
-    (λ c κs. search needs) (λ c. search needs) (λ c κs. search needs) (λ c κs. search needs) (λ c. search needs) (λ c κs. search needs)
-    (λ c κs. search needs) (λ c. search needs) (λ c κs. search needs) (λ c. search needs) returns)
+write-counts-spec = tie.close (tie.spec (λ c. search needs) (λ c. search needs) (λ c κs. search needs) (λ c. search needs)
+    (λ c. search needs) (λ c κs. search needs) (λ c. search needs) (λ c. search needs) (λ c κs. search needs) (λ c. search needs) returns)

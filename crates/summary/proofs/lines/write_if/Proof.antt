@@ -19,7 +19,4 @@ returns-2 c =
     rw (c .if1 .left) (nothing (a .at) (a .out .now), omega arith)
 
 pub write-if-spec : {M : Type 1} → statement M
-write-if-spec =
-    tie.close
-    (tie.spec
-    (λ c κs. search needs) (λ c. search needs) returns returns-2)
+write-if-spec = tie.close (tie.spec (λ c κs. search needs) (λ c. search needs) returns returns-2)

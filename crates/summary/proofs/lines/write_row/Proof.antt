@@ -13,7 +13,4 @@ returns c =
     (named (ap (sizesLine _) (c .before .before .before .before .sizes-for .ensures)) (w .0), omega (arith, w .1))
 
 pub write-row-spec : {M : Type 1} → statement M
-write-row-spec =
-    tie.close
-    (tie.spec
-    (λ c κs. search needs) (λ c κs. search needs) (λ c. search needs) returns)
+write-row-spec = tie.close (tie.spec (λ c κs. search needs) (λ c κs. search needs) (λ c. search needs) returns)

@@ -1,5 +1,5 @@
 -- `summary::lines::write_rows` meets its contract: the rows are written one after the other (`then`).
--- Here e1 and so on are the parts, s the start. Assumes nothing.
+-- Here e1 and so on are the calls. Assumes nothing.
 use native.Mathlib.Omega.{arith}
 use Rattle.summary.specs.Text.{rowLines}
 use Rattle.writing.proofs.Parts.{nothing, then}
@@ -14,8 +14,7 @@ returns c =
     let e4 = e5 .before .before .before .before .before in
     let e3 = e4 .before .before .before .before .before in
     let e2 = e3 .before .before .before .before .before in
-    let e1 = e2 .before .before .before .before .before in
-    let s = e1 .before .before .before .before .before in (
+    let e1 = e2 .before .before .before .before .before in (
       then (e1 .write-row .ensures .0)
           (then (e2 .write-row2 .ensures .0)
           (then (e3 .write-row3 .ensures .0)
@@ -25,8 +24,6 @@ returns c =
     )
 
 pub write-rows-spec : {M : Type 1} → statement M
-write-rows-spec =
-    tie.close
-    (tie.spec
+write-rows-spec = tie.close (tie.spec (λ c. search needs) (λ c κs. search needs) (λ c. search needs) (λ c κs. search needs)
     (λ c. search needs) (λ c κs. search needs) (λ c. search needs) (λ c κs. search needs) (λ c. search needs) (λ c κs. search needs)
-    (λ c. search needs) (λ c κs. search needs) (λ c. search needs) (λ c κs. search needs) (λ c. search needs) returns)
+    (λ c. search needs) returns)

@@ -38,8 +38,5 @@ returns c =
     )
 
 pub write-text-spec : {M : Type 1} → statement M
-write-text-spec =
-    tie.close
-    (tie.spec
-    (λ c κs. c .before .before .pre .0) (λ c κs. search needs) (λ c κs. search needs) (λ c κs. search needs) (λ c κs. search needs)
-    (λ c κs. search needs) (λ c. search needs) returns)
+write-text-spec = tie.close (tie.spec (λ c κs. c .before .before .pre .0) (λ c κs. search needs) (λ c κs. search needs)
+    (λ c κs. search needs) (λ c κs. search needs) (λ c κs. search needs) (λ c. search needs) returns)

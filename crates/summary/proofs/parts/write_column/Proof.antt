@@ -1,5 +1,5 @@
--- `summary::parts::write_column` meets its contract: a number that fills its column is written alone (`column-full`), another after the spaces
--- that its digits leave (`column-spaces`). Assumes nothing.
+-- `summary::parts::write_column` meets its contract: a number that fills its column is written alone (`column-full`), another after the
+-- spaces that its digits leave (`column-spaces`). Assumes nothing.
 use native.Mathlib.Omega.{arith}
 use Rattle.writing.proofs.Parts.{then, named}
 use Rattle.summary.proofs.Pieces.{column-full, column-spaces}
@@ -25,8 +25,5 @@ returns-2 c =
     (named (column-spaces (s .args .width) (s .args .v) (n .count .result) (s .pre .0) (n .count .ensures)) (then (w .0) (v .0)), omega (arith, w .1, v .1, s .pre .0))
 
 pub write-column-spec : {M : Type 1} → statement M
-write-column-spec =
-    tie.close
-    (tie.spec
-    (λ c κs. search needs) (λ c κs. search needs) (λ c. search needs) returns (λ c. search needs) (λ c. search needs)
-    (λ c κs. search needs) (λ c κs. search needs) (λ c. search needs) returns-2)
+write-column-spec = tie.close (tie.spec (λ c κs. search needs) (λ c κs. search needs) (λ c. search needs) returns (λ c. search needs)
+    (λ c. search needs) (λ c κs. search needs) (λ c κs. search needs) (λ c. search needs) returns-2)

@@ -1,5 +1,5 @@
 -- `summary::parts::write_milliseconds` meets its contract: the parts are written one after the other (`then`).
--- Here e1 and so on are the parts, s the start. Assumes nothing.
+-- Here e1 and so on are the calls. Assumes nothing.
 use native.Mathlib.Omega.{arith}
 use Rattle.summary.specs.Text.{milliseconds}
 use Rattle.writing.proofs.Parts.{nothing, then}
@@ -15,8 +15,7 @@ returns c =
     let e4 = e5 .before .before .before .before in
     let e3 = e4 .before .before .before .before in
     let e2 = e3 .before .before .before .before in
-    let e1 = e2 .before .before .before .before .before in
-    let s = e1 .before .before .before in (
+    let e1 = e2 .before .before .before .before .before in (
       then (e1 .write-column .ensures .0)
           (then (e2 .write-word .ensures .0)
           (then (e3 .write-number .ensures .0)
@@ -27,8 +26,5 @@ returns c =
     )
 
 pub write-milliseconds-spec : {M : Type 1} → statement M
-write-milliseconds-spec =
-    tie.close
-    (tie.spec
-    (λ c κs. search needs) (λ c. search needs) (λ c κs. search needs) (λ c κs. search needs) (λ c κs. search needs) (λ c κs. search needs)
-    (λ c. search needs) (λ c κs. search needs) (λ c. search needs) returns)
+write-milliseconds-spec = tie.close (tie.spec (λ c κs. search needs) (λ c. search needs) (λ c κs. search needs) (λ c κs. search needs)
+    (λ c κs. search needs) (λ c κs. search needs) (λ c. search needs) (λ c κs. search needs) (λ c. search needs) returns)

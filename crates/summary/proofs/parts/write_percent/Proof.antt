@@ -1,5 +1,5 @@
--- `summary::parts::write_percent` meets its contract: of nothing there is no share (`percent-none`), else the parts are written one after the
--- other (`then`, `percent-some`). Here e1 and so on are the parts, s the start. Assumes nothing.
+-- `summary::parts::write_percent` meets its contract: of nothing there is no share (`percent-none`), else the parts are written one after
+-- the other (`then`, `percent-some`). Here e1 and so on are the parts, s the start. Assumes nothing.
 use native.Mathlib.Omega.{arith}
 use Rattle.writing.proofs.Parts.{nothing, then, named}
 use Rattle.summary.proofs.Pieces.{percent-none, percent-some}
@@ -25,8 +25,6 @@ returns-2 c =
     )
 
 pub write-percent-spec : {M : Type 1} → statement M
-write-percent-spec =
-    tie.close
-    (tie.spec
-    (λ c κs. search needs) (λ c. search needs) returns (λ c. search needs) (λ c. search needs) (λ c. search needs) (λ c. search needs)
-    (λ c κs. search needs) (λ c. search needs) (λ c κs. search needs) (λ c κs. search needs) (λ c. search needs) returns-2)
+write-percent-spec = tie.close (tie.spec (λ c κs. search needs) (λ c. search needs) returns (λ c. search needs) (λ c. search needs)
+    (λ c. search needs) (λ c. search needs) (λ c κs. search needs) (λ c. search needs) (λ c κs. search needs) (λ c κs. search needs)
+    (λ c. search needs) returns-2)

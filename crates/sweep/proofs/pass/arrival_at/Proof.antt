@@ -5,22 +5,14 @@ use borrow.Author.Needs.{needs}
 use Rattle.sweep.proofs.pass.arrival_at.Statement.{statement}
 use Rattle.sweep.proofs.pass.arrival_at.Tie as tie
 
-part-twelve-end : tie.Need-part-twelve-end
-part-twelve-end c =
-    let p = c .before .before .pre in
-    arrival-inside _ _ (p .file) _ (p .inside) (c .arrivals-at .ensures .1 _)
-
-returns : tie.Need-returns
-returns c =
-    let p = c .before .before .before .before .pre in
-    arrival-read _ _ (p .file) _ (p .inside) (c .before .before .arrivals-at .ensures .1 _) (c .arrival-of .ensures)
-
 pub arrival-at-spec : {M : Type 1} → statement M
 arrival-at-spec =
     tie.close
     (tie.spec
     (λ c κs. search needs) (λ c. search needs) (λ c. search needs) (λ c. search needs) (λ c. search needs)
     (λ c. search needs)
-    part-twelve-end
+    (λ c. arrival-inside _ _ (c .before .before .pre .file) _ (c .before .before .pre .inside) (c .arrivals-at .ensures .1 _))
     (λ c κs. search needs)
-    returns)
+    (λ c.
+    let p = c .before .before .before .before .pre in
+    arrival-read _ _ (p .file) _ (p .inside) (c .before .before .arrivals-at .ensures .1 _) (c .arrival-of .ensures)))

@@ -1,9 +1,9 @@
 -- `sweep::pass::pass_record` meets its contract: what it reads is the number of record i + 1 and the mark at its packet (`known`). A mark
--- over 4,096 is a copy's; from NextExp on the record is in order; else it is reordered, with the record of its discontinuity as the mark,
--- and before or after that one's time. In each case one law gives the figures (`figures-copy`, `figures-in-order`, `figures-late`) and one
--- the table (`held-copy`, `held-in-order`, `held-late`).
--- Here w is the place where the mark is read, l where its discontinuity is read, g where the figures are made and p where they are put.
--- Assumes nothing.
+-- over 4,096 is a copy's. From NextExp on the record is in order. Else it is reordered, with the record of its discontinuity as the mark,
+-- and before or after that one's time. In each case one law gives the figures (`figures-copy`, `figures-in-order`, `figures-late`) and
+-- one the table (`held-copy`, `held-in-order`, `held-late`).
+-- Here w is the place where the mark is read, i where NextExp is asked, n where skipped packets are noted, and l where the discontinuity
+-- is read. At g the figures are made, at p they are put, and at o the positions are handed back. Assumes nothing.
 use borrow.Author.Needs.{needs}
 use native.Mathlib.Omega.{arith}
 use borrow.Author.Tests.{lt-ltb, le-ltb}
@@ -16,13 +16,18 @@ use Rattle.sweep.proofs.Records.{KnownRecord, few, jump-inside, jump-be
 use Rattle.sweep.proofs.pass.pass_record.Statement.{statement}
 use Rattle.sweep.proofs.pass.pass_record.Tie as tie
 
--- the start, from the place after the table is read
+-- ---- places in the code: the start, from the place after the arrival is read and from that after the table is read
+
+abbrev begun : tie.After-arrival-at → tie.Start
+begun a = a .before .before .before .before .before .before .before
+
 abbrev start : tie.After-index-of → tie.Start
-start c = c .before .before .before .before .before .before .before .before .before
+start w = begun (w .before .before)
 
 -- the number that is read, and what stands at its packet
 known : (c : tie.After-index-of)
-    → KnownRecord (decode (now (start c .args .file))) (start c .args .y) (start c .args .i) (c .before .before .arrival-at .result .number) (c .index-of .result) (start c .args .state)
+    → KnownRecord (decode (now (start c .args .file))) (start c .args .layout) (start c .args .i)
+    (c .before .before .arrival-at .result .number) (c .index-of .result) (start c .args .state)
 known c =
     let n = c .before .before .arrival-at .ensures in
     let h = start c .pre in
@@ -38,10 +43,13 @@ known c =
 
 returns : tie.Need-returns
 returns c =
-    let w = c .before .before .before .before .before .before .before .before .before .before .before .before .before .before .before in
-    let copied = c .before .before .before .before .before .before .before .before .before .before .before .before .before .before .if1 .taken in
-    let e = c .before .before .before .before .before .before .before .before .before .before .before .before .before .figures .ensures ∙ figures-copy _ _ _ _ _ _ (known w) copied in
-    (held-copy _ _ _ _ _ _ (known w) _ (start w .pre .1) copied, refl, rw e at (c .before .before .before .before .before .before .before .before .put-figures .ensures))
+    let o = c .before .before .before .before .before in
+    let p = o .before .before .before in
+    let g = p .before .before .before .before .before in
+    let w = g .before .before in
+    let copied = g .before .if1 .taken in
+    let e = g .figures .ensures ∙ figures-copy _ _ _ _ _ _ (known w) copied in
+    (held-copy _ _ _ _ _ _ (known w) _ (start w .pre .1) copied, refl, rw e at (p .put-figures .ensures))
 
 add-count : tie.Need-add-count
 add-count c = omega (arith, few _ _ _ _ _ _ (known (c .before .before)))
@@ -51,14 +59,19 @@ sub-from c = few _ _ _ _ _ _ (known (c .before .before .before)) .2
 
 returns-2 : tie.Need-returns-2
 returns-2 c =
-    let w = c .before .before .before .before .before .before .before .before .before .before .before .before .before .before .before .before .before .before .before .before .before in
+    let o = c .before .before .before .before .before in
+    let p = o .before .before .before in
+    let g = p .before .before .before .before .before in
+    let n = g .before .before .before in
+    let i = n .before .before in
+    let w = i .before .before .before in
     let k = known w in
     let t = start w .pre .1 in
-    let new = c .before .before .before .before .before .before .before .before .before .before .before .before .before .before .before .before .before .before .before .before .if1 .left in
-    let ahead = c .before .before .before .before .before .before .before .before .before .before .before .before .before .before .before .before .before .before .if2 .taken in
-    let f = c .before .before .before .before .before .before .before .before .before .before .before .before .before .before .before .before .note-skipped .ensures in
-    let e = c .before .before .before .before .before .before .before .before .before .before .before .before .before .figures2 .ensures ∙ figures-in-order _ _ _ _ _ _ k new ahead in
-    (held-in-order _ _ _ _ _ _ k _ t ahead _ f new, rest-in-order _ _ _ _ _ _ k _ t ahead _ f, rw e at (c .before .before .before .before .before .before .before .before .put-figures2 .ensures))
+    let new = i .before .before .if1 .left in
+    let ahead = i .if2 .taken in
+    let f = n .note-skipped .ensures in
+    let e = g .figures2 .ensures ∙ figures-in-order _ _ _ _ _ _ k new ahead in
+    (held-in-order _ _ _ _ _ _ k _ t ahead _ f new, rest-in-order _ _ _ _ _ _ k _ t ahead _ f, rw e at (p .put-figures2 .ensures))
 
 sub-jump : tie.Need-sub-jump
 sub-jump c = jump-inside _ _ _ _ _ _ (known (c .before .before .before)) (c .before .before .if1 .left) (c .if2 .left) .0
@@ -82,29 +95,29 @@ arrival-at-requires-2 c κs =
 returns-3 : tie.Need-returns-3
 unfolding elapsed
 returns-3 c =
-    let p = c .before .before .before .before .before .before .before .before in
+    let o = c .before .before .before .before .before in
+    let p = o .before .before .before in
     let g = p .before .before .before .before .before in
     let l = g .before .before in
     let w = l .before .before .before .before .before in
     let new = l .before .before .before .before .if1 .left in
     let late = l .before .before .if2 .left in
-    let past = ap (λ (a : Arrival). a .time) (l .arrival-at2 .ensures .0) in
-    let own = ap (λ (a : Arrival). a .time) (w .before .before .arrival-at .ensures .0) in
-    let e = g .figures3 .ensures ∙ (rw (lt-ltb _ _ (g .before .if3 .taken)) at (figures-late _ _ _ _ _ _ (known w) _ (start w .pre .3) new late _ _ past own)) in
+    let own = w .before .before .arrival-at .ensures .0 in
+    let e = g .figures3 .ensures ∙ (rw (lt-ltb _ _ (g .before .if3 .taken)) at (figures-late _ _ _ _ _ _ (known w) _ (start w .pre .3) new late _ _ (l .arrival-at2 .ensures .0) own)) in
     (held-late _ _ _ _ _ _ (known w) _ (start w .pre .1) new late, rest-late _ _ _ _ _ _ (known w) _ (start w .pre .1), rw e at (p .put-figures3 .ensures))
 
 returns-4 : tie.Need-returns-4
 unfolding elapsed
 returns-4 c =
-    let p = c .before .before .before .before .before .before .before .before in
+    let o = c .before .before .before .before .before in
+    let p = o .before .before .before in
     let g = p .before .before .before .before .before in
     let l = g .before .before in
     let w = l .before .before .before .before .before in
     let new = l .before .before .before .before .if1 .left in
     let late = l .before .before .if2 .left in
-    let past = ap (λ (a : Arrival). a .time) (l .arrival-at2 .ensures .0) in
-    let own = ap (λ (a : Arrival). a .time) (w .before .before .arrival-at .ensures .0) in
-    let e = g .figures4 .ensures ∙ (rw (le-ltb _ _ (g .before .if3 .left)) at (figures-late _ _ _ _ _ _ (known w) _ (start w .pre .3) new late _ _ past own)) in
+    let own = w .before .before .arrival-at .ensures .0 in
+    let e = g .figures4 .ensures ∙ (rw (le-ltb _ _ (g .before .if3 .left)) at (figures-late _ _ _ _ _ _ (known w) _ (start w .pre .3) new late _ _ (l .arrival-at2 .ensures .0) own)) in
     (held-late _ _ _ _ _ _ (known w) _ (start w .pre .1) new late, rest-late _ _ _ _ _ _ (known w) _ (start w .pre .1), rw e at (p .put-figures4 .ensures))
 
 pub pass-record-spec : {M : Type 1} → statement M

@@ -1,6 +1,6 @@
--- `textlog::reading::fraction_at` meets its contract: each `return` is a case of `fractionIn`, by its law of LinesAtPlaces.antt. At most three digits
--- are below 1,000 (`small`), as `thousandths` asks; the line feed stands in the log, so one more than its place does not wrap (`within-log`).
--- Assumes nothing.
+-- `textlog::reading::fraction_at` meets its contract: each `return` is a case of `fractionIn`, by its law of LinesAtPlaces.antt. At most
+-- three digits are below 1,000 (`small`), as `thousandths` asks. The line feed stands in the log, so one more than its place does not wrap
+-- (`within-log`). Assumes nothing.
 use native.Mathlib.Omega.{arith}
 use mathlib.Core.Path.{sym, _∙_}
 use borrow.Author.Needs.{needs}
@@ -9,6 +9,13 @@ use Rattle.octets.specs.Text.{lineFeed}
 use Rattle.textlog.proofs.LinesAtPlaces.{onward, within-log, fraction-none, fraction-many, fraction-other, small, fraction-ends}
 use Rattle.textlog.proofs.reading.fraction_at.Statement.{statement}
 use Rattle.textlog.proofs.reading.fraction_at.Tie as tie
+
+-- places: where the digits are read, and the entry
+abbrev digits-at : tie.After-octet-at → tie.After-number-at
+digits-at c = c .before .before .before
+
+abbrev entry : tie.After-number-at → tie.Start
+entry c = c .before .before
 
 sub-count : tie.Need-sub-count
 sub-count c =
@@ -23,21 +30,21 @@ returns c =
 
 returns-2 : tie.Need-returns-2
 returns-2 c =
-    let a = c .before .before .before .before .args in
+    let a = entry (c .before .before) .args in
     let r = c .before .before .number-at in
     fraction-many (now (a .log)) (a .at) (r .result) (r .ensures .0) (a .number) (a .whole) (c .if2 .taken)
 
 returns-3 : tie.Need-returns-3
 returns-3 c =
-    let a = c .before .before .before .before .before .before .args in
-    let r = c .before .before .before .before .number-at in
+    let a = entry (digits-at (c .before)) .args in
+    let r = digits-at (c .before) .number-at in
     fraction-other (now (a .log)) (a .at) (r .result) (r .ensures .0) (a .number) (a .whole) (c .before .before .before .if1 .left)
     (c .before .before .if2 .left) (λ o. c .if3 .taken (c .before .octet-at .ensures ∙ o))
 
 thousandths-requires : tie.Need-thousandths-requires
 thousandths-requires c κs =
-    let a = c .before .before .before .before .before .before .args in
-    let r = c .before .before .before .before .number-at in
+    let a = entry (digits-at (c .before)) .args in
+    let r = digits-at (c .before) .number-at in
     let some = c .before .before .before .if1 .left in
     let few = c .before .before .if2 .left in
     let s =
@@ -46,15 +53,15 @@ thousandths-requires c κs =
 
 add-in-range : tie.Need-add-in-range
 add-in-range c =
-    let a = c .before .before .before .before .before .before .before .args in
-    let r = c .before .before .before .before .before .number-at in
+    let a = entry (digits-at (c .before .before)) .args in
+    let r = digits-at (c .before .before) .number-at in
     let b = within-log (now (a .log)) (a .at) (r .result) (r .ensures .0) lineFeed (sym (c .before .before .octet-at .ensures) ∙ c .before .if3 .left) (omega arith) in
     omega arith
 
 returns-4 : tie.Need-returns-4
 returns-4 c =
-    let a = c .before .before .before .before .before .before .before .before .args in
-    let r = c .before .before .before .before .before .before .number-at in
+    let a = entry (digits-at (c .before .before .before)) .args in
+    let r = digits-at (c .before .before .before) .number-at in
     fraction-ends (now (a .log)) (a .at) (r .result) (r .ensures .0) (a .number) (a .whole)
     (c .before .before .before .before .before .if1 .left) (c .before .before .before .before .if2 .left)
     (sym (c .before .before .before .octet-at .ensures) ∙ c .before .before .if3 .left)

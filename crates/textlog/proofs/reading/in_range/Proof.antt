@@ -1,5 +1,5 @@
--- `textlog::reading::in_range` meets its contract: the time is over the range if its whole milliseconds are, or if the fraction is more than
--- what is left of the range; the sum is made only where neither is so. Assumes nothing.
+-- `textlog::reading::in_range` meets its contract: the time is over the range if its whole milliseconds are, or if the fraction is more
+-- than what is left of the range. The sum is made only where neither is so. Assumes nothing.
 use Prim.Native.Nat.{_+_, _*_}
 use native.Mathlib.Omega.{arith}
 use borrow.Author.Needs.{needs}

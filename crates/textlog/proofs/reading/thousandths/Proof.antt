@@ -1,4 +1,5 @@
--- `textlog::reading::thousandths` meets its contract: the count is 1, 2 or else 3, so the factor, 10 ^ (3 - count), is 100, 10 or 1. Assumes nothing.
+-- `textlog::reading::thousandths` meets its contract: the count is 1, 2 or else 3, so the factor, 10 ^ (3 - count), is 100, 10 or 1.
+-- Assumes nothing.
 use mathlib.Core.Path.{_≡_}
 use native.Mathlib.Omega.{arith}
 use borrow.Author.Needs.{needs}

@@ -1,0 +1,96 @@
+// The checking program: its arguments are the names of a sample file and of a listing. It prints that the listing is right; or the
+// number of its first wrong line, what stands there and what the sample gives; or the refusal of the sample in words. No sample has over
+// 57,414 octets and no sample's listing over 262,144, so one octet more than these decides of longer files.
+mod shown;
+
+ghost use mathlib.Core.Path.{_≡_};
+ghost use mathlib.Core.List.{List};
+ghost use Prim.Native.Nat.{ℕ, _+_};
+ghost use lib.ListN.{take};
+ghost use Rattle.listing.specs.Room.{listingOctets};
+ghost use Rattle.sample.specs.Decode.{decode};
+ghost use Rattle.checker.specs.Verdict.{sampleVerdict};
+use checker::SampleVerdict;
+use checker::Verdict;
+use listing::LISTING_OCTETS;
+use program::SAMPLE_ROOM;
+use program::open_argument;
+use program::read;
+use program::write_number;
+use program::write_refusal;
+use program::write_word;
+use rfc4737::refusal::NONE;
+use shown::write_line;
+use text_lines::line_of;
+
+// One octet more than the longest listing has.
+const LISTING_ROOM: usize = LISTING_OCTETS + 1;
+
+// Checks the start of a listing: the answer is that for the whole listing, of which these octets decide.
+fn check_start(file: &[u8], start: &[u8]) -> SampleVerdict
+    ensures { λ r. ⌜ ((whole : List ℕ) → now (start .entry) ≡ take (listingOctets + 1) whole → r ≡ sampleVerdict (decode (now (file .entry))) whole) ⌝ }
+{
+    checker::check(file, start)
+}
+
+// Writes line n of the sample's own listing, counted from 0.
+fn write_right_line(file: &[u8], n: usize) {
+    let mut out = [0u8; LISTING_OCTETS];
+    let length = metrics::listing(file, &mut out).length as usize;
+    if length <= out.len() {
+        write_line(b"the sample gives: ", line_of(&out[0..length], n));
+    }
+}
+
+// Writes that line n is wrong, counted from 1, and both lines.
+fn write_wrong_line(file: &[u8], start: &[u8], n: u32) {
+    write_word(b"line ");
+    write_number(n as u64);
+    write_word(b" is wrong\n");
+    if 0 < n {
+        write_line(b"the listing has: ", line_of(start, n as usize - 1));
+        write_right_line(file, n as usize - 1);
+    }
+}
+
+// Writes what was found of a sample and the start of a listing.
+fn write_verdict(file: &[u8], start: &[u8]) {
+    let found = check_start(file, start);
+    if found.refusal != NONE {
+        write_refusal(found.refusal);
+        return;
+    }
+    let verdict = found.verdict;
+    match verdict {
+        Verdict::Agrees => {
+            write_word(b"the listing is right\n");
+        }
+        Verdict::WrongLine(n) => write_wrong_line(file, start, n),
+    }
+}
+
+// Reads two open files, the first as a sample and the second as a listing, and checks.
+fn check_files(sample: i32, listing: i32) {
+    let mut file = [0u8; SAMPLE_ROOM];
+    let mut start = [0u8; LISTING_ROOM];
+    write_verdict(read(sample, &mut file), read(listing, &mut start));
+}
+
+// Takes the arguments, and checks.
+fn main() {
+    if os::arg_count() != 3 {
+        write_word(b"the arguments are the names of a sample file and of a listing\n");
+        return;
+    }
+    let sample = open_argument(1);
+    if sample < 0 {
+        write_word(b"the sample can't be opened\n");
+        return;
+    }
+    let listing = open_argument(2);
+    if listing < 0 {
+        write_word(b"the listing can't be opened\n");
+        return;
+    }
+    check_files(sample, listing);
+}

@@ -1,0 +1,21 @@
+-- The arguments that are numbers in decimal. Assumes nothing.
+use Prim.Native.Nat.{ℕ, _-_, _^_}
+use mathlib.Core.Bool.{cond}
+use mathlib.Core.List.{List}
+use lib.Dec.{ltb, eqb}
+use lib.ListN.{length}
+use Rattle.decimal.specs.Reading.{numberAt}
+use Rattle.decimal.specs.declared.reading.Number.{Number}
+use Rattle.cmd_import.specs.declared.arguments.Argument.{Argument}
+use Rattle.cmd_import.specs.declared.arguments.Argument.the-variants.{Given, Bad}
+
+-- of a word of length `octets`, by the digits with which it begins: it is one or more digits and nothing else, of a number of 32 bits
+unfoldable pub argumentOf : (octets : ℕ) → Number → Argument
+argumentOf octets number =
+    cond (eqb (number .end) 0) Bad
+    (cond (ltb (number .end) octets) Bad
+    (cond (ltb (2 ^ 32 - 1) (number .value)) Bad (Given (number .value))))
+
+-- what a word gives
+abbrev pub argumentIn : List ℕ → Argument
+argumentIn word = argumentOf (length word) (numberAt 0 word)

@@ -1,0 +1,46 @@
+// The report program: reads a sample on standard input, and prints its report, or the one line of a refused input, on
+// standard output. No sample has over 57,414 octets, so of a longer input the first 57,415 octets suffice.
+ghost use Prim.Native.Nat.{_≤_};
+ghost use lib.ListN.{length};
+ghost use Rattle.listing.specs.Lines.{refusedLine};
+ghost use Rattle.listing.specs.Room.{listingOctets};
+ghost use Rattle.sample.specs.Decode.{decode};
+ghost use Rattle.cmd_report.specs.Text.{reportText, PutWhole};
+use listing::LISTING_OCTETS;
+use program::SAMPLE_ROOM;
+use program::read_input;
+use program::write_first;
+use rfc4737::refusal::NONE;
+
+// Writes the one line of a refused input at the start of `out` if `out` has room for it, and returns how many octets
+// were written.
+fn refuse(refusal: u32, out: &mut [u8]) -> usize
+    ensures { λ r. ⌜ PutWhole (refusedLine refusal) (now (out .entry)) r (now (out .exit)) ⌝ }
+{
+    let n = listing::put_refused(out, 0, refusal);
+    if out.len() < n {
+        return 0;
+    }
+    n
+}
+
+// Writes the text of an input at the start of `out` if `out` has room for it, as LISTING_OCTETS octets have for any, and
+// returns how many octets were written.
+fn report(input: &[u8], out: &mut [u8]) -> usize
+    ensures { λ r. ⌜ PutWhole (reportText (decode (now (input .entry)))) (now (out .entry)) r (now (out .exit)) ⌝ }
+    ensures room { λ _. ⌜ length (reportText (decode (now (input .entry)))) ≤ listingOctets ⌝ }
+{
+    let own = sample::check(input).refusal;
+    if own != NONE {
+        return refuse(own, out);
+    }
+    metrics::listing(input, out).length as usize
+}
+
+// Reads the whole input, and prints its text.
+fn main() {
+    let mut input = [0u8; SAMPLE_ROOM];
+    let mut out = [0u8; LISTING_OCTETS];
+    let length = report(read_input(&mut input), &mut out);
+    write_first(&out, length);
+}

@@ -1,0 +1,2 @@
+-- What the program prints. Assumes nothing.
+pub mod Shown

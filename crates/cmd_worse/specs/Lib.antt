@@ -1,0 +1,2 @@
+-- What the program says of two samples. Assumes nothing.
+pub mod Standing

@@ -1,0 +1,12 @@
+-- `shortlog::refused_line_10` meets its contract: it is the line of what `judge_log` finds over its range. Assumes nothing.
+use mathlib.Core.Path.{ap}
+use borrow.Author.Needs.{needs}
+use Rattle.textlog.specs.declared.LogJudgement.{LogJudgement}
+use Rattle.shortlog.proofs.refused_line_10.Statement.{statement}
+use Rattle.shortlog.proofs.refused_line_10.Tie as tie
+
+returns : tie.Need-returns
+returns c = ap (λ (x : LogJudgement). x .line) (c .judge-log .ensures)
+
+pub refused-line-10-spec : {M : Type 1} → statement M
+refused-line-10-spec = tie.close (tie.spec (λ c κs. search needs) returns)

@@ -1,0 +1,139 @@
+-- `table::whole::put_records` meets its contract. The loop's invariant: the records before i stand over the start of `out`, if there is
+-- room for them, and have at most 512 octets each. The measure is what is left of the records.
+-- Here w is what was written into the line, p what was put, l the loop, s the start. Assumes nothing.
+use Prim.Native.Nat.{ℕ, _+_, _-_, _*_, _≤_, _<_}
+use native.Mathlib.Omega.{arith}
+use mathlib.Core.Path.{_≡_, ap, _∙_}
+use mathlib.Core.List.{List}
+use denote.Ref.{now}
+use lib.ListN.{length}
+use Rattle.octets.specs.Memory.{put}
+use Rattle.sample.specs.Decode.{decode}
+use Rattle.metrics.proofs.FoundInFile.{arrival-known}
+use Rattle.writing.proofs.Parts.{stands}
+use Rattle.table.specs.Text.{recordText, recordsFrom}
+use Rattle.table.specs.Private.Put.{Put}
+use Rattle.table.proofs.Put.{put-none, put-next, put-named, put-found, put-counted, records-next, row-length, record-written}
+use borrow.Author.Needs.{needs}
+use Rattle.table.proofs.whole.put_records.Statement.{statement}
+use Rattle.table.proofs.whole.put_records.Tie as tie
+
+-- out₀ is `out` where the loop begins; out, line, at and i are the values at its head
+abbrev Inv-loop : tie.InvT-loop
+Inv-loop file layout rows json from to out₀ line₀ at₀ i₀ out line at i =
+    (from ≤ i)
+    × (i ≤ to)
+    × (at ≤ 512 * (i - from))
+    × Put at (recordsFrom json (decode file) from (i - from)) out₀ out
+    × (length line ≡ 512)
+
+abbrev μ-loop : tie.MeasureT-loop
+μ-loop file layout rows json from to out₀ line₀ at₀ i₀ out line at i = to - i
+
+loop-holds : tie.Need-loop-holds Inv-loop μ-loop
+loop-holds c =
+    let s = c .before .before .before in
+    let e : 0 ≡ s .args .from - s .args .from = omega arith in
+    let text = ap (λ (n : ℕ). recordsFrom (s .args .json) (decode (now (s .args .file))) (s .args .from) n) e in
+    (omega arith, s .pre .2, omega arith, put-named text (put-none _), search needs)
+
+write-record-requires : tie.Need-write-record-requires Inv-loop μ-loop
+write-record-requires c κs =
+    let s = c .before .before .before .before .before .before .before .before in
+    let l = c .before .before .before .before .loop in
+    let inside = c .before .before .before .loop-test .taken in
+    (omega (arith, l .inv .4), row-length (now (s .args .rows)) (l .i) (omega (arith, s .pre .1 .room, s .pre .3, inside)))
+
+slice-aggregate-put-octets : tie.Need-slice-aggregate-put-octets Inv-loop μ-loop
+slice-aggregate-put-octets c =
+    let w = c .before .before .before in
+    let t = w .before .before .before in
+    let s = w .before .before .before .before .before .before .before .before .before in
+    let l = w .before .before .before .before .before .loop in
+    let inside : l .i < s .args .layout .arrivals = omega (arith, t .before .loop-test .taken, s .pre .3) in
+    let a = arrival-known _ _ (s .pre .0) _ inside (t .arrival .ensures .1) .0 in
+    stands (record-written (s .args .json) _ _ _ (l .i) (s .pre .1) inside a (w .write-record .ensures .0)) .0
+
+add-at : tie.Need-add-at Inv-loop μ-loop
+add-at c =
+    let w = c .before .before .before .before .before .before in
+    let t = w .before .before .before .before in
+    let l = t .before .loop in
+    let s = t .before .before .before .before .before in
+    omega (arith, l .inv .2, l .inv .0, t .loop-test .taken, s .pre .0 .few, s .pre .3, w .write-record .ensures .1)
+
+add-i : tie.Need-add-i Inv-loop μ-loop
+add-i c =
+    let t = c .before .before .before .before .before in
+    let test = t .before .before .before .before .before in
+    let s = test .before .before .before .before .before in
+    omega (arith, test .loop-test .taken, s .pre .0 .few, s .pre .3)
+
+loop-less : tie.Need-loop-less Inv-loop μ-loop
+loop-less c =
+    let w = c .before .before .before .before .before .before in
+    omega (arith, w .before .before .before .before .loop-test .taken)
+
+loop-again : tie.Need-loop-again Inv-loop μ-loop
+loop-again c =
+    let p = c .before .before in
+    let w = p .before .before .before .before in
+    let t = w .before .before .before in
+    let l = w .before .before .before .before .before .loop in
+    let s = w .before .before .before .before .before .before .before .before .before in
+    let d = decode (now (s .args .file)) in
+    let text = recordsFrom (s .args .json) d (s .args .from) (l .i - s .args .from) in
+    let line = recordText (s .args .json) d (l .i) in
+    let inside : l .i < s .args .layout .arrivals = omega (arith, t .before .loop-test .taken, s .pre .3) in
+    let a = arrival-known _ _ (s .pre .0) _ inside (t .arrival .ensures .1) .0 in
+    let v = record-written (s .args .json) _ _ _ (l .i) (s .pre .1) inside a (w .write-record .ensures .0) in
+    let long : l .at + w .write-record .result ≡ l .at + length line = omega (arith, v .place) in (
+      omega (arith, l .inv .0),
+      omega (arith, t .before .loop-test .taken),
+      omega (arith, l .inv .2, l .inv .0, w .write-record .ensures .1),
+      put-counted long
+          (put-named (records-next (s .args .json) d (s .args .from) (l .i) (l .inv .0))
+          (put-found (p .put-octets .ensures ∙ ap (λ (x : List ℕ). put (l .at) x (l .out)) (stands v .1))
+          (put-next (l .at) text line _ (l .inv .3)))),
+      search needs,
+    )
+
+same-length : tie.Need-same-length Inv-loop μ-loop
+same-length c = c .before .loop .inv .3 .same
+
+returns : tie.Need-returns Inv-loop μ-loop
+returns c =
+    let l = c .before .loop in
+    let s = c .before .before .before .before .before in
+    let e : l .i ≡ s .args .to = omega (arith, l .inv .1, c .loop-test .left) in (
+      omega (arith, l .inv .2, l .inv .1, s .pre .4),
+      put-named (ap (λ (n : ℕ). recordsFrom (s .args .json) (decode (now (s .args .file))) (s .args .from) (n - s .args .from)) e)
+          (l .inv .3),
+    )
+
+pub put-records-spec : {M : Type 1} → statement M
+put-records-spec =
+    tie.close
+    (tie.spec
+    Inv-loop
+    μ-loop
+    loop-holds
+    (λ c κs. search needs)
+    (λ c. search needs)
+    (λ c. search needs)
+    (λ c. search needs)
+    (λ c. search needs)
+    (λ c. search needs)
+    (λ c. search needs)
+    (λ c. search needs)
+    (λ c. search needs)
+    write-record-requires
+    (λ c. search needs)
+    slice-aggregate-put-octets
+    (λ c κs. search needs)
+    add-at
+    add-i
+    loop-less
+    loop-again
+    same-length
+    returns)

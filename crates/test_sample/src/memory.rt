@@ -1,0 +1,16 @@
+// The caller's lists: how many octets there are, and what each list is filled with before a call.
+
+// The octets of a file that has one more of everything than a sample may have, and one octet over.
+pub(crate) const ROOM: usize = 57_430;
+
+// What octets are filled with.
+pub(crate) const OCTET: u8 = 165;
+
+// What sizes are filled with.
+pub(crate) const SIZE: u16 = 42405;
+
+// What numbers are filled with.
+pub(crate) const NUMBER: u32 = 2_779_096_485;
+
+// What times are filled with.
+pub(crate) const TIME: u64 = 11_936_128_518_282_651_045;
