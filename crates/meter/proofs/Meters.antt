@@ -1,6 +1,6 @@
 -- The rule of a meter case by case, as the code meets it: where the tests before are known, the definition computes to the case. Each
 -- stream of a fit meter keeps at most 48 jumps, so beside its neighbour it can keep 16 or more, and a new jump takes a place exactly while
--- it keeps fewer than it can (`room-beside`); so the receiver's step that keeps at most so many is the step on the stream (`step-kept`). A
+-- it keeps fewer than it can (`room-beside`); so the receiver's step that keeps at most that many is the step on the stream (`step-kept`). A
 -- refused call leaves an equal meter (`step-refused`, `start-refused`): either the meter itself is handed back, or a receiver that the
 -- refused step left equal is put back where it was.
 -- Here m is the meter, n the number of a stream, s the stream, o the stream if there is one, k is K, r a receiver or what `fresh` gave, x
@@ -150,7 +150,7 @@ free-beside two m =
     let e : keptIn two m + keptIn one m ≡ keptIn one m + keptIn two m = omega arith in
     ap (λ (n : ℕ). shared - n) e
 
--- the receiver's step, keeping at most so many jumps, is the step on a stream of a fit meter
+-- the receiver's step, keeping at most `most` jumps, is the step on a stream of a fit meter
 step-kept : (s : Side) (m : Meter) (number time most : ℕ) (x : StepAnswer)
     → keptIn (other s) m ≤ mostKept
     → most ≡ min mostKept (shared - keptIn (other s) m)

@@ -89,7 +89,7 @@ module _ (file : List ℕ) (y : Layout) (laid : FileLayout (decode file) y) (o :
       let e : suc i ≡ i + 1 = omega arith in
       rw (e, lines-next d y i r, length-append (linesTo d y i) _) (omega arith)
 
-  -- any listing has room in so many octets
+  -- any listing has room in `listingOctets` octets
   pub sample-within : length (sampleText (decode file)) ≤ listingOctets
   sample-within =
       let d = decode file in

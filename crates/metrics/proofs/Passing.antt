@@ -71,7 +71,7 @@ splice-again : (xs ys old : List ℕ) → length xs ≤ length ys → splice 0 y
 splice-again xs ys old h = ap (λ (l : List ℕ). ys ++ l) (splice-drop 0 xs old (0 + length ys) (omega arith) (omega arith))
 
 module _ {comparing : Bool} {text : List ℕ} where
-  -- so many octets of lines are at most those of a text that they are compared with
+  -- lines that are compared with a text agree with at most all its octets
   pub taken-inside : {lines old new : List ℕ} {r : Part} → Taken comparing lines text 0 old new r → comparing ≡ true → r .octets ≤ length text
   taken-inside {lines} t e = omega (arith, t .compared e .octets, common-le lines text)
 

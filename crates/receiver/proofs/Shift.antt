@@ -78,7 +78,7 @@ pub moved-none : (down : Bool) (l : List ℕ) → length l ≡ windowPlaces → 
 moved-none down l size = record { size = size; held = refl }
 
 module _ (down : Bool) (l₀ : List ℕ) (long : length l₀ ≡ windowPlaces) (n : ℕ) (few : n < windowPlaces) where
-  -- so many are oldestFirst
+  -- place n is one of the places, oldest first
   enough : n < length (oldestFirst down l₀)
   enough = omega (arith, same-length down l₀, long)
 

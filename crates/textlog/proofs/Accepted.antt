@@ -189,7 +189,7 @@ module _ (k : ℕ) (log : List ℕ) (e : judgeLog k log .refusal ≡ 0) where
   pub accepted-form : Log log (logArrivals log)
   accepted-form = subst (λ (x : List ℕ). Log x (logArrivals log)) (lines-joined log) (formed .form)
 
-  -- with so many payload sizes of one size, they are a fit sample
+  -- with K payload sizes of one size, they are a fit sample
   fit-sample : (size : ℕ) → size < 2 ^ 16 → FitSample (sampleWith k size (logArrivals log))
   unfolding sampleRefusal someUnshown
   fit-sample size h =

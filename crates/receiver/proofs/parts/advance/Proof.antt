@@ -1,4 +1,4 @@
--- `receiver::parts::advance` meets its contract: it is `advance_within` where at most so many jumps are kept. The lengths of the arrays are
+-- `receiver::parts::advance` meets its contract: it is `advance_within` where at most `most` jumps are kept. The lengths of the arrays are
 -- known since each was counted. Assumes nothing.
 use borrow.Author.Needs.{needs}
 use Rattle.receiver.proofs.parts.advance.Statement.{statement}
