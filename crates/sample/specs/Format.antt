@@ -5,6 +5,7 @@ use mathlib.Core.List.{List, [], _∷_, _++_}
 use lib.ListN.{length, take, drop}
 use Rattle.octets.specs.BigEndian.{beOctets}
 use Rattle.rfc4737.specs.declared.Arrival.{Arrival}
+use Rattle.rfc4737.specs.Judge.{sentMost, arrivalsMost}
 
 -- a sample: its label, the payload size of each sent packet from packet 1 on, and the arrivals in order of arrival. K is the number of
 -- sizes, A that of arrivals
@@ -24,10 +25,6 @@ shownLeast = 0x20
 -- the greatest octet of a label
 abbrev pub shownMost : ℕ
 shownMost = 0x7E
-
--- the number of octets of the longest sample
-abbrev pub longest : ℕ
-longest = 57414
 
 -- ---- the layout: how many octets each field has, and where the sections stand by their counts alone
 
@@ -74,6 +71,10 @@ arrivedStart label sent = endOf (sentStart label) sizeWidth sent
 -- where the last section ends
 abbrev pub lastEnd : (label sent arrivals : ℕ) → ℕ
 lastEnd label sent arrivals = endOf (arrivedStart label sent) arrivalWidth arrivals
+
+-- the length of the longest sample: 57,414 octets
+abbrev pub longest : ℕ
+longest = lastEnd labelMost sentMost arrivalsMost
 
 -- ---- the octets of a sample
 

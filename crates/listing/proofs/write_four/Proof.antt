@@ -12,8 +12,4 @@ returns c =
     then-within 4 (e1 .before .before .before .pre .0) (e1 .write-pair .ensures) (e2 .write-pair2 .ensures)
 
 pub write-four-spec : {M : Type 1} → statement M
-write-four-spec =
-    tie.close
-    (tie.spec
-    (λ c κs. search needs) (λ c κs. search needs) (λ c. search needs)
-    returns)
+write-four-spec = tie.close (tie.spec (λ c κs. search needs) (λ c κs. search needs) (λ c. search needs) returns)

@@ -12,8 +12,4 @@ returns c =
     then-within 2 (e1 .before .before .before .pre .0) (e1 .write-digit .ensures) (e2 .write-digit2 .ensures)
 
 pub write-pair-spec : {M : Type 1} → statement M
-write-pair-spec =
-    tie.close
-    (tie.spec
-    (λ c κs. search needs) (λ c κs. search needs) (λ c. search needs)
-    returns)
+write-pair-spec = tie.close (tie.spec (λ c κs. search needs) (λ c κs. search needs) (λ c. search needs) returns)

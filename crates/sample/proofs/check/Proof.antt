@@ -112,8 +112,8 @@ arrived c =
 
 -- the arrivals lie within the file
 sections-within : (c : tie.After-known-told3)
-    → itemsAt (c .before .before .before .before .before .sent .given .0 .1 .0) + arrivalWidth * c .before .arrived .given .0 .0 ≤ length
-    (file-b c)
+    → itemsAt (c .before .before .before .before .before .sent .given .0 .1 .0) + arrivalWidth * c .before .arrived .given .0 .0
+    ≤ length (file-b c)
 sections-within c =
     let k = c .before .before .before .before in
     let f = file-k k in
@@ -144,8 +144,8 @@ accepted c = refused-none (file-b (c .before .before .before)) (judged (c .befor
 -- and each count is within its limit
 within : (c : tie.Else3)
     → (label-at (octets-at (sent-at (c .before .before .before))) .before .label .given .0 .0 ≤ labelMost)
-    × (sent-at (c .before .before .before) .before .sent .given .0 .0 ≤ sentMost) ×
-    (c .before .before .before .before .arrived .given .0 .0 ≤ arrivalsMost)
+    × (sent-at (c .before .before .before) .before .sent .given .0 .0 ≤ sentMost)
+    × (c .before .before .before .before .arrived .given .0 .0 ≤ arrivalsMost)
 within c =
     let w = accepted c in
     let p = labelled (label-at (octets-at (sent-at (c .before .before .before)))) in
@@ -265,21 +265,6 @@ returns-6 c =
       promised f (below-fits w8 f (l .before .before .before .before .shared-slice-known .given)),
     )
 
-cast-t23 : tie.Need-cast-t23
-cast-t23 c =
-    let w = within c in
-    omega arith
-
-cast-t24 : tie.Need-cast-t24
-cast-t24 c =
-    let w = within c in
-    omega arith
-
-cast-t25 : tie.Need-cast-t25
-cast-t25 c =
-    let w = within c in
-    omega arith
-
 returns-7 : tie.Need-returns-7
 returns-7 c =
     let b = c .before .before .before in
@@ -319,7 +304,5 @@ check-spec =
     judge-file-requires
     (λ c κs. search needs)
     returns-6
-    cast-t23
-    cast-t24
-    cast-t25
+    (λ c. omega (arith, within c)) (λ c. omega (arith, within c)) (λ c. omega (arith, within c))
     returns-7)
