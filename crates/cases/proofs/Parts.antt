@@ -14,7 +14,7 @@ use lib.Seq.{drop-drop}
 use Rattle.decimal.specs.Decimal.{decimalValue}
 use Rattle.decimal.specs.Reading.{digitCount}
 use Rattle.decimal.proofs.Leading.{Counted, stands, counted-more, counted-all}
-use Rattle.cases.specs.Text.{onto, cutAt, partNumber, numbersIn}
+use Rattle.cases.specs.Text.{withOctet, cutAt, partNumber, numbersIn}
 use Rattle.cases.specs.Private.{separatorAt}
 
 -- ---- the octets before a separator
@@ -51,12 +51,12 @@ module _ (s : ℕ) {t : List ℕ} {from end : ℕ} (p : Counted (separatorAt s) 
 -- with one octet more before a text
 split-more : (s o : ℕ) (t : List ℕ) (b : Bool)
     → (0 < length t → cutAt s t ≡ take (separatorAt s t) t ∷ cutAt s (drop (suc (separatorAt s t)) t))
-    → onto b o (cutAt s t)
+    → withOctet b o (cutAt s t)
     ≡ take (cond b 0 (suc (separatorAt s t))) (o ∷ t) ∷ cutAt s (drop (suc (cond b 0 (suc (separatorAt s t)))) (o ∷ t))
-unfolding onto cutAt separatorAt
+unfolding withOctet cutAt separatorAt
 split-more s o t true so = refl
 split-more s o [] false so = refl
-split-more s o (q ∷ t) false so = ap (onto false o) (so (omega arith))
+split-more s o (q ∷ t) false so = ap (withOctet false o) (so (omega arith))
 
 -- a text that is not empty: its first part, and the parts of what stands after the separator
 split : (s : ℕ) (t : List ℕ) → 0 < length t → cutAt s t ≡ take (separatorAt s t) t ∷ cutAt s (drop (suc (separatorAt s t)) t)

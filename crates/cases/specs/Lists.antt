@@ -4,6 +4,6 @@ use mathlib.Core.List.{List, map}
 use lib.ListN.{take}
 use Rattle.cases.specs.Text.{numbersIn}
 
--- the first `places` numbers of a text, each cut to `most`
+-- the numbers of a text that a list of length `places` has room for, each cut to `most`
 abbrev pub numbersWithin : ℕ → ℕ → List ℕ → List ℕ
 numbersWithin most places t = take places (map (λ (n : ℕ). min n most) (numbersIn t))

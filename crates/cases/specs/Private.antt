@@ -1,4 +1,4 @@
--- What private functions say to each other, which no public contract reaches: where a part of a text ends. Assumes nothing.
+-- Definitions for the contracts of private functions, which no public contract reaches: where a part of a text ends. Assumes nothing.
 use Prim.Native.Nat.{ℕ, suc}
 use mathlib.Core.Bool.{cond}
 use mathlib.Core.List.{List, [], _∷_}

@@ -23,12 +23,12 @@ pub fn number_in(line: &[u8], n: usize) -> u64 {
     number(field(line, n), 0)
 }
 
-// The same, modulo 2^16.
+// The number in field n of a line, modulo 2^16.
 pub fn number_in_16(line: &[u8], n: usize) -> u16 {
     (number_in(line, n) % 65_536) as u16
 }
 
-// The same, modulo 2^32.
+// The number in field n of a line, modulo 2^32.
 pub fn number_in_32(line: &[u8], n: usize) -> u32 {
     (number_in(line, n) % 4_294_967_296) as u32
 }

@@ -1,5 +1,5 @@
-// What the programs of cases share. Cases are text on standard input: it is cut into parts at a separator, into lines, a line into
-// fields, a field into numbers. What comes of them is written to standard output.
+// What the programs of cases share. Cases are text on standard input: lines, each cut into fields, which hold words or numbers. The results
+// are written to standard output.
 pub mod fields;
 pub mod lists;
 pub mod print;
@@ -10,7 +10,8 @@ pub mod totals;
 
 use rfc4737::judge::ARRIVALS_MOST;
 
-// The most arrivals of a sample, which are as many as the most packets; and one more.
-pub const MOST: usize = ARRIVALS_MOST as usize;
+// The greatest number of arrivals of a sample. It is also the greatest number of sent packets.
+pub const MAX_ARRIVALS: usize = ARRIVALS_MOST as usize;
 
-pub const OVER: usize = MOST + 1;
+// One more than a sample may have.
+pub const TOO_MANY: usize = MAX_ARRIVALS + 1;

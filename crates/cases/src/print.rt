@@ -23,7 +23,7 @@ pub fn write_either(test: bool, one: &[u8], other: &[u8]) {
     }
 }
 
-// Writes a name and what a call returned: a word and n; or the refusal, with which n must be 0.
+// Writes a name and the result of a call: `word` and `n`, or the refusal; with a refusal `n` must be 0, else it is written too.
 pub fn write_answer(name: &[u8], refusal: u32, word: &[u8], n: u64) {
     write_word(name);
     if refusal == 0 {

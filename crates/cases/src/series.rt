@@ -1,4 +1,4 @@
-// Series of numbers: each is a step above the one before, modulo 2^32 or 2^64. By the greatest step they fall by 1.
+// Arithmetic series, modulo 2^32 or 2^64: each number is the one before it plus `step`. With the greatest step they fall by 1.
 use std::num::wrapping_add_u32;
 use std::num::wrapping_add_u64;
 
@@ -20,8 +20,8 @@ pub fn series_64(out: &mut [u64], first: u64, step: u64) {
     }
 }
 
-// Writes `count` numbers of a series, each in `octets` octets, the first at offset `at` and each `apart` after the one before. A number
-// for which there is no room is left out.
+// Writes `count` numbers of a series, each in `octets` octets, the first at offset `at` and each `apart` octets after the one
+// before. A number for which there is no room is not written.
 pub fn put_series(
     out: &mut [u8],
     at: u32,

@@ -12,7 +12,7 @@ use libc::STDIN_FILENO;
 // What stands between the numbers of a text.
 pub const BLANK: u8 = b' ';
 
-// The octets of standard input that a program of cases has room for.
+// The number of octets of standard input that a program of cases reads at most.
 pub const INPUT_OCTETS: usize = 8192;
 
 // The offset of the first separator from `from` on; the end of the text if none follows.
@@ -73,7 +73,7 @@ pub fn number(text: &[u8], n: usize) -> u64
     digits.value
 }
 
-// Standard input, as the first octets of `room`; what does not fit is left out.
+// Reads standard input into `room`; returns the octets read. What does not fit is not read.
 pub fn input(room: &mut [u8]) -> &[u8] {
     let n = io::read_full(STDIN_FILENO, room);
     first_8(room, n)

@@ -1,4 +1,4 @@
-// What is wrong with a line of a text log that is refused with 14: where the form breaks, and what stands there. The call is total.
+// Explains why a line of a text log is refused with 14: what stands where the form breaks. The public call is total.
 ghost use mathlib.Core.Path.{_≡_};
 ghost use Rattle.line_faults.specs.Cases.{FaultsAsGiven};
 ghost use Rattle.line_faults.specs.Faults.{hasByteOrderMark, strayAt, startFault, endFault, decimalsFault, timeFault, lineFault};
@@ -37,7 +37,7 @@ fn has_byte_order_mark(line: &[u8]) -> bool
     octet_at(line, 2) == 191
 }
 
-// The fault of an octet that the form does not have at its offset.
+// The fault of a line whose form breaks at offset `at`.
 fn stray_at(line: &[u8], at: usize) -> LineFault
     ensures { λ r. ⌜ r ≡ strayAt (now (line .entry)) at ⌝ }
 {
@@ -67,7 +67,7 @@ fn start_fault(line: &[u8]) -> LineFault
     LineFault::NoDigit
 }
 
-// The fault of a line whose time ends before `at`, where its line feed must stand.
+// The fault of a line whose time ends before offset `at`, where the line feed must stand.
 fn end_fault(line: &[u8], at: usize) -> LineFault
     ensures { λ r. ⌜ r ≡ endFault (now (line .entry)) at ⌝ }
 {
@@ -77,7 +77,7 @@ fn end_fault(line: &[u8], at: usize) -> LineFault
     stray_at(line, at)
 }
 
-// The fault of a line whose decimals begin at `at`.
+// The fault of a line whose decimals begin at offset `at`.
 fn decimals_fault(line: &[u8], at: usize) -> LineFault
     ensures { λ r. ⌜ r ≡ decimalsFault (now (line .entry)) at ⌝ }
 {
@@ -92,7 +92,7 @@ fn decimals_fault(line: &[u8], at: usize) -> LineFault
     end_fault(line, end)
 }
 
-// The fault of a line whose time begins at `at`.
+// The fault of a line whose time begins at offset `at`.
 fn time_fault(line: &[u8], at: usize) -> LineFault
     ensures { λ r. ⌜ r ≡ timeFault (now (line .entry)) at ⌝ }
 {

@@ -17,7 +17,7 @@ use Rattle.rfc4737.specs.declared.LateTime.the-variants.{After, Before}
 use Rattle.rfc4737.specs.declared.Counts.{Counts}
 use Rattle.listing.specs.Words.{minus}
 use Rattle.listing.specs.Lines.{number, sign, lateTime, headerLine, recordLine, endLine, refusedLine}
-use Rattle.listing.specs.Private.DigitBounds.{FourDigits, TimeWithin, AnswerWithin, CountsWithin}
+use Rattle.listing.specs.DigitBounds.{FourDigits, TimeWithin, AnswerWithin, CountsWithin}
 
 -- a number of at most four digits
 small : (n : ℕ) → FourDigits n → length (number n) ≤ 4

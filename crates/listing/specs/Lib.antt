@@ -3,4 +3,5 @@ pub mod Words
 pub mod Lines
 pub mod Example
 pub mod Room
+pub mod DigitBounds
 pub mod Private

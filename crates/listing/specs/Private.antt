@@ -1,3 +1,2 @@
 -- Definitions for the contracts of private functions, which no public contract reaches. Assumes nothing.
-pub mod DigitBounds
 pub mod Written

@@ -33,7 +33,7 @@ use Rattle.rfc4737.proofs.Packets.{all-firsts}
 use Rattle.rfc4737.proofs.Reordered.{figures-bounded}
 use Rattle.rfc4737.proofs.Folds.{offset-le, largest-le, in-order-or-reordered, duplicate-or-first, closed-reordered, current-le, squares-le}
 use Rattle.rfc4737.specs.Judge.{sentMost, arrivalsMost}
-use Rattle.listing.specs.Private.DigitBounds.{TimeWithin, AnswerWithin, CountsWithin}
+use Rattle.listing.specs.DigitBounds.{TimeWithin, AnswerWithin, CountsWithin}
 use Rattle.sample.specs.Decode.{Decoded, refused, accepted, decode}
 use Rattle.sample.specs.declared.Layout.{Layout}
 use Rattle.sample.proofs.Accepted.{size-fits, time-fits, times-within}

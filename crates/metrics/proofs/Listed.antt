@@ -15,7 +15,7 @@ use Rattle.octets.specs.Below.{Octets}
 use Rattle.rfc4737.specs.declared.Counts.{Counts}
 use Rattle.rfc4737.specs.Runs.{counts}
 use Rattle.listing.specs.Lines.{headerLine, recordLine, recordLinesFrom, recordLines, endLine, listingOf}
-use Rattle.listing.specs.Private.DigitBounds.{CountsWithin}
+use Rattle.listing.specs.DigitBounds.{CountsWithin}
 use Rattle.listing.specs.Room.{listingOctets}
 use Rattle.listing.proofs.Lengths.{header-octets, record-octets, end-octets}
 use Rattle.listing.proofs.Records.{lines-more}

@@ -10,7 +10,7 @@ ghost use Rattle.rfc4737.specs.Order.{nextAfter};
 ghost use Rattle.rfc4737.specs.Runs.{counts};
 ghost use Rattle.rfc4737.specs.Tally.{tallyPlace, tallyAfter, tally, tallyPlaces};
 ghost use Rattle.rfc4737.specs.Judge.{sentMost, arrivalsMost};
-ghost use Rattle.listing.specs.Private.DigitBounds.{CountsWithin};
+ghost use Rattle.listing.specs.DigitBounds.{CountsWithin};
 ghost use Rattle.sample.specs.Decode.{decode};
 ghost use Rattle.metrics.specs.Sample.{sizeOf, sampleArrivals, answersOf};
 ghost use Rattle.metrics.specs.Records.{FileLayout, numberPlaces};

@@ -5,7 +5,7 @@ ghost use mathlib.Core.Bool.{true, false, cond};
 ghost use Prim.Native.Nat.{_≤_};
 ghost use lib.ListN.{length, take, drop};
 ghost use Rattle.listing.specs.Lines.{headerLine, recordLine, endLine};
-ghost use Rattle.listing.specs.Private.DigitBounds.{AnswerWithin, CountsWithin, FourDigits};
+ghost use Rattle.listing.specs.DigitBounds.{AnswerWithin, CountsWithin, FourDigits};
 ghost use Rattle.metrics.specs.Private.Taken.{Agreed, LineRoom, Taken};
 use crate::line_agreement::Part;
 use crate::line_agreement::compare_line;

@@ -1,4 +1,4 @@
-// Whether receivers hold the same, and the parts of a meter, field by field.
+// Compares two receivers, or the parts of two meters, field by field.
 use cases::same::same_16;
 use cases::same::same_64;
 use receiver::Places;
@@ -11,7 +11,7 @@ fn same_runs(a: Runs, b: Runs) -> bool {
     a.closed == b.closed && a.squares == b.squares && a.current == b.current
 }
 
-// Whether all numbers of two streams are the same.
+// Whether two streams are the same.
 fn same_stream(a: Stream, b: Stream) -> bool {
     if a.sent != b.sent || a.arrived != b.arrived || a.duplicates != b.duplicates {
         return false;
@@ -25,7 +25,7 @@ fn same_stream(a: Stream, b: Stream) -> bool {
     same_runs(a.runs, b.runs)
 }
 
-// Whether what two streams have for themselves is the same: their numbers and marks.
+// Whether two streams and their marks are the same.
 pub fn same_marked(a: Stream, b: Stream, marks: &[u64; 64], others: &[u64; 64]) -> bool {
     if !same_stream(a, b) {
         return false;
@@ -33,7 +33,7 @@ pub fn same_marked(a: Stream, b: Stream, marks: &[u64; 64], others: &[u64; 64]) 
     same_64(marks, others)
 }
 
-// Whether the places of the kept jumps are the same, with those that are not used.
+// Whether the places of kept jumps are the same, unused ones too.
 pub fn same_places(a: Places, b: Places) -> bool {
     if !same_16(&a.positions, &b.positions) {
         return false;

@@ -1,5 +1,5 @@
 -- A text log of short numbers: its lines with their full numbers. They are judged and imported as the lines of any log (textlog/specs).
--- Here r is the range of the short numbers. Assumes nothing.
+-- Here r is the range of the short numbers, 2 to the number of their bits. Assumes nothing.
 use Prim.Native.Nat.{ℕ, _≤_}
 use mathlib.Core.List.{List, [], map}
 use mathlib.Core.Path.{_≡_}
@@ -20,44 +20,43 @@ use Rattle.textlog.specs.declared.LogJudgement.{LogJudgement}
 abbrev pub greatestNumber : List Arrival → ℕ
 greatestNumber l = greatestOf (numbersOf l)
 
--- that of decoded lines
+-- the greatest number of decoded lines, 0 for none
 abbrev pub greatestOfLines : List DecodedLine → ℕ
 greatestOfLines ds = greatestNumber (arrivalsOfLines ds)
 
--- a decoded line with the number found, where g is the greatest number of the lines before it
+-- a decoded line with its full number, where g is the greatest number of the lines before it
 abbrev pub lineFound : (r g : ℕ) → DecodedLine → DecodedLine
 lineFound r g malformed = malformed
 lineFound r g (arrived a) = arrived (withFound r g a)
 
--- the decoded lines of a log with the numbers found. A line counts only if all lines before it are accepted, so the greatest number of
--- these is the greatest accepted
+-- the decoded lines of a log with their full numbers. A line matters only if all lines before it are accepted, so the greatest number
+-- before it is the greatest accepted one
 abbrev pub linesFound : ℕ → List ℕ → List DecodedLine
 linesFound r log = inTurn greatestOfLines (lineFound r) [] (decodedLines log)
 
--- the arrivals of a log with the numbers found
+-- the arrivals of a log with their full numbers
 abbrev pub foundArrivals : ℕ → List ℕ → List Arrival
 foundArrivals r log = arrivalsOfLines (linesFound r log)
 
 -- ---- what is refused, and what is imported
 
--- a log: 4, then the lines in turn by their full numbers
+-- the judgement of a log: 4, then the lines in turn by their full numbers
 abbrev pub judgeShortLog : (r k : ℕ) → List ℕ → LogJudgement
 judgeShortLog r k log = judgeDecoded k (linesFound r log)
 
--- the importer's answer, and the two lists after it
+-- the result of an import, and the two lists after it
 abbrev pub ShortLogImportedFrom : (r k : ℕ) (log numbers times : List ℕ) → LogImport → (numbers′ times′ : List ℕ) → Type 0
 ShortLogImportedFrom r k log = LinesImported k (linesFound r log)
 
--- ---- what is carried
+-- ---- that the full numbers are the true ones
 
--- a log of the short numbers of arrivals whose true numbers each keep the distance from the greatest true one before them gives these
--- arrivals
+-- if each true number is near the greatest one before it (`Near`), the log of the arrivals' short numbers gives these arrivals
 abbrev pub TrueInLogs : ℕ → Type 0
 TrueInLogs r =
     (log : List ℕ) (l : List Arrival) → Log log (map (shortened r) l)
     → EachKeeps greatestNumber (λ (g : ℕ) (a : Arrival). Near r g (a .number)) l
     → foundArrivals r log ≡ l
 
--- what is said of the logs of a width, of every width
+-- this holds for every width
 abbrev pub EveryLog : Type 0
 EveryLog = (w : ℕ) → 1 ≤ w → TrueInLogs (rangeOf w)

@@ -1,4 +1,4 @@
--- What private functions say to each other, which no public contract reaches: what the filling of two lists rests on. Assumes nothing.
+-- Definitions for the contracts of private functions, which no public contract reaches: what filling two lists needs. Assumes nothing.
 use Prim.Native.Nat.{ℕ, _≤_}
 use mathlib.Core.List.{List}
 use mathlib.Core.Path.{_≡_}
@@ -7,7 +7,7 @@ use Rattle.rfc4737.specs.Judge.{sentMost}
 use Rattle.textlog.specs.Decode.{judgeLines}
 use Rattle.shortlog.specs.Found.{linesFound}
 
--- a log of which no line is refused for some K, and two lists with a place for each line
+-- a log of which, for some K, no line is refused, and two lists that have room for its arrivals
 pub record Fillable (r : ℕ) (log numbers times : List ℕ) : Type 0 where
   pub k : ℕ
   pub most : k ≤ sentMost

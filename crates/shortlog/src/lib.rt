@@ -1,5 +1,5 @@
-// Text logs of short sequence numbers: each line has only the lowest 8 or 10 bits of its number. They are imported with the full numbers,
-// as textlog imports a log. Every public call is total.
+// Text logs of short sequence numbers: each line has only the lowest 8 or 10 bits of its number. The full numbers are found, and the log
+// is imported as by crate `textlog`. Every public call is total.
 ghost use mathlib.Core.Path.{_≡_};
 ghost use Prim.Native.Nat.{_≤_, max};
 ghost use Rattle.octets.specs.Memory.{over};
@@ -27,13 +27,13 @@ use textlog::refused_at;
 use textlog::refused_import;
 use textlog::too_short;
 
-// The range of 8 bits.
+// The number of values of 8 bits.
 const RANGE_8: u16 = 256;
 
-// The range of 10 bits.
+// The number of values of 10 bits.
 const RANGE_10: u16 = 1024;
 
-// The greater of the greatest number so far and the next one.
+// The greater of `greatest`, the greatest number so far, and `number`.
 fn next_greatest(greatest: u16, number: u32) -> u16
     requires { ⌜ number ≤ sentMost ⌝ }
     ensures { λ r. ⌜ r ≡ max greatest number ⌝ }
@@ -44,7 +44,7 @@ fn next_greatest(greatest: u16, number: u32) -> u16
     number as u16
 }
 
-// The lines of a log in turn, each with its full number.
+// Judges the lines of a log in turn, each by its full number.
 fn judge_lines(range: u16, log: &[u8], k: u32) -> LogJudgement
     requires { ⌜ k ≤ sentMost ⌝ }
     ensures { λ r. ⌜ r ≡ judgeLines k 0 0 (linesFound range (now (log .entry))) ⌝ }
@@ -77,7 +77,7 @@ fn judge_lines(range: u16, log: &[u8], k: u32) -> LogJudgement
     }
 }
 
-// A whole log: K, then the lines.
+// Judges a whole log: K, then the lines.
 fn judge_log(range: u16, log: &[u8], k: u32) -> LogJudgement
     ensures { λ r. ⌜ r ≡ judgeShortLog range k (now (log .entry)) ⌝ }
 {
@@ -109,27 +109,27 @@ fn fill_arrivals(range: u16, log: &[u8], numbers: &mut [u32], times: &mut [u64])
     }
 }
 
-// The import over a range: all lines are judged, then the lists are filled.
+// Imports a log of numbers below `range`: judges all lines, then fills the lists.
 fn import(range: u16, log: &[u8], k: u32, numbers: &mut [u32], times: &mut [u64]) -> LogImport
     ensures { λ r. ⌜ ShortLogImportedFrom range k (now (log .entry)) (now (numbers .entry)) (now (times .entry))
         r (now (numbers .exit)) (now (times .exit)) ⌝ }
 {
-    let found = judge_log(range, log, k);
-    if found.refusal != 0 {
-        return refused_import(found.refusal);
+    let judgement = judge_log(range, log, k);
+    if judgement.refusal != 0 {
+        return refused_import(judgement.refusal);
     }
-    if too_short(found.arrivals, numbers.len(), times.len()) {
+    if too_short(judgement.arrivals, numbers.len(), times.len()) {
         return refused_import(OUTPUT_SHORT);
     }
     fill_arrivals(range, log, numbers, times);
     LogImport {
         refusal: 0,
-        arrivals: found.arrivals,
+        arrivals: judgement.arrivals,
     }
 }
 
-// Imports the log of K sent packets whose numbers are the lowest 8 bits: fills the lists of full numbers and times from their start. With
-// a refusal they stay as they were.
+// Imports the log of K sent packets, whose lines have the lowest 8 bits of their numbers: fills the lists of full numbers and times from
+// their start. With a refusal they stay as they were.
 pub fn import_8(log: &[u8], k: u32, numbers: &mut [u32], times: &mut [u64]) -> LogImport
     ensures { λ r. ⌜ ShortLogImportedFrom (rangeOf 8) k (now (log .entry)) (now (numbers .entry)) (now (times .entry))
         r (now (numbers .exit)) (now (times .exit)) ⌝ }
@@ -139,7 +139,7 @@ pub fn import_8(log: &[u8], k: u32, numbers: &mut [u32], times: &mut [u64]) -> L
     import(RANGE_8, log, k, numbers, times)
 }
 
-// The same of the lowest 10 bits.
+// Imports a log as `import_8` does, of the lowest 10 bits.
 pub fn import_10(log: &[u8], k: u32, numbers: &mut [u32], times: &mut [u64]) -> LogImport
     ensures { λ r. ⌜ ShortLogImportedFrom (rangeOf 10) k (now (log .entry)) (now (numbers .entry)) (now (times .entry))
         r (now (numbers .exit)) (now (times .exit)) ⌝ }
@@ -149,14 +149,14 @@ pub fn import_10(log: &[u8], k: u32, numbers: &mut [u32], times: &mut [u64]) -> 
     import(RANGE_10, log, k, numbers, times)
 }
 
-// The number of the first line of a log of 8 bits that is refused, from 1, or 0 where no line is; as `textlog::refused_line`.
+// The number of the first refused line of a log of 8 bits, from 1; 0 if no line is refused (as `textlog::refused_line`).
 pub fn refused_line_8(log: &[u8], k: u32) -> u32
     ensures { λ r. ⌜ r ≡ judgeShortLog (rangeOf 8) k (now (log .entry)) .line ⌝ }
 {
     judge_log(RANGE_8, log, k).line
 }
 
-// The same of 10 bits.
+// The number of the first refused line of a log of 10 bits, from 1; 0 if no line is refused.
 pub fn refused_line_10(log: &[u8], k: u32) -> u32
     ensures { λ r. ⌜ r ≡ judgeShortLog (rangeOf 10) k (now (log .entry)) .line ⌝ }
 {

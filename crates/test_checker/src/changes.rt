@@ -1,4 +1,4 @@
-// Every change of one octet of the example's listing, to each of the 255 other octets, must be found at the line where it stands.
+// Changes each octet of the example's listing to each of the 255 others. The checker must report each change at the line where it stands.
 use cases::lists::first_8;
 use cases::print::write_number;
 use cases::print::write_word;
@@ -8,16 +8,16 @@ use sample_text::ROOM;
 use sample_text::put_sample;
 use std::num::wrapping_add_u32;
 
-// The octets of the listing.
+// The length of the listing.
 pub(crate) const OCTETS: usize = 101;
 
-// 1 where a test holds, else 0.
+// 1 if `test` holds, else 0.
 fn one_if(test: bool) -> u32 {
     if test { 1 } else { 0 }
 }
 
-// 1 if a listing is said to be wrong at this line, else 0.
-fn found_at(sample: &[u8], listing: &[u8], line: u32) -> u32 {
+// 1 if the checker says that the listing is wrong at `line`, else 0.
+fn one_if_wrong_at(sample: &[u8], listing: &[u8], line: u32) -> u32 {
     let verdict = check(sample, listing).verdict;
     match verdict {
         Verdict::Agrees => 0,
@@ -25,7 +25,8 @@ fn found_at(sample: &[u8], listing: &[u8], line: u32) -> u32 {
     }
 }
 
-// Changes an octet, which is on this line, to another, checks, and changes it back: 1 if that is found, else 0.
+// Changes the octet at `at`, which is on line `line`, to `octet`, checks the listing, and changes it back. Returns 1 if the change is
+// reported, else 0.
 fn change_octet(sample: &[u8], listing: &mut [u8], at: usize, octet: u8, line: u32) -> u32 {
     if listing.len() <= at {
         return 0;
@@ -35,33 +36,33 @@ fn change_octet(sample: &[u8], listing: &mut [u8], at: usize, octet: u8, line: u
         return 0;
     }
     listing[at] = octet;
-    let found = found_at(sample, listing, line);
+    let reported = one_if_wrong_at(sample, listing, line);
     listing[at] = own;
-    found
+    reported
 }
 
-// How many changes of an octet, which is on this line, are found.
+// The number of changes of the octet at `at`, which is on line `line`, that are reported.
 fn changes_at(sample: &[u8], listing: &mut [u8], at: usize, line: u32) -> u32 {
-    let mut found: u32 = 0;
+    let mut reported: u32 = 0;
     for octet in 0..256u32 {
         let one = change_octet(sample, listing, at, octet as u8, line);
-        found = wrapping_add_u32(found, one);
+        reported = wrapping_add_u32(reported, one);
     }
-    found
+    reported
 }
 
-// How many changes are found, of all octets.
+// The number of changes, of all octets, that are reported.
 fn changes(sample: &[u8], listing: &mut [u8]) -> u32 {
-    let mut found: u32 = 0;
+    let mut reported: u32 = 0;
     let mut line: u32 = 1;
     for at in 0..listing.len() {
-        found = wrapping_add_u32(found, changes_at(sample, listing, at, line));
+        reported = wrapping_add_u32(reported, changes_at(sample, listing, at, line));
         line = wrapping_add_u32(line, one_if(listing[at] == b'\n'));
     }
-    found
+    reported
 }
 
-// Makes every change, for the sample of a text, and writes how many are found.
+// Makes every change, with the sample of a text, and prints how many are reported at their lines.
 pub(crate) fn every_change(text: &[u8], listing: &[u8]) {
     let mut file = [0u8; ROOM];
     let n = put_sample(text, &mut file);

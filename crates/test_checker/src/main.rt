@@ -1,8 +1,8 @@
-// Runs cases of the checker on the scope's example, with a line for each. Standard input begins with the example's listing as the scope has
-// it, of 101 octets, whose seven lines begin at the octets 0, 18, 29, 40, 51, 62 and 84. Each line after it has a case's name and the text of
-// its sample; then the place from which on octets of the listing are taken out, how many, and those that stand there instead. The sample
-// has no label; its K stands at octet 2, its A at 14, the time of the record before the last at 56, and the number of the last, which is at
-// 70, at 64.
+// Runs the cases of the checker. Standard input begins with the listing of the scope's example: 101 octets, whose seven lines begin at the
+// offsets 0, 18, 29, 40, 51, 62 and 84. Each line after it is a case: its name, the text of its sample (crate `sample_text`), the offset in
+// the listing from which octets are taken out, how many, and the octets that stand there instead. A line is written for each case. The
+// example's sample has no label. In its file K stands at offset 2, A at 14, the time of record 4 at 56, and the number of record 5, which
+// comes at time 70, at 64.
 mod changes;
 
 use cases::fields::field;
@@ -11,6 +11,7 @@ use cases::lists::fill_8;
 use cases::lists::first_8;
 use cases::print::write_number;
 use cases::print::write_word;
+use cases::text::INPUT_OCTETS;
 use cases::text::count;
 use cases::text::input;
 use cases::text::part;
@@ -22,10 +23,7 @@ use sample_text::ROOM;
 use sample_text::put_sample;
 use std::num::wrapping_add_usize;
 
-// How many octets are read at most.
-const MOST: usize = 8192;
-
-// The octets from a place on: none where there are no more.
+// The octets from offset `n` on; none if there are no more.
 fn octets_from(s: &[u8], n: usize) -> &[u8] {
     if s.len() < n {
         return &s[0..0];
@@ -33,12 +31,12 @@ fn octets_from(s: &[u8], n: usize) -> &[u8] {
     &s[n..]
 }
 
-// Writes what is found of a listing.
+// Checks a listing, and prints the case's name, the refusal and the verdict.
 fn write_sample_verdict(name: &[u8], sample: &[u8], listing: &[u8]) {
-    let found = check(sample, listing);
-    let verdict = found.verdict;
+    let result = check(sample, listing);
+    let verdict = result.verdict;
     write_word(name);
-    write_number(b": refusal ", found.refusal as u64);
+    write_number(b": refusal ", result.refusal as u64);
     match verdict {
         Verdict::Agrees => write_word(b", agrees"),
         Verdict::WrongLine(n) => write_number(b", line ", n as u64),
@@ -46,7 +44,7 @@ fn write_sample_verdict(name: &[u8], sample: &[u8], listing: &[u8]) {
     write_word(b"\n");
 }
 
-// Puts the listing with the edit of a line. The answer is how many octets it has.
+// Writes the listing with the edit that a case's line gives; returns its length.
 fn put_edited(listing: &[u8], line: &[u8], out: &mut [u8]) -> usize {
     let mut given = [0u8; OCTETS];
     let n = fill_8(field(line, 4), &mut given);
@@ -68,7 +66,7 @@ fn run(listing: &[u8], line: &[u8]) {
     write_sample_verdict(field(line, 0), first_8(&file, n), first_8(&text, m));
 }
 
-// Runs the cases of all lines, and makes every change of an octet for the sample of the first.
+// Runs the cases of all lines, then every change of one octet, with the sample of the first line.
 fn run_all(listing: &[u8], lines: &[u8]) {
     for i in 0..count(lines, b'\n') {
         run(listing, part(lines, b'\n', i));
@@ -78,7 +76,7 @@ fn run_all(listing: &[u8], lines: &[u8]) {
 
 // Runs all cases.
 fn main() {
-    let mut room = [0u8; MOST];
+    let mut room = [0u8; INPUT_OCTETS];
     let text = input(&mut room);
     run_all(first_8(text, OCTETS), octets_from(text, OCTETS));
 }

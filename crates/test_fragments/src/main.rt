@@ -1,8 +1,8 @@
-// Runs the cases of fragments that stand on standard input, a line for each: how many places are lent for the flags and for the
-// usable arrivals, at most 6; the case's name; K; the lists of numbers, times, lengths, more-fragments flags and offsets; and where it
-// is no list that is given, how many numbers there are, each of them 6. A line is written for each case, with both lists after it; they
-// are filled with 9 before.
-use cases::OVER;
+// Runs the cases of fragments, which stand on standard input. A line of the input has the lengths of the lists of flags and of usable
+// arrivals, at most 6; the case's name; K; the lists of numbers, times, lengths, more-fragments flags and offsets; and, for more numbers
+// than the line lists, their count: those that are not listed are 6. A line is written for each case, with what both lists hold after it.
+// Before a call they are filled with 9.
+use cases::TOO_MANY;
 use cases::fields::field;
 use cases::fields::number_in_32;
 use cases::lists::fill_8;
@@ -17,16 +17,14 @@ use cases::lists::least;
 use cases::print::write_8;
 use cases::print::write_number;
 use cases::print::write_word;
+use cases::text::INPUT_OCTETS;
 use cases::text::count;
 use cases::text::input;
 use cases::text::number;
 use cases::text::part;
 use fragments::order;
 
-// How many octets of cases are read at most.
-const MOST: usize = 8192;
-
-// How many numbers there are: those of a list, or where it is another count that is given, that.
+// The number of numbers: `given`, or, if that is 0, the length `listed` of the list.
 fn numbers_for(listed: usize, given: u32) -> usize {
     if given == 0 {
         return listed;
@@ -34,7 +32,7 @@ fn numbers_for(listed: usize, given: u32) -> usize {
     given as usize
 }
 
-// Writes what the call answers, and both lists after it.
+// Prints a case's name, the refusal, and both lists after the call.
 fn write_lists(name: &[u8], refusal: u32, flags: &[u8], usable: &[u8]) {
     write_word(name);
     write_number(b": refused ", refusal as u64);
@@ -43,9 +41,9 @@ fn write_lists(name: &[u8], refusal: u32, flags: &[u8], usable: &[u8]) {
     write_word(b"\n");
 }
 
-// Runs the case of a line with lent lists.
+// Runs the case of a line with these two lists.
 fn run_into(line: &[u8], flags: &mut [u8], usable: &mut [u8]) {
-    let mut numbers = [6u32; OVER];
+    let mut numbers = [6u32; TOO_MANY];
     let mut times = [0u64; 6];
     let mut lengths = [0u16; 6];
     let mut mores = [0u8; 6];
@@ -79,7 +77,7 @@ fn run(line: &[u8]) {
 
 // Runs the cases of all lines.
 fn main() {
-    let mut room = [0u8; MOST];
+    let mut room = [0u8; INPUT_OCTETS];
     let text = input(&mut room);
     for i in 0..count(text, b'\n') {
         run(part(text, b'\n', i));

@@ -1,6 +1,6 @@
 // Feeds a list of arrivals to three receivers: one lent by reference, one passed by value, and one stepped in place. For each
 // arrival and each receiver it writes what is said of the arrival and what the receiver then holds.
-use cases::MOST;
+use cases::MAX_ARRIVALS;
 use cases::print::write_number;
 use cases::print::write_word;
 use receiver::Outcome;
@@ -11,7 +11,7 @@ ghost use mathlib.Core.Path.{_≡_};
 ghost use Rattle.receiver.specs.Step.{stepOf};
 
 // The number of arrivals that a receiver accepts.
-const ARRIVALS: u32 = MOST as u32;
+const ARRIVALS: u32 = MAX_ARRIVALS as u32;
 
 // Returns what is said, and the state.
 fn step_answer(outcome: Outcome, state: Receiver) -> StepAnswer

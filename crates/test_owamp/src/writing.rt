@@ -5,7 +5,7 @@ use crate::lists::TIME;
 use crate::lists::import_and_sum;
 use crate::lists::import_into;
 use crate::lists::write_sums;
-use cases::MOST;
+use cases::MAX_ARRIVALS;
 use cases::fields::field;
 use cases::fields::first_octet;
 use cases::fields::number_in_32;
@@ -87,21 +87,21 @@ fn write_and_sum(name: &[u8], file: &[u8], out: &mut [u8]) {
     write_word(b"\n");
     import_and_sum(
         b"  read again",
-        MOST as u32,
+        MAX_ARRIVALS as u32,
         first_8(out, length),
-        &mut [NUMBER; MOST],
-        &mut [TIME; MOST],
+        &mut [NUMBER; MAX_ARRIVALS],
+        &mut [TIME; MAX_ARRIVALS],
     );
 }
 
 // Runs the case of as many arrivals as a sample may have: of the numbers 4,096 to 1, at times that are 777,777 apart.
 fn run_all_arrivals(line: &[u8]) {
     let mut file = [0u8; sample::LONGEST];
-    let mut numbers = [0u32; MOST];
-    let mut times = [0u64; MOST];
-    series_32(&mut numbers, MOST as u32, DOWN);
+    let mut numbers = [0u32; MAX_ARRIVALS];
+    let mut times = [0u64; MAX_ARRIVALS];
+    series_32(&mut numbers, MAX_ARRIVALS as u32, DOWN);
     series_64(&mut times, 0, 777_777);
-    let made = sample::write(b"ab", &[100u16; MOST], &numbers, &times, &mut file);
+    let made = sample::write(b"ab", &[100u16; MAX_ARRIVALS], &numbers, &times, &mut file);
     write_and_sum(
         field(line, 1),
         first_8(&file, made.length as usize),

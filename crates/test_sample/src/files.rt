@@ -5,7 +5,7 @@ use crate::memory::OCTET;
 use crate::memory::ROOM;
 use crate::memory::SIZE;
 use crate::memory::TIME;
-use cases::OVER;
+use cases::TOO_MANY;
 use cases::fields::field;
 use cases::fields::number_in_16;
 use cases::lists::first_8;
@@ -85,9 +85,9 @@ fn read_into(file: &[u8], sizes: &mut [u16], numbers: &mut [u32], times: &mut [u
 
 // Prints the name of a file, its layout, and what is read into lists that are long enough.
 fn read_all(name: &[u8], file: &[u8]) {
-    let mut sizes = [SIZE; OVER];
-    let mut numbers = [NUMBER; OVER];
-    let mut times = [TIME; OVER];
+    let mut sizes = [SIZE; TOO_MANY];
+    let mut numbers = [NUMBER; TOO_MANY];
+    let mut times = [TIME; TOO_MANY];
     write_word(name);
     write_word(b": check ");
     write_layout(sample::check(file));

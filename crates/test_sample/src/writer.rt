@@ -2,7 +2,7 @@
 use crate::build::put_file;
 use crate::memory::OCTET;
 use crate::memory::ROOM;
-use cases::OVER;
+use cases::TOO_MANY;
 use cases::fields::field;
 use cases::fields::first_octet;
 use cases::fields::number_in_16;
@@ -57,9 +57,9 @@ fn write_same(written: &[u8], built: &[u8]) {
 // Writes a file from as many label octets, sizes, numbers and times as the line says; returns its length.
 fn write_lists(line: &[u8], out: &mut [u8]) -> usize {
     let text = [b'x'; 65];
-    let sizes = [100u16; OVER];
-    let mut numbers = [0u32; OVER];
-    let mut times = [0u64; OVER];
+    let sizes = [100u16; TOO_MANY];
+    let mut numbers = [0u32; TOO_MANY];
+    let mut times = [0u64; TOO_MANY];
     series_32(&mut numbers, 1, 1);
     series_64(&mut times, 10, 10);
     write_into(

@@ -1,7 +1,7 @@
 // Lists of short numbers.
 use crate::of_eight_bits;
 use crate::print::write_list;
-use cases::OVER;
+use cases::TOO_MANY;
 use cases::fields::field;
 use cases::fields::number_in_32;
 use cases::lists::fill_16;
@@ -47,7 +47,7 @@ pub(crate) fn run_many(line: &[u8]) {
     if of_eight_bits(line) {
         find(
             line,
-            first_16(&[256u16; OVER], n),
+            first_16(&[256u16; TOO_MANY], n),
             &[0u64; 0],
             &mut [77u32; 3],
         );
@@ -55,8 +55,8 @@ pub(crate) fn run_many(line: &[u8]) {
     }
     find(
         line,
-        first_16(&[0u16; OVER], n),
-        first_64(&[0u64; OVER], n),
+        first_16(&[0u16; TOO_MANY], n),
+        first_64(&[0u64; TOO_MANY], n),
         &mut [77u32; 2],
     );
 }

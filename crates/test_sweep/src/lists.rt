@@ -1,8 +1,8 @@
-// What the lists and the table hold after a call.
+// Prints what the lists and the table hold after a call.
 use crate::FLAG;
 use crate::NUMBER;
 use crate::TIME;
-use cases::MOST;
+use cases::MAX_ARRIVALS;
 use cases::fields::first_octet;
 use cases::lists::first_8;
 use cases::lists::first_16;
@@ -22,24 +22,24 @@ use cases::totals::sum_8;
 use cases::totals::sum_32;
 use cases::totals::sum_64;
 
-// Writes where the places after the first n of a list were touched.
+// Prints ` TOUCHED`, unless the elements that the call must not write are as they were.
 fn write_kept(kept: bool) {
     write_either(kept, b"", b" TOUCHED");
 }
 
-// Writes the first n positions or extents of a list.
+// Prints the first `n` positions or extents, and whether the others are as they were.
 fn write_numbers(word: &[u8], list: &[u32], n: usize) {
     write_32(word, first_32(list, n));
     write_kept(kept_32(list, n, NUMBER));
 }
 
-// Writes the sum of a list, and the sum of the sums so far, which tells the places apart.
+// Prints the sum of a list, and the sum of its partial sums, which depends on the order.
 fn write_sum(word: &[u8], s: Sums) {
     write_number(word, s.sum);
     write_number(b" ", s.sums);
 }
 
-// Writes the sums of each list.
+// Prints the sums of each list.
 fn write_sums(flags: &[u8], positions: &[u32], extents: &[u32], lates: &[u64]) {
     write_sum(b"; flags ", sum_8(flags));
     write_sum(b"; positions ", sum_32(positions));
@@ -47,7 +47,7 @@ fn write_sums(flags: &[u8], positions: &[u32], extents: &[u32], lates: &[u64]) {
     write_sum(b"; late times ", sum_64(lates));
 }
 
-// Writes the first n places of each list.
+// Prints the first `n` elements of each list, and whether the others are as they were.
 fn write_first(n: usize, flags: &[u8], positions: &[u32], extents: &[u32], lates: &[u64]) {
     write_8(b"; flags", first_8(flags, n));
     write_kept(kept_8(flags, n, FLAG));
@@ -57,7 +57,7 @@ fn write_first(n: usize, flags: &[u8], positions: &[u32], extents: &[u32], lates
     write_kept(kept_64(lates, n, TIME));
 }
 
-// Writes what a line asks of the lists: their sums, or the first n places of each.
+// Prints what the line asks for: the sums of the lists, or the first `n` elements of each.
 pub(crate) fn write_lists(
     line: &[u8],
     n: usize,
@@ -73,12 +73,12 @@ pub(crate) fn write_lists(
     }
 }
 
-// Whether the first 4,096 numbers of a table are 0, and all others what they were.
+// Whether the first 4,096 numbers of a table are 0, and all others are `before`.
 fn cleared(table: &[u16], before: u16) -> bool {
-    kept_16(first_16(table, MOST), 0, 0) && kept_16(table, MOST, before)
+    kept_16(first_16(table, MAX_ARRIVALS), 0, 0) && kept_16(table, MAX_ARRIVALS, before)
 }
 
-// Writes whether a table is what it must be after an answer: cleared, or with a refusal untouched.
+// Prints whether a table is cleared, as it must be after the call; with a refusal, whether it is untouched.
 pub(crate) fn write_table(refusal: u32, table: &[u16], before: u16) {
     if refusal != 0 {
         write_either(

@@ -4,8 +4,8 @@ use crate::lists::NUMBER;
 use crate::lists::TIME;
 use crate::lists::import_and_sum;
 use crate::lists::import_into;
-use cases::MOST;
-use cases::OVER;
+use cases::MAX_ARRIVALS;
+use cases::TOO_MANY;
 use cases::fields::field;
 use cases::fields::first_octet;
 use cases::fields::number_in_32;
@@ -16,12 +16,12 @@ use cases::lists::least;
 const LINE: usize = 7;
 
 // The number of lines, and their octets.
-const LINES: usize = OVER;
+const LINES: usize = TOO_MANY;
 
 const OCTETS: usize = LINES * LINE;
 
 // The greatest length of a list that they are imported into.
-pub(crate) const LONG_LENGTH: usize = OVER + 1;
+pub(crate) const LONG_LENGTH: usize = TOO_MANY + 1;
 
 // The last digit of a number.
 fn last_digit(n: usize) -> u8 {
@@ -55,7 +55,7 @@ fn import_lines(line: &[u8], log: &[u8]) {
     let lines = first_8(log, number_in_32(line, 3) as usize * LINE);
     import_and_sum(
         field(line, 1),
-        MOST as u32,
+        MAX_ARRIVALS as u32,
         lines,
         &mut numbers[0..n],
         &mut times[0..n],

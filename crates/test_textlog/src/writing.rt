@@ -4,7 +4,7 @@ use crate::lists::OCTET;
 use crate::lists::TIME;
 use crate::lists::import_and_sum;
 use crate::long::LONG_LENGTH;
-use cases::OVER;
+use cases::TOO_MANY;
 use cases::fields::field;
 use cases::fields::number_in_32;
 use cases::lists::fill_32;
@@ -69,7 +69,7 @@ pub(crate) fn run_many(line: &[u8]) {
     let n = number_in_32(line, 2) as usize;
     write_and_import(
         field(line, 1),
-        first_32(&[1u32; OVER], n),
-        first_64(&[4500u64; OVER], n),
+        first_32(&[1u32; TOO_MANY], n),
+        first_64(&[4500u64; TOO_MANY], n),
     );
 }

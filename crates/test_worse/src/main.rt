@@ -1,10 +1,11 @@
-// Runs the cases of two samples that stand on standard input: ratios that are greater, equal and undefined, labels that are empty, and
-// each refusal of either. Each line there has the case's name and the texts of the two samples. A line is written for each case: the
-// refusal, which sample is the worse one, and its label.
+// Runs the cases of two samples, which stand on standard input. They try ratios that are greater, equal and undefined, empty labels, and
+// each refusal of either sample. A line of the input has the case's name and the texts of the two samples (crate `sample_text`). A line is
+// written for each case: the refusal, which sample is the worse one, and its label.
 use cases::fields::field;
 use cases::lists::first_8;
 use cases::print::write_number;
 use cases::print::write_word;
+use cases::text::INPUT_OCTETS;
 use cases::text::count;
 use cases::text::input;
 use cases::text::part;
@@ -14,14 +15,11 @@ use worse::Link;
 use worse::compare;
 use worse::worse;
 
-// How many octets of cases are read at most.
-const MOST: usize = 4096;
-
-// Writes what is found of two samples.
+// Compares two samples, and prints the refusal, which is the worse one, and its label.
 fn write_comparison<'a>(first: &'a [u8], second: &'a [u8]) {
-    let found = compare(first, second);
-    write_number(b": refusal ", found.refusal as u64);
-    let link = found.link;
+    let comparison = compare(first, second);
+    write_number(b": refusal ", comparison.refusal as u64);
+    let link = comparison.link;
     match link {
         Link::Refused => write_word(b", none ["),
         Link::First => write_word(b", first ["),
@@ -43,7 +41,7 @@ fn run(line: &[u8]) {
 
 // Runs the cases of all lines.
 fn main() {
-    let mut room = [0u8; MOST];
+    let mut room = [0u8; INPUT_OCTETS];
     let text = input(&mut room);
     for i in 0..count(text, b'\n') {
         run(part(text, b'\n', i));

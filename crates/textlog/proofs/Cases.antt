@@ -7,7 +7,7 @@ use Rattle.rfc4737.specs.Judge.{judgeOne}
 use Rattle.rfc4737.specs.Refusals.{outside}
 use Rattle.rfc4737.specs.Times.{tooEarly, nextReference}
 use Rattle.sample.specs.Format.{itemOctets}
-use Rattle.textlog.specs.Form.{lineOf}
+use Rattle.textlog.specs.Form.{arrivalLine}
 use Rattle.textlog.specs.Decode.{isDecimalMark, inRange, fractionIn, timeIn, lineIn, decodeLine, judgeLines, judgeDecoded}
 use Rattle.textlog.specs.Cases.{LinesReadAsGiven, LinesWrittenAsGiven}
 
@@ -16,5 +16,5 @@ unfolding digit isDecimalMark digitCount inRange fractionIn timeIn lineIn decode
 read-as-given = record { decoded = refl; judged = refl }
 
 pub written-as-given : LinesWrittenAsGiven
-unfolding digitsOf decimalOf lineOf itemOctets
+unfolding digitsOf decimalOf arrivalLine itemOctets
 written-as-given = record { written = refl }

@@ -25,7 +25,7 @@ use Rattle.rfc4737.proofs.Pairs.{arrivals-length, numbers-back, times-back, arr
 use Rattle.sample.specs.Format.{itemOctets}
 use Rattle.sample.proofs.Output.{own-none, output-read}
 use Rattle.sample.specs.Output.{ifNone}
-use Rattle.textlog.specs.Form.{semicolon, comma, numberMost, Digits, one, more, byComma, thousandths, threeDigits, Time, parted, Line, line, Log, none, after, lineOf, logOf}
+use Rattle.textlog.specs.Form.{semicolon, comma, numberMost, Digits, one, more, byComma, thousandths, threeDigits, Time, parted, Line, line, Log, none, after, arrivalLine, logOf}
 use Rattle.textlog.specs.Decode.{DecodedLine, arrived, decodeLine, decodedLines, arrivalsOfLines, logArrivals, unless, judgeLines, judgeDecoded, judgeLog}
 use Rattle.textlog.specs.Calls.{importRefusal}
 use Rattle.textlog.specs.RoundTrip.{ExactLog, LogReadAgain}
@@ -128,8 +128,8 @@ time-form t =
     subst (λ (x : ℕ). Time (decimalOf (t / 1000) ++ (comma ∷ threeDigits (t % 1000))) x) v (parted (digits-of (t / 1000)) byComma (d .0) (omega arith))
 
 -- a written line
-line-form : (a : Arrival) → Line (lineOf a) (a .number) (a .time)
-unfolding lineOf
+line-form : (a : Arrival) → Line (arrivalLine a) (a .number) (a .time)
+unfolding arrivalLine
 line-form a =
     let e : (decimalOf (a .time / 1000) ++ (comma ∷ threeDigits (a .time % 1000))) ++ (lineFeed ∷ []) ≡ decimalOf (a .time / 1000) ++ (comma ∷ (threeDigits (a .time % 1000) ++ (lineFeed ∷ []))) =
     append-assoc (decimalOf (a .time / 1000)) (comma ∷ threeDigits (a .time % 1000)) (lineFeed ∷ []) in

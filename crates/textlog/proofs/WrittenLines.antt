@@ -18,10 +18,10 @@ use Rattle.rfc4737.specs.Judge.{arrivalsFrom}
 use Rattle.rfc4737.proofs.Pairs.{arrivals-getD, arrivals-length}
 use Rattle.sample.specs.Places.{noArrival}
 use Rattle.sample.proofs.Items.{octets-append, octets-snoc}
-use Rattle.textlog.specs.Form.{semicolon, comma, threeDigits, lineOf, logOf}
+use Rattle.textlog.specs.Form.{semicolon, comma, threeDigits, arrivalLine, logOf}
 
-pub line-long : (a : Arrival) → length (lineOf a) ≡ length (decimalOf (a .number)) + length (decimalOf (a .time / 1000)) + 6
-unfolding lineOf
+pub line-long : (a : Arrival) → length (arrivalLine a) ≡ length (decimalOf (a .number)) + length (decimalOf (a .time / 1000)) + 6
+unfolding arrivalLine
 line-long a =
     let t : List ℕ = comma ∷ (threeDigits (a .time % 1000) ++ (lineFeed ∷ [])) in
     omega (arith, length-append (decimalOf (a .number)) (semicolon ∷ (decimalOf (a .time / 1000) ++ t)), length-append (decimalOf (a .time / 1000)) t)
@@ -50,20 +50,20 @@ module _ (numbers times : List ℕ) (same : length times ≡ length numbers) (i 
   log-part =
       let l = arrivalsFrom numbers times in
       let e : logOf (arrivalsFrom numbers times) ≡ logOf (take i (arrivalsFrom numbers times)) ++ logOf (drop i (arrivalsFrom numbers times)) =
-      ap logOf (sym (take-append-drop i (arrivalsFrom numbers times))) ∙ octets-append lineOf (take i (arrivalsFrom numbers times)) (drop i (arrivalsFrom numbers times)) in
+      ap logOf (sym (take-append-drop i (arrivalsFrom numbers times))) ∙ octets-append arrivalLine (take i (arrivalsFrom numbers times)) (drop i (arrivalsFrom numbers times)) in
       omega (arith, ap length e, length-append (logOf (take i (arrivalsFrom numbers times))) (logOf (drop i (arrivalsFrom numbers times))))
 
   -- one line more
   pub log-next : i < length numbers
-      → logOf (take (i + 1) (arrivalsFrom numbers times)) ≡ logOf (take i (arrivalsFrom numbers times)) ++ lineOf (record { number = getD numbers i 0; time = getD times i 0 })
+      → logOf (take (i + 1) (arrivalsFrom numbers times)) ≡ logOf (take i (arrivalsFrom numbers times)) ++ arrivalLine (record { number = getD numbers i 0; time = getD times i 0 })
   log-next h =
-      octets-snoc lineOf (arrivalsFrom numbers times) i noArrival (omega (arith, arrivals-length numbers times same))
-      ∙ ap (λ (a : Arrival). logOf (take i (arrivalsFrom numbers times)) ++ lineOf a) (sym (arrivals-getD numbers times i noArrival same h))
+      octets-snoc arrivalLine (arrivalsFrom numbers times) i noArrival (omega (arith, arrivals-length numbers times same))
+      ∙ ap (λ (a : Arrival). logOf (take i (arrivalsFrom numbers times)) ++ arrivalLine a) (sym (arrivals-getD numbers times i noArrival same h))
 
   -- its length
   pub long-next : i < length numbers
-      → length (logOf (take (i + 1) (arrivalsFrom numbers times))) ≡ length (logOf (take i (arrivalsFrom numbers times))) + length (lineOf (record { number = getD numbers i 0; time = getD times i 0 }))
-  long-next h = ap length (log-next h) ∙ length-append (logOf (take i (arrivalsFrom numbers times))) (lineOf (record { number = getD numbers i 0; time = getD times i 0 }))
+      → length (logOf (take (i + 1) (arrivalsFrom numbers times))) ≡ length (logOf (take i (arrivalsFrom numbers times))) + length (arrivalLine (record { number = getD numbers i 0; time = getD times i 0 }))
+  long-next h = ap length (log-next h) ∙ length-append (logOf (take i (arrivalsFrom numbers times))) (arrivalLine (record { number = getD numbers i 0; time = getD times i 0 }))
 
   -- at the end
   pub log-all : length numbers ≤ i → logOf (take i (arrivalsFrom numbers times)) ≡ logOf (arrivalsFrom numbers times)

@@ -21,31 +21,31 @@ use Rattle.textlog.specs.declared.LogLine.{LogLine}
 unfoldable pub logListsShort : (arrivals numbers times : ℕ) → Bool
 logListsShort arrivals numbers times = ltb numbers arrivals || ltb times arrivals
 
--- an importer's refusal of decoded lines where lists of these lengths are filled: that of the lines, then 8
+-- the refusal of an import of decoded lines into lists of these lengths: that of the lines, then 8
 unfoldable pub importRefusal : (k numbers times : ℕ) (ds : List DecodedLine) → ℕ
 importRefusal k numbers times ds =
     firstRefusal (judgeDecoded k ds .refusal ∷ refusalIf (logListsShort (length (arrivalsOfLines ds)) numbers times) outputShort ∷ [])
 
--- an importer's answer, and the two lists after it: the arrivals' values from their start, all else as it was
+-- the result of an import of decoded lines, and the two lists after it: the arrivals' values from their start, all else as it was
 pub record LinesImported (k : ℕ) (ds : List DecodedLine) (numbers times : List ℕ) (answer : LogImport) (numbers′ times′ : List ℕ) : Type 0 where
   pub refusal : answer .refusal ≡ importRefusal k (length numbers) (length times) ds
   pub arrivals : answer .arrivals ≡ ifNone (answer .refusal) (length (arrivalsOfLines ds)) 0
   pub filledNumbers : numbers′ ≡ ifNone (answer .refusal) (over (numbersOf (arrivalsOfLines ds)) numbers) numbers
   pub filledTimes : times′ ≡ ifNone (answer .refusal) (over (timesOf (arrivalsOfLines ds)) times) times
 
--- the importer of a log, by its decoded lines
+-- the result of an import of a log, and the two lists after it
 abbrev pub LogImportedFrom : (k : ℕ) (log numbers times : List ℕ) → LogImport → (numbers′ times′ : List ℕ) → Type 0
 LogImportedFrom k log = LinesImported k (decodedLines log)
 
 -- ---- one line
 
--- the answer for a line by itself: the arrival that it decodes to, or 14
+-- the result for a line by itself: the arrival that it decodes to, or 14
 abbrev pub logLine : DecodedLine → LogLine
 logLine malformed = record { refusal = lineMalformed; number = 0; time = 0 }
 logLine (arrived a) = record { refusal = 0; number = a .number; time = a .time }
 
 -- ---- the writer
 
--- the writer's answer, and the lent octets after it, which begin with the log
+-- the writer's answer, and the caller's buffer after it, which begins with the log
 abbrev pub LogWrittenTo : (k : ℕ) (numbers times out : List ℕ) → WriteAnswer → List ℕ → Type 0
 LogWrittenTo k numbers times out answer out′ = Output (refusalOfLists k numbers times) (logOf (arrivalsFrom numbers times)) out answer out′

@@ -16,13 +16,13 @@ use Rattle.textlog.specs.declared.LogJudgement.{LogJudgement}
 use Rattle.textlog.specs.declared.reading.Reading.{Reading}
 use Rattle.textlog.specs.declared.reading.Reading.the-variants.{Read, Malformed}
 
--- ---- a line, read in stages from where a text t begins; `at` and `end` are offsets in the log
+-- ---- reading a line in stages: t is the text that is left, which begins at offset `at` of the log
 
 -- whether an octet is a comma or a point
 unfoldable pub isDecimalMark : ℕ → Bool
 isDecimalMark o = eqb o comma || eqb o point
 
--- the octet after the digits with which a text begins, 0 at the end of the text
+-- the octet after the digits with which a text begins; 0 if nothing follows them
 abbrev pub octetAfter : List ℕ → ℕ
 octetAfter t = getD t (digitCount t) 0
 
@@ -30,18 +30,18 @@ octetAfter t = getD t (digitCount t) 0
 abbrev pub textAfter : List ℕ → List ℕ
 textAfter t = drop (digitCount t + 1) t
 
--- a line that is read up to `end`, unless its time is over the field's range
+-- a line that ends before offset `end`: malformed if its time is over the field's range
 unfoldable pub inRange : (number time end : ℕ) → Reading
 inRange number time end = cond (leb time timeMost) (Read number time end) Malformed
 
--- a line whose decimals begin at `at`
+-- the rest of a line whose decimals begin at `at`
 unfoldable pub fractionIn : (number whole at : ℕ) (t : List ℕ) → Reading
 fractionIn number whole at t =
     cond (outside 1 3 (digitCount t)) Malformed
     (cond (eqb (octetAfter t) lineFeed) (inRange number (1000 * whole + thousandths (leading t)) (at + digitCount t + 1))
     Malformed)
 
--- a line whose time begins at `at`
+-- the rest of a line whose time begins at `at`
 unfoldable pub timeIn : (number at : ℕ) (t : List ℕ) → Reading
 timeIn number at t =
     cond (eqb (digitCount t) 0) Malformed
@@ -49,7 +49,7 @@ timeIn number at t =
     (cond (isDecimalMark (octetAfter t)) (fractionIn number (leadingValue t) (at + digitCount t + 1) (textAfter t))
     Malformed))
 
--- the line that begins at `at`: its number, its time, and where it ends
+-- the line that begins at `at`: its number, its time, and the offset after it
 unfoldable pub lineIn : (at : ℕ) (t : List ℕ) → Reading
 lineIn at t =
     cond (eqb (digitCount t) 0) Malformed
@@ -57,17 +57,17 @@ lineIn at t =
     (cond (eqb (octetAfter t) semicolon) (timeIn (leadingValue t) (at + digitCount t + 1) (textAfter t))
     Malformed))
 
--- what a line decodes to: an arrival, if it is read to its end
+-- what a line decodes to: an arrival, or nothing if it is malformed
 pub data DecodedLine : Type 0 where
   malformed : DecodedLine
   arrived : Arrival → DecodedLine
 
--- what is read, if it ends where a line of `octets` octets does
+-- the arrival that was read, if the line of `octets` octets ends with it
 abbrev pub readWhole : (octets : ℕ) → Reading → DecodedLine
 readWhole octets (Read number time end) = cond (eqb end octets) (arrived (record { number = number; time = time })) malformed
 readWhole octets Malformed = malformed
 
--- a line by itself
+-- what a line by itself decodes to
 unfoldable pub decodeLine : List ℕ → DecodedLine
 decodeLine l = readWhole (length l) (lineIn 0 l)
 
@@ -92,28 +92,28 @@ logArrivals log = arrivalsOfLines (decodedLines log)
 
 -- ---- what is refused
 
--- one line, after `count` lines: 14, 5 if it is line 4,097, 6, 7
+-- the refusal of one line, after `count` lines: 14, 5 if it is line 4,097, 6, 7
 abbrev pub judgeLine : (k count reference : ℕ) → DecodedLine → ℕ
 judgeLine k count reference malformed = lineMalformed
 judgeLine k count reference (arrived a) =
     firstRefusal (refusalIf (leb arrivalsMost count) manyArrivals ∷ judgeOne k reference a ∷ [])
 
--- the judgement y, unless a refusal comes before it; `line` is 0 if that is not the refusal of a line
-abbrev pub unless : (refusal line : ℕ) → LogJudgement → LogJudgement
-unless zero line y = y
-unless (suc r) line y = record { refusal = suc r; arrivals = 0; line = line }
+-- the judgement `next`, unless a refusal comes before it; `line` is 0 if no line is to blame
+abbrev pub unless : (refusal line : ℕ) → (next : LogJudgement) → LogJudgement
+unless zero line next = next
+unless (suc r) line next = record { refusal = suc r; arrivals = 0; line = line }
 
--- decoded lines in turn, with `count` lines before them
+-- the judgement of decoded lines in turn, after `count` lines
 unfoldable pub judgeLines : (k count reference : ℕ) → List DecodedLine → LogJudgement
 judgeLines k count reference [] = record { refusal = 0; arrivals = count; line = 0 }
 judgeLines k count reference (d ∷ ds) =
     unless (judgeLine k count reference d) (count + 1) (judgeLines k (count + 1) (nextReference reference (arrivalOr0 d .time)) ds)
 
--- decoded lines of a log: 4, then the lines in turn: the refusal, the number of arrivals, and the number of the first line that is
--- refused, from 1
+-- the judgement of a log's decoded lines: 4, then the lines in turn. It has the refusal, the number of arrivals, and the number of the
+-- first refused line, from 1
 unfoldable pub judgeDecoded : ℕ → List DecodedLine → LogJudgement
 judgeDecoded k ds = unless (judgeSent k) 0 (judgeLines k 0 0 ds)
 
--- a log, by its decoded lines
+-- the judgement of a log
 abbrev pub judgeLog : ℕ → List ℕ → LogJudgement
 judgeLog k log = judgeDecoded k (decodedLines log)

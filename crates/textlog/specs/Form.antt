@@ -1,5 +1,5 @@
--- The form of a text log, said without a reader: sequence number, semicolon, arrival time in milliseconds, line feed, on each line.
--- Assumes nothing.
+-- The form of a text log, defined without a reader: on each line a sequence number, a semicolon, an arrival time in milliseconds, and a
+-- line feed. Assumes nothing.
 use Prim.Native.Char.{code}
 use Prim.Native.Nat.{ℕ, _+_, _-_, _*_, _/_, _%_, _^_, _≤_}
 use mathlib.Core.List.{List, [], _∷_, _++_}
@@ -33,7 +33,7 @@ pub data DecimalMark : ℕ → Type 0 where
   byComma : DecimalMark comma
   byPoint : DecimalMark point
 
--- one to three decimals of a millisecond, in microseconds: `5` is 500, `05` is 50, `005` is 5
+-- the microseconds in one to three decimals of a millisecond: `5` is 500, `05` is 50, `005` is 5
 abbrev pub thousandths : List ℕ → ℕ
 thousandths ds = decimalValue ds * 10 ^ (3 - length ds)
 
@@ -56,13 +56,13 @@ numberMost = 2 ^ 32 - 1
 abbrev pub timeMost : ℕ
 timeMost = 2 ^ 64 - 1
 
--- a line of an arrival: it has the form, and its values fit their fields
+-- a line with the values of an arrival: it has the form, and the values fit their fields
 pub record LineFits (l : List ℕ) (a : Arrival) : Type 0 where
   pub form : Line l (a .number) (a .time)
   pub number : a .number ≤ numberMost
   pub time : a .time ≤ timeMost
 
--- a log of arrivals: such lines, one after the other
+-- a log of arrivals: a line for each, one after the other
 pub data Log : List ℕ → List Arrival → Type 0 where
   none : Log [] []
   after : {l log : List ℕ} {a : Arrival} {rest : List Arrival} → LineFits l a → Log log rest → Log (l ++ log) (a ∷ rest)
@@ -74,11 +74,11 @@ abbrev pub threeDigits : ℕ → List ℕ
 threeDigits n = (48 + n / 100) ∷ (48 + n / 10 % 10) ∷ (48 + n % 10) ∷ []
 
 -- the line of an arrival
-unfoldable pub lineOf : Arrival → List ℕ
-lineOf a =
+unfoldable pub arrivalLine : Arrival → List ℕ
+arrivalLine a =
     decimalOf (a .number)
     ++ (semicolon ∷ (decimalOf (a .time / 1000) ++ (comma ∷ (threeDigits (a .time % 1000) ++ (lineFeed ∷ [])))))
 
 -- the log of arrivals
 abbrev pub logOf : List Arrival → List ℕ
-logOf l = itemOctets lineOf l
+logOf l = itemOctets arrivalLine l

@@ -1,11 +1,11 @@
--- What private functions say to each other, which no public contract reaches: what the filling of two lists rests on. Assumes nothing.
+-- Definitions for the contracts of private functions, which no public contract reaches: what filling two lists needs. Assumes nothing.
 use Prim.Native.Nat.{ℕ, _≤_, _<_}
 use mathlib.Core.List.{List}
 use mathlib.Core.Path.{_≡_}
 use lib.ListN.{length, getD}
 use Rattle.textlog.specs.Decode.{malformed, decodedLines}
 
--- a log of which every line decodes, and two lists with a place for each
+-- a log whose lines all decode, and two lists that have room for them
 pub record Fillable (log numbers times : List ℕ) : Type 0 where
   pub decodes : (i : ℕ) → i < length (decodedLines log) → getD (decodedLines log) i malformed ≡ malformed → ⊥
   pub numbersRoom : length (decodedLines log) ≤ length numbers

@@ -20,21 +20,21 @@ use Rattle.textlog.specs.Decode.{arrived, decodeLine, logArrivals, judge
 use Rattle.textlog.specs.Calls.{LogImportedFrom, LogWrittenTo}
 use Rattle.textlog.specs.declared.LogImport.{LogImport}
 
--- a line decodes exactly if it has the form and its values fit, and to the arrival that the form says
+-- a line decodes to an arrival exactly if it has the form, with the arrival's values, and these fit their fields
 abbrev pub ExactLine : Type 0
 ExactLine = (l : List ℕ) (a : Arrival) → (decodeLine l ≡ arrived a) ↔ LineFits l a
 
--- a log is accepted, with arrivals l, exactly if it has the form of arrivals l, of which with K nothing is refused
+-- a log is accepted, with arrivals l, exactly if it has the form of a log of l, and nothing of K and l is refused
 abbrev pub ExactLog : ℕ → List ℕ → Type 0
 ExactLog k log =
     (l : List Arrival)
     → ((judgeLog k log .refusal ≡ 0) × (logArrivals log ≡ l)) ↔ (Log log l × (refusalOfLists k (numbersOf l) (timesOf l) ≡ 0))
 
--- a sample of arrivals: no label, K payload sizes of one size, and these
+-- the sample of arrivals l with no label and K equal payload sizes
 abbrev pub sampleWith : (k size : ℕ) → List Arrival → Sample
 sampleWith k size l = record { label = []; sizes = replicate k size; arrivals = l }
 
--- a sample that the sample's writer refuses with nothing but 8, and whose written file decodes to it
+-- a sample that `sample::write` refuses only with 8, and whose written file decodes to it
 pub record Writable (s : Sample) : Type 0 where
   pub fit : FitSample s
   pub refusal : (out out′ : List ℕ) (written : WriteAnswer)

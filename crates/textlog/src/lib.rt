@@ -1,4 +1,4 @@
-// Text logs from suppliers: imported into the caller's lists, read line by line, and written. Every public call is total.
+// Text logs from suppliers: importing them into the caller's lists, reading one line, and writing. Every public call is total.
 ghost use mathlib.Core.Path.{_≡_};
 ghost use Rattle.octets.specs.Memory.{over};
 ghost use Rattle.rfc4737.specs.Judge.{numbersOf, timesOf};
@@ -28,30 +28,30 @@ use sample::WriteAnswer;
 use writing::log_length;
 use writing::put_lines;
 
-// What was imported: the refusal (0 for none), and the number of arrivals, 0 with a refusal.
+// The result of an import: the refusal (0 for none), and the number of arrivals, 0 with a refusal.
 #[repr(C)]
 pub struct LogImport {
     pub refusal: u32,
     pub arrivals: u32,
 }
 
-// A line as read: the refusal (0, or 14 for a malformed line), the sequence number and the time in microseconds. With a refusal both
-// are 0.
+// The result of reading a line: the refusal (0, or 14 for a malformed line), the sequence number and the time in microseconds. With a
+// refusal both are 0.
 pub struct LogLine {
     pub refusal: u32,
     pub number: u32,
     pub time: u64,
 }
 
-// A log as judged: the refusal (0 for none), the number of arrivals (0 with a refusal), and the refused line. Lines are numbered from 1;
-// 0 is no line.
+// The judgement of a log: the refusal (0 for none), the number of arrivals (0 with a refusal), and the refused line. Lines are numbered
+// from 1; 0 is no line.
 pub struct LogJudgement {
     pub refusal: u32,
     pub arrivals: u32,
     pub line: u32,
 }
 
-// A refused log; `line` is 0 if the refusal is not that of a line.
+// The judgement of a refused log; `line` is 0 if no line is to blame.
 pub fn refused_at(refusal: u32, line: u32) -> LogJudgement
     ensures { λ r. ⌜ r ≡ record { refusal = refusal; arrivals = 0; line = line } ⌝ }
 {
@@ -101,7 +101,7 @@ fn judge_log(log: &[u8], k: u32) -> LogJudgement
     judge_lines(log, k)
 }
 
-// Fills lists with the numbers and times of a log that is not refused.
+// Fills the lists with the numbers and times of a log that is not refused.
 fn fill_arrivals(log: &[u8], numbers: &mut [u32], times: &mut [u64])
     requires { ⌜ Fillable (now log) (now numbers) (now times) ⌝ }
     ensures { λ _. ⌜ (now (numbers .exit) ≡ over (numbersOf (logArrivals (now (log .entry)))) (now (numbers .entry)))
@@ -130,7 +130,7 @@ pub fn too_short(arrivals: u32, numbers: usize, times: usize) -> bool
     times < arrivals as usize
 }
 
-// The answer of a refused import.
+// The result of a refused import.
 pub fn refused_import(refusal: u32) -> LogImport
     ensures { λ r. ⌜ r ≡ record { refusal = refusal; arrivals = 0 } ⌝ }
 {
@@ -162,15 +162,15 @@ pub fn import(log: &[u8], k: u32, numbers: &mut [u32], times: &mut [u64]) -> Log
     }
 }
 
-// The number of the first refused line of a log, from 1; 0 if no line is refused, as where K itself is. It fills no list, so a list
-// that is too short (8) is no matter here.
+// The number of the first refused line of a log, from 1. It is 0 if no line is refused, also if K itself is. No list is filled, so refusal
+// 8 does not arise.
 pub fn refused_line(log: &[u8], k: u32) -> u32
     ensures { λ r. ⌜ r ≡ judgeLog k (now (log .entry)) .line ⌝ }
 {
     judge_log(log, k).line
 }
 
-// The answer for a malformed line.
+// The result for a malformed line.
 fn malformed_line() -> LogLine
     ensures { λ r. ⌜ r ≡ record { refusal = lineMalformed; number = 0; time = 0 } ⌝ }
 {

@@ -1,13 +1,13 @@
-// A line of a text log, read from the offset where it begins. Crate `decimal` reads the digits, so a number may have any
-// number of them. What another crate needs to look at a line is public, and total.
+// Reads a line of a text log. Crate `decimal` reads the digits, so a number may have any number of them. The public functions, which other
+// crates use to look at a line, are total.
 ghost use mathlib.Core.Path.{_≡_};
 ghost use Prim.Native.Nat.{_+_, _*_, _^_, _-_, _≤_, _<_};
 ghost use lib.ListN.{getD, drop};
 ghost use Rattle.textlog.specs.Decode.{isDecimalMark, inRange, fractionIn, timeIn, lineIn};
 use decimal::reading::number_at;
 
-// What was read. `Read`: a line of the form whose values fit their fields, with its number, its time in microseconds and
-// the offset after it.
+// The result of reading a line. `Read` has the sequence number, the time in microseconds and the offset after the line; the line has the
+// form, and its values fit their fields.
 pub enum Reading {
     Read(u32, u64, usize),
     Malformed,
@@ -16,12 +16,13 @@ pub enum Reading {
 // The greatest sequence number that its field holds.
 pub const NUMBER_MOST: u64 = 4_294_967_295;
 
-// The greatest arrival time that its field holds, and the whole milliseconds in it.
+// The greatest arrival time that its field holds, in microseconds.
 const TIME_MOST: u64 = 18_446_744_073_709_551_615;
 
+// The whole milliseconds in TIME_MOST.
 const WHOLE_MOST: u64 = 18_446_744_073_709_551;
 
-// The most decimals of a time.
+// The greatest number of decimals of a time.
 pub const DECIMALS_MOST: usize = 3;
 
 // The octet at offset `at`; 0 past the end.
@@ -34,7 +35,7 @@ pub fn octet_at(log: &[u8], at: usize) -> u8
     0
 }
 
-// Whether an octet may stand before the decimals: a comma or a point.
+// Whether an octet may stand before the decimals: it is a comma or a point.
 pub fn is_decimal_mark(octet: u8) -> bool
     ensures { λ r. ⌜ r ≡ isDecimalMark octet ⌝ }
 {
@@ -44,7 +45,7 @@ pub fn is_decimal_mark(octet: u8) -> bool
     octet == b'.'
 }
 
-// `count` decimals of a millisecond, one to three, in microseconds.
+// The microseconds in `count` decimals of a millisecond, one to three, with the value `value`.
 fn thousandths(value: u64, count: usize) -> u64
     requires { ⌜ (1 ≤ count) × (count ≤ 3) × (value < 1000) ⌝ }
     ensures { λ r. ⌜ r ≡ value * 10 ^ (3 - count) ⌝ }
@@ -58,7 +59,7 @@ fn thousandths(value: u64, count: usize) -> u64
     value
 }
 
-// A line that is read up to `end`, unless its time is over the field's range.
+// The result for a line that ends before `end`: malformed if its time is over the field's range.
 fn in_range(number: u32, whole: u64, fraction: u64, end: usize) -> Reading
     ensures { λ r. ⌜ r ≡ inRange number (1000 * whole + fraction) end ⌝ }
 {

@@ -1,19 +1,19 @@
-// The lines of arrivals, written: three decimals after a comma, and no needless leading zeros.
+// Writes the lines of arrivals: three decimals after a comma, and no needless leading zeros.
 ghost use mathlib.Core.Path.{_≡_};
 ghost use Prim.Native.Nat.{_+_, _≤_};
 ghost use lib.ListN.{length};
 ghost use Rattle.octets.specs.Memory.{over, put};
 ghost use Rattle.rfc4737.specs.Judge.{arrivalsMost, arrivalsFrom};
-ghost use Rattle.textlog.specs.Form.{lineOf, logOf};
+ghost use Rattle.textlog.specs.Form.{arrivalLine, logOf};
 
-// The length of a line in octets.
+// The length of an arrival's line, in octets.
 fn line_length(number: u32, time: u64) -> usize
-    ensures { λ r. ⌜ (r ≡ length (lineOf (record { number = number; time = time }))) × (r ≤ 46) ⌝ }
+    ensures { λ r. ⌜ (r ≡ length (arrivalLine (record { number = number; time = time }))) × (r ≤ 46) ⌝ }
 {
     decimal::count(number as u64) + decimal::count(time / 1000) + 6
 }
 
-// The length of the log of two lists in octets.
+// The length of the log of two lists, in octets.
 pub(crate) fn log_length(numbers: &[u32], times: &[u64]) -> usize
     requires { ⌜ (length (now times) ≡ length (now numbers)) × (length (now numbers) ≤ arrivalsMost) ⌝ }
     ensures { λ r. ⌜ (r ≡ length (logOf (arrivalsFrom (now (numbers .entry)) (now (times .entry))))) × (r ≤ 188416) ⌝ }
@@ -35,11 +35,11 @@ fn digit_of(n: u64) -> u8
     (48 + n) as u8
 }
 
-// Writes a line from offset `at` on; returns the offset after it.
+// Writes an arrival's line from offset `at` on; returns the offset after it.
 fn put_line(out: &mut [u8], at: usize, number: u32, time: u64) -> usize
-    requires { ⌜ at + length (lineOf (record { number = number; time = time })) ≤ length (now out) ⌝ }
-    ensures { λ r. ⌜ (r ≡ at + length (lineOf (record { number = number; time = time })))
-        × (now (out .exit) ≡ put at (lineOf (record { number = number; time = time })) (now (out .entry))) ⌝ }
+    requires { ⌜ at + length (arrivalLine (record { number = number; time = time })) ≤ length (now out) ⌝ }
+    ensures { λ r. ⌜ (r ≡ at + length (arrivalLine (record { number = number; time = time })))
+        × (now (out .exit) ≡ put at (arrivalLine (record { number = number; time = time })) (now (out .entry))) ⌝ }
 {
     let first = at + decimal::put_decimal(out, at, number as u64);
     let semicolon = [b';'];

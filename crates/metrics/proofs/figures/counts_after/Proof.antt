@@ -5,7 +5,7 @@ use mathlib.Core.Path.{sym}
 use Prim.Native.Nat.{ℕ, _*_, _^_, _≤_}
 use native.Mathlib.Nat.{mul-le-mul}
 use native.Mathlib.Omega.{arith}
-use Rattle.listing.specs.Private.DigitBounds.{FourDigits}
+use Rattle.listing.specs.DigitBounds.{FourDigits}
 use Rattle.rfc4737.specs.Runs.{lengthened, ended, runsAfter, counts}
 use Rattle.metrics.proofs.OneArrivalMore.{counts-more}
 use borrow.Author.Needs.{needs}

@@ -10,7 +10,7 @@ use denote.Ref.{now}
 use Rattle.decimal.specs.Decimal.{decimalOf}
 use Rattle.octets.specs.Memory.{put}
 use Rattle.octets.specs.Text.{lineFeed}
-use Rattle.textlog.specs.Form.{comma, threeDigits, lineOf}
+use Rattle.textlog.specs.Form.{comma, threeDigits, arrivalLine}
 use Rattle.textlog.proofs.WrittenLines.{line-long, put-parts}
 use Rattle.textlog.proofs.writing.put_line.Statement.{statement}
 use Rattle.textlog.proofs.writing.put_line.Tie as tie
@@ -48,7 +48,7 @@ add-result c =
     omega (arith, room (number-at (mark-at w .before)), w .put-decimal2 .ensures .0)
 
 returns : tie.Need-returns
-unfolding lineOf
+unfolding arrivalLine
 returns c =
     let start = number-at (mark-at (whole-at (c .before .before .before)) .before) .before .before .before in
     let a = start .args in

@@ -12,7 +12,7 @@ use Rattle.octets.specs.Memory.{over, put}
 use Rattle.octets.proofs.Memory.{put-over, over-length}
 use Rattle.rfc4737.specs.Judge.{arrivalsFrom}
 use Rattle.sample.specs.Format.{itemOctets}
-use Rattle.textlog.specs.Form.{lineOf, logOf}
+use Rattle.textlog.specs.Form.{arrivalLine, logOf}
 use Rattle.textlog.proofs.WrittenLines.{log-part, log-next, long-next, log-all}
 use Rattle.textlog.proofs.writing.put_lines.Statement.{statement}
 use Rattle.textlog.proofs.writing.put_lines.Tie as tie
@@ -37,7 +37,7 @@ entry c = c .before .before .before .before
 -- the next line ends within the log
 room : (c : tie.In-loop Inv-loop μ-loop) → let a = entry (c .before) .args in
     let i = c .before .loop .i in
-    c .before .loop .at + length (lineOf (record { number = getD (now (a .numbers)) i 0; time = getD (now (a .times)) i 0 }))
+    c .before .loop .at + length (arrivalLine (record { number = getD (now (a .numbers)) i 0; time = getD (now (a .times)) i 0 }))
     ≤ length (now (a .out))
 room c =
     let a = entry (c .before) .args in
@@ -71,7 +71,7 @@ loop-again c =
     let p = entry (head (c .before .before .before)) .pre in
     let l = head (c .before .before .before) .loop in
     let t = c .before .before .before .before .before .before .loop-test .taken in
-    let x = lineOf (record { number = getD (now (a .numbers)) (l .i) 0; time = getD (now (a .times)) (l .i) 0 }) in
+    let x = arrivalLine (record { number = getD (now (a .numbers)) (l .i) 0; time = getD (now (a .times)) (l .i) 0 }) in
     let n = long-next (now (a .numbers)) (now (a .times)) (p .0) (l .i) t in
     let e = log-next (now (a .numbers)) (now (a .times)) (p .0) (l .i) t in
     let written = logOf (take (l .i) (arrivalsFrom (now (a .numbers)) (now (a .times)))) in
