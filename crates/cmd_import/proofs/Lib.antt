@@ -1,2 +1,2 @@
--- Laws of the sample file of a text log, or of records.
+-- Laws of the sample file of a text log or of records.
 mod Sampled

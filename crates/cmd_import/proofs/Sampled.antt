@@ -1,10 +1,10 @@
--- The sample file of a log or of records. Lists of 4,096 places are long enough, so the refusal of an import is the input's own
--- (`lines-refusal`, of the decoded lines of a log, and `records-refusal`); where nothing is refused it has been accepted, K is in its
--- range, and the first places hold its arrivals, since they were written over the start (`lines-hold`, `records-hold`). What is answered:
--- the input's refusal (`convert-refused`), or that of the sample's writer, which of K sizes of one size refuses nothing but the label
--- where nothing of K and the lists is refused (`label-decides`), and writes the file of the sample (`convert-written`).
--- Here k is K, ds are decoded lines, y the answer of the import, f that it is so, numbers′ and times′ the lists after it; l are the
--- arrivals, out and out′ the lent octets before and after. Assumes nothing.
+-- The sample file of a log or of records. Lists of 4,096 places have room for any sample, so the refusal of an import is the input's own
+-- (`lines-refusal`, `records-refusal`). If nothing is refused, K is in its range and the lists begin with the arrivals, which were written
+-- over their start (`holds-filled`). Together: `lines-imported`, by the decoded lines of a log of any kind, and `records-imported`.
+-- The program's answer is the input's refusal (`convert-refused`) or that of `sample::write`. With K equal sizes, and nothing refused of K and
+-- the lists, `sample::write` refuses nothing but the label (`label-decides`), and writes the file of the sample (`convert-written`).
+-- k is K, ds are decoded lines, os the octets of records, y the answer of the import, f the contract of the import, numbers′ and times′ the
+-- lists after it; l are the arrivals, out and out′ the caller's buffer before and after. Assumes nothing.
 use Prim.Native.Nat.{ℕ, zero, suc, _≤_}
 use native.Mathlib.Omega.{arith}
 use mathlib.Core.Path.{_≡_, refl, sym, ap, _∙_, subst}
@@ -13,7 +13,7 @@ use lib.ListN.{length, take, replicate, length-map, length-replicate}
 use Rattle.octets.specs.Memory.{over}
 use Rattle.octets.proofs.Memory.{over-first}
 use Rattle.rfc4737.specs.declared.Arrival.{Arrival}
-use Rattle.rfc4737.specs.Judge.{arrivalsMost, numbersOf, timesOf, arrivalsFrom, refusalOfLists}
+use Rattle.rfc4737.specs.Judge.{sentMost, numbersOf, timesOf, arrivalsFrom, refusalOfLists}
 use Rattle.rfc4737.specs.Refusals.{firstRefusal}
 use Rattle.rfc4737.proofs.Pairs.{arrivals-back}
 use Rattle.sample.specs.Format.{fileOf}
@@ -32,7 +32,9 @@ use Rattle.owamp.specs.Calls.{importedArrivals, RecordsImportedFrom}
 use Rattle.owamp.specs.declared.RecordsImport.{RecordsImport}
 use Rattle.owamp.proofs.Accepted.{accepted-lists as records-accepted}
 use Rattle.owamp.proofs.Answers.{none-refused, import-room as records-room}
-use Rattle.cmd_import.specs.Convert.{labelledSample, convertRefusal, ConvertedTo, Holds}
+use Rattle.cmd_import.specs.Convert.{inputRefusal, inputArrivals, RoomForAny, Holds, ImportedTo, labelledSample, convertRefusal, ConvertedTo}
+use Rattle.cmd_import.specs.declared.convert.Kind.{Kind}
+use Rattle.cmd_import.specs.declared.convert.Kind.the-variants.{Records}
 
 -- ---- what is imported
 
@@ -42,48 +44,52 @@ take-equal zero n size h = refl
 take-equal (suc k) zero size h = absurd (omega arith)
 take-equal (suc k) (suc n) size h = ap (λ (l : List ℕ). size ∷ l) (take-equal k n size (omega arith))
 
-module _ (k : ℕ) (ds : List DecodedLine) (numbers times : List ℕ) (y : LogImport) (numbers′ times′ : List ℕ)
-    (f : LinesImported k ds numbers times y numbers′ times′) (n : arrivalsMost ≤ length numbers) (t : arrivalsMost ≤ length times) where
-  -- where there are places for 4,096 arrivals, the refusal is that of the lines
-  pub lines-refusal : y .refusal ≡ judgeDecoded k ds .refusal
-  lines-refusal = f .refusal ∙ import-room k (length numbers) (length times) ds n t
+-- lists over which the values of accepted arrivals were written hold these arrivals
+holds-filled : {k arrivals : ℕ} {numbers′ times′ : List ℕ} (refusal : ℕ) (l : List Arrival) (numbers times : List ℕ)
+    → k ≤ sentMost → refusalOfLists k (numbersOf l) (timesOf l) ≡ 0 → arrivals ≡ ifNone refusal (length l) 0
+    → numbers′ ≡ ifNone refusal (over (numbersOf l) numbers) numbers → times′ ≡ ifNone refusal (over (timesOf l) times) times
+    → refusal ≡ 0 → Holds k arrivals numbers′ times′ l
+holds-filled {k} {arrivals} refusal l numbers times most judged a n t z =
+    let many : arrivals ≡ length l = a ∙ ap (λ (r : ℕ). ifNone r (length l) 0) z in
+    record {
+      sent = most;
+      inNumbers =
+          over-first (numbersOf l) numbers (many ∙ sym (length-map l _)) (n ∙ ap (λ (r : ℕ). ifNone r (over (numbersOf l) numbers) numbers) z);
+      inTimes = over-first (timesOf l) times (many ∙ sym (length-map l _)) (t ∙ ap (λ (r : ℕ). ifNone r (over (timesOf l) times) times) z);
+      judged = judged;
+    }
 
-  -- and where nothing is refused, the first places hold their arrivals
-  pub lines-hold : y .refusal ≡ 0 → Holds k (y .arrivals) numbers′ times′ (arrivalsOfLines ds)
+module _ (k : ℕ) (ds : List DecodedLine) {numbers times : List ℕ} {y : LogImport} {numbers′ times′ : List ℕ}
+    (f : LinesImported k ds numbers times y numbers′ times′) (room : RoomForAny numbers times) where
+  -- with room for any sample, the refusal is that of the lines
+  lines-refusal : y .refusal ≡ judgeDecoded k ds .refusal
+  lines-refusal = f .refusal ∙ import-room k (length numbers) (length times) ds (room .inNumbers) (room .inTimes)
+
+  -- and where nothing is refused, the lists begin with their arrivals
+  lines-hold : y .refusal ≡ 0 → Holds k (y .arrivals) numbers′ times′ (arrivalsOfLines ds)
   lines-hold z =
       let none : judgeDecoded k ds .refusal ≡ 0 = sym lines-refusal ∙ z in
-      let many : y .arrivals ≡ length (arrivalsOfLines ds) = f .arrivals ∙ ap (λ (r : ℕ). ifNone r (length (arrivalsOfLines ds)) 0) z in
-      record {
-        sent = accepted-decoded k ds none .most;
-        inNumbers =
-            over-first (numbersOf (arrivalsOfLines ds)) numbers (many ∙ sym (length-map (arrivalsOfLines ds) _))
-            (f .filledNumbers ∙ ap (λ (r : ℕ). ifNone r (over (numbersOf (arrivalsOfLines ds)) numbers) numbers) z);
-        inTimes =
-            over-first (timesOf (arrivalsOfLines ds)) times (many ∙ sym (length-map (arrivalsOfLines ds) _))
-            (f .filledTimes ∙ ap (λ (r : ℕ). ifNone r (over (timesOf (arrivalsOfLines ds)) times) times) z);
-        judged = accepted-lists k ds none;
-      }
+      holds-filled (y .refusal) (arrivalsOfLines ds) numbers times (accepted-decoded k ds none .most) (accepted-lists k ds none) (f .arrivals) (f .filledNumbers) (f .filledTimes) z
 
-module _ (k : ℕ) (os numbers times : List ℕ) (y : RecordsImport) (numbers′ times′ : List ℕ)
-    (f : RecordsImportedFrom k os numbers times y numbers′ times′) (n : arrivalsMost ≤ length numbers) (t : arrivalsMost ≤ length times) where
-  -- where there are places for 4,096 arrivals, the refusal is the records' own
-  pub records-refusal : y .refusal ≡ recordsRefusal k os
-  records-refusal = f .refusal ∙ records-room k (length numbers) (length times) os n t
+  -- the import of a log of a kind, whose decoded lines these are
+  pub lines-imported : (kind : Kind) (input : List ℕ) → judgeDecoded k ds .refusal ≡ inputRefusal kind k input → arrivalsOfLines ds ≡ inputArrivals kind input
+      → ImportedTo kind k input y numbers′ times′
+  lines-imported kind input e a = record { refusal = lines-refusal ∙ e; holds = λ z. rw (← a) (lines-hold z) }
 
-  -- and where nothing is refused, the first places hold their arrivals
-  pub records-hold : y .refusal ≡ 0 → Holds k (y .arrivals) numbers′ times′ (importedArrivals os)
-  records-hold z =
-      let none : recordsRefusal k os ≡ 0 = sym records-refusal ∙ z in
-      let many : y .arrivals ≡ length (importedArrivals os) = f .arrivals ∙ ap (λ (r : ℕ). ifNone r (length (importedArrivals os)) 0) z in
+module _ (k : ℕ) (os : List ℕ) {numbers times : List ℕ} {y : RecordsImport} {numbers′ times′ : List ℕ}
+    (f : RecordsImportedFrom k os numbers times y numbers′ times′) (room : RoomForAny numbers times) where
+  -- with room for any sample, the refusal is the records' own
+  records-refusal : y .refusal ≡ recordsRefusal k os
+  records-refusal = f .refusal ∙ records-room k (length numbers) (length times) os (room .inNumbers) (room .inTimes)
+
+  -- the import of records
+  pub records-imported : ImportedTo Records k os (record { refusal = y .refusal; arrivals = y .arrivals }) numbers′ times′
+  records-imported =
       record {
-        sent = none-refused k os none .most;
-        inNumbers =
-            over-first (numbersOf (importedArrivals os)) numbers (many ∙ sym (length-map (importedArrivals os) _))
-            (f .filledNumbers ∙ ap (λ (r : ℕ). ifNone r (over (numbersOf (importedArrivals os)) numbers) numbers) z);
-        inTimes =
-            over-first (timesOf (importedArrivals os)) times (many ∙ sym (length-map (importedArrivals os) _))
-            (f .filledTimes ∙ ap (λ (r : ℕ). ifNone r (over (timesOf (importedArrivals os)) times) times) z);
-        judged = records-accepted k os none .lists;
+        refusal = records-refusal;
+        holds = λ z.
+            let none : recordsRefusal k os ≡ 0 = sym records-refusal ∙ z in
+            holds-filled (y .refusal) (importedArrivals os) numbers times (none-refused k os none .most) (records-accepted k os none .lists) (f .arrivals) (f .filledNumbers) (f .filledTimes) z;
       }
 
 -- ---- what is answered

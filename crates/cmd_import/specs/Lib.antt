@@ -1,3 +1,3 @@
--- What the program does with its arguments and with a log.
+-- What the program makes of its arguments and of its input.
 pub mod Arguments
 pub mod Convert

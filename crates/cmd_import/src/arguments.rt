@@ -1,17 +1,17 @@
-// The arguments of the program that are numbers in decimal.
+// Reads the arguments that are decimal numbers.
 ghost use mathlib.Core.Path.{_≡_};
 ghost use Rattle.cmd_import.specs.Arguments.{argumentIn};
 
-// The greatest number that an argument may be.
-const MOST: u64 = 4_294_967_295;
+// The greatest number that an argument may be: 2^32 - 1.
+const MAX_NUMBER: u64 = 4_294_967_295;
 
-// What an argument gives: its number, or that it is none, or too great.
+// An argument as a number; `Bad` if it is not a decimal number or too great.
 pub(crate) enum Argument {
     Given(u32),
     Bad,
 }
 
-// The number that a word is in decimal.
+// Reads a word as a decimal number.
 pub(crate) fn argument_in(word: &[u8]) -> Argument
     ensures { λ r. ⌜ r ≡ argumentIn (now (word .entry)) ⌝ }
 {
@@ -23,7 +23,7 @@ pub(crate) fn argument_in(word: &[u8]) -> Argument
     if number.end < word.len() {
         return Argument::Bad;
     }
-    if MOST < value {
+    if MAX_NUMBER < value {
         return Argument::Bad;
     }
     Argument::Given(value as u32)

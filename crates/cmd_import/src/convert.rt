@@ -1,24 +1,55 @@
-// A text log or OWAMP records made into a sample file: a label, K payload sizes of one size, and the arrivals.
+// Makes a sample file of a text log or of OWAMP records: the label, K payload sizes that are all the same, and the arrivals.
 ghost use mathlib.Core.List.{List};
 ghost use mathlib.Core.Path.{_≡_};
 ghost use Rattle.rfc4737.specs.declared.Arrival.{Arrival};
-ghost use Rattle.textlog.specs.Decode.{judgeLog, logArrivals};
-ghost use Rattle.shortnumbers.specs.Number.{rangeOf};
-ghost use Rattle.shortlog.specs.Found.{judgeShortLog, foundArrivals};
-ghost use Rattle.owamp.specs.Judge.{recordsRefusal};
-ghost use Rattle.owamp.specs.Calls.{importedArrivals};
-ghost use Rattle.cmd_import.specs.Convert.{Holds, ConvertedTo};
+ghost use Rattle.cmd_import.specs.Convert.{Holds, RoomForAny, ImportedTo, ConvertedTo, inputRefusal, inputArrivals};
 use rfc4737::judge::ARRIVALS_MOST;
 use sample::WriteAnswer;
 use textlog::LogImport;
 
-// The places of each list: as many as a sample may have packets, and arrivals.
-const PLACES: usize = ARRIVALS_MOST as usize;
+// The length of each list: a sample has at most 4,096 packets and as many arrivals.
+const LIST_LENGTH: usize = ARRIVALS_MOST as usize;
 
-// Writes the sample file of arrivals that stand in the first places of two lists from the start of `out`, unless their import was
-// refused.
+// The kind of input.
+pub(crate) enum Kind {
+    // A text log.
+    Log,
+    // A text log of short sequence numbers, of 8 or 10 bits.
+    Log8,
+    Log10,
+    // OWAMP packet records.
+    Records,
+}
+
+// Fills `numbers` and `times` with the arrivals of the input.
+fn import_lists(
+    kind: Kind,
+    input: &[u8],
+    k: u32,
+    numbers: &mut [u32],
+    times: &mut [u64],
+) -> LogImport
+    requires { ⌜ RoomForAny (now numbers) (now times) ⌝ }
+    ensures { λ r. ⌜ ImportedTo kind k (now (input .entry)) r (now (numbers .exit)) (now (times .exit)) ⌝ }
+{
+    match kind {
+        Kind::Log => textlog::import(input, k, numbers, times),
+        Kind::Log8 => shortlog::import_8(input, k, numbers, times),
+        Kind::Log10 => shortlog::import_10(input, k, numbers, times),
+        Kind::Records => {
+            let records = owamp::import(input, k, numbers, times);
+            LogImport {
+                refusal: records.refusal,
+                arrivals: records.arrivals,
+            }
+        }
+    }
+}
+
+// Writes the sample file of the first `imported.arrivals` entries of both lists to the start of `out`. If the import was refused,
+// returns its refusal and leaves `out` unchanged.
 fn convert_lists(
-    found: LogImport,
+    imported: LogImport,
     label: &[u8],
     k: u32,
     size: u16,
@@ -26,85 +57,34 @@ fn convert_lists(
     times: &[u64],
     out: &mut [u8],
 ) -> WriteAnswer
-    requires { ⌜ (found .refusal ≡ 0 → (l : List Arrival) × Holds k (found .arrivals) (now numbers) (now times) l) ⌝ }
-    ensures { λ r. ⌜ ((l : List Arrival) → (found .refusal ≡ 0 → Holds k (found .arrivals) (now (numbers .entry)) (now (times .entry)) l) → ConvertedTo (found .refusal) (now (label .entry)) k size l (now (out .entry)) r (now (out .exit))) ⌝ }
+    requires { ⌜ (imported .refusal ≡ 0 → (l : List Arrival) × Holds k (imported .arrivals) (now numbers) (now times) l) ⌝ }
+    ensures { λ r. ⌜ ((l : List Arrival) → (imported .refusal ≡ 0 → Holds k (imported .arrivals) (now (numbers .entry)) (now (times .entry)) l) → ConvertedTo (imported .refusal) (now (label .entry)) k size l (now (out .entry)) r (now (out .exit))) ⌝ }
 {
-    if found.refusal != 0 {
+    if imported.refusal != 0 {
         return WriteAnswer {
-            refusal: found.refusal,
+            refusal: imported.refusal,
             length: 0,
         };
     }
-    let sizes = [size; PLACES];
+    let sizes = [size; LIST_LENGTH];
     let sent = k as usize;
-    let n = found.arrivals as usize;
+    let n = imported.arrivals as usize;
     sample::write(label, &sizes[..sent], &numbers[..n], &times[..n], out)
 }
 
-// Writes the sample file of a log from the start of `out`. With a refusal `out` stays as it was.
-pub(crate) fn convert_log(
-    log: &[u8],
+// Writes the sample file of the input to the start of `out`. If anything is refused, `out` stays unchanged.
+pub(crate) fn convert(
+    kind: Kind,
+    input: &[u8],
     label: &[u8],
     k: u32,
     size: u16,
     out: &mut [u8],
 ) -> WriteAnswer
-    ensures { λ r. ⌜ ConvertedTo (judgeLog k (now (log .entry)) .refusal) (now (label .entry)) k size (logArrivals (now (log .entry))) (now (out .entry)) r (now (out .exit)) ⌝ }
+    ensures { λ r. ⌜ ConvertedTo (inputRefusal kind k (now (input .entry))) (now (label .entry)) k size (inputArrivals kind (now (input .entry))) (now (out .entry)) r (now (out .exit)) ⌝ }
 {
-    let mut numbers = [0u32; PLACES];
-    let mut times = [0u64; PLACES];
-    let found = textlog::import(log, k, &mut numbers, &mut times);
-    convert_lists(found, label, k, size, &numbers, &times, out)
-}
-
-// The same of a log of short numbers of 8 bits.
-pub(crate) fn convert_log_8(
-    log: &[u8],
-    label: &[u8],
-    k: u32,
-    size: u16,
-    out: &mut [u8],
-) -> WriteAnswer
-    ensures { λ r. ⌜ ConvertedTo (judgeShortLog (rangeOf 8) k (now (log .entry)) .refusal) (now (label .entry)) k size (foundArrivals (rangeOf 8) (now (log .entry))) (now (out .entry)) r (now (out .exit)) ⌝ }
-{
-    let mut numbers = [0u32; PLACES];
-    let mut times = [0u64; PLACES];
-    let found = shortlog::import_8(log, k, &mut numbers, &mut times);
-    convert_lists(found, label, k, size, &numbers, &times, out)
-}
-
-// The same of a log of short numbers of 10 bits.
-pub(crate) fn convert_log_10(
-    log: &[u8],
-    label: &[u8],
-    k: u32,
-    size: u16,
-    out: &mut [u8],
-) -> WriteAnswer
-    ensures { λ r. ⌜ ConvertedTo (judgeShortLog (rangeOf 10) k (now (log .entry)) .refusal) (now (label .entry)) k size (foundArrivals (rangeOf 10) (now (log .entry))) (now (out .entry)) r (now (out .exit)) ⌝ }
-{
-    let mut numbers = [0u32; PLACES];
-    let mut times = [0u64; PLACES];
-    let found = shortlog::import_10(log, k, &mut numbers, &mut times);
-    convert_lists(found, label, k, size, &numbers, &times, out)
-}
-
-// The same of OWAMP records.
-pub(crate) fn convert_records(
-    records: &[u8],
-    label: &[u8],
-    k: u32,
-    size: u16,
-    out: &mut [u8],
-) -> WriteAnswer
-    ensures { λ r. ⌜ ConvertedTo (recordsRefusal k (now (records .entry))) (now (label .entry)) k size (importedArrivals (now (records .entry))) (now (out .entry)) r (now (out .exit)) ⌝ }
-{
-    let mut numbers = [0u32; PLACES];
-    let mut times = [0u64; PLACES];
-    let taken = owamp::import(records, k, &mut numbers, &mut times);
-    let found = LogImport {
-        refusal: taken.refusal,
-        arrivals: taken.arrivals,
-    };
-    convert_lists(found, label, k, size, &numbers, &times, out)
+    let mut numbers = [0u32; LIST_LENGTH];
+    let mut times = [0u64; LIST_LENGTH];
+    let imported = import_lists(kind, input, k, &mut numbers, &mut times);
+    convert_lists(imported, label, k, size, &numbers, &times, out)
 }

@@ -1,4 +1,4 @@
-// What is refused, in words: the words of the refusal, or what is wrong with a line of a log.
+// Says in words why an input is refused: the words of the refusal or, of a malformed line, what is wrong with it.
 use line_faults::LineFault;
 use line_faults::line_fault;
 use program::write_number;
@@ -26,7 +26,7 @@ fn write_fault(fault: LineFault) -> bool {
     }
 }
 
-// Writes why line n of a log, counted from 1, is refused.
+// Writes why line `n` of a log is refused. Lines count from 1.
 fn write_line_refusal(refusal: u32, log: &[u8], n: u32) {
     write_word(b" at line ");
     write_number(n as u64);
@@ -40,7 +40,7 @@ fn write_line_refusal(refusal: u32, log: &[u8], n: u32) {
     }
 }
 
-// Writes the refusal of an input in words, with the line that is refused, if one is: another number than 0.
+// Writes the refusal of an input in words. `line` is the first refused line, or 0 if the refusal is not about a line.
 pub(crate) fn write_refusal(refusal: u32, input: &[u8], line: u32) {
     write_word(b"refused ");
     write_number(refusal as u64);

@@ -1,66 +1,37 @@
-// The import program: reads a supplier's text log, or OWAMP records, on standard input, and writes its sample file on standard
-// output. Its arguments are the kind of input, the label of the sample, K and the payload size of all packets. The kind is `log`, or
-// `log8` or `log10` for a log whose sequence numbers are only their lowest bits, or `records`.
-// Where there is no sample it writes one line of text instead, which can't be taken for a sample: a sample begins with the
-// octet 0.
+// The import program: reads a supplier's text log or OWAMP records on standard input and writes the sample file on standard output.
+// Its arguments are the kind of input, the label of the sample, K, and the payload size of all packets. The kind is `log`, `log8` or
+// `log10` for a log with only the lowest 8 or 10 bits of each sequence number, or `records`.
+// If there is no sample, it writes one line of text instead. This line can't be taken for a sample, which begins with the octet 0.
 mod arguments;
 mod convert;
 mod faults;
 
 use arguments::Argument;
 use arguments::argument_in;
-use convert::convert_log;
-use convert::convert_log_8;
-use convert::convert_log_10;
-use convert::convert_records;
+use convert::Kind;
+use convert::convert;
 use faults::write_refusal;
 use program::argument_is;
 use program::read_input;
 use program::write_first;
 use program::write_word;
-use sample::WriteAnswer;
 
-// The most octets of the input: 64 for each of 4,096 lines, or some 10,000 records.
-const MOST_OCTETS: usize = 262_144;
+// The greatest length of the input: 4,096 lines of 64 octets, or some 10,000 records.
+const MAX_INPUT: usize = 262_144;
 
-// The places of the arguments.
-const KIND_PLACE: usize = 1;
+// The indices of the arguments.
+const KIND_INDEX: usize = 1;
 
-const LABEL_PLACE: usize = 2;
+const LABEL_INDEX: usize = 2;
 
-const K_PLACE: usize = 3;
+const K_INDEX: usize = 3;
 
-const SIZE_PLACE: usize = 4;
+const SIZE_INDEX: usize = 4;
 
-// One octet more, so that longer input is seen to be longer.
-const INPUT_OCTETS: usize = MOST_OCTETS + 1;
+// One octet more, so that input that is too long is noticed.
+const INPUT_OCTETS: usize = MAX_INPUT + 1;
 
-// The kind of input.
-enum Kind {
-    Log,
-    Log8,
-    Log10,
-    Records,
-}
-
-// Makes the sample file of the input.
-fn convert_input(
-    kind: Kind,
-    input: &[u8],
-    label: &[u8],
-    k: u32,
-    size: u16,
-    out: &mut [u8],
-) -> WriteAnswer {
-    match kind {
-        Kind::Log => convert_log(input, label, k, size, out),
-        Kind::Log8 => convert_log_8(input, label, k, size, out),
-        Kind::Log10 => convert_log_10(input, label, k, size, out),
-        Kind::Records => convert_records(input, label, k, size, out),
-    }
-}
-
-// The line of the input that is refused, or 0 where none is, or where the input has no lines.
+// Returns the first refused line of the input, or 0 if no line is refused. Records have no lines.
 fn refused_line(kind: Kind, input: &[u8], k: u32) -> u32 {
     match kind {
         Kind::Log => textlog::refused_line(input, k),
@@ -70,10 +41,10 @@ fn refused_line(kind: Kind, input: &[u8], k: u32) -> u32 {
     }
 }
 
-// Writes the sample file of the input, or the refusal.
+// Writes the sample file of the input, or its refusal.
 fn write_sample(kind: Kind, input: &[u8], label: &[u8], k: u32, size: u16) {
     let mut out = [0u8; sample::LONGEST];
-    let converted = convert_input(kind, input, label, k, size, &mut out);
+    let converted = convert(kind, input, label, k, size, &mut out);
     if converted.refusal != 0 {
         let line = refused_line(kind, input, k);
         write_refusal(converted.refusal, input, line);
@@ -82,52 +53,52 @@ fn write_sample(kind: Kind, input: &[u8], label: &[u8], k: u32, size: u16) {
     write_first(&out, converted.length as usize);
 }
 
-// Takes the label, reads the input whole, and writes its sample file.
+// Takes the label, reads the whole input and writes its sample file.
 fn import(kind: Kind, k: u32, size: u16) {
     let mut label = io::buffer();
-    let m = os::arg(LABEL_PLACE, &mut label);
+    let m = os::arg(LABEL_INDEX, &mut label);
     let mut room = [0u8; INPUT_OCTETS];
     let input = read_input(&mut room);
-    if MOST_OCTETS < input.len() {
+    if MAX_INPUT < input.len() {
         write_word(b"the input has over 262144 octets\n");
         return;
     }
     write_sample(kind, input, &label[..m], k, size);
 }
 
-// An argument by its place.
-fn argument(place: usize) -> Argument {
+// Reads the argument at an index as a number.
+fn argument(index: usize) -> Argument {
     let mut word = [0u8; 32];
-    let n = os::arg(place, &mut word);
+    let n = os::arg(index, &mut word);
     argument_in(&word[..n])
 }
 
-// Says that an argument is no payload size.
+// Says that the argument is no payload size.
 fn write_no_size() {
     write_word(b"the payload size is no number from 0 to 65535\n");
 }
 
-// The kind of input that the argument at a place names.
-fn kind_at(place: usize) -> Kind {
-    if argument_is(place, b"records") {
+// Returns the kind of input that the argument at an index names; any other word means a text log.
+fn kind_at(index: usize) -> Kind {
+    if argument_is(index, b"records") {
         return Kind::Records;
     }
-    if argument_is(place, b"log8") {
+    if argument_is(index, b"log8") {
         return Kind::Log8;
     }
-    if argument_is(place, b"log10") {
+    if argument_is(index, b"log10") {
         return Kind::Log10;
     }
     Kind::Log
 }
 
-// Takes K and the payload size, and imports.
+// Reads K and the payload size, and imports.
 fn import_kind(kind: Kind) {
-    let Argument::Given(k) = argument(K_PLACE) else {
+    let Argument::Given(k) = argument(K_INDEX) else {
         write_word(b"K is no number from 0 to 4294967295\n");
         return;
     };
-    let Argument::Given(size) = argument(SIZE_PLACE) else {
+    let Argument::Given(size) = argument(SIZE_INDEX) else {
         write_no_size();
         return;
     };
@@ -138,7 +109,7 @@ fn import_kind(kind: Kind) {
     import(kind, k, size as u16);
 }
 
-// Takes the arguments, and imports.
+// Checks the number of arguments, and imports.
 fn main() {
     if os::arg_count() != 5 {
         write_word(
@@ -146,5 +117,5 @@ fn main() {
         );
         return;
     }
-    import_kind(kind_at(KIND_PLACE));
+    import_kind(kind_at(KIND_INDEX));
 }

@@ -1,7 +1,6 @@
--- `cmd_import::convert::convert_lists` meets its contract: a refused import is answered as it is; else K is at most 4,096 and the
--- lists hold the arrivals in their first places, so these parts can be taken, and `write` is given them with the first K of equal
--- sizes (`convert-written`). n is the place in the code where nothing is refused, w that after `write`, l are the arrivals. Assumes
--- nothing.
+-- `cmd_import::convert::convert_lists` meets its contract: the refusal of the import is returned as it is. If there is none, K is at most
+-- 4,096 and the lists begin with the arrivals, so the parts that `write` takes lie within the lists (`convert-written`). n is the place in
+-- the code where nothing is refused, w the place after `write`, l are the arrivals. Assumes nothing.
 use mathlib.Core.Path.{sym, ap, _∙_}
 use borrow.Author.Needs.{needs}
 use lib.ListN.{length, length-replicate}
