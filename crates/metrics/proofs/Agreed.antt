@@ -21,7 +21,7 @@ use Rattle.metrics.specs.Report.{sampleText}
 use Rattle.metrics.specs.Records.{FileLayout}
 use Rattle.metrics.specs.Private.Taken.{Agreed}
 use Rattle.metrics.specs.declared.SampleAgreement.{SampleAgreement}
-use Rattle.metrics.specs.declared.line_agreement.Part.{Part}
+use Rattle.metrics.specs.declared.report.line_agreement.Part.{Part}
 use Rattle.metrics.proofs.Common.{eqb-same, common-le, common-part, common-after, same-common}
 
 -- ---- lines

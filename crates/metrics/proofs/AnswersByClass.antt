@@ -37,8 +37,8 @@ use Rattle.metrics.specs.Sample.{sizeOf, sampleArrivals}
 use Rattle.sample.specs.Places.{noArrival}
 use Rattle.metrics.specs.Records.{arrivalAt, before, answerAt, FileLayout, HasRecord}
 use Rattle.metrics.specs.Private.Tables.{NumberTable, Packets, RecordTable, EngineTables, classBy, answerBy, ClassOf, IfLate}
-use Rattle.metrics.specs.declared.kind.Class.{Class}
-use Rattle.metrics.specs.declared.seen.State.{State}
+use Rattle.metrics.specs.declared.engine.kind.Class.{Class}
+use Rattle.metrics.specs.declared.engine.seen.State.{State}
 use Rattle.metrics.proofs.TablesFollow.{before-count, before-length, arrived-recorded, new-recorded}
 use Rattle.metrics.proofs.Records.{record-none, record-some, has-at, first-at}
 use Rattle.metrics.proofs.Reordered.{found}

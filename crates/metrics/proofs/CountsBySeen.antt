@@ -34,7 +34,7 @@ use Rattle.metrics.specs.Sample.{sizeOf}
 use Rattle.metrics.specs.Records.{arrivalAt, before, answerAt, answersTo, HasRecord, numberPlaces}
 use Rattle.metrics.specs.Private.Tables.{answerBy, ClassOf}
 use Rattle.metrics.specs.Private.Steps.{kindBy}
-use Rattle.metrics.specs.declared.kind.Class.{Class}
+use Rattle.metrics.specs.declared.engine.kind.Class.{Class}
 use Rattle.metrics.proofs.TablesFollow.{before-more}
 use Rattle.metrics.proofs.OneArrivalMore.{answers-next, counts-more}
 

@@ -23,9 +23,9 @@ use Rattle.metrics.specs.Records.{arrivalAt, before, HasRecord, numberPl
 use Rattle.metrics.specs.Private.Tables.{NumberTable, EngineTables, Links, LinkTable, NotedRecord, classBy, IfLate}
 use Rattle.metrics.specs.Private.Engine.{SizeTree, FillInput, EngineState}
 use Rattle.metrics.specs.declared.engine.Engine.{Engine}
-use Rattle.metrics.specs.declared.kind.Class.{Class}
-use Rattle.metrics.specs.declared.seen.State.{State}
-use Rattle.metrics.specs.declared.byte_offset.Totals.{Totals}
+use Rattle.metrics.specs.declared.engine.kind.Class.{Class}
+use Rattle.metrics.specs.declared.engine.seen.State.{State}
+use Rattle.metrics.specs.declared.engine.byte_offset.Totals.{Totals}
 use Rattle.metrics.proofs.TablesFollow.{before-more}
 use Rattle.metrics.proofs.AnswersByClass.{packets, late-told}
 use Rattle.metrics.proofs.OneArrivalMore.{follows-start}

@@ -4,7 +4,7 @@
 -- is the difference of two positions of which the second is greater (`neighbour-below`), so it is not 0, and its number tells it
 -- (`gaps-tell`).
 -- Here l and m are arrivals or answers, s is a packet's number, d the decoded file, y its layout, i the records before, n the first
--- arrivals among them, p a position, q its neighbour, found the table of discoverers, old and new the list before and now. Assumes
+-- arrivals among them, p a position, q its neighbour, discoverers the table of discoverers, old and new the list before and now. Assumes
 -- nothing.
 use mathlib.Core.Path.{_≡_, refl, sym, ap, _∙_}
 use mathlib.Core.Bool.{Bool, true, false, cond}
@@ -124,16 +124,16 @@ recorded-all d y records h r =
 -- ---- the last discontinuity
 
 -- before the next position
-pub last-prior : (found : List ℕ) (n p last : ℕ) → last ≡ lastTo found n → p ≡ n + 1 → last ≡ lastTo found (p - 1)
-last-prior found n p last e k = let q : n ≡ p - 1 = omega arith in e ∙ ap (lastTo found) q
+pub last-prior : (discoverers : List ℕ) (n p last : ℕ) → last ≡ lastTo discoverers n → p ≡ n + 1 → last ≡ lastTo discoverers (p - 1)
+last-prior discoverers n p last e k = let q : n ≡ p - 1 = omega arith in e ∙ ap (lastTo discoverers) q
 
 -- it stays where the next position is none
-pub last-stays : (found : List ℕ) (n p last : ℕ) → last ≡ lastTo found n → p ≡ n + 1 → getD found p 0 ≡ 0 → last ≡ lastTo found p
-last-stays found n p last e k z = last-prior found n p last e k ∙ sym (last-before found p (omega arith) z)
+pub last-stays : (discoverers : List ℕ) (n p last : ℕ) → last ≡ lastTo discoverers n → p ≡ n + 1 → getD discoverers p 0 ≡ 0 → last ≡ lastTo discoverers p
+last-stays discoverers n p last e k z = last-prior discoverers n p last e k ∙ sym (last-before discoverers p (omega arith) z)
 
 -- and else is that position
-pub last-moves : (found : List ℕ) (p : ℕ) → (p ≡ 0 → ⊥) → (getD found p 0 ≡ 0 → ⊥) → p ≡ lastTo found p
-last-moves found p h z = sym (last-here found p (omega (arith, h)) z)
+pub last-moves : (discoverers : List ℕ) (p : ℕ) → (p ≡ 0 → ⊥) → (getD discoverers p 0 ≡ 0 → ⊥) → p ≡ lastTo discoverers p
+last-moves discoverers p h z = sym (last-here discoverers p (omega (arith, h)) z)
 
 -- the first arrivals after a copy
 pub count-same : (n p : ℕ) → p ≡ 0 → n ≡ countAfter n p

@@ -20,7 +20,7 @@ use Rattle.sample.specs.declared.Layout.{Layout}
 use Rattle.sample.specs.Decode.{Decoded}
 use Rattle.metrics.specs.Records.{arrivalAt, before, HasRecord}
 use Rattle.metrics.specs.Private.Tables.{Filled, EngineTables, LinkTable, NextRecord, NotedRecord}
-use Rattle.metrics.specs.declared.seen.State.{State}
+use Rattle.metrics.specs.declared.engine.seen.State.{State}
 use Rattle.metrics.proofs.TablesFollow.{kept-copy, kept-reordered, kept-in-order, arrived-recorded, new-recorded, before-more, before-length}
 use Rattle.metrics.proofs.Links.{linked-set, linked-in-order}
 

@@ -5,7 +5,7 @@
 -- answer that is no reordered packet's leaves the table (`marked-same`), and a reordered packet's changes it at its own discontinuity, and
 -- only where 0 stands there (`marked-late`); that discontinuity is at one of the positions (`inside-told`).
 -- Here d is the decoded file, y its layout, i the records before, n the first arrivals among them, k the class, l some answers, a the next
--- one, found the table, m that it has the discoverers of l, at the position of a discontinuity and p any position. Assumes nothing.
+-- one, discoverers the table, m that it has the discoverers of l, at the position of a discontinuity and p any position. Assumes nothing.
 use mathlib.Core.Path.{_≡_, refl, sym, ap, _∙_}
 use mathlib.Core.Bool.{Bool, true, false, cond, not, true≢false}
 use mathlib.Core.List.{List, [], _∷_, _++_}
@@ -33,8 +33,8 @@ use Rattle.metrics.specs.Sample.{sizeOf, sampleArrivals, answersOf}
 use Rattle.metrics.specs.Records.{arrivalAt, before, answerAt, answersTo, FileLayout, HasRecord, numberPlaces}
 use Rattle.metrics.specs.Private.Tables.{EngineTables, ClassOf, IfLate}
 use Rattle.metrics.specs.Private.Steps.{DiscoverersAt, known}
-use Rattle.metrics.specs.declared.kind.Class.{Class}
-use Rattle.metrics.specs.declared.seen.State.{State}
+use Rattle.metrics.specs.declared.engine.kind.Class.{Class}
+use Rattle.metrics.specs.declared.engine.seen.State.{State}
 use Rattle.metrics.proofs.TablesFollow.{arrivals-laid, before-more, before-length}
 use Rattle.metrics.proofs.AnswersByClass.{late-place}
 
@@ -139,7 +139,7 @@ unfolding discoverer
 discoverer-more p [] a = refl
 discoverer-more p (b ∷ l) a = own-first p b (discoverer p l) (discoverer p (l ++ (a ∷ []))) _ (discoverer-more p l a)
 
--- nothing more is found
+-- nothing more is discoverers
 keep : (o : Option ℕ) → first-of o none ≡ o
 keep none = refl
 keep (some q) = refl
@@ -155,8 +155,8 @@ discoverer-same p l a e = discoverer-more p l a ∙ go a e (discoverer p l)
     go (Answer.Reordered f) e o = absurd (true≢false e)
 
 -- a table of discoverers stays under an answer that is no reordered packet's
-pub marked-same : (l : List Answer) (a : Answer) (found : List ℕ) → isReordered a ≡ false → DiscoverersAt l found → DiscoverersAt (l ++ (a ∷ [])) found
-marked-same l a found e m = record { places = m .places; at = λ p low high. m .at p low high ∙ sym (discoverer-same p l a e) }
+pub marked-same : (l : List Answer) (a : Answer) (discoverers : List ℕ) → isReordered a ≡ false → DiscoverersAt l discoverers → DiscoverersAt (l ++ (a ∷ [])) discoverers
+marked-same l a discoverers e m = record { places = m .places; at = λ p low high. m .at p low high ∙ sym (discoverer-same p l a e) }
 
 -- a number that is not 0 stands for itself
 pub known-some : (p : ℕ) → (p ≡ 0 → ⊥) → known p ≡ some p
@@ -164,52 +164,52 @@ known-some zero h = absurd (h refl)
 known-some (suc p) h = refl
 
 -- under a reordered packet's answer the discontinuity at `at` has its position, if it had none
-module _ (l : List Answer) (a : Answer) (found : List ℕ) (at position : ℕ) (m : DiscoverersAt l found) (low : 1 ≤ at) (high : at ≤ sentMost) (one : position ≡ 0 → ⊥)
+module _ (l : List Answer) (a : Answer) (discoverers : List ℕ) (at position : ℕ) (m : DiscoverersAt l discoverers) (low : 1 ≤ at) (high : at ≤ sentMost) (one : position ≡ 0 → ⊥)
     (mine : (p : ℕ) → cond (belongsTo p a) (positionOf a) none ≡ cond (eqb at p) (some position) none) where
   -- the discoverer at each position
   now-found : (p : ℕ) → discoverer p (l ++ (a ∷ [])) ≡ first-of (discoverer p l) (cond (eqb at p) (some position) none)
   now-found p = discoverer-more p l a ∙ ap (first-of (discoverer p l)) (mine p)
 
   -- the table has it
-  at-more : (p : ℕ) → 1 ≤ p → p ≤ sentMost → known (getD (cond (eqb (getD found at 0) 0) (set found at position) found) p 0) ≡ discoverer p (l ++ (a ∷ []))
-  at-more p lo hi = go (eqb (getD found at 0) 0) refl (eqb at p) refl (discoverer p l) (m .at p lo hi) ∙ sym (now-found p)
+  at-more : (p : ℕ) → 1 ≤ p → p ≤ sentMost → known (getD (cond (eqb (getD discoverers at 0) 0) (set discoverers at position) discoverers) p 0) ≡ discoverer p (l ++ (a ∷ []))
+  at-more p lo hi = go (eqb (getD discoverers at 0) 0) refl (eqb at p) refl (discoverer p l) (m .at p lo hi) ∙ sym (now-found p)
     where
-      go : (z : Bool) → eqb (getD found at 0) 0 ≡ z → (t : Bool) → eqb at p ≡ t → (o : Option ℕ) → known (getD found p 0) ≡ o
-          → known (getD (cond z (set found at position) found) p 0) ≡ first-of o (cond t (some position) none)
+      go : (z : Bool) → eqb (getD discoverers at 0) 0 ≡ z → (t : Bool) → eqb at p ≡ t → (o : Option ℕ) → known (getD discoverers p 0) ≡ o
+          → known (getD (cond z (set discoverers at position) discoverers) p 0) ≡ first-of o (cond t (some position) none)
       go z ez false et o eo = ap known (other z) ∙ eo ∙ sym (keep o)
         where
-          other : (z : Bool) → getD (cond z (set found at position) found) p 0 ≡ getD found p 0
-          other true = getD-set-other found at p position 0 (λ q. eqb-false at p et (sym q))
+          other : (z : Bool) → getD (cond z (set discoverers at position) discoverers) p 0 ≡ getD discoverers p 0
+          other true = getD-set-other discoverers at p position 0 (λ q. eqb-false at p et (sym q))
           other false = refl
       go true ez true et (some r) eo =
           let here : at ≡ p = eqb-true at p et in
-          let none-here : known (getD found p 0) ≡ none = ap known (rw here at (eqb-true (getD found at 0) 0 ez)) in
+          let none-here : known (getD discoverers p 0) ≡ none = ap known (rw here at (eqb-true (getD discoverers at 0) 0 ez)) in
           absurd (Option·some-ne-none r (sym eo ∙ none-here))
       go false ez true et (some r) eo = eo
       go true ez true et none eo =
           let here : at ≡ p = eqb-true at p et in
-          rw (← here, getD-set-same found at position 0 (omega (arith, m .places))) (known-some position one)
+          rw (← here, getD-set-same discoverers at position 0 (omega (arith, m .places))) (known-some position one)
       go false ez true et none eo =
           let here : at ≡ p = eqb-true at p et in
-          let some-here = known-some (getD found p 0) (rw here at (eqb-false (getD found at 0) 0 ez)) in
+          let some-here = known-some (getD discoverers p 0) (rw here at (eqb-false (getD discoverers at 0) 0 ez)) in
           absurd (Option·some-ne-none _ (sym some-here ∙ eo))
 
   -- the table keeps its places
-  places-more : length (cond (eqb (getD found at 0) 0) (set found at position) found) ≡ numberPlaces
-  places-more = go (eqb (getD found at 0) 0)
+  places-more : length (cond (eqb (getD discoverers at 0) 0) (set discoverers at position) discoverers) ≡ numberPlaces
+  places-more = go (eqb (getD discoverers at 0) 0)
     where
-      go : (z : Bool) → length (cond z (set found at position) found) ≡ numberPlaces
-      go true = length-set found at position ∙ m .places
+      go : (z : Bool) → length (cond z (set discoverers at position) discoverers) ≡ numberPlaces
+      go true = length-set discoverers at position ∙ m .places
       go false = m .places
 
   -- so it is a table of the discoverers
-  marked-more : DiscoverersAt (l ++ (a ∷ [])) (cond (eqb (getD found at 0) 0) (set found at position) found)
+  marked-more : DiscoverersAt (l ++ (a ∷ [])) (cond (eqb (getD discoverers at 0) 0) (set discoverers at position) discoverers)
   marked-more = record { places = places-more; at = at-more }
 
 -- the table of discoverers under a reordered packet after n first arrivals
-pub marked-late : (l : List Answer) (a : Answer) (found : List ℕ) (n at : ℕ) → ClassOf n (Class.Reordered at) a → (1 ≤ at) × (at ≤ n) → n ≤ sentMost
-    → DiscoverersAt l found → DiscoverersAt (l ++ (a ∷ [])) (cond (eqb (getD found at 0) 0) (set found at (n + 1)) found)
+pub marked-late : (l : List Answer) (a : Answer) (discoverers : List ℕ) (n at : ℕ) → ClassOf n (Class.Reordered at) a → (1 ≤ at) × (at ≤ n) → n ≤ sentMost
+    → DiscoverersAt l discoverers → DiscoverersAt (l ++ (a ∷ [])) (cond (eqb (getD discoverers at 0) 0) (set discoverers at (n + 1)) discoverers)
 unfolding belongsTo positionOf
-marked-late l a found n at k inside few m =
+marked-late l a discoverers n at k inside few m =
     let e : n + 1 - (n + 1 - at) ≡ at = omega (arith, inside) in
-    marked-more l a found at (n + 1) m (inside .0) (omega (arith, inside)) (λ z. omega (arith, z)) (λ p. rw (k .is, e))
+    marked-more l a discoverers at (n + 1) m (inside .0) (omega (arith, inside)) (λ z. omega (arith, z)) (λ p. rw (k .is, e))

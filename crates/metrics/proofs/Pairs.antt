@@ -25,7 +25,7 @@ use Rattle.sums.specs.Tree.{Added, sumTo}
 use Rattle.sums.proofs.Summed.{summed-none, summed-more, sum-summed}
 use Rattle.sample.specs.Places.{noArrival}
 use Rattle.metrics.specs.Private.Engine.{SizeTree}
-use Rattle.metrics.specs.declared.byte_offset.Totals.{Totals}
+use Rattle.metrics.specs.declared.engine.byte_offset.Totals.{Totals}
 
 -- a packet is above number 2k if its pair is above k
 pair-above : (k s : ℕ) → ltb (k * 2) s ≡ ltb k ((s + 1) / 2)

@@ -26,8 +26,8 @@ use Rattle.metrics.specs.Report.{sampleText}
 use Rattle.metrics.specs.Sample.{answersOf}
 use Rattle.metrics.specs.Records.{arrivalAt, answerAt, answersTo, FileLayout, HasRecord}
 use Rattle.metrics.specs.Private.Taken.{Agreed, LineRoom, Taken, linesTo, PassedTo, PassEnded}
-use Rattle.metrics.specs.declared.line_agreement.Part.{Part}
-use Rattle.metrics.specs.declared.listing_pass.PassResult.{PassResult}
+use Rattle.metrics.specs.declared.report.line_agreement.Part.{Part}
+use Rattle.metrics.specs.declared.report.listing_pass.PassResult.{PassResult}
 use Rattle.metrics.proofs.OneArrivalMore.{answers-end}
 use Rattle.metrics.proofs.Common.{common-le, line-read}
 use Rattle.metrics.proofs.Listed.{lines-start, lines-next, lines-end, Rest, lines-rest}

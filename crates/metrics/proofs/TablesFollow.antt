@@ -31,7 +31,7 @@ use Rattle.metrics.specs.Sample.{sampleArrivals}
 use Rattle.sample.specs.Places.{noArrival}
 use Rattle.metrics.specs.Records.{arrivalAt, before, FileLayout, HasRecord}
 use Rattle.metrics.specs.Private.Tables.{Filled, NumberTable, RecordTable, EngineTables}
-use Rattle.metrics.specs.declared.seen.State.{State}
+use Rattle.metrics.specs.declared.engine.seen.State.{State}
 use Rattle.metrics.proofs.Records.{record-none, record-some}
 
 -- ---- filling

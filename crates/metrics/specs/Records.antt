@@ -34,13 +34,13 @@ abbrev pub answersTo : Decoded → ℕ → List Answer
 answersTo d i = answers (sizeOf d) (before d i)
 
 -- the layout of a file: what is known of its sample besides
-pub record FileLayout (d : Decoded) (y : Layout) : Type 0 where
-  pub laid : y ≡ layoutOf d
-  pub sentFew : y .sent ≤ sentMost
-  pub few : y .arrivals ≤ arrivalsMost
-  pub numbers : (i : ℕ) → i < y .arrivals → (1 ≤ arrivalAt d i .number) × (arrivalAt d i .number ≤ y .sent)
+pub record FileLayout (d : Decoded) (layout : Layout) : Type 0 where
+  pub laid : layout ≡ layoutOf d
+  pub sentFew : layout .sent ≤ sentMost
+  pub few : layout .arrivals ≤ arrivalsMost
+  pub numbers : (i : ℕ) → i < layout .arrivals → (1 ≤ arrivalAt d i .number) × (arrivalAt d i .number ≤ layout .sent)
 
 -- a file of this layout has a record i + 1
-pub record HasRecord (d : Decoded) (y : Layout) (i : ℕ) : Type 0 where
-  pub file : FileLayout d y
-  pub inside : i < y .arrivals
+pub record HasRecord (d : Decoded) (layout : Layout) (i : ℕ) : Type 0 where
+  pub file : FileLayout d layout
+  pub inside : i < layout .arrivals

@@ -7,15 +7,22 @@ ghost use Rattle.sample.specs.Decode.{decode};
 ghost use Rattle.metrics.specs.Records.{HasRecord, arrivalAt, answerAt};
 ghost use Rattle.metrics.specs.Private.Tables.{ClassOf};
 ghost use Rattle.metrics.specs.Private.Engine.{EngineState};
-use crate::byte_offset::Totals;
-use crate::byte_offset::late_figures;
-use crate::kind::Class;
-use crate::kind::answer_by;
-use crate::kind::class_of;
-use crate::seen::FIRSTS;
-use crate::seen::PLACES;
-use crate::seen::State;
-use crate::seen::note;
+
+pub(crate) mod byte_offset;
+pub(crate) mod input;
+pub(crate) mod kind;
+pub(crate) mod largest_n;
+pub(crate) mod seen;
+
+use crate::engine::byte_offset::Totals;
+use crate::engine::byte_offset::late_figures;
+use crate::engine::kind::Class;
+use crate::engine::kind::answer_by;
+use crate::engine::kind::class_of;
+use crate::engine::seen::MAX_FIRST_ARRIVALS;
+use crate::engine::seen::PACKET_TABLE_LEN;
+use crate::engine::seen::State;
+use crate::engine::seen::note;
 use rfc4737::Answer;
 use rfc4737::Arrival;
 use sample::Layout;
@@ -49,16 +56,16 @@ pub(crate) struct EngineAnswer {
 // Advances by record i + 1, which is this arrival.
 pub(crate) fn advance(
     file: &[u8],
-    y: Layout,
+    layout: Layout,
     i: u32,
     arrival: Arrival,
-    numbers: &mut [u16; FIRSTS],
-    records: &mut [u16; PLACES],
-    skipped: &mut [u16; PLACES],
+    numbers: &mut [u16; MAX_FIRST_ARRIVALS],
+    records: &mut [u16; PACKET_TABLE_LEN],
+    skipped: &mut [u16; PACKET_TABLE_LEN],
     tree: &mut [u32],
     engine: Engine,
 ) -> EngineAnswer
-    requires { ⌜ HasRecord (decode (now file)) y i × (arrival ≡ arrivalAt (decode (now file)) i)
+    requires { ⌜ HasRecord (decode (now file)) layout i × (arrival ≡ arrivalAt (decode (now file)) i)
         × EngineState (decode (now file)) i (now numbers) (now records) (now skipped) (now tree) engine ⌝ }
     ensures { λ r. ⌜ (r .answer ≡ answerAt (decode (now (file .entry))) i) × ClassOf (engine .noted .count) (r .class) (answerAt (decode (now (file .entry))) i)
         × EngineState (decode (now (file .entry))) (i + 1) (now (numbers .exit)) (now (records .exit)) (now (skipped .exit)) (now (tree .exit)) (r .engine) ⌝ }
@@ -68,9 +75,9 @@ pub(crate) fn advance(
     let number = arrival.number;
     let count = noted.count;
     let class = class_of(records, skipped, noted.next, number);
-    let found = late_figures(
+    let late = late_figures(
         file,
-        y,
+        layout,
         numbers,
         skipped,
         tree,
@@ -79,21 +86,21 @@ pub(crate) fn advance(
         totals,
         class,
     );
-    let largest = found.largest;
+    let largest = late.largest;
     let answer = answer_by(
         file,
-        y,
+        layout,
         i,
         arrival,
         numbers,
         records,
         count,
         class,
-        found.offset,
+        late.offset,
         largest,
     );
     let after = note(numbers, records, skipped, i, number, largest as u16, noted);
-    let filled = found.totals;
+    let filled = late.totals;
     EngineAnswer {
         answer,
         class,

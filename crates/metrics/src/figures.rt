@@ -16,16 +16,23 @@ ghost use Rattle.metrics.specs.Sample.{sizeOf, sampleArrivals, answersOf
 ghost use Rattle.metrics.specs.Records.{FileLayout, numberPlaces};
 ghost use Rattle.metrics.specs.Private.Tables.{Links, ClassOf, IfLate};
 ghost use Rattle.metrics.specs.Private.Steps.{kindBy, reachedBy, sharesOf, ShareTables};
+
+pub(crate) mod answers;
+pub(crate) mod gaps;
+pub(crate) mod needs;
+pub(crate) mod quotients;
+pub(crate) mod rows;
+
 use crate::TALLY_MOST;
 use crate::TALLY_PLACES;
-use crate::input;
-use crate::kind::Class;
-use crate::kind::class_of;
-use crate::largest_n::largest_by_links;
-use crate::seen::FIRSTS;
-use crate::seen::PLACES;
-use crate::seen::note;
-use crate::seen::start_state;
+use crate::engine::input;
+use crate::engine::kind::Class;
+use crate::engine::kind::class_of;
+use crate::engine::largest_n::largest_by_links;
+use crate::engine::seen::MAX_FIRST_ARRIVALS;
+use crate::engine::seen::PACKET_TABLE_LEN;
+use crate::engine::seen::note;
+use crate::engine::seen::start_state;
 use rfc4737::Counts;
 use rfc4737::Runs;
 use sample::Layout;
@@ -88,7 +95,7 @@ pub(crate) fn counts_after(c: Counts, class: Class) -> Counts
 
 // The class of an arrival of this number, without its figures, by the packets that have arrived and NextExp. A packet that has
 // arrived is below NextExp, so the table is asked for those below alone.
-fn kind_of(seen: &[bool; PLACES], next: u32, number: u32) -> Class
+fn kind_of(seen: &[bool; PACKET_TABLE_LEN], next: u32, number: u32) -> Class
     requires { ⌜ (number ≤ sentMost) × (next ≤ number → getD (now seen) number false ≡ false) ⌝ }
     ensures { λ r. ⌜ r ≡ kindBy (now (seen .entry)) next number ⌝ }
 {
@@ -114,16 +121,16 @@ fn next_after(next: u32, number: u32) -> u32
 }
 
 // The counts of a sample.
-pub(crate) fn counts_of(file: &[u8], y: Layout) -> Counts
-    requires { ⌜ FileLayout (decode (now file)) y ⌝ }
+pub(crate) fn counts_of(file: &[u8], layout: Layout) -> Counts
+    requires { ⌜ FileLayout (decode (now file)) layout ⌝ }
     ensures { λ r. ⌜ r ≡ counts (answersOf (decode (now (file .entry)))) ⌝ }
 {
-    let mut seen = [false; PLACES];
+    let mut seen = [false; PACKET_TABLE_LEN];
     let mut next: u32 = 1;
     let mut c = no_counts();
     let mut i: u32 = 0;
-    while i < y.arrivals {
-        let number = input::number_of(file, y, i);
+    while i < layout.arrivals {
+        let number = input::number_of(file, layout, i);
         let class = kind_of(&seen, next, number);
         c = counts_after(c, class);
         let at = number as usize;
@@ -145,35 +152,35 @@ fn tally_place(extent: u32) -> usize
 }
 
 // Tallies the next arrival, after `count` first arrivals.
-fn tally_after(t: &mut [u32; TALLY_PLACES], count: u32, class: Class)
-    requires { ⌜ (length (now t) ≡ tallyPlaces) × ((k : ℕ) → getD (now t) k 0 ≤ arrivalsMost) × (count ≤ sentMost) × IfLate (λ (at : ℕ). (1 ≤ at) × (at ≤ count)) class ⌝ }
-    ensures { λ _. ⌜ ((a : Answer) → ClassOf count class a → now (t .exit) ≡ tallyAfter (now (t .entry)) a) ⌝ }
+fn tally_after(tally: &mut [u32; TALLY_PLACES], count: u32, class: Class)
+    requires { ⌜ (length (now tally) ≡ tallyPlaces) × ((k : ℕ) → getD (now tally) k 0 ≤ arrivalsMost) × (count ≤ sentMost) × IfLate (λ (at : ℕ). (1 ≤ at) × (at ≤ count)) class ⌝ }
+    ensures { λ _. ⌜ ((a : Answer) → ClassOf count class a → now (tally .exit) ≡ tallyAfter (now (tally .entry)) a) ⌝ }
 {
     match class {
         Class::Duplicate(_) => return,
         Class::InOrder(_) => return,
         Class::Reordered(at) => {
             let place = tally_place(count + 1 - at);
-            t[place] = t[place] + 1;
+            tally[place] = tally[place] + 1;
         }
     }
 }
 
 // The extent tally of a sample.
-pub(crate) fn tally_of(file: &[u8], y: Layout) -> [u32; TALLY_PLACES]
-    requires { ⌜ FileLayout (decode (now file)) y ⌝ }
+pub(crate) fn tally_of(file: &[u8], layout: Layout) -> [u32; TALLY_PLACES]
+    requires { ⌜ FileLayout (decode (now file)) layout ⌝ }
     ensures { λ r. ⌜ r ≡ tally (answersOf (decode (now (file .entry)))) ⌝ }
 {
-    let mut numbers = [0u16; FIRSTS];
-    let mut records = [0u16; PLACES];
-    let mut skipped = [0u16; PLACES];
-    let mut t = [0u32; TALLY_PLACES];
+    let mut numbers = [0u16; MAX_FIRST_ARRIVALS];
+    let mut records = [0u16; PACKET_TABLE_LEN];
+    let mut skipped = [0u16; PACKET_TABLE_LEN];
+    let mut tally = [0u32; TALLY_PLACES];
     let mut state = start_state();
     let mut i: u32 = 0;
-    while i < y.arrivals {
-        let number = input::number_of(file, y, i);
+    while i < layout.arrivals {
+        let number = input::number_of(file, layout, i);
         let class = class_of(&records, &skipped, state.next, number);
-        tally_after(&mut t, state.count, class);
+        tally_after(&mut tally, state.count, class);
         state = note(
             &mut numbers,
             &mut records,
@@ -185,7 +192,7 @@ pub(crate) fn tally_of(file: &[u8], y: Layout) -> [u32; TALLY_PLACES]
         );
         i += 1;
     }
-    t
+    tally
 }
 
 // Of the arrivals taken: how many are first arrivals, the reordered packets, the n-reordered ones for a low and for a
@@ -212,33 +219,33 @@ fn n_reordered_after(n: u32, most: u32, part: u32) -> u32
 // The shares after the next arrival, of this number. A copy leaves them and the tables; any other packet is linked by its
 // largest n, which is 0 if it is in order.
 fn shares_after(
-    numbers: &mut [u16; FIRSTS],
-    links: &mut [u16; PLACES],
+    numbers: &mut [u16; MAX_FIRST_ARRIVALS],
+    links: &mut [u16; PACKET_TABLE_LEN],
     low: u32,
     high: u32,
     number: u32,
-    t: Shares,
+    shares: Shares,
 ) -> Shares
-    requires { ⌜ (number ≤ sentMost) × (t .whole < sentMost) × (t .reordered < arrivalsMost) × (t .low < arrivalsMost) × (t .high < arrivalsMost)
-        × (length (now numbers) ≡ sentMost) × (length (now links) ≡ numberPlaces) × Links 0 (now numbers) (now links) (t .whole) ⌝ }
+    requires { ⌜ (number ≤ sentMost) × (shares .whole < sentMost) × (shares .reordered < arrivalsMost) × (shares .low < arrivalsMost) × (shares .high < arrivalsMost)
+        × (length (now numbers) ≡ sentMost) × (length (now links) ≡ numberPlaces) × Links 0 (now numbers) (now links) (shares .whole) ⌝ }
     ensures { λ r. ⌜ ((size : ℕ → ℕ) (l : List Arrival) (a : Arrival) → a .number ≡ number
-        → ShareTables low high size l (now (numbers .entry)) (now (links .entry)) t
+        → ShareTables low high size l (now (numbers .entry)) (now (links .entry)) shares
         → ShareTables low high size (l ++ (a ∷ [])) (now (numbers .exit)) (now (links .exit)) r) ⌝ }
 {
     let at = number as usize;
     if links[at] != 0 {
-        return t;
+        return shares;
     }
-    let count = t.whole;
+    let count = shares.whole;
     let place = count as usize;
-    if t.next <= number {
+    if shares.next <= number {
         links[at] = 1;
         numbers[place] = number as u16;
         return Shares {
             whole: count + 1,
-            reordered: t.reordered,
-            low: t.low,
-            high: t.high,
+            reordered: shares.reordered,
+            low: shares.low,
+            high: shares.high,
             next: number + 1,
         };
     }
@@ -247,21 +254,21 @@ fn shares_after(
     numbers[place] = number as u16;
     Shares {
         whole: count + 1,
-        reordered: t.reordered + 1,
-        low: n_reordered_after(low, largest, t.low),
-        high: n_reordered_after(high, largest, t.high),
-        next: t.next,
+        reordered: shares.reordered + 1,
+        low: n_reordered_after(low, largest, shares.low),
+        high: n_reordered_after(high, largest, shares.high),
+        next: shares.next,
     }
 }
 
 // The shares of a sample: one pass, with two tables, the numbers of the first arrivals in order of position and, by
 // packet number, 1 and its largest n (0 where it has not arrived).
-pub(crate) fn shares_of(file: &[u8], y: Layout, low: u32, high: u32) -> Shares
-    requires { ⌜ FileLayout (decode (now file)) y ⌝ }
+pub(crate) fn shares_of(file: &[u8], layout: Layout, low: u32, high: u32) -> Shares
+    requires { ⌜ FileLayout (decode (now file)) layout ⌝ }
     ensures { λ r. ⌜ r ≡ sharesOf low high (sizeOf (decode (now (file .entry)))) (sampleArrivals (decode (now (file .entry)))) ⌝ }
 {
-    let mut numbers = [0u16; FIRSTS];
-    let mut links = [0u16; PLACES];
+    let mut numbers = [0u16; MAX_FIRST_ARRIVALS];
+    let mut links = [0u16; PACKET_TABLE_LEN];
     let mut shares = Shares {
         whole: 0,
         reordered: 0,
@@ -270,8 +277,8 @@ pub(crate) fn shares_of(file: &[u8], y: Layout, low: u32, high: u32) -> Shares
         next: 1,
     };
     let mut i: u32 = 0;
-    while i < y.arrivals {
-        let number = input::number_of(file, y, i);
+    while i < layout.arrivals {
+        let number = input::number_of(file, layout, i);
         shares = shares_after(&mut numbers, &mut links, low, high, number, shares);
         i += 1;
     }

@@ -18,44 +18,30 @@ ghost use Rattle.metrics.specs.Report.{sampleText, ListedTo};
 ghost use Rattle.metrics.specs.Moved.{ClockMoved};
 ghost use Rattle.metrics.specs.Agreement.{sampleAgreement};
 
-mod answers;
-mod byte_offset;
-mod compare;
 mod engine;
 mod figures;
-mod gaps;
-mod input;
-mod kind;
-mod largest_n;
-mod line_agreement;
-mod lines;
-mod listing_pass;
-mod needs;
-mod quotients;
 mod report;
-mod rows;
-mod seen;
 
-use answers::answer_of;
-use answers::asked_refusal;
-use compare::compare_listing;
-use compare::same_text;
+use engine::input::checked_layout;
+use figures::answers::answer_of;
+use figures::answers::asked_refusal;
 use figures::counts_of;
+use figures::gaps::gap_of;
+use figures::gaps::put_gaps;
+use figures::needs::needs_of;
+use figures::quotients::ratio_of;
+use figures::quotients::ratios_of;
+use figures::rows::put_rows;
+use figures::rows::rows_short;
 use figures::shares_of;
 use figures::tally_of;
-use gaps::gap_of;
-use gaps::put_gaps;
-use input::layout;
-use needs::needs_of;
-use quotients::ratio_of;
-use quotients::ratios_of;
+use report::compare::compare_listing;
+use report::compare::same_text;
 use report::listing_refusal;
 use report::write_listing;
 use rfc4737::Measure;
 use rfc4737::refusal::NONE;
 use rfc4737::refusal::OUTPUT_SHORT;
-use rows::put_rows;
-use rows::rows_short;
 use sample::Layout;
 use sample::WriteAnswer;
 use sample::refused_layout;
@@ -148,18 +134,18 @@ pub fn answer(file: &[u8], asked: u32) -> RecordAnswer
     ensures discontinuity { λ _. ⌜ ReorderedHaveDiscontinuity ⌝ }
     ensures offsets { λ _. ⌜ OffsetsBounded ⌝ }
 {
-    let y = layout(file);
-    answer_of(file, y, asked)
+    let layout = checked_layout(file);
+    answer_of(file, layout, asked)
 }
 
 // The counts of a sample: one pass, O(A + K).
 pub fn counts(file: &[u8]) -> SampleCounts
     ensures { λ r. ⌜ r ≡ sampleCounts (decode (now (file .entry))) ⌝ }
 {
-    let y = layout(file);
+    let layout = checked_layout(file);
     SampleCounts {
-        refusal: y.refusal,
-        counts: counts_of(file, y),
+        refusal: layout.refusal,
+        counts: counts_of(file, layout),
     }
 }
 
@@ -167,10 +153,10 @@ pub fn counts(file: &[u8]) -> SampleCounts
 pub fn tally(file: &[u8]) -> SampleTally
     ensures { λ r. ⌜ r ≡ sampleTally (decode (now (file .entry))) ⌝ }
 {
-    let y = layout(file);
-    let tally = tally_of(file, y);
+    let layout = checked_layout(file);
+    let tally = tally_of(file, layout);
     SampleTally {
-        refusal: y.refusal,
+        refusal: layout.refusal,
         tally,
     }
 }
@@ -179,8 +165,8 @@ pub fn tally(file: &[u8]) -> SampleTally
 pub fn gap(file: &[u8], asked: u32) -> RecordGap
     ensures { λ r. ⌜ r ≡ recordGap (decode (now (file .entry))) asked ⌝ }
 {
-    let y = layout(file);
-    gap_of(file, y, asked)
+    let layout = checked_layout(file);
+    gap_of(file, layout, asked)
 }
 
 // The two counts of which the degree of n-reordering is made: one pass, O(A + K). In it all searches for a largest n take
@@ -188,8 +174,8 @@ pub fn gap(file: &[u8], asked: u32) -> RecordGap
 pub fn n_reordered(file: &[u8], n: u32) -> DegreeCounts
     ensures { λ r. ⌜ r ≡ degreeCounts (decode (now (file .entry))) n ⌝ }
 {
-    let y = layout(file);
-    let refusal = asked_refusal(y.refusal, 1, DEGREE_MOST, n);
+    let layout = checked_layout(file);
+    let refusal = asked_refusal(layout.refusal, 1, DEGREE_MOST, n);
     if refusal != NONE {
         return DegreeCounts {
             refusal,
@@ -197,7 +183,7 @@ pub fn n_reordered(file: &[u8], n: u32) -> DegreeCounts
             arrived: 0,
         };
     }
-    let shares = shares_of(file, y, n, n);
+    let shares = shares_of(file, layout, n, n);
     DegreeCounts {
         refusal,
         reordered: shares.low,
@@ -220,10 +206,10 @@ pub fn degree(file: &[u8], n: u32) -> SampleDegree
 pub fn ratios(file: &[u8]) -> SampleRatios
     ensures { λ r. ⌜ r ≡ sampleRatios (decode (now (file .entry))) ⌝ }
 {
-    let y = layout(file);
-    let shares = shares_of(file, y, 1, 3);
+    let layout = checked_layout(file);
+    let shares = shares_of(file, layout, 1, 3);
     SampleRatios {
-        refusal: y.refusal,
+        refusal: layout.refusal,
         ratios: ratios_of(shares.reordered, shares.low, shares.high, shares.whole),
     }
 }
@@ -232,10 +218,10 @@ pub fn ratios(file: &[u8]) -> SampleRatios
 pub fn accommodated(file: &[u8], measure: Measure, size: u64) -> SampleAccommodated
     ensures { λ r. ⌜ r ≡ sampleAccommodated (decode (now (file .entry))) measure size ⌝ }
 {
-    let y = layout(file);
-    let held = needs_of(file, y, measure, size);
+    let layout = checked_layout(file);
+    let held = needs_of(file, layout, measure, size);
     SampleAccommodated {
-        refusal: y.refusal,
+        refusal: layout.refusal,
         accommodated: held.accommodated,
         arrived: held.arrived,
     }
@@ -245,10 +231,10 @@ pub fn accommodated(file: &[u8], measure: Measure, size: u64) -> SampleAccommoda
 pub fn greatest_needs(file: &[u8]) -> SampleNeeds
     ensures { λ r. ⌜ r ≡ sampleNeeds (decode (now (file .entry))) ⌝ }
 {
-    let y = layout(file);
-    let held = needs_of(file, y, Measure::Time, 0);
+    let layout = checked_layout(file);
+    let held = needs_of(file, layout, Measure::Time, 0);
     SampleNeeds {
-        refusal: y.refusal,
+        refusal: layout.refusal,
         packets: held.packets,
         octets: held.octets,
         time: held.time,
@@ -261,15 +247,15 @@ pub fn record_gaps(file: &[u8], gaps: &mut [u32]) -> Layout
     ensures { λ r. ⌜ GapsTo (decode (now (file .entry))) (now (gaps .entry)) r (now (gaps .exit)) ⌝ }
     ensures tell { λ _. ⌜ GapsTell ⌝ }
 {
-    let y = layout(file);
-    if y.refusal != NONE {
-        return y;
+    let layout = checked_layout(file);
+    if layout.refusal != NONE {
+        return layout;
     }
-    if gaps.len() < y.arrivals as usize {
+    if gaps.len() < layout.arrivals as usize {
         return refused_layout(OUTPUT_SHORT);
     }
-    put_gaps(file, y, gaps);
-    y
+    put_gaps(file, layout, gaps);
+    layout
 }
 
 // Every figure of every record, in rows of eight numbers from the start of a lent list: one pass, as that of `listing`. With a refusal,
@@ -278,15 +264,15 @@ pub fn record_rows(file: &[u8], rows: &mut [u64]) -> Layout
     ensures { λ r. ⌜ RowsTo (decode (now (file .entry))) (now (rows .entry)) r (now (rows .exit)) ⌝ }
     ensures tell { λ _. ⌜ RowsTell ⌝ }
 {
-    let y = layout(file);
-    if y.refusal != NONE {
-        return y;
+    let layout = checked_layout(file);
+    if layout.refusal != NONE {
+        return layout;
     }
-    if rows_short(y.arrivals, rows.len()) {
+    if rows_short(layout.arrivals, rows.len()) {
         return refused_layout(OUTPUT_SHORT);
     }
-    put_rows(file, y, rows);
-    y
+    put_rows(file, layout, rows);
+    layout
 }
 
 // Writes the listing of a sample at the start of `out`, if `out` has room for it; LISTING_OCTETS octets have room for any. One pass,
@@ -298,14 +284,14 @@ pub fn listing(file: &[u8], out: &mut [u8]) -> WriteAnswer
     ensures example { λ _. ⌜ ExampleHolds ⌝ }
     ensures moved { λ _. ⌜ ClockMoved (now (file .entry)) ⌝ }
 {
-    let y = layout(file);
-    let refusal = listing_refusal(file, y, out.len());
+    let layout = checked_layout(file);
+    let refusal = listing_refusal(file, layout, out.len());
     if refusal != NONE {
         return WriteAnswer { refusal, length: 0 };
     }
     WriteAnswer {
         refusal,
-        length: write_listing(file, y, out),
+        length: write_listing(file, layout, out),
     }
 }
 
@@ -315,15 +301,15 @@ pub fn agreement(file: &[u8], text: &[u8]) -> SampleAgreement
     ensures { λ r. ⌜ r ≡ sampleAgreement (decode (now (file .entry))) (now (text .entry)) ⌝ }
     ensures room { λ _. ⌜ length (sampleText (decode (now (file .entry)))) ≤ listingOctets ⌝ }
 {
-    let y = layout(file);
-    if y.refusal != NONE {
+    let layout = checked_layout(file);
+    if layout.refusal != NONE {
         return SampleAgreement {
-            refusal: y.refusal,
+            refusal: layout.refusal,
             octets: 0,
             same: false,
         };
     }
-    let part = compare_listing(file, y, text);
+    let part = compare_listing(file, layout, text);
     SampleAgreement {
         refusal: NONE,
         octets: part.octets,

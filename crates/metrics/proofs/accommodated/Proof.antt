@@ -7,7 +7,7 @@ use Rattle.metrics.proofs.accommodated.Tie as tie
 
 returns : tie.Need-returns
 unfolding sampleAccommodated needsOf
-returns c = rw (c .before .layout .ensures .laid, c .needs-of .ensures)
+returns c = rw (c .before .checked-layout .ensures .laid, c .needs-of .ensures)
 
 pub accommodated-spec : {M : Type 1} → statement M
 accommodated-spec = tie.close (tie.spec (λ c κs. search needs) (λ c κs. search needs) returns)

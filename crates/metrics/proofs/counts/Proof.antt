@@ -6,7 +6,7 @@ use Rattle.metrics.proofs.counts.Tie as tie
 
 returns : tie.Need-returns
 unfolding sampleCounts
-returns c = rw (c .before .layout .ensures .laid, c .counts-of .ensures)
+returns c = rw (c .before .checked-layout .ensures .laid, c .counts-of .ensures)
 
 pub counts-spec : {M : Type 1} → statement M
 counts-spec = tie.close (tie.spec (λ c κs. search needs) (λ c κs. search needs) returns)

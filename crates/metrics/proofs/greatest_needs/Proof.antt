@@ -8,7 +8,7 @@ use Rattle.metrics.proofs.greatest_needs.Tie as tie
 
 returns : tie.Need-returns
 unfolding sampleNeeds needsOf
-returns c = rw (c .before .layout .ensures .laid, c .needs-of .ensures)
+returns c = rw (c .before .checked-layout .ensures .laid, c .needs-of .ensures)
 
 pub greatest-needs-spec : {M : Type 1} → statement M
 greatest-needs-spec = tie.close (tie.spec (λ c κs. search needs) (λ c κs. search needs) returns)

@@ -19,13 +19,13 @@ use Rattle.metrics.proofs.listing.Statement.{statement}
 use Rattle.metrics.proofs.listing.Tie as tie
 
 -- what is carried: any listing has room in LISTING_OCTETS, the example, and moving the clock
-carries : (c : tie.After-layout)
+carries : (c : tie.After-checked-layout)
     → (length (sampleText (decode (now (c .before .before .before .args .file)))) ≤ listingOctets)
     × (ExampleHolds × ClockMoved (now (c .before .before .before .args .file)))
 carries c =
     let file = now (c .before .before .before .args .file) in
     let o = below-fits w8 file (c .before .before .shared-slice-known .given) in
-    (sample-within file (c .layout .result) (c .layout .ensures) o, (example-holds, clock-moved file o))
+    (sample-within file (c .checked-layout .result) (c .checked-layout .ensures) o, (example-holds, clock-moved file o))
 
 returns : tie.Need-returns
 returns c = (nothing-written _ _ _ _ (c .before .listing-refusal .ensures) (c .if1 .taken), carries (c .before .before))

@@ -10,7 +10,7 @@ use Rattle.metrics.proofs.ratios.Tie as tie
 returns : tie.Need-returns
 unfolding sampleRatios ratiosBy ratios share nReordered sharesOf
 returns c =
-    rw (c .ratios-of .ensures, c .before .shares-of .ensures, c .before .before .layout .ensures .laid)
+    rw (c .ratios-of .ensures, c .before .shares-of .ensures, c .before .before .checked-layout .ensures .laid)
 
 pub ratios-spec : {M : Type 1} → statement M
 ratios-spec =

@@ -6,7 +6,7 @@ use Rattle.metrics.proofs.tally.Tie as tie
 
 returns : tie.Need-returns
 unfolding sampleTally
-returns c = rw (c .before .layout .ensures .laid, c .tally-of .ensures)
+returns c = rw (c .before .checked-layout .ensures .laid, c .tally-of .ensures)
 
 pub tally-spec : {M : Type 1} → statement M
 tally-spec = tie.close (tie.spec (λ c κs. search needs) (λ c κs. search needs) returns)

@@ -13,24 +13,24 @@ use Rattle.sample.specs.Decode.{Decoded}
 use Rattle.metrics.specs.Sample.{sizeOf}
 use Rattle.metrics.specs.Records.{before, FileLayout}
 use Rattle.metrics.specs.Private.Tables.{NumberTable, Packets, EngineTables, LinkTable}
-use Rattle.metrics.specs.declared.byte_offset.Totals.{Totals}
+use Rattle.metrics.specs.declared.engine.byte_offset.Totals.{Totals}
 use Rattle.metrics.specs.declared.engine.Engine.{Engine}
 
 -- a tree has the sums of the payload sizes of the first `filled` of some first arrivals, by pairs of packets, and their total is known
-pub record SizeTree (size : ℕ → ℕ) (fs : List Arrival) (tree : List ℕ) (t : Totals) : Type 0 where
+pub record SizeTree (size : ℕ → ℕ) (fs : List Arrival) (tree : List ℕ) (totals : Totals) : Type 0 where
   pub places : length tree ≡ 2049
-  pub some : t .filled ≤ length fs
-  pub summed : Summed (λ (k : ℕ). byteOffset size (take (t .filled) fs) (k * 2)) tree
-  pub whole : t .total ≡ byteOffset size (take (t .filled) fs) 0
+  pub some : totals .filled ≤ length fs
+  pub summed : Summed (λ (k : ℕ). byteOffset size (take (totals .filled) fs) (k * 2)) tree
+  pub whole : totals .total ≡ byteOffset size (take (totals .filled) fs) 0
 
 -- first arrivals whose numbers a table has can be put into a tree
-pub record FillInput (d : Decoded) (y : Layout) (numbers tree : List ℕ) (count : ℕ) (t : Totals) : Type 0 where
-  pub file : FileLayout d y
+pub record FillInput (d : Decoded) (layout : Layout) (numbers tree : List ℕ) (count : ℕ) (totals : Totals) : Type 0 where
+  pub file : FileLayout d layout
   pub few : count ≤ sentMost
-  pub packets : Packets numbers count (y .sent)
+  pub packets : Packets numbers count (layout .sent)
   pub fs : List Arrival
   pub numbered : NumberTable fs numbers count
-  pub totalled : SizeTree (sizeOf d) fs tree t
+  pub totalled : SizeTree (sizeOf d) fs tree totals
 
 -- the tables, the tree and what is known beside them after the first i arrivals
 pub record EngineState (d : Decoded) (i : ℕ) (numbers records skipped tree : List ℕ) (engine : Engine) : Type 0 where

@@ -7,7 +7,7 @@ use Rattle.rfc4737.specs.declared.Answer.{Answer}
 use Rattle.rfc4737.specs.Runs.{arrived}
 use Rattle.rfc4737.specs.Needs.{neededBy, greatestNeed, accommodated}
 use Rattle.rfc4737.specs.declared.Measure.{Measure}
-use Rattle.metrics.specs.declared.needs.Needs.{Needs}
+use Rattle.metrics.specs.declared.figures.needs.Needs.{Needs}
 
 -- the greater of two numbers
 abbrev pub greaterOf : ℕ → ℕ → ℕ

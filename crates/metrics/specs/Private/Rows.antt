@@ -1,7 +1,7 @@
 -- A row as a list of its numbers. Assumes nothing.
 use mathlib.Core.List.{List, [], _∷_}
 use Prim.Native.Nat.{ℕ}
-use Rattle.metrics.specs.declared.rows.Row.{Row}
+use Rattle.metrics.specs.declared.figures.rows.Row.{Row}
 
 abbrev pub rowNumbers : Row → List ℕ
 rowNumbers r =

@@ -21,7 +21,7 @@ use Rattle.rfc4737.specs.Judge.{sentMost}
 use Rattle.sample.specs.Decode.{Decoded}
 use Rattle.metrics.specs.Records.{before, answerAt, numberPlaces}
 use Rattle.metrics.specs.Private.Tables.{NumberTable, LinkTable}
-use Rattle.metrics.specs.declared.kind.Class.{Class}
+use Rattle.metrics.specs.declared.engine.kind.Class.{Class}
 use Rattle.metrics.specs.declared.figures.Shares.{Shares}
 
 -- ---- counts
@@ -49,10 +49,10 @@ sharesOf low high size l =
     }
 
 -- the shares of some arrivals, the numbers of the first ones, and by packet 1 and its largest n, 0 where it has not arrived
-pub record ShareTables (low high : ℕ) (size : ℕ → ℕ) (l : List Arrival) (numbers links : List ℕ) (t : Shares) : Type 0 where
-  pub shares : t ≡ sharesOf low high size l
+pub record ShareTables (low high : ℕ) (size : ℕ → ℕ) (l : List Arrival) (numbers links : List ℕ) (counted : Shares) : Type 0 where
+  pub shares : counted ≡ sharesOf low high size l
   pub places : (length numbers ≡ sentMost) × (length links ≡ numberPlaces)
-  pub numbered : NumberTable (firsts l) numbers (t .whole)
+  pub numbered : NumberTable (firsts l) numbers (counted .whole)
   pub linked : LinkTable 0 (firsts l) links
   pub arrived : (s : ℕ) → s ≤ sentMost → eqb (getD links s 0) 0 ≡ not (has s l)
 
@@ -75,14 +75,14 @@ known zero = none
 known (suc p) = some (suc p)
 
 -- a table has at each position the discoverer of the discontinuity there, 0 where there is none
-pub record DiscoverersAt (l : List Answer) (found : List ℕ) : Type 0 where
-  pub places : length found ≡ numberPlaces
-  pub at : (p : ℕ) → 1 ≤ p → p ≤ sentMost → known (getD found p 0) ≡ discoverer p l
+pub record DiscoverersAt (l : List Answer) (discoverers : List ℕ) : Type 0 where
+  pub places : length discoverers ≡ numberPlaces
+  pub at : (p : ℕ) → 1 ≤ p → p ≤ sentMost → known (getD discoverers p 0) ≡ discoverer p l
 
 -- the last discontinuity of the table at a position from 1 to p, 0 if there is none
 unfoldable pub lastTo : List ℕ → ℕ → ℕ
-lastTo found zero = 0
-lastTo found (suc p) = cond (eqb (getD found (suc p) 0) 0) (lastTo found p) (suc p)
+lastTo discoverers zero = 0
+lastTo discoverers (suc p) = cond (eqb (getD discoverers (suc p) 0) 0) (lastTo discoverers p) (suc p)
 
 -- the first arrivals after a record of this position, 0 for a duplicate, and `count` first arrivals before it
 abbrev pub countAfter : (count position : ℕ) → ℕ

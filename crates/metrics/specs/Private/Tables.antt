@@ -15,8 +15,8 @@ use Rattle.rfc4737.specs.Extent.{discontinuity, largestN}
 use Rattle.rfc4737.specs.Judge.{sentMost, arrivalsMost}
 use Rattle.sample.specs.Places.{noArrival}
 use Rattle.metrics.specs.Records.{numberPlaces}
-use Rattle.metrics.specs.declared.kind.Class.{Class}
-use Rattle.metrics.specs.declared.seen.State.{State}
+use Rattle.metrics.specs.declared.engine.kind.Class.{Class}
+use Rattle.metrics.specs.declared.engine.seen.State.{State}
 
 -- a list after one value was put at the places from `from` to before `to`, all else as it was
 pub record Filled (from to value : ℕ) (old new : List ℕ) : Type 0 where

@@ -15,8 +15,8 @@ use Rattle.metrics.specs.Agreement.{common}
 use Rattle.metrics.specs.Report.{sampleText}
 use Rattle.metrics.specs.Sample.{answersOf}
 use Rattle.metrics.specs.Records.{before, answersTo}
-use Rattle.metrics.specs.declared.line_agreement.Part.{Part}
-use Rattle.metrics.specs.declared.listing_pass.PassResult.{PassResult}
+use Rattle.metrics.specs.declared.report.line_agreement.Part.{Part}
+use Rattle.metrics.specs.declared.report.listing_pass.PassResult.{PassResult}
 
 -- how many octets of some lines stand at a text's start, and whether all of them do
 pub record Agreed (lines text : List ℕ) (r : Part) : Type 0 where
@@ -36,13 +36,13 @@ pub record Taken (comparing : Bool) (lines text : List ℕ) (at : ℕ) (old new 
 
 -- the listing up to record i
 abbrev pub linesTo : Decoded → Layout → ℕ → List ℕ
-linesTo d y i = headerLine (y .sent) (y .arrivals) ++ recordLines (before d i) (answersTo d i)
+linesTo d layout i = headerLine (layout .sent) (layout .arrivals) ++ recordLines (before d i) (answersTo d i)
 
 -- record i is behind: the lines up to it are taken, of `at` octets together
 abbrev pub PassedTo : Decoded → Layout → List ℕ → Bool → ℕ → ℕ → List ℕ → List ℕ → Type 0
-PassedTo d y text comparing i at old new = Taken comparing (linesTo d y i) text 0 old new (record { octets = at; whole = true })
+PassedTo d layout text comparing i at old new = Taken comparing (linesTo d layout i) text 0 old new (record { octets = at; whole = true })
 
 -- all records are behind or, where a line differs, the listing is known to differ there
-pub record PassEnded (d : Decoded) (y : Layout) (text : List ℕ) (comparing : Bool) (old new : List ℕ) (r : PassResult) : Type 0 where
-  pub all : r .part .whole ≡ true → PassedTo d y text comparing (y .arrivals) (r .part .octets) old new × (r .counts ≡ counts (answersOf d))
+pub record PassEnded (d : Decoded) (layout : Layout) (text : List ℕ) (comparing : Bool) (old new : List ℕ) (r : PassResult) : Type 0 where
+  pub all : r .part .whole ≡ true → PassedTo d layout text comparing (layout .arrivals) (r .part .octets) old new × (r .counts ≡ counts (answersOf d))
   pub differs : r .part .whole ≡ false → Taken comparing (sampleText d) text 0 old new (r .part)

@@ -19,11 +19,11 @@ use Rattle.metrics.proofs.figures.counts_of.Tie as tie
 
 -- seen₀, next₀, c₀ and i₀ are the values where the loop begins, seen, next, c and i those at its head
 abbrev Inv-loop : tie.InvT-loop
-Inv-loop file y seen₀ next₀ c₀ i₀ seen next c i =
-    (i ≤ y .arrivals) × SeenPackets (before (decode file) i) seen next × (c ≡ counts (answersTo (decode file) i))
+Inv-loop file layout seen₀ next₀ c₀ i₀ seen next c i =
+    (i ≤ layout .arrivals) × SeenPackets (before (decode file) i) seen next × (c ≡ counts (answersTo (decode file) i))
 
 abbrev μ-loop : tie.MeasureT-loop
-μ-loop file y seen₀ next₀ c₀ i₀ seen next c i = y .arrivals - i
+μ-loop file layout seen₀ next₀ c₀ i₀ seen next c i = layout .arrivals - i
 
 -- ---- places: the loop's head, and the function's start
 
@@ -36,7 +36,7 @@ start l = l .before .before .before
 -- ---- a turn
 
 -- record i + 1 is there
-here : (k : tie.After-kind-of Inv-loop μ-loop) → HasRecord (decode (now (start (head k) .args .file))) (start (head k) .args .y) (head k .loop .i)
+here : (k : tie.After-kind-of Inv-loop μ-loop) → HasRecord (decode (now (start (head k) .args .file))) (start (head k) .args .layout) (head k .loop .i)
 here k = record { file = start (head k) .pre; inside = k .before .before .before .if1 .taken }
 
 -- the arrivals before it are few

@@ -18,14 +18,14 @@ use Rattle.metrics.proofs.figures.shares_of.Tie as tie
 
 -- numbers₀, links₀, shares₀ and i₀ are the values where the loop begins, numbers, links, shares and i those at its head
 abbrev Inv-loop : tie.InvT-loop
-Inv-loop file y low high numbers₀ links₀ shares₀ i₀ numbers links shares i =
-    (i ≤ y .arrivals) × ShareTables low high (sizeOf (decode file)) (before (decode file) i) numbers links shares
+Inv-loop file layout low high numbers₀ links₀ shares₀ i₀ numbers links shares i =
+    (i ≤ layout .arrivals) × ShareTables low high (sizeOf (decode file)) (before (decode file) i) numbers links shares
 
 abbrev μ-loop : tie.MeasureT-loop
-μ-loop file y low high numbers₀ links₀ shares₀ i₀ numbers links shares i = y .arrivals - i
+μ-loop file layout low high numbers₀ links₀ shares₀ i₀ numbers links shares i = layout .arrivals - i
 
 -- record i + 1 is there
-here : (c : tie.After-number-of Inv-loop μ-loop) → HasRecord (decode (now (c .before .before .before .before .before .args .file))) (c .before .before .before .before .before .args .y) (c .before .before .before .loop .i)
+here : (c : tie.After-number-of Inv-loop μ-loop) → HasRecord (decode (now (c .before .before .before .before .before .args .file))) (c .before .before .before .before .before .args .layout) (c .before .before .before .loop .i)
 here c = record { file = c .before .before .before .before .before .pre; inside = c .before .if1 .taken }
 
 loop-holds : tie.Need-loop-holds Inv-loop μ-loop

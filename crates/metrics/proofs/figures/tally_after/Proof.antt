@@ -22,20 +22,20 @@ returns-2 c = λ a k. rw (k .is, c .enum-told2 .given .1)
 sub-tally-place : tie.Need-sub-tally-place
 sub-tally-place c = let p = rw (c .before .class .given .1) at (c .before .before .before .pre .3) in omega (arith, p)
 
-mul-t : tie.Need-mul-t
-mul-t c = omega (arith, c .tally-place .ensures, place-lt (c .before .before .before .before .args .count + 1 - c .before .before .class .given .0 .0))
+mul-tally : tie.Need-mul-tally
+mul-tally c = omega (arith, c .tally-place .ensures, place-lt (c .before .before .before .before .args .count + 1 - c .before .before .class .given .0 .0))
 
-element-copy-out-t : tie.Need-element-copy-out-t
-element-copy-out-t c = omega (arith, c .tally-place .ensures, place-lt (c .before .before .before .before .args .count + 1 - c .before .before .class .given .0 .0))
+element-copy-out-tally : tie.Need-element-copy-out-tally
+element-copy-out-tally c = omega (arith, c .tally-place .ensures, place-lt (c .before .before .before .before .args .count + 1 - c .before .before .class .given .0 .0))
 
-add-t : tie.Need-add-t
-add-t c = omega (arith, c .before .before .before .before .before .pre .1 (c .before .tally-place .result))
+add-tally : tie.Need-add-tally
+add-tally c = omega (arith, c .before .before .before .before .before .pre .1 (c .before .tally-place .result))
 
-mul-t-2 : tie.Need-mul-t-2
-mul-t-2 c = omega (arith, c .before .tally-place .ensures, place-lt (c .before .before .before .before .before .args .count + 1 - c .before .before .before .class .given .0 .0))
+mul-tally-2 : tie.Need-mul-tally-2
+mul-tally-2 c = omega (arith, c .before .tally-place .ensures, place-lt (c .before .before .before .before .before .args .count + 1 - c .before .before .before .class .given .0 .0))
 
-element-write-t : tie.Need-element-write-t
-element-write-t c = omega (arith, c .before .tally-place .ensures, place-lt (c .before .before .before .before .before .args .count + 1 - c .before .before .before .class .given .0 .0))
+element-write-tally : tie.Need-element-write-tally
+element-write-tally c = omega (arith, c .before .tally-place .ensures, place-lt (c .before .before .before .before .before .args .count + 1 - c .before .before .before .class .given .0 .0))
 
 returns-3 : tie.Need-returns-3
 unfolding tallyAfter oneMoreAt
@@ -52,9 +52,9 @@ tally-after-spec =
     (λ c. search needs) (λ c. search needs)
     sub-tally-place
     (λ c κs. search needs)
-    mul-t
-    element-copy-out-t
-    add-t
-    mul-t-2
-    element-write-t
+    mul-tally
+    element-copy-out-tally
+    add-tally
+    mul-tally-2
+    element-write-tally
     returns-3)

@@ -22,11 +22,11 @@ use Rattle.metrics.proofs.figures.tally_of.Tie as tie
 
 -- numbers₀ to i₀ are the values where the loop begins, numbers to i those at its head
 abbrev Inv-loop : tie.InvT-loop
-Inv-loop file y numbers₀ records₀ skipped₀ t₀ state₀ i₀ numbers records skipped t state i =
-    (i ≤ y .arrivals) × EngineTables (before (decode file) i) numbers records skipped state × (t ≡ tally (answersTo (decode file) i))
+Inv-loop file layout numbers₀ records₀ skipped₀ t₀ state₀ i₀ numbers records skipped t state i =
+    (i ≤ layout .arrivals) × EngineTables (before (decode file) i) numbers records skipped state × (t ≡ tally (answersTo (decode file) i))
 
 abbrev μ-loop : tie.MeasureT-loop
-μ-loop file y numbers₀ records₀ skipped₀ t₀ state₀ i₀ numbers records skipped t state i = y .arrivals - i
+μ-loop file layout numbers₀ records₀ skipped₀ t₀ state₀ i₀ numbers records skipped t state i = layout .arrivals - i
 
 -- ---- places
 
@@ -39,14 +39,14 @@ start c = c .before .before .before .before .before .before
 abbrev head : tie.After-number-of Inv-loop μ-loop → tie.At-loop Inv-loop μ-loop
 head c = c .before .before .before
 
-abbrev head-of-t : tie.After-t Inv-loop μ-loop → tie.At-loop Inv-loop μ-loop
+abbrev head-of-t : tie.After-tally Inv-loop μ-loop → tie.At-loop Inv-loop μ-loop
 head-of-t c = c .before .before .before .before .before .before .before
 
-abbrev after-number-of : tie.After-t Inv-loop μ-loop → tie.After-number-of Inv-loop μ-loop
+abbrev after-number-of : tie.After-tally Inv-loop μ-loop → tie.After-number-of Inv-loop μ-loop
 after-number-of c = c .before .before .before .before
 
 -- record i + 1 is there
-here : (c : tie.After-class-of Inv-loop μ-loop) → HasRecord (decode (now (start (c .before .before .before) .args .file))) (start (c .before .before .before) .args .y) (head (c .before .before .before) .loop .i)
+here : (c : tie.After-class-of Inv-loop μ-loop) → HasRecord (decode (now (start (c .before .before .before) .args .file))) (start (c .before .before .before) .args .layout) (head (c .before .before .before) .loop .i)
 here c = record { file = start (c .before .before .before) .pre; inside = c .before .before .before .before .if1 .taken }
 
 -- its class is its answer's

@@ -24,8 +24,8 @@ ownRefusal c = decodedRefusal (decode (now (c .args .file)))
 abbrev text : tie.Start → List ℕ
 text c = sampleText (decode (now (c .args .file)))
 
-own : (c : tie.Start) → c .args .y .refusal ≡ ownRefusal c
-own c = ap (λ (y : Layout). y .refusal) (c .pre .laid)
+own : (c : tie.Start) → c .args .layout .refusal ≡ ownRefusal c
+own c = ap (λ (layout : Layout). layout .refusal) (c .pre .laid)
 
 -- ---- places in the code: the start, from where the file is not refused, and that place, from where the lines are made
 
@@ -44,7 +44,7 @@ returns-2 : tie.Need-returns-2
 returns-2 c =
     let s = start (c .before) in
     let octets = below-fits w8 (now (s .args .file)) (c .before .before .before .shared-slice-known .given) in
-    let fits : length (text s) ≤ s .args .room = omega (arith, c .if2 .taken, sample-within (now (s .args .file)) (s .args .y) (s .pre) octets) in
+    let fits : length (text s) ≤ s .args .room = omega (arith, c .if2 .taken, sample-within (now (s .args .file)) (s .args .layout) (s .pre) octets) in
     refusal-none (ownRefusal s) (text s) (s .args .room) (sym (own s) ∙ c .before .if1 .left) fits
 
 returns-3 : tie.Need-returns-3

@@ -10,7 +10,7 @@ use Rattle.octets.proofs.Below.{below-fits}
 use Rattle.octets.proofs.Memory.{over-splice}
 use Rattle.sample.specs.Decode.{decode}
 use Rattle.metrics.specs.Report.{sampleText}
-use Rattle.metrics.specs.declared.line_agreement.Part.{Part}
+use Rattle.metrics.specs.declared.report.line_agreement.Part.{Part}
 use Rattle.metrics.proofs.Listed.{sample-within}
 use Rattle.metrics.proofs.report.write_listing.Statement.{statement}
 use Rattle.metrics.proofs.report.write_listing.Tie as tie
@@ -26,7 +26,7 @@ take-all-requires c κs = (c .before .before .before .before .pre, record { room
 cast-result : tie.Need-cast-result
 cast-result c =
     let a = start (c .before .before .before .before) .args in
-    omega (arith, ap (λ (r : Part). r .octets) (c .before .before .before .take-all .ensures .listed refl .0), sample-within (now (a .file)) (a .y) (start (c .before .before .before .before) .pre) (below-fits w8 (now (a .file)) (c .before .before .before .before .before .before .before .shared-slice-known .given)))
+    omega (arith, ap (λ (r : Part). r .octets) (c .before .before .before .take-all .ensures .listed refl .0), sample-within (now (a .file)) (a .layout) (start (c .before .before .before .before) .pre) (below-fits w8 (now (a .file)) (c .before .before .before .before .before .before .before .shared-slice-known .given)))
 
 returns : tie.Need-returns
 returns c =
