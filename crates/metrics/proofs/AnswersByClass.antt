@@ -262,6 +262,29 @@ module _ (d : Decoded) (y : Layout) (i at count : ℕ) (h : HasRecord d y i) (cl
   late-answer past own offset largest elapse p o e f g =
       sym (late .answer ∙ rw (late .position, ← nums .all, ← f, ← g, ← late-time, ← p, ← o, ← e))
 
+  -- so the late time is that of the answer
+  pub late-time-of : (past own : ℕ) (elapse : LateTime)
+      → past ≡ arrivalAt d (getD records (getD numbers (at - 1) 0) 0 - 1) .time → own ≡ arrivalAt d i .time → elapse ≡ elapsed past own
+      → (f : ReorderedFigures) → Answer.Reordered f ≡ answerAt d i → elapse ≡ f .late
+  late-time-of past own elapse p o e f a =
+      let whole = late-answer past own _ _ elapse p o e refl refl in
+      sym (ap (λ (g : ReorderedFigures). g .late) (same-figures (a ∙ sym whole)))
+
+  -- an answer whose late time is known to be that of the answer is whole with the byte offset and the largest n
+  pub late-whole : (offset largest : ℕ) (elapse : LateTime) → ((f : ReorderedFigures) → Answer.Reordered f ≡ answerAt d i → elapse ≡ f .late)
+      → offset ≡ byteOffset (sizeOf d) (firsts (before d i)) (arrivalAt d i .number) → largest ≡ largestN (firsts (before d i)) (arrivalAt d i .number)
+      → Answer.Reordered (record { position = count + 1; extent = count + 1 - at; late = elapse; offset = offset; largest = largest }) ≡ answerAt d i
+  late-whole offset largest elapse e f g =
+      let whole = late-answer _ _ offset largest _ refl refl refl f g in
+      ap (λ (l : LateTime). Answer.Reordered (record { position = count + 1; extent = count + 1 - at; late = l; offset = offset; largest = largest })) (e _ whole) ∙ whole
+
+  -- the byte offset is that of the answer
+  pub late-offset : (offset : ℕ) → offset ≡ byteOffset (sizeOf d) (firsts (before d i)) (arrivalAt d i .number)
+      → (f : ReorderedFigures) → Answer.Reordered f ≡ answerAt d i → offset ≡ f .offset
+  late-offset offset e f a =
+      let whole = late-answer _ _ offset _ _ refl refl refl e refl in
+      sym (ap (λ (g : ReorderedFigures). g .offset) (same-figures (a ∙ sym whole)))
+
   -- over those before it the byte offset is 0, as none of them has a greater number
   pub late-alone : byteOffset (sizeOf d) (take (at - 1) (firsts (before d i))) (arrivalAt d i .number) ≡ 0
   late-alone = late-found d i at late .3

@@ -46,7 +46,7 @@ size-tree-grown size fs more tree t k =
 
 module _ (d : Decoded) (y : Layout) (i : ℕ) (h : HasRecord d y i) where
   -- so it does under record i + 1
-  size-tree-next : (tree : List ℕ) (t : Totals) → SizeTree (sizeOf d) (firsts (before d i)) tree t → SizeTree (sizeOf d) (firsts (before d (i + 1))) tree t
+  pub size-tree-next : (tree : List ℕ) (t : Totals) → SizeTree (sizeOf d) (firsts (before d i)) tree t → SizeTree (sizeOf d) (firsts (before d (i + 1))) tree t
   size-tree-next tree t k = rw (before-more d y i h, firsts-more (before d i) (arrivalAt d i)) (go (has (arrivalAt d i .number) (firsts (before d i))) refl)
     where
       go : (b : Bool) → has (arrivalAt d i .number) (firsts (before d i)) ≡ b → SizeTree (sizeOf d) (withArrival (firsts (before d i)) (arrivalAt d i)) tree t

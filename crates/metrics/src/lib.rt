@@ -232,12 +232,14 @@ pub fn greatest_needs(file: &[u8]) -> SampleNeeds
     ensures { λ r. ⌜ r ≡ sampleNeeds (decode (now (file .entry))) ⌝ }
 {
     let layout = checked_layout(file);
-    let held = needs_of(file, layout, Measure::Time, 0);
+    let packets = needs_of(file, layout, Measure::Packets, 0);
+    let octets = needs_of(file, layout, Measure::Octets, 0);
+    let time = needs_of(file, layout, Measure::Time, 0);
     SampleNeeds {
         refusal: layout.refusal,
-        packets: held.packets,
-        octets: held.octets,
-        time: held.time,
+        packets: packets.greatest,
+        octets: octets.greatest,
+        time: time.greatest,
     }
 }
 

@@ -8,7 +8,7 @@ use Rattle.metrics.proofs.greatest_needs.Tie as tie
 
 returns : tie.Need-returns
 unfolding sampleNeeds needsOf
-returns c = rw (c .before .checked-layout .ensures .laid, c .needs-of .ensures)
+returns c = rw (c .before .before .before .checked-layout .ensures .laid, c .before .before .needs-of .ensures, c .before .needs-of2 .ensures, c .needs-of3 .ensures)
 
 pub greatest-needs-spec : {M : Type 1} → statement M
-greatest-needs-spec = tie.close (tie.spec (λ c κs. search needs) (λ c κs. search needs) returns)
+greatest-needs-spec = tie.close (tie.spec (λ c κs. search needs) (λ c κs. search needs) (λ c κs. search needs) (λ c κs. search needs) returns)

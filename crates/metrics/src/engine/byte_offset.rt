@@ -56,7 +56,36 @@ fn fill_tree(
     Totals { filled: p, total }
 }
 
-// The figures that only a reordered packet has, and the totals with which its byte offset was found.
+// The byte offset of a packet, and the totals with which it was made.
+pub(crate) struct TreeOffset {
+    pub offset: u32,
+    pub totals: Totals,
+}
+
+// The byte offset of packet s, which comes after `count` first arrivals: the size of all of these less that of those with smaller numbers.
+pub(crate) fn offset_by_tree(
+    file: &[u8],
+    layout: Layout,
+    numbers: &[u16; MAX_FIRST_ARRIVALS],
+    tree: &mut [u32],
+    count: u32,
+    s: u32,
+    totals: Totals,
+) -> TreeOffset
+    requires { ⌜ FillInput (decode (now file)) layout (now numbers) (now tree) count totals × (1 ≤ s) × (s ≤ sentMost) ⌝ }
+    ensures { λ r. ⌜ ((fs : List Arrival) → NumberTable fs (now (numbers .entry)) count
+        → SizeTree (sizeOf (decode (now (file .entry)))) fs (now (tree .entry)) totals
+        → SizeTree (sizeOf (decode (now (file .entry)))) fs (now (tree .exit)) (r .totals)
+        × (has s fs ≡ false → r .offset ≡ byteOffset (sizeOf (decode (now (file .entry)))) fs s)) ⌝ }
+{
+    let filled = fill_tree(file, layout, numbers, tree, count, totals);
+    TreeOffset {
+        offset: filled.total - sums::sum_to(tree, s / 2),
+        totals: filled,
+    }
+}
+
+// The figures that only a reordered packet has, and the totals with which its byte offset was by_tree.
 pub(crate) struct LateFigures {
     pub offset: u32,
     pub largest: u32,
@@ -96,9 +125,10 @@ pub(crate) fn late_figures(
         },
         Class::Reordered(_) => {
             let largest = largest_by_links(numbers, skipped, 1, count, s);
-            let filled = fill_tree(file, layout, numbers, tree, count, totals);
+            let by_tree = offset_by_tree(file, layout, numbers, tree, count, s, totals);
+            let filled = by_tree.totals;
             LateFigures {
-                offset: filled.total - sums::sum_to(tree, s / 2),
+                offset: by_tree.offset,
                 largest,
                 totals: filled,
             }

@@ -2,6 +2,7 @@
 ghost use mathlib.Core.Path.{_≡_};
 ghost use Prim.Native.Nat.{ℕ, _≤_};
 ghost use Rattle.rfc4737.specs.declared.Answer.{Answer};
+ghost use Rattle.rfc4737.specs.declared.ReorderedFigures.{ReorderedFigures};
 ghost use Rattle.rfc4737.specs.Arrivals.{firsts};
 ghost use Rattle.rfc4737.specs.Extent.{byteOffset, largestN};
 ghost use Rattle.rfc4737.specs.Judge.{sentMost};
@@ -18,6 +19,7 @@ use rfc4737::Answer;
 use rfc4737::Arrival;
 use rfc4737::DuplicateFigures;
 use rfc4737::InOrderFigures;
+use rfc4737::LateTime;
 use rfc4737::ReorderedFigures;
 use sample::Layout;
 
@@ -50,6 +52,30 @@ pub(crate) fn class_of(
     Class::Reordered(wide(skipped[at]))
 }
 
+// The late time of record i + 1, which is reordered, after `count` first arrivals and with its discontinuity at position `at`; `time` is its
+// arrival time. A position tells its packet, the packet its record, and the record its time.
+pub(crate) fn late_time(
+    file: &[u8],
+    layout: Layout,
+    i: u32,
+    time: u64,
+    numbers: &[u16; MAX_FIRST_ARRIVALS],
+    records: &[u16; PACKET_TABLE_LEN],
+    count: u32,
+    at: u32,
+) -> LateTime
+    requires { ⌜ HasRecord (decode (now file)) layout i × ClassOf count (Class.Reordered at) (answerAt (decode (now file)) i)
+        × NumberTable (firsts (before (decode (now file)) i)) (now numbers) count × RecordTable (before (decode (now file)) i) (now records)
+        × (time ≡ arrivalAt (decode (now file)) i .time) ⌝ }
+    ensures { λ r. ⌜ ((f : ReorderedFigures) → Answer.Reordered f ≡ answerAt (decode (now (file .entry))) i → r ≡ f .late) ⌝ }
+{
+    let place = (at - 1) as usize;
+    let packet = wide(numbers[place]) as usize;
+    let first = wide(records[packet]);
+    let past = input::time_of(file, layout, first - 1);
+    rfc4737::time::elapsed(past, time)
+}
+
 // The figures of record i + 1, which is reordered with its discontinuity at a position, from its byte offset and its
 // largest n.
 fn reordered_figures(
@@ -71,14 +97,11 @@ fn reordered_figures(
         × (largest ≡ largestN (firsts (before (decode (now file)) i)) (arrivalAt (decode (now file)) i .number)) ⌝ }
     ensures { λ r. ⌜ Answer.Reordered r ≡ answerAt (decode (now (file .entry))) i ⌝ }
 {
-    let place = (at - 1) as usize;
-    let packet = wide(numbers[place]) as usize;
-    let first = wide(records[packet]);
-    let past = input::time_of(file, layout, first - 1);
+    let late = late_time(file, layout, i, time, numbers, records, count, at);
     ReorderedFigures {
         position: count + 1,
         extent: count + 1 - at,
-        late: rfc4737::time::elapsed(past, time),
+        late,
         offset,
         largest,
     }

@@ -1,35 +1,47 @@
-// What a receiver that restores order needs, by one pass of the engine: how many first arrivals a buffer of one size
-// accommodates, and the greatest need of any, in packets, octets and time.
+// What a receiver that restores order needs in one measure: how many first arrivals a buffer of one size accommodates, and the greatest need
+// of any. One pass with the tables of the records; only byte offsets take a tree of sums, and no need takes a largest n.
 ghost use mathlib.Core.Path.{_≡_};
-ghost use mathlib.Core.Bool.{cond};
-ghost use Prim.Native.Nat.{_+_, _<_};
+ghost use mathlib.Core.Bool.{false, cond};
+ghost use Prim.Native.Nat.{ℕ, _+_, _≤_, _<_};
 ghost use lib.Dec.{leb};
+ghost use Rattle.rfc4737.specs.Arrivals.{has, firsts};
+ghost use Rattle.rfc4737.specs.declared.Answer.{Answer};
+ghost use Rattle.rfc4737.specs.declared.Measure.{Measure};
 ghost use Rattle.rfc4737.specs.Judge.{arrivalsMost};
 ghost use Rattle.sample.specs.Decode.{decode};
-ghost use Rattle.metrics.specs.Sample.{answersOf};
-ghost use Rattle.rfc4737.specs.Needs.{waitingTime, neededBy};
-ghost use Rattle.metrics.specs.Records.{FileLayout};
-ghost use Rattle.metrics.specs.Private.Needs.{greaterOf, needsAfter, needsOf};
-use crate::engine::advance;
+ghost use Rattle.metrics.specs.Sample.{sizeOf, answersOf};
+ghost use Rattle.rfc4737.specs.Needs.{waitingTime, neededFor};
+ghost use Rattle.metrics.specs.Records.{FileLayout, HasRecord, arrivalAt, before, answerAt};
+ghost use Rattle.metrics.specs.Private.Tables.{NumberTable, RecordTable, ClassOf, IfLate};
+ghost use Rattle.metrics.specs.Private.Engine.{SizeTree};
+ghost use Rattle.metrics.specs.Private.Needs.{greaterOf, NeedInput, needsWith, needsAfter, needsOf};
 use crate::engine::byte_offset::PAIR_TREE_LEN;
-use crate::engine::fresh_engine;
+use crate::engine::byte_offset::Totals;
+use crate::engine::byte_offset::offset_by_tree;
 use crate::engine::input;
+use crate::engine::kind::Class;
+use crate::engine::kind::class_of;
+use crate::engine::kind::late_time;
 use crate::engine::seen::MAX_FIRST_ARRIVALS;
 use crate::engine::seen::PACKET_TABLE_LEN;
-use rfc4737::Answer;
+use crate::engine::seen::note;
+use crate::engine::seen::start_state;
+use rfc4737::Arrival;
 use rfc4737::LateTime;
 use rfc4737::Measure;
-use rfc4737::ReorderedFigures;
 use sample::Layout;
 
-// Of the arrivals taken: how many are first arrivals, how many of these a buffer of one size accommodates, and the greatest need of
-// any in packets, in octets and in time.
+// Of the arrivals taken: how many are first arrivals, how many of these a buffer of one size accommodates, and the greatest need of any.
 pub(crate) struct Needs {
     pub arrived: u32,
     pub accommodated: u32,
-    pub packets: u64,
-    pub octets: u64,
-    pub time: u64,
+    pub greatest: u64,
+}
+
+// The need of a record, and the totals of the tree after it.
+struct Need {
+    pub size: u64,
+    pub totals: Totals,
 }
 
 // How long a receiver waits for a packet of this late time.
@@ -42,17 +54,89 @@ fn waiting_time(late: LateTime) -> u64
     }
 }
 
-// The size that a buffer must have for a reordered packet.
-fn needed_by(measure: Measure, f: ReorderedFigures) -> u64
-    ensures { λ r. ⌜ r ≡ neededBy measure f ⌝ }
+// The need of record i + 1, which is reordered, with its discontinuity at position `at`.
+fn late_need(
+    file: &[u8],
+    layout: Layout,
+    measure: Measure,
+    i: u32,
+    arrival: Arrival,
+    numbers: &[u16; MAX_FIRST_ARRIVALS],
+    records: &[u16; PACKET_TABLE_LEN],
+    tree: &mut [u32],
+    count: u32,
+    totals: Totals,
+    at: u32,
+) -> Need
+    requires { ⌜ NeedInput (decode (now file)) layout i arrival (now numbers) (now records) (now tree) count totals (Class.Reordered at) ⌝ }
+    ensures { λ r. ⌜ (r .size ≡ neededFor measure (answerAt (decode (now (file .entry))) i))
+        × SizeTree (sizeOf (decode (now (file .entry)))) (firsts (before (decode (now (file .entry))) i)) (now (tree .exit)) (r .totals) ⌝ }
 {
     match measure {
-        Measure::Packets => f.extent as u64,
-        Measure::Octets => f.offset as u64,
-        Measure::Time => {
-            let late = f.late;
-            waiting_time(late)
+        Measure::Packets => Need {
+            size: (count + 1 - at) as u64,
+            totals,
+        },
+        Measure::Octets => {
+            let by_tree = offset_by_tree(
+                file,
+                layout,
+                numbers,
+                tree,
+                count,
+                arrival.number,
+                totals,
+            );
+            let filled = by_tree.totals;
+            Need {
+                size: by_tree.offset as u64,
+                totals: filled,
+            }
         }
+        Measure::Time => {
+            let late = late_time(file, layout, i, arrival.time, numbers, records, count, at);
+            Need {
+                size: waiting_time(late),
+                totals,
+            }
+        }
+    }
+}
+
+// The need of record i + 1, of this class; 0 if it is not reordered.
+fn need_of(
+    file: &[u8],
+    layout: Layout,
+    measure: Measure,
+    i: u32,
+    arrival: Arrival,
+    numbers: &[u16; MAX_FIRST_ARRIVALS],
+    records: &[u16; PACKET_TABLE_LEN],
+    tree: &mut [u32],
+    count: u32,
+    totals: Totals,
+    class: Class,
+) -> Need
+    requires { ⌜ NeedInput (decode (now file)) layout i arrival (now numbers) (now records) (now tree) count totals class ⌝ }
+    ensures { λ r. ⌜ (r .size ≡ neededFor measure (answerAt (decode (now (file .entry))) i))
+        × SizeTree (sizeOf (decode (now (file .entry)))) (firsts (before (decode (now (file .entry))) i)) (now (tree .exit)) (r .totals) ⌝ }
+{
+    match class {
+        Class::Duplicate(_) => Need { size: 0, totals },
+        Class::InOrder(_) => Need { size: 0, totals },
+        Class::Reordered(at) => late_need(
+            file,
+            layout,
+            measure,
+            i,
+            arrival,
+            numbers,
+            records,
+            tree,
+            count,
+            totals,
+            at,
+        ),
     }
 }
 
@@ -77,31 +161,31 @@ fn one_more_if(need: u64, size: u64, count: u32) -> u32
     count
 }
 
-// The needs after the next answer.
-fn needs_after(measure: Measure, size: u64, h: Needs, answer: Answer) -> Needs
-    requires { ⌜ (h .arrived < arrivalsMost) × (h .accommodated < arrivalsMost) ⌝ }
-    ensures { λ r. ⌜ r ≡ needsAfter measure size h answer ⌝ }
+// The needs after a first arrival of this need.
+fn needs_with(size: u64, needs: Needs, need: u64) -> Needs
+    requires { ⌜ (needs .arrived < arrivalsMost) × (needs .accommodated < arrivalsMost) ⌝ }
+    ensures { λ r. ⌜ r ≡ needsWith size needs need ⌝ }
 {
-    match answer {
-        Answer::Duplicate(_) => h,
-        Answer::InOrder(_) => Needs {
-            arrived: h.arrived + 1,
-            accommodated: h.accommodated + 1,
-            packets: h.packets,
-            octets: h.octets,
-            time: h.time,
-        },
-        Answer::Reordered(f) => Needs {
-            arrived: h.arrived + 1,
-            accommodated: one_more_if(needed_by(measure, f), size, h.accommodated),
-            packets: greater_of(h.packets, needed_by(Measure::Packets, f)),
-            octets: greater_of(h.octets, needed_by(Measure::Octets, f)),
-            time: greater_of(h.time, needed_by(Measure::Time, f)),
-        },
+    Needs {
+        arrived: needs.arrived + 1,
+        accommodated: one_more_if(need, size, needs.accommodated),
+        greatest: greater_of(needs.greatest, need),
     }
 }
 
-// What a sample needs: one pass.
+// The needs after the next arrival, of this class and need; a copy leaves them.
+fn needs_after(size: u64, needs: Needs, class: Class, need: u64) -> Needs
+    requires { ⌜ (needs .arrived < arrivalsMost) × (needs .accommodated < arrivalsMost) ⌝ }
+    ensures { λ r. ⌜ ((m : Measure) (count : ℕ) (a : Answer) → ClassOf count class a → need ≡ neededFor m a → r ≡ needsAfter m size needs a) ⌝ }
+{
+    match class {
+        Class::Duplicate(_) => needs,
+        Class::InOrder(_) => needs_with(size, needs, need),
+        Class::Reordered(_) => needs_with(size, needs, need),
+    }
+}
+
+// What a sample needs in a measure: one pass, O(A + K), and O(A log K + K) in octets.
 pub(crate) fn needs_of(file: &[u8], layout: Layout, measure: Measure, size: u64) -> Needs
     requires { ⌜ FileLayout (decode (now file)) layout ⌝ }
     ensures { λ r. ⌜ r ≡ needsOf measure size (answersOf (decode (now (file .entry)))) ⌝ }
@@ -110,32 +194,46 @@ pub(crate) fn needs_of(file: &[u8], layout: Layout, measure: Measure, size: u64)
     let mut records = [0u16; PACKET_TABLE_LEN];
     let mut skipped = [0u16; PACKET_TABLE_LEN];
     let mut tree = [0u32; PAIR_TREE_LEN];
-    let mut engine = fresh_engine();
-    let mut held = Needs {
+    let mut state = start_state();
+    let mut totals = Totals {
+        filled: 0,
+        total: 0,
+    };
+    let mut needs = Needs {
         arrived: 0,
         accommodated: 0,
-        packets: 0,
-        octets: 0,
-        time: 0,
+        greatest: 0,
     };
     let mut i: u32 = 0;
     while i < layout.arrivals {
         let arrival = input::arrival_at(file, layout, i);
-        let step = advance(
+        let number = arrival.number;
+        let class = class_of(&records, &skipped, state.next, number);
+        let need = need_of(
             file,
             layout,
+            measure,
             i,
             arrival,
+            &numbers,
+            &records,
+            &mut tree,
+            state.count,
+            totals,
+            class,
+        );
+        needs = needs_after(size, needs, class, need.size);
+        totals = need.totals;
+        state = note(
             &mut numbers,
             &mut records,
             &mut skipped,
-            &mut tree,
-            engine,
+            i,
+            number,
+            0,
+            state,
         );
-        let answer = step.answer;
-        held = needs_after(measure, size, held, answer);
-        engine = step.engine;
         i += 1;
     }
-    held
+    needs
 }

@@ -1,45 +1,9 @@
 -- `metrics::engine::byte_offset::late_figures` meets its contract: only a reordered packet has these figures, so 0 is right for any other class. Of one
--- the largest n is found along the links; `fill_tree` puts all first arrivals into the tree, and then the total less the sum up to the packet's
--- pair is its byte offset (`offset-summed`). Assumes nothing.
-use mathlib.Core.Path.{ap, _∙_}
-use Prim.Native.Nat.{ℕ, _-_, _≤_}
+-- the largest n is found along the links, and the byte offset by the tree. Assumes nothing.
 use native.Mathlib.Omega.{arith}
-use denote.Ref.{now}
-use mir.Syntax.{w8}
-use Rattle.octets.proofs.Below.{below-fits}
-use Rattle.sample.specs.Decode.{decode}
-use Rattle.metrics.specs.Sample.{sizeOf}
-use Rattle.metrics.proofs.DigitBounds.{size-most}
-use Rattle.metrics.proofs.Pairs.{total-sum, offset-summed}
 use borrow.Author.Needs.{needs}
 use Rattle.metrics.proofs.engine.byte_offset.late_figures.Statement.{statement}
 use Rattle.metrics.proofs.engine.byte_offset.late_figures.Tie as tie
-
--- every payload size fits two octets
-sizes : (c : tie.After-shared-slice-known) (s : ℕ) → sizeOf (decode (now (c .before .args .file))) s ≤ 65535
-sizes c = size-most (now (c .before .args .file)) (below-fits w8 (now (c .before .args .file)) (c .shared-slice-known .given))
-
--- ---- places in the code, each by the one before it: the start, where the class is known, after the tree is filled
-
-abbrev told-at : tie.After-fill-tree → tie.After-enum-told3
-told-at t = t .before .before .before
-
-abbrev filled-at : tie.After-struct-known → tie.After-fill-tree
-filled-at c = c .before .before .before .before .before
-
-abbrev known-at : tie.After-fill-tree → tie.After-shared-slice-known
-known-at t = told-at t .before .before .before
-
-enum-told : tie.Need-enum-told
-enum-told c = search needs
-
-sub-t19 : tie.Need-sub-t19
-sub-t19 c =
-    let t = filled-at c in
-    let s = known-at t .before in
-    let k = s .pre .0 in
-    let f = t .fill-tree .ensures (k .fs) (k .numbered) (k .totalled) in
-    omega (arith, c .before .sum-to .ensures .0, total-sum _ (sizes (known-at t)) (k .fs) (omega (arith, k .numbered .all, k .few)) _ _ (s .args .s) (f .1 ∙ k .numbered .all) (s .pre .2) (f .0))
 
 returns : tie.Need-returns
 returns c = (omega arith, λ fs n t. (t, rw (c .enum-told .given .1) tt))
@@ -49,30 +13,18 @@ returns-2 c = (omega arith, λ fs n t. (t, rw (c .enum-told2 .given .1) tt))
 
 returns-3 : tie.Need-returns-3
 returns-3 c =
-    let u = filled-at c in
-    let s = known-at u .before in
-    let is = told-at u .enum-told3 .given .1 in
-    let l = u .before .before .largest-by-links .ensures in (
+    let l = c .before .before .before .before .before .largest-by-links .ensures in (
       l .0,
       λ fs n t.
-          let f = u .fill-tree .ensures fs n t in (
-            f .0,
-            rw is (
-              l .1 fs n,
-              λ new.
-                  ap (λ (m : ℕ). u .fill-tree .result .total - m) (c .before .sum-to .ensures .0)
-                  ∙ offset-summed _ (sizes (known-at u)) fs (omega (arith, n .all, s .pre .0 .few)) _ _ (s .args .s) (f .1 ∙ n .all) (s .pre .1) (s .pre .2) (f .0) new,
-            ),
-          ),
+          let made = c .before .before .before .offset-by-tree .ensures fs n t in
+          (made .0, rw (c .before .before .before .before .before .before .enum-told3 .given .1) (l .1 fs n, made .1)),
     )
 
 pub late-figures-spec : {M : Type 1} → statement M
 late-figures-spec =
     tie.close
     (tie.spec
-    enum-told
-    (λ c. search needs) (λ c. search needs) (λ c κs. search needs) (λ c κs. search needs) (λ c κs. search needs)
-    sub-t19
+    (λ c. search needs) (λ c. search needs) (λ c. search needs) (λ c κs. search needs) (λ c κs. search needs)
     returns
     returns-2
     (λ c. search needs)

@@ -1,8 +1,8 @@
--- `metrics::engine::kind::reordered_figures` meets its contract: the discontinuity's position gives its packet, that its record and that its time, each
--- in the table or the file (`late-packet`, `late-record`); the answer is put together of these (`late-answer`). Assumes nothing.
+-- `metrics::engine::kind::reordered_figures` meets its contract: with the late time of `late_time`, the byte offset and the largest n the answer
+-- is whole (`late-whole`). Assumes nothing.
 use Prim.Native.Nat.{_≤_}
 use native.Mathlib.Omega.{arith}
-use Rattle.metrics.proofs.AnswersByClass.{late-place, late-packet, late-record, late-answer}
+use Rattle.metrics.proofs.AnswersByClass.{late-place, late-whole}
 use borrow.Author.Needs.{needs}
 use Rattle.rfc4737.specs.Judge.{sentMost}
 use Rattle.metrics.proofs.engine.kind.reordered_figures.Statement.{statement}
@@ -14,62 +14,13 @@ place c =
     let p = c .pre in
     omega (arith, late-place _ _ _ _ _ (p .0) (p .1) _ _ (p .2) (p .3), p .0 .inside, p .0 .file .few)
 
-sub-place : tie.Need-sub-place
-sub-place c = omega (arith, place (c .before))
-
-element-copy-out-wide : tie.Need-element-copy-out-wide
-element-copy-out-wide c = omega (arith, place (c .before))
-
-element-copy-out-wide-2 : tie.Need-element-copy-out-wide-2
-element-copy-out-wide-2 c =
-    let p = c .before .before .before .pre in
-    omega (arith, late-packet _ _ _ _ _ (p .0) (p .1) _ _ (p .2) (p .3), c .wide .ensures)
-
-sub-time-of : tie.Need-sub-time-of
-sub-time-of c =
-    let p = c .before .before .before .before .before .pre in
-    let r = rw (c .before .before .wide .ensures) at (c .wide2 .ensures) in
-    omega (arith, r, late-record _ _ _ _ _ (p .0) (p .1) _ _ (p .2) (p .3))
-
-time-of-requires : tie.Need-time-of-requires
-time-of-requires c κs =
-    let p = c .before .before .before .before .before .pre in
-    let r = rw (c .before .before .wide .ensures) at (c .wide2 .ensures) in
-    record { file = p .0 .file; inside = omega (arith, r, p .0 .inside, late-record _ _ _ _ _ (p .0) (p .1) _ _ (p .2) (p .3)) }
-
-add-t15 : tie.Need-add-t15
-add-t15 c = omega (arith, place (c .before .before .before .before .before .before))
-
-add-t22 : tie.Need-add-t22
-add-t22 c = omega (arith, place (c .before .before .before .before .before .before))
-
-sub-t23 : tie.Need-sub-t23
-sub-t23 c = omega (arith, place (c .before .before .before .before .before .before))
+late-time-requires : tie.Need-late-time-requires
+late-time-requires c κs = let p = c .before .pre in (p .0, p .1, p .2, p .3, p .4)
 
 returns : tie.Need-returns
 returns c =
-    let p = c .before .before .before .before .before .before .before .pre in
-    late-answer _ _ _ _ _ (p .0) (p .1) _ _ (p .2) (p .3) _ _ _ _ _
-    (rw (c .before .before .wide2 .ensures, c .before .before .before .before .wide .ensures) at (c .before .time-of .ensures))
-    (p .4)
-    (c .elapsed .ensures)
-    (p .5)
-    (p .6)
+    let p = c .before .before .pre in
+    late-whole _ _ _ _ _ (p .0) (p .1) _ _ (p .2) (p .3) _ _ _ (c .late-time .ensures) (p .5) (p .6)
 
 pub reordered-figures-spec : {M : Type 1} → statement M
-reordered-figures-spec =
-    tie.close
-    (tie.spec
-    sub-place
-    (λ c. search needs) (λ c. search needs)
-    element-copy-out-wide
-    (λ c κs. search needs) (λ c. search needs) (λ c. search needs)
-    element-copy-out-wide-2
-    (λ c κs. search needs)
-    sub-time-of
-    time-of-requires
-    add-t15
-    add-t22
-    sub-t23
-    (λ c κs. search needs)
-    returns)
+reordered-figures-spec = tie.close (tie.spec late-time-requires (λ c. omega (arith, place (c .before .before))) (λ c. omega (arith, place (c .before .before))) (λ c. omega (arith, place (c .before .before))) returns)

@@ -1,29 +1,36 @@
--- `metrics::figures::needs::needs_of` meets its contract. The loop's invariant: the engine knows the arrivals before i, and what is held is that of
--- their answers. `advance` gives the answer for record i + 1, and `needs_after` is one answer more (`needs-next`). The measure is what is left
--- of the arrivals. Assumes nothing.
+-- `metrics::figures::needs::needs_of` meets its contract. The loop's invariant: tables and tree are those of the arrivals before i, and the needs are
+-- those of their answers. The class of record i + 1 is its answer's (`told`), `need_of` gives its need, and `needs_after` is one answer more
+-- (`needs-next`). The measure is what is left of the arrivals. Assumes nothing.
 use Prim.Native.Nat.{_-_, _≤_, _<_}
 use mathlib.Core.Path.{_≡_, sym, ap, _∙_}
 use native.Mathlib.Omega.{arith}
 use borrow.Author.Needs.{needs}
 use denote.Ref.{now}
-use Rattle.rfc4737.specs.Judge.{arrivalsMost}
+use Rattle.rfc4737.specs.Arrivals.{firsts}
+use Rattle.rfc4737.specs.Judge.{sentMost, arrivalsMost}
 use Rattle.sample.specs.Decode.{decode}
-use Rattle.metrics.specs.Private.Engine.{EngineState}
-use Rattle.metrics.specs.Records.{answersTo, HasRecord}
-use Rattle.metrics.specs.Private.Needs.{needsOf}
-use Rattle.metrics.proofs.OneArrivalMore.{answers-start, answers-end, answers-length}
-use Rattle.metrics.proofs.EngineState.{engine-start}
+use Rattle.metrics.specs.Sample.{sizeOf}
+use Rattle.metrics.specs.Private.Needs.{NeedState, needsAfter, needsOf}
+use Rattle.metrics.specs.Private.Tables.{ClassOf}
+use Rattle.metrics.specs.declared.figures.needs.Needs.{Needs}
+use Rattle.metrics.specs.Records.{arrivalAt, before, answerAt, answersTo, HasRecord}
+use Rattle.metrics.proofs.TablesFollow.{number-few}
+use Rattle.metrics.proofs.AnswersByClass.{told, new-told}
+use Rattle.metrics.proofs.NotingArrivals.{noting, noted-follows}
+use Rattle.metrics.proofs.OneArrivalMore.{follows-start, answers-start, answers-end, answers-length}
+use Rattle.metrics.proofs.EngineState.{size-tree-next}
+use Rattle.metrics.proofs.Pairs.{size-tree-none}
 use Rattle.metrics.proofs.Accommodation.{needs-none, needs-few, needs-next}
 use Rattle.metrics.proofs.figures.needs.needs_of.Statement.{statement}
 use Rattle.metrics.proofs.figures.needs.needs_of.Tie as tie
 
 -- numbers₀ to i₀ are the values where the loop begins, numbers to i those at its head
 abbrev Inv-loop : tie.InvT-loop
-Inv-loop file layout measure size numbers₀ records₀ skipped₀ tree₀ engine₀ held₀ i₀ numbers records skipped tree engine held i =
-    (i ≤ layout .arrivals) × EngineState (decode file) i numbers records skipped tree engine × (held ≡ needsOf measure size (answersTo (decode file) i))
+Inv-loop file layout measure size numbers₀ records₀ skipped₀ tree₀ state₀ totals₀ needs₀ i₀ numbers records skipped tree state totals needs i =
+    (i ≤ layout .arrivals) × NeedState (decode file) i numbers records skipped tree state totals × (needs ≡ needsOf measure size (answersTo (decode file) i))
 
 abbrev μ-loop : tie.MeasureT-loop
-μ-loop file layout measure size numbers₀ records₀ skipped₀ tree₀ engine₀ held₀ i₀ numbers records skipped tree engine held i = layout .arrivals - i
+μ-loop file layout measure size numbers₀ records₀ skipped₀ tree₀ state₀ totals₀ needs₀ i₀ numbers records skipped tree state totals needs i = layout .arrivals - i
 
 -- ---- places
 
@@ -33,11 +40,17 @@ start-of-head c = c .before .before .before
 abbrev start : tie.Then1 Inv-loop μ-loop → tie.Start Inv-loop μ-loop
 start c = c .before .before .before .before .before
 
-abbrev head : tie.After-tree Inv-loop μ-loop → tie.At-loop Inv-loop μ-loop
-head c = c .before .before .before .before .before .before .before
+abbrev head : tie.After-class-of Inv-loop μ-loop → tie.At-loop Inv-loop μ-loop
+head c = c .before .before .before .before .before .before
 
-abbrev turn : tie.After-tree Inv-loop μ-loop → tie.Then1 Inv-loop μ-loop
-turn c = c .before .before .before .before .before
+abbrev turn : tie.After-class-of Inv-loop μ-loop → tie.Then1 Inv-loop μ-loop
+turn c = c .before .before .before .before
+
+abbrev classed-at : tie.After-tree2 Inv-loop μ-loop → tie.After-class-of Inv-loop μ-loop
+classed-at c = c .before .before .before .before .before
+
+abbrev needed-at : tie.After-note Inv-loop μ-loop → tie.After-tree2 Inv-loop μ-loop
+needed-at c = c .before .before .before .before .before .before
 
 -- record i + 1 is there
 here : (c : tie.Then1 Inv-loop μ-loop) → HasRecord (decode (now (start c .args .file))) (start c .args .layout) (c .before .before .loop .i)
@@ -47,41 +60,69 @@ here c = record { file = start c .pre; inside = c .if1 .taken }
 few : (c : tie.Then1 Inv-loop μ-loop) → c .before .before .loop .i < arrivalsMost
 few c = omega (arith, c .if1 .taken, start c .pre .few)
 
+-- its number is that of a packet
+number : (c : tie.After-class-of Inv-loop μ-loop) → (c .before .before .before .arrival-at .result .number ≡ arrivalAt (decode (now (start (turn c) .args .file))) (head c .loop .i) .number)
+    × (1 ≤ c .before .before .before .arrival-at .result .number) × (c .before .before .before .arrival-at .result .number ≤ sentMost)
+number c = number-few _ _ _ (here (turn c)) _ (c .before .before .before .arrival-at .ensures .0)
+
+-- its class is its answer's
+classed : (c : tie.After-class-of Inv-loop μ-loop) → ClassOf (head c .loop .state .count) (c .class-of .result) (answerAt (decode (now (start (turn c) .args .file))) (head c .loop .i))
+classed c = told (decode (now (start (turn c) .args .file))) (head c .loop .i) _ _ _ _ (head c .loop .inv .1 .follows) _ (number c .0) (number c .1) (number c .2) _ (c .class-of .ensures)
+
 loop-holds : tie.Need-loop-holds Inv-loop μ-loop
 loop-holds c =
     let d = decode (now (c .before .before .args .file)) in (
       omega arith,
-      rw (c .fresh-engine .ensures) (engine-start d),
+      record { follows = rw (c .start-state .ensures) (follows-start d); totalled = size-tree-none (sizeOf d) (firsts (before d 0)) },
       sym (ap (needsOf (c .before .before .args .measure) (c .before .before .args .size)) (answers-start d) ∙ needs-none _ _),
     )
 
-arrival-at-requires : tie.Need-arrival-at-requires Inv-loop μ-loop
-arrival-at-requires c κs = here c
+class-of-requires : tie.Need-class-of-requires Inv-loop μ-loop
+class-of-requires c κs = c .before .before .arrival-at .ensures .2
 
-advance-requires : tie.Need-advance-requires Inv-loop μ-loop
-advance-requires c κs = (here (turn c), c .before .before .before .before .arrival-at .ensures .0, head c .loop .inv .1)
+need-of-requires : tie.Need-need-of-requires Inv-loop μ-loop
+need-of-requires c κs =
+    let k = c .before .before .before in
+    let state = head k .loop .inv .1 in
+    record {
+      there = here (turn k);
+      is = k .before .before .before .arrival-at .ensures .0;
+      numbered = state .follows .numbered;
+      recorded = state .follows .recorded;
+      classed = classed k;
+      new = new-told (decode (now (start (turn k) .args .file))) (head k .loop .i) _ _ _ _ (state .follows) _ (number k .0) (number k .1) (number k .2) _ (k .class-of .ensures);
+      totalled = state .totalled;
+    }
 
 needs-after-requires : tie.Need-needs-after-requires Inv-loop μ-loop
 needs-after-requires c κs =
-    let l = head (c .before .before) .loop in
-    let h = needs-few (start-of-head (head (c .before .before)) .args .measure) (start-of-head (head (c .before .before)) .args .size) (answersTo (decode (now (start-of-head (head (c .before .before)) .args .file))) (l .i)) in
-    let n = answers-length _ _ _ (here (turn (c .before .before))) in
-    rw (l .inv .2) (omega (arith, h .0, n, few (turn (c .before .before))), omega (arith, h .1, n, few (turn (c .before .before))))
+    let k = classed-at c in
+    let l = head k .loop in
+    let a = start-of-head (head k) .args in
+    let h = needs-few (a .measure) (a .size) (answersTo (decode (now (a .file))) (l .i)) in
+    let n = answers-length _ _ _ (here (turn k)) in
+    rw (l .inv .2) (omega (arith, h .0, n, few (turn k)), omega (arith, h .1, n, few (turn k)))
 
-add-i : tie.Need-add-i Inv-loop μ-loop
-add-i c = omega (arith, few (turn (c .before .before .before .before)))
-
-loop-less : tie.Need-loop-less Inv-loop μ-loop
-loop-less c = omega (arith, turn (c .before .before .before .before) .if1 .taken)
+note-requires : tie.Need-note-requires Inv-loop μ-loop
+note-requires c κs =
+    let k = classed-at (c .before .before .before .before .before) in
+    noting _ _ _ (here (turn k)) _ _ _ _ (head k .loop .inv .1 .follows) _ (number k .0)
 
 loop-again : tie.Need-loop-again Inv-loop μ-loop
 loop-again c =
-    let l = head (c .before .before .before .before) .loop in
-    let h = here (turn (c .before .before .before .before)) in
-    let step = c .before .before .before .advance .ensures in (
+    let k = classed-at (needed-at c) in
+    let l = head k .loop in
+    let a = start-of-head (head k) .args in
+    let h = here (turn k) in
+    let need = needed-at c .before .need-of .ensures in (
       omega (arith, h .inside),
-      step .2,
-      c .before .needs-after .ensures ∙ rw (l .inv .2, step .0) (sym (needs-next (start-of-head (head (c .before .before .before .before)) .args .measure) (start-of-head (head (c .before .before .before .before)) .args .size) _ _ _ h)),
+      record {
+        follows = noted-follows _ _ _ h _ _ _ _ (l .inv .1 .follows) _ (number k .0) _ _ _ _ _ (c .note .ensures);
+        totalled = size-tree-next _ _ _ h _ _ (need .1);
+      },
+      c .before .before .before .before .before .needs-after .ensures (a .measure) _ _ (classed k) (need .0)
+          ∙ ap (λ (n : Needs). needsAfter (a .measure) (a .size) n (answerAt (decode (now (a .file))) (l .i))) (l .inv .2)
+          ∙ sym (needs-next (a .measure) (a .size) _ _ _ h),
     )
 
 returns : tie.Need-returns Inv-loop μ-loop
@@ -97,11 +138,13 @@ needs-of-spec =
     μ-loop
     (λ c κs. search needs)
     loop-holds
-    arrival-at-requires
+    (λ c κs. here c)
+    class-of-requires
     (λ c. search needs)
-    advance-requires
+    need-of-requires
     needs-after-requires
-    add-i
-    loop-less
+    note-requires
+    (λ c. omega (arith, few (turn (classed-at (needed-at c)))))
+    (λ c. omega (arith, turn (classed-at (needed-at c)) .if1 .taken))
     loop-again
     returns)
