@@ -1,5 +1,5 @@
--- Whether the clock steps back, asked record by record: what is left of the arrivals begins with record i + 1 (`back-next`), or is nothing
--- (`back-end`). Here d is the decoded file, y its layout, last the time before record i + 1, and a this record. Assumes nothing.
+-- Whether the clock steps back, record by record: the arrivals left begin with record i + 1 (`back-next`), or there are none (`back-end`).
+-- d is the decoded file, y its layout, last the time before record i + 1, and a this record. Assumes nothing.
 use Prim.Native.Nat.{ℕ, _+_, _≤_, _<_}
 use native.Mathlib.Omega.{arith}
 use native.Mathlib.Numerals.{add-one}

@@ -1,5 +1,5 @@
--- What the calls of metrics answer, over the answers of a sample: the counts (`counted`), and how many packets are n-reordered (`several`).
--- Here d is the decoded file, r what the call answers. Assumes nothing.
+-- The answers of the calls of metrics, as figures of a sample: the counts (`counted`), and the number of n-reordered packets (`several`).
+-- d is the decoded file, r the answer of the call. Assumes nothing.
 use Prim.Native.Nat.{ℕ, _≤_}
 use mathlib.Core.Path.{_≡_, ap, _∙_}
 use mathlib.Core.Bool.{Bool, cond}
@@ -18,7 +18,7 @@ pub counted : (d : Decoded) (r : SampleCounts) → r ≡ sampleCounts d → r .c
 unfolding sampleCounts
 counted d r e = ap (λ (r : SampleCounts). r .counts) e
 
--- how many are n-reordered
+-- the n-reordered packets
 pub several : (d : Decoded) (n : ℕ) (r : DegreeCounts) → 1 ≤ n → n ≤ 100 → r ≡ degreeCounts d n → r .reordered ≡ nReordered n (answersOf d)
 unfolding degreeCounts
 several d n r low high e =

@@ -1,6 +1,6 @@
--- Laws of the summary's parts. A number in a column has the first of sixteen spaces before it, as many as its digits leave
--- (`column-spaces`); of nothing there is no share (`percent-none`). A text written at the start of memory is handed over (`handed`).
--- Assumes nothing.
+-- Laws of the summary's parts. The spaces before a number in a column are a part of sixteen spaces, as long as its digits leave room
+-- (`column-spaces`). There is no percent of 0 (`percent-none`). A text written at the start of memory is copied whole (`handed`). Assumes
+-- nothing.
 use Prim.Native.Nat.{ℕ, zero, suc, _-_, _/_, _%_, _≤_}
 use native.Mathlib.Omega.{arith}
 use mathlib.Core.Path.{_≡_, refl, sym, ap, subst}
@@ -27,13 +27,13 @@ column-full width v h =
     let e : 0 ≡ width - length (decimalOf v) = omega arith in
     ap (λ (n : ℕ). replicate n space ++ decimalOf v) e
 
--- the first of some spaces
+-- a part of a list of spaces
 first-spaces : (n k : ℕ) → k ≤ n → take k (replicate n space) ≡ replicate k space
 first-spaces n zero h = refl
 first-spaces zero (suc k) h = absurd (omega arith)
 first-spaces (suc n) (suc k) h = ap (λ (l : List ℕ). space ∷ l) (first-spaces n k (omega arith))
 
--- one that does not
+-- a number that does not
 pub column-spaces : (width v digits : ℕ) → width ≤ 16 → digits ≡ length (decimalOf v)
     → take (width - digits) (replicate 16 space) ++ decimalOf v ≡ column width v
 unfolding column
@@ -54,13 +54,13 @@ percent-some none part whole h = sym (simp (ne-eqb whole 0 h))
 
 -- ---- a text
 
--- what is handed over under a refusal is so under an equal one, and as a text that is equal
+-- the refusal and the text may each be replaced by an equal one
 pub output-of : {own own′ : ℕ} {xs ys old new : List ℕ} {r : WriteAnswer} → own ≡ own′ → xs ≡ ys → Output own xs old r new → Output own′ ys old r new
 output-of {own} {own′} {xs} {ys} {old} {new} {r} e f w =
     subst (λ (n : ℕ). Output n ys old r new) e (subst (λ (l : List ℕ). Output own l old r new) f w)
 
--- a text of n octets that is written at the start of memory: it has room in any greater memory, and what is handed over of memory is the
--- text
+-- a text of n octets was written at the start of memory: it is no longer than memory, and the first n octets of memory, which are copied,
+-- are the text
 module _ {n most : ℕ} {xs old text : List ℕ} (w : Written 0 n xs old text × (n ≤ most)) where
   pub at-most : length (take n text) ≤ most
   at-most = omega (arith, stands (w .0) .0, w .1)

@@ -1,7 +1,7 @@
--- Lines of numbers, one more at a time (`lines-next`). The line of a record is that of its gap as a number (`gap-line`), and the numbers of
--- all gaps stand in a list of zeros that `metrics::record_gaps` filled (`gap-list`): it is long enough for any sample, and where there is
--- no record a 0 stays (`over-zeros`).
--- Here l are the answers, n is how many lines are written or a record, d the decoded file, y its layout. Assumes nothing.
+-- The lines of a section, one after the other (`lines-next`). The line of a record is determined by its gap as a number (`gap-line`). After
+-- `metrics::record_gaps` a list of zeros holds the numbers of all gaps (`gap-list`): it is long enough for any sample, and the entries after
+-- the last record stay 0 (`over-zeros`). l are the answers, n is a record or the number of lines written, d the decoded file, y its layout.
+-- Assumes nothing.
 use Prim.Native.Nat.{ℕ, zero, suc, _+_, _-_, _≤_}
 use native.Mathlib.Numerals.{add-one}
 use native.Mathlib.Omega.{arith}
@@ -50,7 +50,7 @@ number-line n (suc g) = rw (ne-eqb (suc g) 0 (λ z. omega (arith, z)))
 pub gap-line : (n g : ℕ) (gap : Gap) → numberGap g ≡ gap → extentLine n g ≡ gapLine n gap
 gap-line n g gap e = number-line n g ∙ ap (gapLine n) e
 
--- some numbers at the start of zeros: after them stands 0, as after their end
+-- numbers written over the start of zeros: any entry is that of the numbers, and 0 after their end
 over-zeros : (xs : List ℕ) (m i : ℕ) → getD (over xs (replicate m 0)) i 0 ≡ getD xs i 0
 over-zeros xs m i = go (leb (length xs) i) refl
   where
@@ -65,7 +65,7 @@ over-zeros xs m i = go (leb (length xs) i) refl
         ∙ sym (List·getD-eq-default xs 0 h)
     go false e = List·getD-append xs (drop (length xs) (replicate m 0)) 0 i (omega (arith, leb-false (length xs) i e))
 
--- where the list is not too short the file is taken as it is
+-- if the list is long enough, the file is not refused for it
 room : (b : Bool) (d : Decoded) → b ≡ false → unlessShort b d ≡ d
 unfolding unlessShort
 room b (refused r) e = refl

@@ -1,4 +1,4 @@
--- The figures of a whole sample that its summary leaves out, as ASCII octets: the tally of extents, how many packets are n-reordered for
+-- The figures of a whole sample that its summary leaves out, as ASCII octets: the tally of extents, the numbers of n-reordered packets for
 -- n = 1 to 10, the gaps and the runs. Assumes nothing.
 use Prim.Native.Nat.{ℕ, zero, suc}
 use mathlib.Core.Bool.{cond}
@@ -25,35 +25,35 @@ use Rattle.summary.specs.Text.{summaryText}
 
 -- ---- lines
 
--- two numbers
+-- a line with two numbers
 unfoldable pub pairLine : ℕ → ℕ → List ℕ
 pairLine a b = joined (ascii "    " ∷ decimalOf a ∷ ascii ": " ∷ decimalOf b ∷ ascii "\n" ∷ [])
 
--- an extent, and how many packets have it; no line where none has
+-- an extent and the number of packets with it; no line if there is none
 unfoldable pub extentLine : (extent packets : ℕ) → List ℕ
 extentLine extent packets = cond (eqb packets 0) [] (pairLine extent packets)
 
--- a record, and its gap; no line where it has none
+-- a record and its gap; no line if it has none
 unfoldable pub gapLine : ℕ → Gap → List ℕ
 gapLine n Gap.None = []
 gapLine n (Gap.Positions gap) = pairLine n gap
 
--- the line of a number: of an extent, of n, or of a record
+-- the line for a number, which is an extent, an n or a record
 unfoldable pub sectionLine : Kind → List Answer → ℕ → List ℕ
 sectionLine Kind.Extent l e = extentLine e (getD (tally l) e 0)
 sectionLine Kind.Degree l n = pairLine n (nReordered n l)
 sectionLine Kind.Gap l n = gapLine n (atRecord Gap.None (gaps l) n)
 
--- the lines of the numbers 1 to n
+-- the lines for 1 to n
 unfoldable pub linesTo : Kind → List Answer → ℕ → List ℕ
 linesTo kind l zero = []
 linesTo kind l (suc n) = linesTo kind l n ++ sectionLine kind l (suc n)
 
--- a section: its head, and the lines of the numbers 1 to n
+-- a section: its head, and the lines for 1 to n
 unfoldable pub section : List ℕ → Kind → List Answer → ℕ → List ℕ
 section head kind l n = joined (head ∷ linesTo kind l n ∷ [])
 
--- how many packets have an extent that has no line of its own
+-- the number of packets with an extent over 100, which have no lines of their own
 unfoldable pub overLine : ℕ → List ℕ
 overLine n = between (ascii "    over 100: ") n (ascii "\n")
 
@@ -66,7 +66,7 @@ runsLine closed squares current =
     ∷ between [] current (ascii "\n")
     ∷ [])
 
--- the tally of extents, and how many packets are n-reordered
+-- the tally of extents, and the numbers of n-reordered packets
 unfoldable pub countLines : List Answer → List ℕ
 countLines l =
     joined
@@ -77,7 +77,7 @@ countLines l =
 
 -- ---- the figures
 
--- of answers, of which there are `records`
+-- the other figures of the answers, of which there are `records`
 unfoldable pub moreText : List Answer → ℕ → List ℕ
 moreText l records =
     joined
@@ -86,14 +86,14 @@ moreText l records =
     ∷ runsLine (runs l .closed) (runs l .squares) (runs l .current)
     ∷ [])
 
--- the summary, and these figures
+-- the summary, and the other figures
 unfoldable pub allText : Decoded → List ℕ
 allText d = summaryText d ++ moreText (answersOf d) (length (sampleArrivals d))
 
--- the octets that suffice for any such text: at most 47 for each line of two numbers
+-- room for any such text, in octets: a line with two numbers has at most 47
 abbrev pub allOctets : ℕ
 allOctets = 200704
 
--- the call's answer, and the lent octets after it: those of the text
+-- the call's answer, and the caller's buffer after it, which begins with the text
 abbrev pub AllTo : Decoded → List ℕ → WriteAnswer → List ℕ → Type 0
 AllTo d old answer new = Output (decodedRefusal d) (allText d) old answer new

@@ -1,4 +1,4 @@
--- The figures of a sample that a summary tells. Assumes nothing.
+-- The figures in the summary of a sample. Assumes nothing.
 use Prim.Native.Nat.{ℕ}
 use mathlib.Core.List.{List}
 use lib.Dec.{ltb}
@@ -15,8 +15,8 @@ use Rattle.buffering.specs.Least.{leastSize}
 use Rattle.summary.specs.declared.figures.Figures.{Figures}
 use Rattle.summary.specs.declared.figures.Sizes.{Sizes}
 
--- K; the packets that arrived, the copies, the reordered packets; those that are 1- and 3-reordered; the total of disorder; whether packets
--- were lost, and whether the clock steps back
+-- K; the first arrivals, the copies, the reordered packets; the 1-reordered and 3-reordered packets; the total of disorder; whether packets were
+-- lost, and whether the clock steps back
 unfoldable pub figuresOf : Decoded → Figures
 figuresOf d =
     record {
@@ -31,7 +31,7 @@ figuresOf d =
       back = stepsBack 0 (sampleArrivals d);
     }
 
--- the least sizes for `share` in 100 of the packets that arrived
+-- the least sizes for `share` percent of the packets that arrived
 unfoldable pub sizesFor : List Answer → ℕ → Sizes
 sizesFor l share =
     record {

@@ -1,5 +1,5 @@
--- The summary of a sample as one object of JSON (RFC 8259) and a line feed. Times are microseconds, shares and percents are in 100, and
--- a percent is null if nothing arrived. Assumes nothing.
+-- The summary of a sample as one JSON object (RFC 8259) and a line feed. Times are in microseconds. A share is a whole number of percent; a
+-- percent has one decimal, and is null if nothing arrived. Assumes nothing.
 use Prim.Native.Nat.{ℕ}
 use mathlib.Core.Bool.{Bool, cond, _||_}
 use mathlib.Core.List.{List, [], _∷_}
@@ -23,22 +23,22 @@ use Rattle.summary.specs.Text.{ratio}
 
 -- ---- parts
 
--- the octets that a string of JSON has a backslash before
+-- the octets of a label that need a backslash before them in a JSON string
 abbrev pub quote : ℕ
 quote = 0x22
 
 abbrev pub backslash : ℕ
 backslash = 0x5C
 
--- an octet of a label in a string of JSON
+-- an octet of a label in a JSON string
 unfoldable pub escapedOctet : ℕ → List ℕ
 escapedOctet o = cond (eqb o quote || eqb o backslash) (backslash ∷ o ∷ []) (o ∷ [])
 
--- a label in a string of JSON
+-- a label in a JSON string
 abbrev pub escaped : List ℕ → List ℕ
 escaped label = itemOctets escapedOctet label
 
--- a member with a number; its name has what stands before it, and the colon
+-- a member with a number; `name` includes the comma before the name and the colon after it
 unfoldable pub numberMember : List ℕ → ℕ → List ℕ
 numberMember name n = joined (name ∷ decimalOf n ∷ [])
 
@@ -48,11 +48,11 @@ flagMember name b = joined (name ∷ cond b (ascii "true") (ascii "false") ∷ [
 
 -- ---- members
 
--- the start, and the label
+-- the start of the object, and the label
 unfoldable pub labelMember : List ℕ → List ℕ
 labelMember label = joined (ascii "{\"label\":\"" ∷ escaped label ∷ ascii "\"" ∷ [])
 
--- K, how many of these packets arrived, and how many copies came besides
+-- K, the packets that arrived, and the copies
 unfoldable pub countsMembers : (sent arrived copies : ℕ) → List ℕ
 countsMembers sent arrived copies =
     joined
@@ -71,7 +71,7 @@ sizesObject start share s =
     ∷ between [] (s .octets) (ascii "}")
     ∷ [])
 
--- the array of them: for 50, 90, 95 and 99 in 100 of those that arrived, and for all
+-- the array of the least sizes for 50, 90, 95, 99 and 100 percent of the packets that arrived
 unfoldable pub sizesMember : List Answer → List ℕ
 sizesMember l =
     joined
@@ -83,12 +83,12 @@ sizesMember l =
     ∷ ascii "]"
     ∷ [])
 
--- what the sizes hold for: packets and octets held if no packet is lost, waiting times if the clock does not step back
+-- what limits the sizes: packets and octets held are exact only if no packet is lost, waiting times only if the clock does not step back
 unfoldable pub limitMembers : (lost back : Bool) → List ℕ
 limitMembers lost back =
     joined (flagMember (ascii ",\"packets_lost\":") lost ∷ flagMember (ascii ",\"clock_steps_back\":") back ∷ [])
 
--- how many of those that arrived are of a kind
+-- the packets of one kind among those that arrived, and their share
 unfoldable pub shareMember : List ℕ → ℕ → ℕ → List ℕ
 shareMember name part whole = ratio name (ascii ",\"of\":") (ascii ",\"percent\":") (ascii "null") (ascii "}") part whole
 
@@ -101,13 +101,13 @@ ratioMembers reordered reordered1 reordered3 arrived =
     ∷ shareMember (ascii ",\"reordered_3\":{\"packets\":") reordered3 arrived
     ∷ [])
 
--- the total of disorder, and the end
+-- the total of disorder, and the end of the object
 unfoldable pub disorderMember : ℕ → List ℕ
 disorderMember n = between (ascii ",\"disorder_pairs\":") n (ascii "}\n")
 
 -- ---- the object
 
--- of a label, these figures, and the answers that the least sizes are of
+-- the object of a label, the figures, and the answers, which determine the least sizes
 unfoldable pub objectOf : List ℕ → Figures → List Answer → List ℕ
 objectOf label f l =
     joined
@@ -119,18 +119,18 @@ objectOf label f l =
     ∷ disorderMember (f .disorder)
     ∷ [])
 
--- of a decoded file
+-- the object of a decoded file
 unfoldable pub summaryJson : Decoded → List ℕ
 summaryJson d = objectOf (sampleOf d .label) (figuresOf d) (answersOf d)
 
--- the octets that suffice for a label as the first member
+-- room for any label as the first member, in octets
 abbrev pub labelOctets : ℕ
 labelOctets = 139
 
--- what a label as the first member gives: 3 over 64 octets, then 8; and the caller's buffer after it
+-- the call's answer for a label, refused with 3 if it has over 64 octets, then with 8; and the caller's buffer after it
 abbrev pub LabelTo : List ℕ → List ℕ → WriteAnswer → List ℕ → Type 0
 LabelTo label old answer new = Output (judgeLabel (length label)) (labelMember label) old answer new
 
--- the call's answer, and the caller's buffer after it, which holds the object
+-- the call's answer, and the caller's buffer after it, which begins with the object
 abbrev pub SummaryJsonTo : Decoded → List ℕ → WriteAnswer → List ℕ → Type 0
 SummaryJsonTo d old answer new = Output (decodedRefusal d) (summaryJson d) old answer new

@@ -1,4 +1,4 @@
--- The summary of a sample, as text, as JSON and with the other figures of the whole sample, down to the octet. Assumes nothing.
+-- The summary of a sample to the octet: as text, as JSON, and with the other figures of the whole sample. Assumes nothing.
 pub mod Figures
 pub mod Text
 pub mod Json

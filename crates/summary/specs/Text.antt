@@ -20,34 +20,34 @@ use Rattle.summary.specs.Figures.{figuresOf, sizesFor}
 
 -- ---- numbers
 
--- a number in a column: spaces on its left up to a width
+-- a number in a column: spaces before it fill the width
 unfoldable pub column : ℕ → ℕ → List ℕ
 column width n = replicate (width - length (decimalOf n)) space ++ decimalOf n
 
--- a time of microseconds in a column, as milliseconds with three decimals
+-- a time, given in microseconds, in milliseconds with three decimals, in a column
 unfoldable pub milliseconds : ℕ → List ℕ
 milliseconds t =
     joined
     (column 9 (t / 1000) ∷ ascii "." ∷ decimalOf (t / 100 % 10) ∷ decimalOf (t / 10 % 10) ∷ decimalOf (t % 10) ∷ ascii " ms" ∷ [])
 
--- a share in tenths of a percent, rounded to the nearest; half a tenth is rounded up
+-- `part` of `whole` in tenths of a percent, rounded to the nearest; half a tenth is rounded up
 abbrev pub tenths : ℕ → ℕ → ℕ
 tenths part whole = (2000 * part + whole) / (2 * whole)
 
--- a share in percent with one decimal; `none` for the share of nothing
+-- `part` of `whole` in percent with one decimal; `none` if `whole` is 0
 unfoldable pub percent : (none : List ℕ) → ℕ → ℕ → List ℕ
 percent none part whole =
     cond (eqb whole 0) none (joined (decimalOf (tenths part whole / 10) ∷ ascii "." ∷ decimalOf (tenths part whole % 10) ∷ []))
 
--- how many of `whole` packets are of a kind, and their share in percent: `name` stands before the count, `of` before `whole`, `share`
--- before the percent, and `after` at the end
+-- `part`, `whole` and `part` of `whole` in percent: `name` stands before `part`, `of` before `whole`, `share` before the percent, and `after`
+-- at the end
 unfoldable pub ratio : (name of share none after : List ℕ) → (part whole : ℕ) → List ℕ
 ratio name of share none after part whole =
     joined (between name part of ∷ between [] whole share ∷ percent none part whole ∷ after ∷ [])
 
 -- ---- lines
 
--- K, how many of these packets arrived, and how many copies came besides
+-- K, the packets that arrived, and the copies
 unfoldable pub countsLine : (sent arrived copies : ℕ) → List ℕ
 countsLine sent arrived copies =
     joined
@@ -56,7 +56,7 @@ countsLine sent arrived copies =
     ∷ between [] copies (ascii " copies besides\n")
     ∷ [])
 
--- how many of those that arrived are of a kind
+-- the packets of one kind among those that arrived, and their share
 unfoldable pub shareLine : List ℕ → ℕ → ℕ → List ℕ
 shareLine name part whole = ratio name (ascii " of ") (ascii ", ") (ascii "-") (ascii " %\n") part whole
 
@@ -65,7 +65,7 @@ unfoldable pub sizesLine : List ℕ → Sizes → List ℕ
 sizesLine share s =
     joined (share ∷ milliseconds (s .time) ∷ column 16 (s .packets) ∷ column 15 (s .octets) ∷ ascii "\n" ∷ [])
 
--- the rows of the table of the least sizes: for 50, 90, 95 and 99 in 100 of those that arrived, and for all
+-- the rows of the table of the least sizes: for 50, 90, 95, 99 and 100 percent of the packets that arrived
 unfoldable pub rowLines : List Answer → List ℕ
 rowLines l =
     joined
@@ -85,11 +85,11 @@ needsLines l =
     ∷ ascii "\nPackets held is an extent, which can be more than a receiver has to hold. Packets that never arrived are not counted.\n"
     ∷ [])
 
--- a line that is there only if b
+-- a line, if b
 unfoldable pub lineIf : Bool → List ℕ → List ℕ
 lineIf b line = cond b line []
 
--- what the sizes hold for: packets and octets held if no packet is lost, waiting times if the clock does not step back
+-- what limits the sizes: packets and octets held are exact only if no packet is lost, waiting times only if the clock does not step back
 unfoldable pub limitLines : (lost back : Bool) → List ℕ
 limitLines lost back =
     joined
@@ -112,7 +112,7 @@ disorderLine n = between (ascii "Total of disorder: ") n (ascii " pairs in the w
 
 -- ---- the summary
 
--- of these figures, and of the answers that the least sizes are of
+-- the summary of the figures, and of the answers, which determine the least sizes
 unfoldable pub textOf : Figures → List Answer → List ℕ
 textOf f l =
     joined
@@ -123,14 +123,14 @@ textOf f l =
     ∷ disorderLine (f .disorder)
     ∷ [])
 
--- of a decoded file
+-- the summary of a decoded file
 unfoldable pub summaryText : Decoded → List ℕ
 summaryText d = textOf (figuresOf d) (answersOf d)
 
--- the octets that suffice for any summary
+-- room for any summary, in octets
 abbrev pub summaryOctets : ℕ
 summaryOctets = 2048
 
--- the call's answer, and the caller's buffer after it, which holds the summary
+-- the call's answer, and the caller's buffer after it, which begins with the summary
 abbrev pub SummaryTo : Decoded → List ℕ → WriteAnswer → List ℕ → Type 0
 SummaryTo d old answer new = Output (decodedRefusal d) (summaryText d) old answer new

@@ -1,5 +1,5 @@
-// The figures of a whole sample that its summary leaves out, written part by part as its lines are. Each function returns the offset after its
-// part.
+// Writes the figures of a whole sample that its summary leaves out. Each function writes at an offset of a buffer that has room, and returns
+// the offset after what it wrote.
 ghost use mathlib.Core.Path.{_≡_};
 ghost use Prim.Native.Nat.{_+_, _-_, _*_, _≤_};
 ghost use lib.ListN.{length, getD};
@@ -17,10 +17,10 @@ use crate::parts::write_word;
 use rfc4737::judge::ARRIVALS_MOST;
 use sample::Layout;
 
-// The most records that a sample has.
-const RECORDS: usize = ARRIVALS_MOST as usize;
+// The greatest number of records of a sample.
+const MAX_RECORDS: usize = ARRIVALS_MOST as usize;
 
-// What the lines of a section are of.
+// What the lines of a section are about.
 pub(crate) enum Kind {
     Extent,
     Degree,
@@ -39,7 +39,7 @@ fn write_pair(out: &mut [u8], at: usize, first: u32, second: u32) -> usize
     write_word(out, four, b"\n")
 }
 
-// How many packets have an extent, and for 0 an extent over 100.
+// Returns the number of packets with an extent; for 0, the number of packets with an extent over 100.
 fn packets_with(file: &[u8], extent: usize) -> u32
     requires { ⌜ extent ≤ 100 ⌝ }
     ensures { λ r. ⌜ r ≡ getD (tally (answersOf (decode (now (file .entry))))) extent 0 ⌝ }
@@ -48,7 +48,7 @@ fn packets_with(file: &[u8], extent: usize) -> u32
     tally[extent]
 }
 
-// Writes the line of an extent or of a record, if its figure is not 0.
+// Writes the line of an extent or of a record unless its figure is 0.
 fn write_nonzero(out: &mut [u8], at: usize, n: u32, figure: u32) -> usize
     requires { ⌜ at + 47 ≤ length (now out) ⌝ }
     ensures { λ r. ⌜ Written at r (extentLine n figure) (now (out .entry)) (now (out .exit)) × (r ≤ at + 47) ⌝ }
@@ -59,7 +59,7 @@ fn write_nonzero(out: &mut [u8], at: usize, n: u32, figure: u32) -> usize
     write_pair(out, at, n, figure)
 }
 
-// How many packets are n-reordered.
+// Returns the number of n-reordered packets.
 fn reordered_by(file: &[u8], n: u32) -> u32
     requires { ⌜ (1 ≤ n) × (n ≤ 100) ⌝ }
     ensures { λ r. ⌜ r ≡ nReordered n (answersOf (decode (now (file .entry)))) ⌝ }
@@ -67,21 +67,21 @@ fn reordered_by(file: &[u8], n: u32) -> u32
     metrics::n_reordered(file, n).reordered
 }
 
-// The gap of record n, as a number.
-fn gap_of(gaps: &[u32; RECORDS], n: u32) -> u32
+// Returns the gap of record n as a number.
+fn gap_of(gaps: &[u32; MAX_RECORDS], n: u32) -> u32
     requires { ⌜ (1 ≤ n) × (n ≤ 4096) ⌝ }
     ensures { λ r. ⌜ r ≡ getD (now (gaps .entry)) (n - 1) 0 ⌝ }
 {
-    let place = (n - 1) as usize;
-    gaps[place]
+    let index = (n - 1) as usize;
+    gaps[index]
 }
 
-// Writes the line of a number.
+// Writes the line for `n`.
 fn write_line(
     out: &mut [u8],
     at: usize,
     file: &[u8],
-    gaps: &[u32; RECORDS],
+    gaps: &[u32; MAX_RECORDS],
     kind: Kind,
     n: u32,
 ) -> usize
@@ -95,12 +95,12 @@ fn write_line(
     }
 }
 
-// Writes the lines of the numbers 1 to `count`.
+// Writes the lines for 1 to `count`.
 fn write_lines(
     out: &mut [u8],
     start: usize,
     file: &[u8],
-    gaps: &[u32; RECORDS],
+    gaps: &[u32; MAX_RECORDS],
     kind: Kind,
     count: u32,
 ) -> usize
@@ -117,12 +117,12 @@ fn write_lines(
     at
 }
 
-// Writes a section: its head, and the lines of the numbers 1 to `count`.
+// Writes a section: its head, and the lines for 1 to `count`.
 fn write_section(
     out: &mut [u8],
     at: usize,
     file: &[u8],
-    gaps: &[u32; RECORDS],
+    gaps: &[u32; MAX_RECORDS],
     head: &[u8],
     kind: Kind,
     count: u32,
@@ -136,7 +136,7 @@ fn write_section(
     write_lines(out, one, file, gaps, kind, count)
 }
 
-// Writes how many packets have an extent over 100.
+// Writes the number of packets with an extent over 100.
 fn write_over(out: &mut [u8], at: usize, packets: u32) -> usize
     requires { ⌜ at + 40 ≤ length (now out) ⌝ }
     ensures { λ r. ⌜ Written at r (overLine packets) (now (out .entry)) (now (out .exit)) × (r ≤ at + 40) ⌝ }
@@ -144,7 +144,7 @@ fn write_over(out: &mut [u8], at: usize, packets: u32) -> usize
     write_between(out, at, b"    over 100: ", packets as u64, b"\n")
 }
 
-// Writes the line of the runs.
+// Writes the line with the runs.
 fn write_runs(out: &mut [u8], at: usize, closed: u32, squares: u32, current: u32) -> usize
     requires { ⌜ at + 140 ≤ length (now out) ⌝ }
     ensures { λ r. ⌜ Written at r (runsLine closed squares current) (now (out .entry)) (now (out .exit)) × (r ≤ at + 140) ⌝ }
@@ -160,8 +160,8 @@ fn write_runs(out: &mut [u8], at: usize, closed: u32, squares: u32, current: u32
     write_between(out, two, b"", current as u64, b"\n")
 }
 
-// Writes the tally of extents and how many packets are n-reordered.
-fn write_counts(out: &mut [u8], at: usize, file: &[u8], gaps: &[u32; RECORDS]) -> usize
+// Writes the tally of extents and the numbers of n-reordered packets.
+fn write_counts(out: &mut [u8], at: usize, file: &[u8], gaps: &[u32; MAX_RECORDS]) -> usize
     requires { ⌜ (at + 5400 ≤ length (now out)) × GapList (answersOf (decode (now file))) (now gaps) ⌝ }
     ensures { λ r. ⌜ Written at r (countLines (answersOf (decode (now (file .entry))))) (now (out .entry)) (now (out .exit)) × (r ≤ at + 5400) ⌝ }
 {
@@ -186,14 +186,14 @@ fn write_counts(out: &mut [u8], at: usize, file: &[u8], gaps: &[u32; RECORDS]) -
     )
 }
 
-// Writes the figures that a summary leaves out.
+// Writes all figures that the summary leaves out.
 pub(crate) fn write_more(file: &[u8], layout: Layout, out: &mut [u8], at: usize) -> usize
     requires { ⌜ FileLayout (decode (now file)) layout × (at ≤ 2048) × (200704 ≤ length (now out)) ⌝ }
     ensures { λ r. ⌜ Written at r (moreText (answersOf (decode (now (file .entry)))) (layout .arrivals)) (now (out .entry)) (now (out .exit)) × (r ≤ 200704) ⌝ }
 {
     let counts = metrics::counts(file).counts;
     let runs = counts.runs;
-    let mut gaps = [0u32; RECORDS];
+    let mut gaps = [0u32; MAX_RECORDS];
     metrics::record_gaps(file, &mut gaps);
     let one = write_counts(out, at, file, &gaps);
     let two = write_section(

@@ -1,4 +1,4 @@
-// The figures that a summary tells, each by the call of the library that has it.
+// The figures of the summary, each found by its call of the library.
 ghost use mathlib.Core.Path.{_≡_};
 ghost use Prim.Native.Nat.{_≤_};
 ghost use Rattle.sample.specs.Decode.{decode};
@@ -10,28 +10,33 @@ use crate::clock::steps_back;
 use rfc4737::Measure;
 use sample::Layout;
 
-// K, the packets that arrived, the copies, the reordered packets, those that are 1- and 3-reordered, the total of disorder, whether packets
-// were lost and whether the clock steps back.
+// The figures of a sample that do not depend on a share.
 pub(crate) struct Figures {
+    // K.
     pub sent: u32,
+    // First arrivals.
     pub arrived: u32,
     pub copies: u32,
     pub reordered: u32,
+    // 1-reordered and 3-reordered packets.
     pub reordered1: u32,
     pub reordered3: u32,
+    // The total of disorder.
     pub disorder: u32,
+    // Whether packets were lost.
     pub lost: bool,
+    // Whether the clock steps back.
     pub back: bool,
 }
 
-// The least sizes for a share: in microseconds, packets and octets.
+// The least sizes for a share. The time is in microseconds.
 pub(crate) struct Sizes {
     pub time: u64,
     pub packets: u64,
     pub octets: u64,
 }
 
-// The figures of a sample. Cost: seven passes over the file.
+// Finds the figures of a sample. Cost: seven passes over the file.
 pub(crate) fn figures_of(file: &[u8], layout: Layout) -> Figures
     requires { ⌜ FileLayout (decode (now file)) layout ⌝ }
     ensures { λ r. ⌜ r ≡ figuresOf (decode (now (file .entry))) ⌝ }
@@ -54,7 +59,7 @@ pub(crate) fn figures_of(file: &[u8], layout: Layout) -> Figures
     }
 }
 
-// The least size for `share` in 100 of the first arrivals.
+// Finds the least size for `share` percent of the first arrivals.
 fn size_for(file: &[u8], measure: Measure, share: u32) -> u64
     requires { ⌜ (1 ≤ share) × (share ≤ 100) ⌝ }
     ensures { λ r. ⌜ r ≡ leastSize measure share 100 (answersOf (decode (now (file .entry)))) ⌝ }
@@ -62,7 +67,7 @@ fn size_for(file: &[u8], measure: Measure, share: u32) -> u64
     buffering::least(file, measure, share, 100).size
 }
 
-// The least sizes for `share` in 100 of the first arrivals. Cost: three searches by `buffering::least`.
+// Finds the least sizes for `share` percent of the first arrivals. Cost: three searches by `buffering::least`.
 pub(crate) fn sizes_for(file: &[u8], share: u32) -> Sizes
     requires { ⌜ (1 ≤ share) × (share ≤ 100) ⌝ }
     ensures { λ r. ⌜ r ≡ sizesFor (answersOf (decode (now (file .entry)))) share ⌝ }

@@ -1,4 +1,4 @@
-// The summary as one object of JSON, written part by part as its lines are. Each function returns the offset after its part.
+// Writes the summary as one JSON object. Each function writes at an offset of a buffer that has room, and returns the offset after what it wrote.
 ghost use mathlib.Core.Path.{_≡_};
 ghost use Prim.Native.Nat.{_+_, _*_, _≤_};
 ghost use mathlib.Core.Bool.{cond, _||_};
@@ -20,7 +20,7 @@ use crate::parts::write_ratio;
 use crate::parts::write_word;
 use sample::Layout;
 
-// Whether an octet of a label needs a backslash before it.
+// Returns whether an octet of a label needs a backslash before it.
 fn is_escaped(octet: u8) -> bool
     ensures { λ r. ⌜ r ≡ (eqb octet quote || eqb octet backslash) ⌝ }
 {
@@ -30,7 +30,7 @@ fn is_escaped(octet: u8) -> bool
     octet == b'\\'
 }
 
-// Writes an octet of a label.
+// Writes an octet of a label, escaped if necessary.
 fn write_octet(out: &mut [u8], at: usize, octet: u8) -> usize
     requires { ⌜ at + 2 ≤ length (now out) ⌝ }
     ensures { λ r. ⌜ Written at r (escapedOctet octet) (now (out .entry)) (now (out .exit)) × (r ≤ at + 2) ⌝ }
@@ -56,12 +56,12 @@ fn write_label(out: &mut [u8], start: usize, label: &[u8]) -> usize
 }
 
 // Writes a member with a number.
-fn write_member(out: &mut [u8], at: usize, name: &[u8], v: u64) -> usize
+fn write_member(out: &mut [u8], at: usize, name: &[u8], number: u64) -> usize
     requires { ⌜ at + (length (now name) + 20) ≤ length (now out) ⌝ }
-    ensures { λ r. ⌜ Written at r (numberMember (now (name .entry)) v) (now (out .entry)) (now (out .exit)) × (r ≤ at + (length (now (name .entry)) + 20)) ⌝ }
+    ensures { λ r. ⌜ Written at r (numberMember (now (name .entry)) number) (now (out .entry)) (now (out .exit)) × (r ≤ at + (length (now (name .entry)) + 20)) ⌝ }
 {
     let one = write_word(out, at, name);
-    write_number(out, one, v)
+    write_number(out, one, number)
 }
 
 // Writes true or false.
@@ -84,7 +84,7 @@ fn write_flag(out: &mut [u8], at: usize, name: &[u8], flag: bool) -> usize
     write_bool(out, one, flag)
 }
 
-// Writes the start, and the label.
+// Writes the start of the object and the label.
 pub(crate) fn write_start(out: &mut [u8], at: usize, label: &[u8]) -> usize
     requires { ⌜ (length (now label) ≤ 64) × (at + 139 ≤ length (now out)) ⌝ }
     ensures { λ r. ⌜ Written at r (labelMember (now (label .entry))) (now (out .entry)) (now (out .exit)) × (r ≤ at + 139) ⌝ }
@@ -104,7 +104,7 @@ fn write_counts(out: &mut [u8], at: usize, sent: u32, arrived: u32, copies: u32)
     write_member(out, two, b",\"copies\":", copies as u64)
 }
 
-// Writes the object of the least sizes for a share.
+// Writes the object with the least sizes for a share.
 fn write_sizes(out: &mut [u8], at: usize, start: &[u8], share: u32, sizes: Sizes) -> usize
     requires { ⌜ at + (length (now start) + 131) ≤ length (now out) ⌝ }
     ensures { λ r. ⌜ Written at r (sizesObject (now (start .entry)) share sizes) (now (out .entry)) (now (out .exit)) × (r ≤ at + (length (now (start .entry)) + 131)) ⌝ }
@@ -115,7 +115,7 @@ fn write_sizes(out: &mut [u8], at: usize, start: &[u8], share: u32, sizes: Sizes
     write_between(out, three, b"", sizes.octets, b"}")
 }
 
-// Writes the object of the least sizes for `share` in 100 of the first arrivals.
+// Finds the least sizes for `share` percent of the first arrivals, and writes their object.
 fn write_row(out: &mut [u8], at: usize, file: &[u8], start: &[u8], share: u32) -> usize
     requires { ⌜ (at + (length (now start) + 131) ≤ length (now out)) × (1 ≤ share) × (share ≤ 100) ⌝ }
     ensures { λ r. ⌜ Written at r (sizesObject (now (start .entry)) share (sizesFor (answersOf (decode (now (file .entry)))) share)) (now (out .entry)) (now (out .exit))
@@ -138,7 +138,7 @@ fn write_needs(out: &mut [u8], at: usize, file: &[u8]) -> usize
     write_word(out, five, b"]")
 }
 
-// Writes whether packets were lost, and whether the clock steps back.
+// Writes whether packets were lost and whether the clock steps back.
 fn write_limits(out: &mut [u8], at: usize, lost: bool, back: bool) -> usize
     requires { ⌜ at + 50 ≤ length (now out) ⌝ }
     ensures { λ r. ⌜ Written at r (limitMembers lost back) (now (out .entry)) (now (out .exit)) × (r ≤ at + 50) ⌝ }
@@ -147,7 +147,7 @@ fn write_limits(out: &mut [u8], at: usize, lost: bool, back: bool) -> usize
     write_flag(out, one, b",\"clock_steps_back\":", back)
 }
 
-// Writes a member that says how many of the first arrivals are of a kind.
+// Writes a member with the number and the share of the first arrivals of one kind: `part` of `whole`.
 fn write_share(out: &mut [u8], at: usize, name: &[u8], part: u32, whole: u32) -> usize
     requires { ⌜ at + (length (now name) + 103) ≤ length (now out) ⌝ }
     ensures { λ r. ⌜ Written at r (shareMember (now (name .entry)) part whole) (now (out .entry)) (now (out .exit))
@@ -195,7 +195,7 @@ fn write_ratios(
     )
 }
 
-// Writes the total of disorder, and the end.
+// Writes the total of disorder and the end of the object.
 fn write_end(out: &mut [u8], at: usize, total: u32) -> usize
     requires { ⌜ at + 40 ≤ length (now out) ⌝ }
     ensures { λ r. ⌜ Written at r (disorderMember total) (now (out .entry)) (now (out .exit)) × (r ≤ at + 40) ⌝ }

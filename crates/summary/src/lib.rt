@@ -1,5 +1,5 @@
-// The summary of a sample: its counts, what a receiver that restores order needs of its buffer, and its ratios, as text and as JSON; and the
-// other figures of the whole sample.
+// The summary of a sample, as text and as JSON: its counts, the least buffers of a receiver that restores order, and its ratios. `write_all`
+// adds the other figures of the whole sample.
 ghost use mathlib.Core.Path.{_≡_};
 ghost use Prim.Native.Nat.{_≤_};
 ghost use lib.ListN.{length};
@@ -26,16 +26,16 @@ use rfc4737::refusal::NONE;
 use rfc4737::refusal::OUTPUT_SHORT;
 use sample::WriteAnswer;
 
-// The octets that suffice for any summary, as text and as JSON.
+// Room for any summary, as text or as JSON, in octets.
 pub const SUMMARY_OCTETS: usize = 2048;
 
-// The octets that suffice for the summary and the other figures of any sample.
+// Room for the summary and the other figures of any sample.
 pub const ALL_OCTETS: usize = 200_704;
 
-// The octets that suffice for a label as the first member of an object of JSON.
+// Room for any label as the first member of a JSON object.
 pub const LABEL_OCTETS: usize = 139;
 
-// The most octets of a label.
+// The greatest length of a label.
 const LABEL_MOST: usize = 64;
 
 // Copies a text to the start of `out` if nothing was refused and `out` has room for it.
@@ -59,8 +59,8 @@ fn hand_over(refusal: u32, text: &[u8], out: &mut [u8]) -> WriteAnswer
     }
 }
 
-// Writes the summary of a sample at the start of `out` if `out` has room for it, as SUMMARY_OCTETS octets have for any. With a
-// refusal, the file's own or 8, `out` stays as it was. Cost: fifteen searches by `buffering::least`, and seven passes over the file.
+// Writes the summary of a sample to the start of `out`; SUMMARY_OCTETS octets have room for any. If the file is refused, or with 8 if `out` is
+// too short, `out` stays unchanged. Cost: fifteen searches by `buffering::least`, and seven passes over the file.
 pub fn write(file: &[u8], out: &mut [u8]) -> WriteAnswer
     ensures { λ r. ⌜ SummaryTo (decode (now (file .entry))) (now (out .entry)) r (now (out .exit)) ⌝ }
     ensures room { λ _. ⌜ length (summaryText (decode (now (file .entry)))) ≤ summaryOctets ⌝ }
@@ -71,7 +71,7 @@ pub fn write(file: &[u8], out: &mut [u8]) -> WriteAnswer
     hand_over(layout.refusal, &text[..n], out)
 }
 
-// Writes the summary of a sample as one object of JSON and a line feed, under the same rules and at the same cost.
+// Writes the summary of a sample as one JSON object and a line feed. Room, refusals and cost are those of `write`.
 pub fn write_json(file: &[u8], out: &mut [u8]) -> WriteAnswer
     ensures { λ r. ⌜ SummaryJsonTo (decode (now (file .entry))) (now (out .entry)) r (now (out .exit)) ⌝ }
     ensures room { λ _. ⌜ length (summaryJson (decode (now (file .entry)))) ≤ summaryOctets ⌝ }
@@ -82,8 +82,8 @@ pub fn write_json(file: &[u8], out: &mut [u8]) -> WriteAnswer
     hand_over(layout.refusal, &text[..n], out)
 }
 
-// Writes a label as the first member of an object of JSON at the start of `out` if `out` has room for it, as LABEL_OCTETS octets
-// have for any of up to 64 octets. With a refusal, 3 or 8, `out` stays as it was.
+// Writes a label as the first member of a JSON object to the start of `out`; LABEL_OCTETS octets have room for any label of at most 64 octets.
+// A longer label is refused with 3. If `out` is too short, it is refused with 8. In both cases `out` stays unchanged.
 pub fn write_json_label(label: &[u8], out: &mut [u8]) -> WriteAnswer
     ensures { λ r. ⌜ LabelTo (now (label .entry)) (now (out .entry)) r (now (out .exit)) ⌝ }
     ensures room { λ _. ⌜ (length (now (label .entry)) ≤ labelMost → length (labelMember (now (label .entry))) ≤ labelOctets) ⌝ }
@@ -99,8 +99,8 @@ pub fn write_json_label(label: &[u8], out: &mut [u8]) -> WriteAnswer
     hand_over(NONE, &text[..n], out)
 }
 
-// Writes the summary of a sample and the other figures of the whole sample, under the same rules; ALL_OCTETS octets have room for any. Cost:
-// besides, a pass over the file for each extent to 100, each n to 10, and the gaps of all records: O(A + K).
+// Writes the summary of a sample and the other figures of the whole sample. Refusals are those of `write`; ALL_OCTETS octets have room for any
+// text. Cost: that of `write`, a pass over the file for each extent to 100 and each n to 10, and O(A + K) for the gaps of all records.
 pub fn write_all(file: &[u8], out: &mut [u8]) -> WriteAnswer
     ensures { λ r. ⌜ AllTo (decode (now (file .entry))) (now (out .entry)) r (now (out .exit)) ⌝ }
     ensures room { λ _. ⌜ length (allText (decode (now (file .entry)))) ≤ allOctets ⌝ }

@@ -1,4 +1,4 @@
-// The lines of the summary, each written at an offset of a buffer that has room for it. Each function returns the offset after them.
+// Writes the lines of the summary. Each function writes at an offset of a buffer that has room, and returns the offset after what it wrote.
 ghost use mathlib.Core.Path.{_≡_};
 ghost use Prim.Native.Nat.{_+_, _≤_};
 ghost use lib.ListN.{length};
@@ -18,7 +18,7 @@ use crate::parts::write_ratio;
 use crate::parts::write_word;
 use sample::Layout;
 
-// Writes the line of the counts.
+// Writes the line with the counts.
 fn write_counts(out: &mut [u8], at: usize, sent: u32, arrived: u32, copies: u32) -> usize
     requires { ⌜ at + 120 ≤ length (now out) ⌝ }
     ensures { λ r. ⌜ Written at r (countsLine sent arrived copies) (now (out .entry)) (now (out .exit)) × (r ≤ at + 120) ⌝ }
@@ -28,7 +28,7 @@ fn write_counts(out: &mut [u8], at: usize, sent: u32, arrived: u32, copies: u32)
     write_between(out, two, b"", copies as u64, b" copies besides\n")
 }
 
-// Writes a line that says how many of the first arrivals are of a kind.
+// Writes a line with the number and the share of the first arrivals of one kind: `part` of `whole`.
 fn write_share(out: &mut [u8], at: usize, name: &[u8], part: u32, whole: u32) -> usize
     requires { ⌜ at + (length (now name) + 92) ≤ length (now out) ⌝ }
     ensures { λ r. ⌜ Written at r (shareLine (now (name .entry)) part whole) (now (out .entry)) (now (out .exit))
@@ -37,7 +37,7 @@ fn write_share(out: &mut [u8], at: usize, name: &[u8], part: u32, whole: u32) ->
     write_ratio(out, at, name, b" of ", b", ", b"-", b" %\n", part, whole)
 }
 
-// Writes the line of the least sizes for a share.
+// Writes the line with the least sizes for a share.
 fn write_sizes(out: &mut [u8], at: usize, share: &[u8], sizes: Sizes) -> usize
     requires { ⌜ at + (length (now share) + 173) ≤ length (now out) ⌝ }
     ensures { λ r. ⌜ Written at r (sizesLine (now (share .entry)) sizes) (now (out .entry)) (now (out .exit))
@@ -50,7 +50,7 @@ fn write_sizes(out: &mut [u8], at: usize, share: &[u8], sizes: Sizes) -> usize
     write_word(out, four, b"\n")
 }
 
-// Writes the row of the table of the least sizes for `share` in 100 of the first arrivals.
+// Finds the least sizes for `share` percent of the first arrivals, and writes their row of the table.
 fn write_row(out: &mut [u8], at: usize, file: &[u8], name: &[u8], share: u32) -> usize
     requires { ⌜ (at + (length (now name) + 173) ≤ length (now out)) × (1 ≤ share) × (share ≤ 100) ⌝ }
     ensures { λ r. ⌜ Written at r (sizesLine (now (name .entry)) (sizesFor (answersOf (decode (now (file .entry)))) share)) (now (out .entry)) (now (out .exit))
@@ -101,7 +101,7 @@ fn write_if(out: &mut [u8], at: usize, due: bool, line: &[u8]) -> usize
     at
 }
 
-// Writes the lines that say what the sizes hold for: one if packets were lost, and one if the clock steps back.
+// Writes the lines that limit what the sizes mean: one if packets were lost, one if the clock steps back.
 fn write_limits(out: &mut [u8], at: usize, lost: bool, back: bool) -> usize
     requires { ⌜ at + 220 ≤ length (now out) ⌝ }
     ensures { λ r. ⌜ Written at r (limitLines lost back) (now (out .entry)) (now (out .exit)) × (r ≤ at + 220) ⌝ }
@@ -120,7 +120,7 @@ fn write_limits(out: &mut [u8], at: usize, lost: bool, back: bool) -> usize
     )
 }
 
-// Writes the lines of the ratios.
+// Writes the lines with the ratios.
 fn write_ratios(
     out: &mut [u8],
     at: usize,
@@ -137,7 +137,7 @@ fn write_ratios(
     write_share(out, two, b"3-reordered: ", reordered3, arrived)
 }
 
-// Writes the line of the total of disorder.
+// Writes the line with the total of disorder.
 fn write_disorder(out: &mut [u8], at: usize, total: u32) -> usize
     requires { ⌜ at + 70 ≤ length (now out) ⌝ }
     ensures { λ r. ⌜ Written at r (disorderLine total) (now (out .entry)) (now (out .exit)) × (r ≤ at + 70) ⌝ }

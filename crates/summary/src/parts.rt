@@ -1,4 +1,4 @@
-// Parts of a text, each written at an offset of a buffer that has room for it. Each function returns the offset after its part.
+// Writes parts of a text at an offset of a buffer that has room for them. Each function returns the offset after what it wrote.
 ghost use mathlib.Core.Path.{_≡_};
 ghost use Prim.Native.Nat.{_+_, _≤_};
 ghost use lib.ListN.{length, take};
@@ -25,7 +25,7 @@ fn write_first(out: &mut [u8], at: usize, word: &[u8], n: usize) -> usize
     at + n
 }
 
-// Writes a number.
+// Writes a number in decimal.
 pub(crate) fn write_number(out: &mut [u8], at: usize, v: u64) -> usize
     requires { ⌜ at + 20 ≤ length (now out) ⌝ }
     ensures { λ r. ⌜ Written at r (decimalOf v) (now (out .entry)) (now (out .exit)) × (r ≤ at + 20) ⌝ }
@@ -44,7 +44,7 @@ pub(crate) fn write_between(out: &mut [u8], at: usize, before: &[u8], v: u64, af
     write_word(out, word, after)
 }
 
-// Writes a number in a column of `width` octets.
+// Writes a number with spaces before it, so that it fills `width` octets.
 pub(crate) fn write_column(out: &mut [u8], at: usize, width: usize, v: u64) -> usize
     requires { ⌜ (width ≤ 16) × (at + 36 ≤ length (now out)) ⌝ }
     ensures { λ r. ⌜ Written at r (column width v) (now (out .entry)) (now (out .exit)) × (r ≤ at + 36) ⌝ }
@@ -57,7 +57,7 @@ pub(crate) fn write_column(out: &mut [u8], at: usize, width: usize, v: u64) -> u
     write_number(out, number, v)
 }
 
-// Writes a time of microseconds as milliseconds, in a column.
+// Writes a time, given in microseconds, in milliseconds with three decimals, in a column.
 pub(crate) fn write_milliseconds(out: &mut [u8], at: usize, time: u64) -> usize
     requires { ⌜ at + 100 ≤ length (now out) ⌝ }
     ensures { λ r. ⌜ Written at r (milliseconds time) (now (out .entry)) (now (out .exit)) × (r ≤ at + 100) ⌝ }
@@ -70,7 +70,7 @@ pub(crate) fn write_milliseconds(out: &mut [u8], at: usize, time: u64) -> usize
     write_word(out, unit, b" ms")
 }
 
-// Writes the share that `part` is of `whole`, in percent, or `none` if `whole` is 0.
+// Writes `part` of `whole` in percent with one decimal, or `none` if `whole` is 0.
 pub(crate) fn write_percent(out: &mut [u8], at: usize, none: &[u8], part: u32, whole: u32) -> usize
     requires { ⌜ at + (length (now none) + 41) ≤ length (now out) ⌝ }
     ensures { λ r. ⌜ Written at r (percent (now (none .entry)) part whole) (now (out .entry)) (now (out .exit)) × (r ≤ at + (length (now (none .entry)) + 41)) ⌝ }
@@ -84,8 +84,8 @@ pub(crate) fn write_percent(out: &mut [u8], at: usize, none: &[u8], part: u32, w
     write_number(out, tenth, tenths % 10)
 }
 
-// Writes how many of `whole` packets are of a kind, and their share in percent: `name` stands before the count, `of` before `whole`,
-// `share` before the percent, and `after` at the end; `none` stands for the share of nothing.
+// Writes `part`, `whole` and `part` of `whole` in percent. `name` stands before `part`, `of` before `whole`, `share` before the percent, and
+// `after` at the end. `none` replaces the percent if `whole` is 0.
 pub(crate) fn write_ratio(
     out: &mut [u8],
     at: usize,

@@ -1,6 +1,6 @@
--- What the table is made of: `record_rows` fills a list of 32,768 numbers, which has room for all rows (`rows-wide`), and the row of each
--- record is where it is looked for (`rows-known`); so the loop's premises hold (`table-ready`).
--- Here d is what the file decodes to, y its layout, old the list before. Assumes nothing.
+-- The rows of the table: a list of 32,768 numbers has room for the rows of any sample (`rows-wide`), so `record_rows` fills it and the row of
+-- each record is at its index (`rows-known`). Hence the premises of the loop hold (`table-ready`).
+-- d is the decoded file, y its layout, old the list before. Assumes nothing.
 use Prim.Native.Nat.{ℕ, suc, _+_, _-_, _*_, _/_, _≤_, _<_}
 use native.Mathlib.Omega.{arith}
 use mathlib.Core.Path.{_≡_, refl, sym, ap, subst, _∙_}
@@ -41,7 +41,7 @@ module _ (d : Decoded) (y : Layout) (old : List ℕ) (e : y ≡ layoutOf d) (few
     go (refused r) h = refl
     go (accepted s) h = rw (le-ltb (length old / 8) (length (s .arrivals)) (omega (arith, h, long)))
 
-  -- a record that there is is not refused
+  -- a record of the sample is not refused
   not-refused : (i : ℕ) → i < length (sampleArrivals d) → recordAnswer d (suc i) .refusal ≡ 0
   unfolding recordAnswer
   not-refused i h = go d h where
@@ -69,7 +69,7 @@ module _ (d : Decoded) (y : Layout) (old : List ℕ) (e : y ≡ layoutOf d) (few
             ∙ tell .at d (suc i) (not-refused i inside);
       }
 
--- what `record_rows` leaves in a list of 32,768 numbers
+-- after `record_rows` filled a list of 32,768 numbers
 pub table-ready : (file : List ℕ) → Octets file → RowsTell → {old rows : List ℕ} {y : Layout} → length old ≡ 32768
     → RowsTo (decode file) old y rows
     → FileLayout (decode file) y × RowsKnown (decode file) y rows
@@ -86,6 +86,6 @@ pub counts-known : (d : Decoded) {r : SampleCounts} → r ≡ sampleCounts d →
 unfolding sampleCounts
 counts-known d e = ap (λ (r : SampleCounts). r .counts) e
 
--- an answer that is equal to one is that one
+-- an answer may be replaced by an equal one
 pub answer-is : {own : ℕ} {os old new : List ℕ} {a b : WriteAnswer} → a ≡ b → Output own os old b new → Output own os old a new
 answer-is {own} {os} {old} {new} e o = subst (λ (a : WriteAnswer). Output own os old a new) (sym e) o

@@ -1,5 +1,5 @@
--- The parts of a table are the whole: the first b + 1 parts are what stands before the records, and the records before block b
--- (`parts-to`). Here d is what the file decodes to, b a block, n and m numbers of records. Assumes nothing.
+-- The parts of a table are the whole table: the first b + 1 parts are the text before the records and the records before block b
+-- (`parts-to`). d is the decoded file, b a block, n and m are numbers of records. Assumes nothing.
 use Prim.Native.Nat.{ℕ, zero, suc, _+_, _-_, _≤_, _<_}
 use native.Mathlib.Omega.{arith}
 use mathlib.Core.Path.{_≡_, refl, sym, ap, _∙_}
@@ -12,7 +12,7 @@ use Rattle.metrics.specs.Sample.{sampleArrivals}
 use Rattle.table.specs.Text.{startOf, endOf, recordText, recordsFrom, blockStart, partText, partsTo, tableText, PartsJoin}
 
 module _ (json : Bool) (d : Decoded) where
-  -- what stands before the records
+  -- the text before the records
   abbrev start : List ℕ
   start = startOf json d
 
@@ -36,7 +36,7 @@ module _ (json : Bool) (d : Decoded) where
   part-none part h =
       sym (simp (ne-eqb part 0 (λ z. omega (arith, h, z)), lt-leb part 16 (omega (arith, h)), ne-eqb part 17 (λ z. omega (arith, h, z))))
 
-  -- ---- all of them
+  -- ---- all parts
 
   records-join : (n m : ℕ) → recordsFrom json d 0 n ++ recordsFrom json d n m ≡ recordsFrom json d 0 (n + m)
   records-join n zero =

@@ -1,7 +1,7 @@
--- Laws of the text of a record. A word is picked by the form (`in-json`, `in-csv`); a late time has a minus only if it is before by more
--- than 0 (`late-plain`, `late-zero`, `late-minus`); a row's first number tells the case of the answer (`in-order-row`, `duplicate-row`,
--- `reordered-row`).
--- Here named and plain are the words of the two forms, kind and amount what a row says of a late time t. Assumes nothing.
+-- Laws of the text of a record. A word depends on the form (`in-json`, `in-csv`). A late time has a minus if it is before by more than 0
+-- (`late-plain`, `late-zero`, `late-minus`). The first number of a row is the case of the answer (`in-order-row`, `duplicate-row`,
+-- `reordered-row`). `named` and `plain` are the words of the two forms, `kind` and `amount` the numbers of a row for a late time t. Assumes
+-- nothing.
 use Prim.Native.Nat.{ℕ, _≤_}
 use native.Mathlib.Omega.{arith}
 use mathlib.Core.Path.{_≡_, sym, ap, _∙_}
@@ -88,7 +88,7 @@ duplicate-row json row (Answer.InOrder d) h e = absurd (omega (arith, case-of (A
 duplicate-row json row (Answer.Reordered d) h e = absurd (omega (arith, reordered-number (d .late), case-of (Answer.Reordered d) h e))
 duplicate-row json row (Answer.Duplicate d) h e = ap (λ (l : List ℕ). joined (duplicatePieces json (getD l 7 0))) h
 
--- of a row that is neither an in-order packet's nor a duplicate's, what is written of a reordered packet
+-- a row that is neither an in-order packet's nor a duplicate's is a reordered packet's
 pub reordered-row : (json : Bool) (at next : ℕ) (row old new : List ℕ) (a : Answer) → row ≡ rowOf a
     → (getD row 0 0 ≡ 0 → ⊥) → (getD row 0 0 ≡ 3 → ⊥)
     → ((f : ReorderedFigures) → row ≡ rowOf (Answer.Reordered f)

@@ -1,7 +1,8 @@
--- The pieces that are written one after the other are the texts of Text: those of a record (`record-pieces`), those after the records
--- (`end-pieces`), and the label before them (`label-written`). Pieces joined after pieces are joined as one list (`joined-join`); the rest
--- is computed, case by case. Here ps and qs are pieces, i the index of a record from 0, a its arrival, x its answer. Assumes nothing.
-use Prim.Native.Nat.{ℕ, _≤_}
+-- Joined, the pieces that the private functions write are the texts of Text: those of a record (`record-pieces`), those after the records
+-- (`end-pieces`), and the label before them (`label-written`). Joining two lists of pieces and appending gives their joined append
+-- (`joined-join`); the rest is computed, case by case. ps and qs are pieces, i is the index of a record from 0, a its arrival, x its answer.
+-- Assumes nothing.
+use Prim.Native.Nat.{ℕ, _+_, _≤_}
 use native.Mathlib.Omega.{arith}
 use mathlib.Core.Path.{_≡_, refl, sym, ap, ap₂, _∙_}
 use mathlib.Core.Bool.{Bool, true, false, true≢false}
@@ -20,12 +21,20 @@ use Rattle.sample.specs.Judge.{judgeLabel}
 use Rattle.sample.proofs.Output.{output-whole}
 use Rattle.summary.specs.Json.{labelMember, LabelTo}
 use Rattle.writing.specs.Parts.{joined, Written}
+use Rattle.writing.proofs.Parts.{nothing, then}
 use Rattle.table.specs.Text.{startText, rowText, endText}
 use Rattle.table.specs.Private.Pieces.{opening, startPieces, inOrderPieces, latenessPieces, offsetPieces, duplicatePieces, answerPieces, sentPieces, countPieces, runPieces}
 
 pub joined-join : (ps qs : List (List ℕ)) → joined ps ++ joined qs ≡ joined (ps ++ qs)
 joined-join [] qs = refl
 joined-join (p ∷ ps) qs = append-assoc p (joined ps) (joined qs) ∙ ap (λ (l : List ℕ). p ++ l) (joined-join ps qs)
+
+-- two values and a word, one after the other, each within its bound
+pub values-and-word : {at one two next : ℕ} {xs ys zs old new newer newest : List ℕ}
+    → Written at one xs old new × (one ≤ at + 56) → Written one two ys new newer × (two ≤ one + 56)
+    → Written two next zs newer newest × (next ≤ two + 36)
+    → Written at next (joined (xs ∷ ys ∷ zs ∷ [])) old newest × (next ≤ at + 148)
+values-and-word p q r = (then (p .0) (then (q .0) (then (r .0) (nothing _ _))), omega (arith, p .1, q .1, r .1))
 
 -- ---- a record
 

@@ -1,6 +1,6 @@
--- The table, put part by part. What is put stands over the start of memory if there is room for it (`Put`), and each part after those
--- before it (`put-next`); a record is written by its row (`record-written`).
--- Here xs and ys are octets, old and new memory before and after, i the index of a record from 0. Assumes nothing.
+-- The table, copied part by part. A text that is copied replaces the start of memory if there is room for it (`Put`), and the next text
+-- follows it (`put-next`). A record is written from its row (`record-written`). xs and ys are octets, old and new memory before and after,
+-- i is the index of a record from 0. Assumes nothing.
 use Prim.Native.Nat.{ℕ, suc, _+_, _-_, _*_, _≤_, _<_}
 use native.Mathlib.Omega.{arith}
 use mathlib.Core.Path.{_≡_, refl, sym, ap, subst, _∙_}
@@ -38,7 +38,7 @@ put-next at xs ys old {new} p =
           ap (λ (l : List ℕ). put at ys l) (p .over-start h) ∙ put-over at xs ys old (sym (p .count)) k;
     }
 
--- of a text that is equal to another, of memory that is found equal to other memory, and of an equal number of octets
+-- the text, the memory and the number of octets may each be replaced by an equal one
 pub put-named : {n : ℕ} {xs ys old new : List ℕ} → xs ≡ ys → Put n xs old new → Put n ys old new
 put-named {n} {xs} {ys} {old} {new} e p = subst (λ (l : List ℕ). Put n l old new) e p
 
@@ -48,13 +48,13 @@ put-found {n} {xs} {old} {new} {found} e p = subst (λ (l : List ℕ). Put n xs 
 pub put-counted : {n m : ℕ} {xs old new : List ℕ} → m ≡ n → Put n xs old new → Put m xs old new
 put-counted {n} {m} {xs} {old} {new} e p = subst (λ (k : ℕ). Put k xs old new) (sym e) p
 
--- one text, written into a line and put from there
+-- a text that was written to a line and copied from there
 pub line-put : {n : ℕ} {xs line old found : List ℕ} {before : List ℕ} → Written 0 n xs before line → found ≡ put 0 (take n line) old
     → Put n xs old found
 line-put {n} {xs} {line} {old} w e =
     put-counted (w .place) (put-found (e ∙ ap (λ (l : List ℕ). put 0 l old) (stands w .1)) (put-next 0 [] xs old (put-none old)))
 
--- one record more
+-- the next record
 pub records-next : (json : Bool) (d : Decoded) (from i : ℕ) → from ≤ i
     → recordsFrom json d from (i - from) ++ recordText json d i ≡ recordsFrom json d from (i + 1 - from)
 records-next json d from i h =
@@ -62,7 +62,7 @@ records-next json d from i h =
     let f : from + (i - from) ≡ i = omega arith in
     rw (e, f)
 
--- the row of record i + 1, as it is taken from memory
+-- the row of record i + 1, taken from memory
 pub row-taken : (rows : List ℕ) (i : ℕ) → taken (8 * i) 8 rows ≡ rowAt rows (suc i)
 unfolding rowAt
 row-taken rows i =
@@ -75,7 +75,7 @@ row-length rows i h =
     let e : 8 * i + 8 - 8 * i ≡ 8 = omega arith in
     ap (λ (n : ℕ). length (part (8 * i) n rows)) e ∙ part-length (8 * i) 8 rows h
 
--- record i + 1, as it was written by its row
+-- record i + 1, written from its row
 pub record-written : (json : Bool) (d : Decoded) (y : Layout) (rows : List ℕ) (i : ℕ) {a : Arrival} {next : ℕ} {old new : List ℕ}
     → RowsKnown d y rows → i < y .arrivals → a ≡ arrivalAt d i
     → ((x : Answer) → taken (8 * i) 8 rows ≡ rowOf x → Written 0 next (rowText json i a x) old new)

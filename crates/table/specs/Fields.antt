@@ -1,4 +1,4 @@
--- The named fields of a record and of the counts. A field has no value where a record lacks the figure. Times are microseconds, and their
+-- The named fields of a record and of the counts. A field has no value if the record has no such figure. Times are in microseconds; their
 -- names end in `_us`. Assumes nothing.
 use Prim.Native.Nat.{ℕ, _+_}
 use Prim.Native.String as text
@@ -21,7 +21,7 @@ recordNames =
     "record" ∷ "number" ∷ "time_us" ∷ "kind" ∷ "position" ∷ "jump_size" ∷ "extent" ∷ "late_us" ∷ "byte_offset" ∷ "largest_n"
     ∷ "first_copy" ∷ []
 
--- those from `kind` on: what the answer for a record is, and its figures
+-- the values from `kind` on: the kind of answer for a record, and its figures
 abbrev pub answerValues : Answer → List Value
 answerValues (Answer.InOrder f) =
     word "in_order" ∷ number (f .position) ∷ number (f .jump) ∷ none ∷ none ∷ none ∷ none ∷ none ∷ []
@@ -30,7 +30,7 @@ answerValues (Answer.Reordered f) =
     ∷ none ∷ []
 answerValues (Answer.Duplicate f) = word "copy" ∷ none ∷ none ∷ none ∷ none ∷ none ∷ none ∷ number (f .first) ∷ []
 
--- all of them, of record i + 1
+-- all values of record i + 1
 abbrev pub recordValues : ℕ → Arrival → Answer → List Value
 recordValues i a answer = number (i + 1) ∷ number (a .number) ∷ number (a .time) ∷ answerValues answer
 
@@ -54,6 +54,6 @@ countValues sent arrivals c =
 abbrev pub noValues : List text.String → List Value
 noValues names = map (λ (_ : text.String). none) names
 
--- in a table that has the counts as its last row: the fields of a record in that row
+-- in CSV the counts are the last row: the values of the record fields in that row
 abbrev pub countsKind : List Value
 countsKind = none ∷ none ∷ none ∷ word "counts" ∷ none ∷ none ∷ none ∷ none ∷ none ∷ none ∷ none ∷ []

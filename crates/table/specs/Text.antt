@@ -1,5 +1,5 @@
 -- Every record of a sample with named fields, as ASCII octets: as CSV (RFC 4180, its lines ended by a line feed) or as JSON (RFC 8259).
--- No value has a comma, a quote or a line feed in it, so none is quoted in CSV. Assumes nothing.
+-- No value contains a comma, a quote or a line feed, so none is quoted in CSV. Assumes nothing.
 use Prim.Native.Nat.{ℕ, zero, suc, _+_, _-_, _*_, min}
 use Prim.Native.String as text
 use mathlib.Core.Path.{_≡_}
@@ -24,13 +24,13 @@ use Rattle.table.specs.Fields.{Value, none, word, number, late, recordNa
 
 -- ---- rows
 
--- texts parted by commas, and what stands after the last
+-- texts with commas between them, and the text after the last
 abbrev pub parted : List (List ℕ) → List ℕ → List ℕ
 parted [] after = after
 parted (t ∷ []) after = t ++ after
 parted (t ∷ (u ∷ ts)) after = t ++ (ascii "," ++ parted (u ∷ ts) after)
 
--- a value in CSV: nothing where there is none
+-- a value in CSV; nothing if there is none
 abbrev pub csvValue : Value → List ℕ
 csvValue none = []
 csvValue (word w) = ascii w
@@ -41,7 +41,7 @@ csvValue (late t) = lateTime t
 abbrev pub csvLine : List Value → List ℕ
 csvLine values = parted (map csvValue values) (ascii "\n")
 
--- a value as the member of an object of JSON; no member where there is none
+-- a value as a member of a JSON object; no member if there is none
 abbrev pub member : text.String → Value → List (List ℕ)
 member name none = []
 member name (word w) = (ascii "\"" ++ (ascii name ++ (ascii "\":\"" ++ (ascii w ++ ascii "\"")))) ∷ []
@@ -54,23 +54,23 @@ members [] values = []
 members (name ∷ names) [] = []
 members (name ∷ names) (v ∷ values) = member name v ++ members names values
 
--- an object of JSON, and what stands after it
+-- a JSON object, and the text after it
 abbrev pub objectThen : List ℕ → List text.String → List Value → List ℕ
 objectThen after names values = ascii "{" ++ parted (members names values) (ascii "}" ++ after)
 
--- ---- the text: JSON if the flag is true, else CSV
+-- ---- the text: JSON if the first argument is true, else CSV
 
--- what stands before the records: the label in JSON, the names of the fields in CSV
+-- the text before the records: the label in JSON, the names of the fields in CSV
 unfoldable pub startText : Bool → List ℕ → List ℕ
 startText true label = labelMember label ++ ascii ",\"records\":[\n"
 startText false label = parted (map ascii (recordNames ++ countNames)) (ascii "\n")
 
--- record i + 1: JSON has a comma between two records, CSV no counts in the row of a record
+-- record i + 1. JSON has a comma between two records; in CSV the fields of the counts are empty
 unfoldable pub rowText : Bool → ℕ → Arrival → Answer → List ℕ
 rowText true i a answer = cond (eqb i 0) [] (ascii ",\n") ++ objectThen [] recordNames (recordValues i a answer)
 rowText false i a answer = csvLine (recordValues i a answer ++ noValues countNames)
 
--- what stands after the records: the counts, apart in JSON and as the last row in CSV
+-- the text after the records: the counts, as a member in JSON and as the last row in CSV
 unfoldable pub endText : Bool → (sent arrivals : ℕ) → Counts → List ℕ
 endText true sent arrivals c = ascii "\n],\"counts\":" ++ objectThen (ascii "}\n") countNames (countValues sent arrivals c)
 endText false sent arrivals c = csvLine (countsKind ++ countValues sent arrivals c)
@@ -86,7 +86,7 @@ answerAt d i = recordAnswer d (suc i) .answer
 abbrev pub recordText : Bool → Decoded → ℕ → List ℕ
 recordText json d i = rowText json i (arrivalAt d i) (answerAt d i)
 
--- n records after the first `from`
+-- n records, from record from + 1 on
 abbrev pub recordsFrom : Bool → Decoded → (from n : ℕ) → List ℕ
 recordsFrom json d from zero = []
 recordsFrom json d from (suc n) = recordsFrom json d from n ++ recordText json d (from + n)
@@ -104,11 +104,11 @@ tableText json d = (startOf json d ++ recordsFrom json d 0 (length (sampleArriva
 
 -- ---- its parts
 
--- how many of the records stand before block b of 256
+-- the number of records before block b, each block of 256 records
 abbrev pub blockStart : Decoded → ℕ → ℕ
 blockStart d b = min (256 * b) (length (sampleArrivals d))
 
--- part 0 is what stands before the records, parts 1 to 16 have up to 256 records each, part 17 is what stands after them
+-- part 0 is the text before the records, parts 1 to 16 are the blocks, part 17 is the text after the records
 unfoldable pub partText : Bool → Decoded → ℕ → List ℕ
 partText json d part =
     cond (eqb part 0) (startOf json d)
@@ -124,10 +124,10 @@ partsTo json d (suc n) = partsTo json d n ++ partText json d n
 abbrev pub PartsJoin : Bool → Decoded → Type 0
 PartsJoin json d = partsTo json d 18 ≡ tableText json d
 
--- the octets that suffice for any part
+-- room for any part, in octets
 abbrev pub partOctets : ℕ
 partOctets = 131072
 
--- the call's answer, and the lent octets after it: those of the part
+-- the call's answer, and the caller's buffer after it, which begins with the part
 abbrev pub PartTo : Bool → Decoded → ℕ → List ℕ → WriteAnswer → List ℕ → Type 0
 PartTo json d part old answer new = Output (decodedRefusal d) (partText json d part) old answer new

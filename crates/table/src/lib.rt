@@ -16,29 +16,29 @@ use rfc4737::refusal::OUTPUT_SHORT;
 use sample::WriteAnswer;
 use whole::put_part;
 
-// The parts of a table.
+// The number of parts of a table.
 pub const PARTS: u32 = 18;
 
-// The octets that suffice for any part.
+// Room for any part, in octets.
 pub const PART_OCTETS: usize = 131072;
 
-// The numbers in the rows of the longest sample.
-const ROW_NUMBERS: usize = 8 * ARRIVALS_MOST as usize;
+// The length of the rows of the longest sample: 8 numbers for each record.
+const ROWS_LENGTH: usize = 8 * ARRIVALS_MOST as usize;
 
-// The answer of a call that is refused.
+// Returns the answer of a refused call.
 fn refused(refusal: u32) -> WriteAnswer
     ensures { λ r. ⌜ r ≡ record { refusal = refusal; length = 0 } ⌝ }
 {
     WriteAnswer { refusal, length: 0 }
 }
 
-// Writes a part of the table of a sample at the start of `out` if it has room for it. Its length is found first, since a refused call
-// touches nothing.
+// Writes a part of a sample's table to the start of `out` if it has room for it. The first `put_part` only finds the length of the part, since
+// a refused call must leave `out` unchanged.
 fn write_part(file: &[u8], json: bool, part: u32, out: &mut [u8]) -> WriteAnswer
     ensures { λ r. ⌜ PartTo json (decode (now (file .entry))) part (now (out .entry)) r (now (out .exit))
         × (length (partText json (decode (now (file .entry))) part) ≤ partOctets) × PartsJoin json (decode (now (file .entry))) ⌝ }
 {
-    let mut rows = [0u64; ROW_NUMBERS];
+    let mut rows = [0u64; ROWS_LENGTH];
     let layout = metrics::record_rows(file, &mut rows);
     let counts = metrics::counts(file).counts;
     let mut none = [0u8; 1];
@@ -56,10 +56,10 @@ fn write_part(file: &[u8], json: bool, part: u32, out: &mut [u8]) -> WriteAnswer
     }
 }
 
-// Writes a part of a sample's table as comma-separated values: a line with the names of the fields, a line for each record, and one with
-// the counts. It stands at the start of `out` if `out` has room for it, as PART_OCTETS octets have for any. The parts 0 to 17 are the
-// whole, one after the other; any other part is empty. With a refusal, the file's own or 8, `out` stays as it was. Cost: that of
-// `metrics::record_rows`; 262,144 octets of stack besides.
+// Writes a part of a sample's table as comma-separated values: a line with the names of the fields, a line for each record, and a line with
+// the counts. Parts 0 to 17, one after the other, are the whole table; any other part is empty. The part is written to the start of `out`;
+// PART_OCTETS octets have room for any. If the file is refused, or with 8 if `out` is too short, `out` stays unchanged. Cost: that of
+// `metrics::record_rows`, and 262,144 octets of stack.
 pub fn write_csv(file: &[u8], part: u32, out: &mut [u8]) -> WriteAnswer
     ensures { λ r. ⌜ PartTo false (decode (now (file .entry))) part (now (out .entry)) r (now (out .exit)) ⌝ }
     ensures room { λ _. ⌜ length (partText false (decode (now (file .entry))) part) ≤ partOctets ⌝ }
@@ -68,8 +68,8 @@ pub fn write_csv(file: &[u8], part: u32, out: &mut [u8]) -> WriteAnswer
     write_part(file, false, part, out)
 }
 
-// Writes a part of a sample's table as one object of JSON: the label, every record as an object of named fields, and the counts. Parts,
-// room, refusals and cost as `write_csv`.
+// Writes a part of a sample's table as one JSON object: the label, every record as an object of named fields, and the counts. Parts, room,
+// refusals and cost are those of `write_csv`.
 pub fn write_json(file: &[u8], part: u32, out: &mut [u8]) -> WriteAnswer
     ensures { λ r. ⌜ PartTo true (decode (now (file .entry))) part (now (out .entry)) r (now (out .exit)) ⌝ }
     ensures room { λ _. ⌜ length (partText true (decode (now (file .entry))) part) ≤ partOctets ⌝ }

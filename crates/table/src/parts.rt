@@ -1,4 +1,4 @@
-// Parts of a text, each written at an offset of a buffer that has room for it. Each function returns the offset after its part.
+// Writes parts of a text at an offset of a buffer that has room for them. Each function returns the offset after what it wrote.
 ghost use mathlib.Core.Bool.{cond};
 ghost use mathlib.Core.List.{_++_};
 ghost use Prim.Native.Nat.{_+_, _≤_};
@@ -15,7 +15,7 @@ pub(crate) fn write_word(out: &mut [u8], at: usize, word: &[u8]) -> usize
     at + word.len()
 }
 
-// Writes `named` in JSON, `plain` in CSV. Neither has over 36 octets.
+// Writes `named` in JSON, `plain` in CSV. Each has at most 36 octets.
 pub(crate) fn write_either(
     out: &mut [u8],
     at: usize,
@@ -33,12 +33,12 @@ pub(crate) fn write_either(
     write_word(out, at, plain)
 }
 
-// Writes a number.
-pub(crate) fn write_number(out: &mut [u8], at: usize, v: u64) -> usize
+// Writes a number in decimal.
+pub(crate) fn write_number(out: &mut [u8], at: usize, number: u64) -> usize
     requires { ⌜ at + 20 ≤ length (now out) ⌝ }
-    ensures { λ r. ⌜ Written at r (decimalOf v) (now (out .entry)) (now (out .exit)) × (r ≤ at + 20) ⌝ }
+    ensures { λ r. ⌜ Written at r (decimalOf number) (now (out .entry)) (now (out .exit)) × (r ≤ at + 20) ⌝ }
 {
-    at + decimal::put_decimal(out, at, v)
+    at + decimal::put_decimal(out, at, number)
 }
 
 // Writes a number after `named` in JSON, after `plain` in CSV.
@@ -48,12 +48,12 @@ pub(crate) fn write_value(
     json: bool,
     named: &[u8],
     plain: &[u8],
-    v: u64,
+    number: u64,
 ) -> usize
     requires { ⌜ (length (now named) ≤ 36) × (length (now plain) ≤ 36) × (at + 56 ≤ length (now out)) ⌝ }
-    ensures { λ r. ⌜ Written at r (cond json (now (named .entry)) (now (plain .entry)) ++ decimalOf v) (now (out .entry)) (now (out .exit))
+    ensures { λ r. ⌜ Written at r (cond json (now (named .entry)) (now (plain .entry)) ++ decimalOf number) (now (out .entry)) (now (out .exit))
         × (r ≤ at + 56) ⌝ }
 {
     let digits = write_either(out, at, json, named, plain);
-    write_number(out, digits, v)
+    write_number(out, digits, number)
 }

@@ -1,4 +1,4 @@
-// The text of a record, written at an offset of a buffer that has room for it. Each function returns the offset after its part.
+// Writes the text of a record at an offset of a buffer that has room for it. Each function returns the offset after what it wrote.
 ghost use mathlib.Core.Path.{_≡_};
 ghost use Prim.Native.Nat.{_+_, _≤_};
 ghost use lib.ListN.{length};
@@ -20,7 +20,7 @@ use rfc4737::numbering::DUPLICATE;
 use rfc4737::numbering::IN_ORDER;
 use rfc4737::numbering::REORDERED_BEFORE;
 
-// Writes what stands before the number of record i + 1.
+// Writes the text before the number of record i + 1.
 fn write_opening(out: &mut [u8], at: usize, json: bool, i: u32) -> usize
     requires { ⌜ at + 36 ≤ length (now out) ⌝ }
     ensures { λ r. ⌜ Written at r (opening json i) (now (out .entry)) (now (out .exit)) × (r ≤ at + 36) ⌝ }
@@ -32,17 +32,17 @@ fn write_opening(out: &mut [u8], at: usize, json: bool, i: u32) -> usize
 }
 
 // Writes record i + 1, its sequence number and its arrival time.
-fn write_start(out: &mut [u8], at: usize, json: bool, i: u32, a: Arrival) -> usize
+fn write_start(out: &mut [u8], at: usize, json: bool, i: u32, arrival: Arrival) -> usize
     requires { ⌜ at + 168 ≤ length (now out) ⌝ }
-    ensures { λ r. ⌜ Written at r (joined (startPieces json i a)) (now (out .entry)) (now (out .exit)) × (r ≤ at + 168) ⌝ }
+    ensures { λ r. ⌜ Written at r (joined (startPieces json i arrival)) (now (out .entry)) (now (out .exit)) × (r ≤ at + 168) ⌝ }
 {
     let one = write_opening(out, at, json, i);
     let two = write_number(out, one, i as u64 + 1);
-    let three = write_value(out, two, json, b",\"number\":", b",", a.number as u64);
-    write_value(out, three, json, b",\"time_us\":", b",", a.time)
+    let three = write_value(out, two, json, b",\"number\":", b",", arrival.number as u64);
+    write_value(out, three, json, b",\"time_us\":", b",", arrival.time)
 }
 
-// Writes the answer of an in-order packet.
+// Writes the answer for an in-order packet.
 fn write_in_order(out: &mut [u8], at: usize, json: bool, position: u64, jump: u64) -> usize
     requires { ⌜ at + 148 ≤ length (now out) ⌝ }
     ensures { λ r. ⌜ Written at r (joined (inOrderPieces json position jump)) (now (out .entry)) (now (out .exit)) × (r ≤ at + 148) ⌝ }
@@ -59,7 +59,7 @@ fn write_in_order(out: &mut [u8], at: usize, json: bool, position: u64, jump: u6
     write_either(out, two, json, b"}", b",,,,,,,,,,,,,\n")
 }
 
-// Writes a late time by the number of its case and its amount.
+// Writes a late time. `kind` is the number of its case, `amount` its value without a sign.
 fn write_late(out: &mut [u8], at: usize, kind: u64, amount: u64) -> usize
     requires { ⌜ at + 21 ≤ length (now out) ⌝ }
     ensures { λ r. ⌜ ((t : LateTime) → kind ≡ reorderedNumber t → amount ≡ amountOf t
@@ -76,7 +76,7 @@ fn write_late(out: &mut [u8], at: usize, kind: u64, amount: u64) -> usize
     write_number(out, digits, amount)
 }
 
-// Writes position, extent and late time of a reordered packet, by the numbers of its row.
+// Writes the position, the extent and the late time of a reordered packet from its row.
 fn write_lateness(out: &mut [u8], at: usize, json: bool, row: &[u64]) -> usize
     requires { ⌜ (at + 169 ≤ length (now out)) × (length (now row) ≡ 8) ⌝ }
     ensures { λ r. ⌜ ((f : ReorderedFigures) → now (row .entry) ≡ rowOf (Answer.Reordered f)
@@ -96,7 +96,7 @@ fn write_lateness(out: &mut [u8], at: usize, json: bool, row: &[u64]) -> usize
     write_late(out, three, row[0], row[4])
 }
 
-// Writes byte offset and largest n of a reordered packet.
+// Writes the byte offset and the largest n of a reordered packet.
 fn write_offset(out: &mut [u8], at: usize, json: bool, offset: u64, largest: u64) -> usize
     requires { ⌜ at + 148 ≤ length (now out) ⌝ }
     ensures { λ r. ⌜ Written at r (joined (offsetPieces json offset largest)) (now (out .entry)) (now (out .exit)) × (r ≤ at + 148) ⌝ }
@@ -106,7 +106,7 @@ fn write_offset(out: &mut [u8], at: usize, json: bool, offset: u64, largest: u64
     write_either(out, two, json, b"}", b",,,,,,,,,\n")
 }
 
-// Writes the answer of a reordered packet, by the numbers of its row.
+// Writes the answer for a reordered packet from its row.
 fn write_reordered(out: &mut [u8], at: usize, json: bool, row: &[u64]) -> usize
     requires { ⌜ (at + 317 ≤ length (now out)) × (length (now row) ≡ 8) ⌝ }
     ensures { λ r. ⌜ ((f : ReorderedFigures) → now (row .entry) ≡ rowOf (Answer.Reordered f)
@@ -117,7 +117,7 @@ fn write_reordered(out: &mut [u8], at: usize, json: bool, row: &[u64]) -> usize
     write_offset(out, one, json, row[5], row[6])
 }
 
-// Writes the answer of a duplicate.
+// Writes the answer for a duplicate.
 fn write_duplicate(out: &mut [u8], at: usize, json: bool, first: u64) -> usize
     requires { ⌜ at + 92 ≤ length (now out) ⌝ }
     ensures { λ r. ⌜ Written at r (joined (duplicatePieces json first)) (now (out .entry)) (now (out .exit)) × (r ≤ at + 92) ⌝ }
@@ -133,7 +133,7 @@ fn write_duplicate(out: &mut [u8], at: usize, json: bool, first: u64) -> usize
     write_either(out, one, json, b"}", b",,,,,,,,\n")
 }
 
-// Writes the answer for a record by its row.
+// Writes the answer for a record from its row.
 fn write_answer(out: &mut [u8], at: usize, json: bool, row: &[u64]) -> usize
     requires { ⌜ (at + 317 ≤ length (now out)) × (length (now row) ≡ 8) ⌝ }
     ensures { λ r. ⌜ ((a : Answer) → now (row .entry) ≡ rowOf a
@@ -150,7 +150,7 @@ fn write_answer(out: &mut [u8], at: usize, json: bool, row: &[u64]) -> usize
     write_reordered(out, at, json, row)
 }
 
-// Writes record i + 1 at the start of `out`.
+// Writes record i + 1 to the start of `out`.
 pub(crate) fn write_record(
     out: &mut [u8],
     json: bool,

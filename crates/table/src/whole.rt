@@ -1,4 +1,4 @@
-// The parts of a table: what stands before the records, the records, and what stands after them.
+// Writes the parts of a table: the text before the records, the records, and the text after them.
 ghost use mathlib.Core.Path.{_≡_};
 ghost use Prim.Native.Nat.{_+_, _-_, _*_, _≤_, min};
 ghost use lib.ListN.{length};
@@ -20,10 +20,10 @@ use rfc4737::Counts;
 use rfc4737::Runs;
 use sample::Layout;
 
-// The most octets of what stands before the records, of a record, and of what stands after them.
-const LINE: usize = 512;
+// The greatest length of a record, and of the text before and after the records.
+const MAX_LINE: usize = 512;
 
-// Writes the label of a sample as the first member of an object of JSON at the start of `out`.
+// Writes the label to the start of `out`, as the first member of a JSON object.
 fn write_label(out: &mut [u8], label: &[u8]) -> usize
     requires { ⌜ (512 ≤ length (now out)) × (length (now label) ≤ 64) ⌝ }
     ensures { λ r. ⌜ Written 0 r (labelMember (now (label .entry))) (now (out .entry)) (now (out .exit)) × (r ≤ 139) ⌝ }
@@ -31,7 +31,7 @@ fn write_label(out: &mut [u8], label: &[u8]) -> usize
     summary::write_json_label(label, out).length as usize
 }
 
-// Writes what stands before the records at the start of `out`.
+// Writes the text before the records to the start of `out`.
 fn write_before(out: &mut [u8], json: bool, label: &[u8]) -> usize
     requires { ⌜ (512 ≤ length (now out)) × (length (now label) ≤ 64) ⌝ }
     ensures { λ r. ⌜ Written 0 r (startText json (now (label .entry))) (now (out .entry)) (now (out .exit)) × (r ≤ 512) ⌝ }
@@ -64,13 +64,27 @@ fn write_sent(out: &mut [u8], at: usize, json: bool, sent: u32, arrivals: u32) -
 }
 
 // Writes L, the reordered packets and the copies.
-fn write_counts(out: &mut [u8], at: usize, json: bool, c: Counts) -> usize
+fn write_counts(out: &mut [u8], at: usize, json: bool, counts: Counts) -> usize
     requires { ⌜ at + 168 ≤ length (now out) ⌝ }
-    ensures { λ r. ⌜ Written at r (joined (countPieces json c)) (now (out .entry)) (now (out .exit)) × (r ≤ at + 168) ⌝ }
+    ensures { λ r. ⌜ Written at r (joined (countPieces json counts)) (now (out .entry)) (now (out .exit)) × (r ≤ at + 168) ⌝ }
 {
-    let one = write_value(out, at, json, b",\"arrived\":", b",", c.arrived as u64);
-    let two = write_value(out, one, json, b",\"reordered\":", b",", c.reordered as u64);
-    write_value(out, two, json, b",\"copies\":", b",", c.duplicates as u64)
+    let one = write_value(out, at, json, b",\"arrived\":", b",", counts.arrived as u64);
+    let two = write_value(
+        out,
+        one,
+        json,
+        b",\"reordered\":",
+        b",",
+        counts.reordered as u64,
+    );
+    write_value(
+        out,
+        two,
+        json,
+        b",\"copies\":",
+        b",",
+        counts.duplicates as u64,
+    )
 }
 
 // Writes the runs, and the end of the text.
@@ -98,19 +112,18 @@ fn write_runs(out: &mut [u8], at: usize, json: bool, runs: Runs) -> usize
     write_either(out, three, json, b"}}\n", b"\n")
 }
 
-// Writes what stands after the records at the start of `out`.
-fn write_after(out: &mut [u8], json: bool, sent: u32, arrivals: u32, c: Counts) -> usize
+// Writes the text after the records to the start of `out`.
+fn write_after(out: &mut [u8], json: bool, sent: u32, arrivals: u32, counts: Counts) -> usize
     requires { ⌜ 512 ≤ length (now out) ⌝ }
-    ensures { λ r. ⌜ Written 0 r (endText json sent arrivals c) (now (out .entry)) (now (out .exit)) × (r ≤ 512) ⌝ }
+    ensures { λ r. ⌜ Written 0 r (endText json sent arrivals counts) (now (out .entry)) (now (out .exit)) × (r ≤ 512) ⌝ }
 {
-    let runs = c.runs;
+    let runs = counts.runs;
     let one = write_sent(out, 0, json, sent, arrivals);
-    let two = write_counts(out, one, json, c);
+    let two = write_counts(out, one, json, counts);
     write_runs(out, two, json, runs)
 }
 
-// Puts the records after the first `from` up to `to` at the start of `out`, one by one, if it has room for all of them. Returns their
-// octets.
+// Copies records from + 1 to `to`, one after the other, to the start of `out` if it has room for all of them. Returns their length.
 fn put_records(
     file: &[u8],
     layout: Layout,
@@ -125,7 +138,7 @@ fn put_records(
     ensures { λ r. ⌜ (r ≤ partOctets) × Put r (recordsFrom json (decode (now (file .entry))) from (to - from))
         (now (out .entry)) (now (out .exit)) ⌝ }
 {
-    let mut line = [0u8; LINE];
+    let mut line = [0u8; MAX_LINE];
     let mut at: usize = 0;
     let mut i = from;
     while i < to {
@@ -139,18 +152,18 @@ fn put_records(
     at
 }
 
-// Returns how many of the records stand before block b of 256.
-fn block_start(b: u32, arrivals: u32) -> u32
-    requires { ⌜ b ≤ 16 ⌝ }
-    ensures { λ r. ⌜ r ≡ min (256 * b) arrivals ⌝ }
+// Returns the number of records before block `block`. A block has 256 records.
+fn block_start(block: u32, arrivals: u32) -> u32
+    requires { ⌜ block ≤ 16 ⌝ }
+    ensures { λ r. ⌜ r ≡ min (256 * block) arrivals ⌝ }
 {
-    if 256 * b < arrivals {
-        return 256 * b;
+    if 256 * block < arrivals {
+        return 256 * block;
     }
     arrivals
 }
 
-// Puts a part of the table at the start of `out` if it has room for it. Returns the part's octets.
+// Copies a part of the table to the start of `out` if it has room for it. Returns the length of the part.
 pub(crate) fn put_part(
     file: &[u8],
     layout: Layout,
@@ -168,13 +181,13 @@ pub(crate) fn put_part(
         return 0;
     }
     if part == 17 {
-        let mut line = [0u8; LINE];
+        let mut line = [0u8; MAX_LINE];
         let n = write_after(&mut line, json, layout.sent, layout.arrivals, c);
         octets::put_octets(out, 0, &line[..n]);
         return n;
     }
     if part == 0 {
-        let mut line = [0u8; LINE];
+        let mut line = [0u8; MAX_LINE];
         let n = write_before(&mut line, json, sample::label(file));
         octets::put_octets(out, 0, &line[..n]);
         return n;

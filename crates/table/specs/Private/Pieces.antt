@@ -1,4 +1,4 @@
--- The words and numbers that private functions write one after the other; joined they are the texts of Text.antt (proofs/Pieces). Assumes
+-- The words and numbers that private functions write one after the other. Joined, they are the texts of Text.antt (proofs/Pieces). Assumes
 -- nothing.
 use Prim.Native.Nat.{ℕ, _+_}
 use Prim.Native.String as text
@@ -14,15 +14,15 @@ use Rattle.rfc4737.specs.declared.LateTime.{LateTime}
 use Rattle.rfc4737.specs.declared.Runs.{Runs}
 use Rattle.listing.specs.Lines.{lateTime}
 
--- a word of JSON, or the one of CSV that stands in its place
+-- a word in JSON, another in CSV
 abbrev pub either : Bool → text.String → text.String → List ℕ
 either json named plain = cond json (ascii named) (ascii plain)
 
--- a number after such a word
+-- such a word and a number
 abbrev pub value : Bool → text.String → text.String → ℕ → List ℕ
 value json named plain n = either json named plain ++ decimalOf n
 
--- what stands before the number of record i + 1
+-- the text before the number of record i + 1
 unfoldable pub opening : Bool → ℕ → List ℕ
 opening json i = cond (eqb i 0) (either json "{\"record\":" "") (either json ",\n{\"record\":" "")
 

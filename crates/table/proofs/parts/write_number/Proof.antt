@@ -11,8 +11,8 @@ use Rattle.table.proofs.parts.write_number.Statement.{statement}
 use Rattle.table.proofs.parts.write_number.Tie as tie
 
 -- at most 20 digits
-few : (c : tie.After-slice-known2) → length (decimalOf (c .before .before .before .before .before .args .v)) ≤ 20
-few c = at-most-20 (c .before .before .before .before .before .args .v) (omega arith)
+few : (c : tie.After-slice-known2) → length (decimalOf (c .before .before .before .before .before .args .number)) ≤ 20
+few c = at-most-20 (c .before .before .before .before .before .args .number) (omega arith)
 
 add-result : tie.Need-add-result
 add-result c = omega (arith, c .before .before .put-decimal .ensures .0, few c)
@@ -21,7 +21,7 @@ returns : tie.Need-returns
 returns c =
     let a = c .before .before .before .before .before .args in
     let digits = c .before .before .put-decimal .ensures in
-    rw (digits .0, digits .1) (part-put (a .at) (decimalOf (a .v)) (a .out .now) (omega (arith, few c)), omega (arith, few c))
+    rw (digits .0, digits .1) (part-put (a .at) (decimalOf (a .number)) (a .out .now) (omega (arith, few c)), omega (arith, few c))
 
 pub write-number-spec : {M : Type 1} → statement M
 write-number-spec =

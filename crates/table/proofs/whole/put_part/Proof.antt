@@ -1,6 +1,6 @@
--- `table::whole::put_part` meets its contract: part 17 is what stands after the records, part 0 what stands before them, and another up to
--- 17 a block of records (Joined). Here w is what was written into the line, k where the part is told, p what was put, s the start.
--- Assumes nothing.
+-- `table::whole::put_part` meets its contract: part 0 is the text before the records, part 17 the text after them, and any part between is a
+-- block of records (Joined). w is the place after the text was written to the line, k where the part is known, p the place after the records
+-- were copied, s the start. Assumes nothing.
 use Prim.Native.Nat.{ℕ, _-_, _*_, _≤_, min}
 use native.Mathlib.Omega.{arith}
 use mathlib.Core.Path.{_≡_, ap, _∙_}
@@ -21,6 +21,20 @@ use borrow.Author.Needs.{needs}
 use Rattle.table.proofs.whole.put_part.Statement.{statement}
 use Rattle.table.proofs.whole.put_part.Tie as tie
 
+-- ---- places in the code: the text that was written to the line, seen from the end, and the start, seen from the tests of `part`
+
+abbrev start : tie.Else1 → tie.Start
+start c = c .before .before .before .before
+
+abbrev after-written : tie.After-slice-known2 → tie.After-write-after
+after-written c = c .before .before .before .before .before .before
+
+abbrev before-written : tie.After-slice-known3 → tie.After-write-before
+before-written c = c .before .before .before .before .before .before
+
+abbrev start-of-records : tie.Else3 → tie.Start
+start-of-records c = start (c .before .before)
+
 returns : tie.Need-returns
 returns c =
     let s = c .before .before .before .before in
@@ -31,8 +45,8 @@ slice-aggregate-put-octets c = stands (c .before .before .before .write-after .e
 
 returns-2 : tie.Need-returns-2
 returns-2 c =
-    let w = c .before .before .before .before .before .before in
-    let s = w .before .before .before .before .before .before .before in
+    let w = after-written c in
+    let s = start (w .before .before .before) in
     let d = decode (now (s .args .file)) in (
       omega (arith, w .write-after .ensures .1),
       put-named
@@ -53,9 +67,9 @@ slice-aggregate-put-octets-2 c = stands (c .before .before .before .write-before
 
 returns-3 : tie.Need-returns-3
 returns-3 c =
-    let w = c .before .before .before .before .before .before in
+    let w = before-written c in
     let k = w .before .before .before in
-    let s = k .before .before .before .before .before .before in
+    let s = start (k .before .before) in
     let d = decode (now (s .args .file)) in (
       omega (arith, w .write-before .ensures .1),
       put-named
@@ -66,7 +80,7 @@ returns-3 c =
 
 put-records-requires : tie.Need-put-records-requires
 put-records-requires c κs =
-    let s = c .before .before .before .before .before .before .before .before .before in
+    let s = start-of-records (c .before .before .before) in
     let low = c .before .before .block-start .ensures in
     let high = c .before .block-start2 .ensures in
     (s .pre .0, s .pre .1, omega (arith, low, high), omega (arith, high), omega (arith, low, high))
@@ -77,7 +91,7 @@ returns-4 c =
     let high = p .before .before in
     let low = high .before in
     let third = low .before in
-    let s = third .before .before .before .before .before .before in
+    let s = start-of-records third in
     let d = decode (now (s .args .file)) in
     let first : low .block-start .result ≡ blockStart d (s .args .part - 1) =
     low .block-start .ensures ∙ ap (λ (y : Layout). min (256 * (s .args .part - 1)) (y .arrivals)) (s .pre .0 .laid) in

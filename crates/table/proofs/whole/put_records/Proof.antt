@@ -1,6 +1,7 @@
--- `table::whole::put_records` meets its contract. The loop's invariant: the records before i stand over the start of `out`, if there is
--- room for them, and have at most 512 octets each. The measure is what is left of the records.
--- Here w is what was written into the line, p what was put, l the loop, s the start. Assumes nothing.
+-- `table::whole::put_records` meets its contract. The loop's invariant: the records before i stand at the start of `out`, if there is
+-- room for them, and have at most 512 octets each. The measure is the number of records left.
+-- w is the place after a record was written to the line, p the place after the line was copied, t the turn of the loop, l the values at its
+-- head, s the start. Assumes nothing.
 use Prim.Native.Nat.{ℕ, _+_, _-_, _*_, _≤_, _<_}
 use native.Mathlib.Omega.{arith}
 use mathlib.Core.Path.{_≡_, ap, _∙_}
@@ -30,6 +31,17 @@ Inv-loop file layout rows json from to out₀ line₀ at₀ i₀ out line at i =
 abbrev μ-loop : tie.MeasureT-loop
 μ-loop file layout rows json from to out₀ line₀ at₀ i₀ out line at i = to - i
 
+-- ---- places in the code: a turn of the loop, seen from the record that was written and from the octets that were put; and the start, from the loop
+
+abbrev turn : tie.After-write-record Inv-loop μ-loop → tie.In-loop Inv-loop μ-loop
+turn w = w .before .before .before .before
+
+abbrev written : tie.After-slice-known2 Inv-loop μ-loop → tie.After-write-record Inv-loop μ-loop
+written c = c .before .before .before .before .before .before
+
+abbrev start : tie.At-loop Inv-loop μ-loop → tie.Start Inv-loop μ-loop
+start h = h .before .before .before .before
+
 loop-holds : tie.Need-loop-holds Inv-loop μ-loop
 loop-holds c =
     let s = c .before .before .before in
@@ -39,57 +51,57 @@ loop-holds c =
 
 write-record-requires : tie.Need-write-record-requires Inv-loop μ-loop
 write-record-requires c κs =
-    let s = c .before .before .before .before .before .before .before .before in
-    let l = c .before .before .before .before .loop in
-    let inside = c .before .before .before .loop-test .taken in
+    let t = c .before .before .before in
+    let s = start (t .before) in
+    let l = t .before .loop in
+    let inside = t .loop-test .taken in
     (omega (arith, l .inv .4), row-length (now (s .args .rows)) (l .i) (omega (arith, s .pre .1 .room, s .pre .3, inside)))
 
 slice-aggregate-put-octets : tie.Need-slice-aggregate-put-octets Inv-loop μ-loop
 slice-aggregate-put-octets c =
     let w = c .before .before .before in
-    let t = w .before .before .before in
-    let s = w .before .before .before .before .before .before .before .before .before in
-    let l = w .before .before .before .before .before .loop in
-    let inside : l .i < s .args .layout .arrivals = omega (arith, t .before .loop-test .taken, s .pre .3) in
-    let a = arrival-known _ _ (s .pre .0) _ inside (t .arrival .ensures .1) .0 in
+    let t = turn w in
+    let s = start (t .before) in
+    let l = t .before .loop in
+    let inside : l .i < s .args .layout .arrivals = omega (arith, t .loop-test .taken, s .pre .3) in
+    let a = arrival-known _ _ (s .pre .0) _ inside (w .before .before .before .arrival .ensures .1) .0 in
     stands (record-written (s .args .json) _ _ _ (l .i) (s .pre .1) inside a (w .write-record .ensures .0)) .0
 
 add-at : tie.Need-add-at Inv-loop μ-loop
 add-at c =
-    let w = c .before .before .before .before .before .before in
-    let t = w .before .before .before .before in
+    let w = written c in
+    let t = turn w in
     let l = t .before .loop in
-    let s = t .before .before .before .before .before in
+    let s = start (t .before) in
     omega (arith, l .inv .2, l .inv .0, t .loop-test .taken, s .pre .0 .few, s .pre .3, w .write-record .ensures .1)
 
 add-i : tie.Need-add-i Inv-loop μ-loop
 add-i c =
-    let t = c .before .before .before .before .before in
-    let test = t .before .before .before .before .before in
-    let s = test .before .before .before .before .before in
-    omega (arith, test .loop-test .taken, s .pre .0 .few, s .pre .3)
+    let t = turn (written c) in
+    let s = start (t .before) in
+    omega (arith, t .loop-test .taken, s .pre .0 .few, s .pre .3)
 
 loop-less : tie.Need-loop-less Inv-loop μ-loop
 loop-less c =
-    let w = c .before .before .before .before .before .before in
-    omega (arith, w .before .before .before .before .loop-test .taken)
+    let t = turn (written c) in
+    omega (arith, t .loop-test .taken)
 
 loop-again : tie.Need-loop-again Inv-loop μ-loop
 loop-again c =
     let p = c .before .before in
-    let w = p .before .before .before .before in
-    let t = w .before .before .before in
-    let l = w .before .before .before .before .before .loop in
-    let s = w .before .before .before .before .before .before .before .before .before in
+    let w = written c in
+    let t = turn w in
+    let l = t .before .loop in
+    let s = start (t .before) in
     let d = decode (now (s .args .file)) in
     let text = recordsFrom (s .args .json) d (s .args .from) (l .i - s .args .from) in
     let line = recordText (s .args .json) d (l .i) in
-    let inside : l .i < s .args .layout .arrivals = omega (arith, t .before .loop-test .taken, s .pre .3) in
-    let a = arrival-known _ _ (s .pre .0) _ inside (t .arrival .ensures .1) .0 in
+    let inside : l .i < s .args .layout .arrivals = omega (arith, t .loop-test .taken, s .pre .3) in
+    let a = arrival-known _ _ (s .pre .0) _ inside (w .before .before .before .arrival .ensures .1) .0 in
     let v = record-written (s .args .json) _ _ _ (l .i) (s .pre .1) inside a (w .write-record .ensures .0) in
     let long : l .at + w .write-record .result ≡ l .at + length line = omega (arith, v .place) in (
       omega (arith, l .inv .0),
-      omega (arith, t .before .loop-test .taken),
+      omega (arith, t .loop-test .taken),
       omega (arith, l .inv .2, l .inv .0, w .write-record .ensures .1),
       put-counted long
           (put-named (records-next (s .args .json) d (s .args .from) (l .i) (l .inv .0))
@@ -104,7 +116,7 @@ same-length c = c .before .loop .inv .3 .same
 returns : tie.Need-returns Inv-loop μ-loop
 returns c =
     let l = c .before .loop in
-    let s = c .before .before .before .before .before in
+    let s = start (c .before) in
     let e : l .i ≡ s .args .to = omega (arith, l .inv .1, c .loop-test .left) in (
       omega (arith, l .inv .2, l .inv .1, s .pre .4),
       put-named (ap (λ (n : ℕ). recordsFrom (s .args .json) (decode (now (s .args .file))) (s .args .from) (n - s .args .from)) e)

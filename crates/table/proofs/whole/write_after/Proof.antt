@@ -1,5 +1,5 @@
 -- `table::whole::write_after` meets its contract: the parts are written one after the other (`then`), and are the end (`end-pieces`).
--- Here e1 and so on are the parts. Assumes nothing.
+-- e1, e2 and so on are the places in the code after each call. Assumes nothing.
 use native.Mathlib.Omega.{arith}
 use Rattle.writing.proofs.Parts.{then, named}
 use Rattle.table.proofs.Pieces.{end-pieces}
