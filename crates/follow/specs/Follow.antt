@@ -1,4 +1,4 @@
--- What becomes of a line: the receiver's step, and the call's answer. Assumes nothing.
+-- A line of a log: the receiver's step by it, and the call's answer. Assumes nothing.
 use Prim.Native.Nat.{ℕ}
 use mathlib.Core.Bool.{cond}
 use mathlib.Core.List.{List}
@@ -15,12 +15,12 @@ use Rattle.textlog.specs.declared.LogLine.{LogLine}
 use Rattle.follow.specs.Text.{lineText}
 use Rattle.follow.specs.declared.FollowAnswer.{FollowAnswer}
 
--- the receiver's step by the arrival of a line; a malformed line is refused, and the receiver stays as it was
+-- the receiver's step by the arrival of a line; a malformed line is refused and leaves the receiver unchanged
 unfoldable pub followed : Receiver → LogLine → StepAnswer
 followed r l =
     cond (eqb (l .refusal) 0) (stepOf r (l .number) (l .time)) (record { outcome = refusedOutcome (l .refusal); state = r })
 
--- the text of a line at this receiver
+-- the text of a line for this receiver
 unfoldable pub followedText : Receiver → LogLine → List ℕ
 followedText r l = lineText l (followed r l .outcome)
 
@@ -30,7 +30,7 @@ followAnswer r l room =
     cond (ltb room (length (followedText r l))) (record { refusal = outputShort; length = 0; state = r })
     (record { refusal = followed r l .outcome .refusal; length = length (followedText r l); state = followed r l .state })
 
--- the call's answer, and the caller's buffer after it: the text stands at its start, if it has room
+-- the call's answer, and the caller's buffer after it, which begins with the text if it has room
 pub record FollowedTo (r : Receiver) (l : LogLine) (out : List ℕ) (answer : FollowAnswer) (out′ : List ℕ) : Type 0 where
   pub answered : answer ≡ followAnswer r l (length out)
   pub filled : out′ ≡ put 0 (followedText r l) out

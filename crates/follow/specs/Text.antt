@@ -1,4 +1,4 @@
--- The text of a line, in ASCII octets: the arrival, and what the receiver says of it; and the text of the counts. Times are in
+-- The text of a line, in ASCII octets: the arrival, and the outcome of the receiver's step; and the text of the counts. Times are in
 -- microseconds. Assumes nothing.
 use Prim.Native.Nat.{ℕ, _+_, _-_}
 use mathlib.Core.Bool.{cond}
@@ -28,7 +28,7 @@ inOrderText jump = between (ascii "in order, jump ") jump (ascii "\n")
 unfoldable pub exactText : Lateness → List ℕ
 exactText l = joined (between (ascii "late by ") (l .extent) (ascii " packets, ") ∷ lateTime (l .late) ∷ ascii " us\n" ∷ [])
 
--- reordered beyond the window: the true extent is greater than the one given, and of the late time nothing is claimed
+-- reordered beyond the window: the true extent is greater than the extent given; nothing is claimed about the late time
 unfoldable pub beyondText : Lateness → List ℕ
 beyondText l = between (ascii "late by more than ") (l .extent) (ascii " packets, beyond the window\n")
 
@@ -43,11 +43,11 @@ notedText (Beyond l) = beyondText l
 unfoldable pub refusalText : ℕ → List ℕ
 refusalText refusal = joined (between (ascii "refused ") refusal (ascii ": ") ∷ wordsOf refusal ∷ ascii "\n" ∷ [])
 
--- what is said of an arrival
+-- the outcome of the step
 unfoldable pub outcomeText : Outcome → List ℕ
 outcomeText o = cond (eqb (o .refusal) 0) (notedText (o .noted)) (refusalText (o .refusal))
 
--- the text of a line: its arrival, and what is said of it
+-- the text of a line: its arrival, and the outcome
 unfoldable pub lineText : LogLine → Outcome → List ℕ
 lineText l o = arrivalText l ++ outcomeText o
 
@@ -69,6 +69,6 @@ runsText closed current = joined (between [] closed (ascii ", open run ") ∷ be
 unfoldable pub countsText : Stream → List ℕ
 countsText s = acceptedText (s .arrived) (s .inorder) (s .duplicates) ++ runsText (s .runs .closed) (s .runs .current)
 
--- the octets that suffice for the text of any line, and for the counts
+-- room for the text of any line, and for the counts, in octets
 abbrev pub lineOctets : ℕ
 lineOctets = 256

@@ -22,17 +22,17 @@ use text::write_line;
 use textlog::LogLine;
 use textlog::read_line;
 
-// The octets that suffice for the text of any line, and for the counts.
+// Room for the text of any line, and for the counts, in octets.
 pub const LINE_OCTETS: usize = 256;
 
-// The answer for a line: its refusal (0 for none), the octets of its text, and the receiver after it.
+// The answer for a line: its refusal (0 for none), the length of its text, and the receiver after it.
 pub struct FollowAnswer {
     pub refusal: u32,
     pub length: u32,
     pub state: Receiver,
 }
 
-// Steps the receiver by the arrival of a line; a line that is refused leaves it as it was.
+// Steps the receiver by the arrival of a line. A refused line leaves it unchanged.
 fn step_line(state: Receiver, read: LogLine) -> StepAnswer
     ensures { λ r. ⌜ r ≡ followed state read ⌝ }
 {
@@ -46,9 +46,9 @@ fn step_line(state: Receiver, read: LogLine) -> StepAnswer
     state.step(read.number, read.time)
 }
 
-// Reads one line, steps the receiver by its arrival, and writes what is said of it at the start of `out`, of which LINE_OCTETS octets
-// suffice. A malformed line is refused with 14. With a refusal the receiver stays as it was. If `out` has no room for the text, the refusal
-// is 8, and both stay as they were.
+// Reads one line, steps the receiver by its arrival, and writes the outcome to the start of `out`; LINE_OCTETS octets have room for any. A
+// malformed line is refused with 14. A refused line leaves the receiver unchanged. If `out` is too short, the refusal is 8, and the receiver
+// and `out` stay unchanged.
 pub fn line(state: Receiver, line: &[u8], out: &mut [u8]) -> FollowAnswer
     ensures { λ r. ⌜ FollowedTo state (logLine (decodeLine (now (line .entry)))) (now (out .entry)) r (now (out .exit)) ⌝ }
     ensures room { λ _. ⌜ length (followedText state (logLine (decodeLine (now (line .entry))))) ≤ lineOctets ⌝ }
@@ -74,8 +74,8 @@ pub fn line(state: Receiver, line: &[u8], out: &mut [u8]) -> FollowAnswer
     }
 }
 
-// Writes the counts of a receiver at the start of `out`, of which LINE_OCTETS octets suffice. Refused with 8 if `out` has no room for
-// them; then it stays as it was.
+// Writes the counts of a receiver to the start of `out`; LINE_OCTETS octets have room for any. If `out` is too short, the refusal is 8, and
+// `out` stays unchanged.
 pub fn counts(state: Receiver, out: &mut [u8]) -> WriteAnswer
     ensures { λ r. ⌜ Output 0 (countsText (state .stream)) (now (out .entry)) r (now (out .exit)) ⌝ }
     ensures room { λ _. ⌜ length (countsText (state .stream)) ≤ lineOctets ⌝ }

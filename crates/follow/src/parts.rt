@@ -1,5 +1,4 @@
-// Parts of a text, each written at an offset of a buffer that has room for it. Each function returns the offset after its part.
-ghost use mathlib.Core.Path.{_≡_};
+// Writes parts of a text at an offset of a buffer that has room for them. Each function returns the offset after what it wrote.
 ghost use Prim.Native.Nat.{_+_, _≤_};
 ghost use lib.ListN.{length};
 ghost use Rattle.decimal.specs.Decimal.{decimalOf};
@@ -18,7 +17,7 @@ pub(crate) fn write_word(out: &mut [u8], at: usize, word: &[u8]) -> usize
     at + word.len()
 }
 
-// Writes a number.
+// Writes a number in decimal.
 pub(crate) fn write_number(out: &mut [u8], at: usize, v: u64) -> usize
     requires { ⌜ at + 20 ≤ length (now out) ⌝ }
     ensures { λ r. ⌜ Written at r (decimalOf v) (now (out .entry)) (now (out .exit)) × (r ≤ at + 20) ⌝ }

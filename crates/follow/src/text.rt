@@ -1,4 +1,4 @@
-// The text of a line, written into a buffer that has room for it. Each function returns the offset after its part.
+// Writes the text of a line to a buffer that has room for it. Each function returns the offset after what it wrote.
 ghost use mathlib.Core.Path.{_≡_};
 ghost use Prim.Native.Nat.{_+_, _-_, _≤_};
 ghost use lib.ListN.{length};
@@ -69,7 +69,7 @@ fn write_refusal(out: &mut [u8], at: usize, refusal: u32) -> usize
     write_word(out, two, b"\n")
 }
 
-// Writes what is said of an arrival.
+// Writes the outcome of a step.
 fn write_outcome(out: &mut [u8], at: usize, outcome: Outcome) -> usize
     requires { ⌜ at + 180 ≤ length (now out) ⌝ }
     ensures { λ r. ⌜ Written at r (outcomeText outcome) (now (out .entry)) (now (out .exit)) × (r ≤ at + 180) ⌝ }
@@ -81,7 +81,7 @@ fn write_outcome(out: &mut [u8], at: usize, outcome: Outcome) -> usize
     write_noted(out, at, noted)
 }
 
-// Writes the text of a line at the start of `out`.
+// Writes the text of a line to the start of `out`.
 pub(crate) fn write_line(out: &mut [u8], read: LogLine, outcome: Outcome) -> usize
     requires { ⌜ 256 ≤ length (now out) ⌝ }
     ensures { λ r. ⌜ Written 0 r (lineText read outcome) (now (out .entry)) (now (out .exit)) × (r ≤ 256) ⌝ }
@@ -90,7 +90,7 @@ pub(crate) fn write_line(out: &mut [u8], read: LogLine, outcome: Outcome) -> usi
     write_outcome(out, one, outcome)
 }
 
-// The reordered packets of `arrived` first arrivals, of which `inorder` are in order.
+// Returns the number of reordered packets among `arrived` first arrivals, of which `inorder` are in order.
 fn reordered(arrived: u32, inorder: u32) -> u64
     ensures { λ r. ⌜ r ≡ arrived - inorder ⌝ }
 {
@@ -122,7 +122,7 @@ fn write_runs(out: &mut [u8], at: usize, closed: u32, current: u32) -> usize
     write_between(out, one, b"", current as u64, b"\n")
 }
 
-// Writes the counts of a stream at the start of `out`.
+// Writes the counts of a stream to the start of `out`.
 pub(crate) fn write_counts(out: &mut [u8], stream: Stream) -> usize
     requires { ⌜ 256 ≤ length (now out) ⌝ }
     ensures { λ r. ⌜ Written 0 r (countsText stream) (now (out .entry)) (now (out .exit)) × (r ≤ 256) ⌝ }

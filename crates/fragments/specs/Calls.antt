@@ -14,7 +14,7 @@ use Rattle.fragments.specs.Order.{flags}
 use Rattle.fragments.specs.Usable.{usable}
 use Rattle.fragments.specs.Judge.{judgePieces}
 
--- whether four lists are as long as one of n values
+-- whether four lists have length n
 unfoldable pub sameLengths : ℕ → ℕ → ℕ → ℕ → ℕ → Bool
 sameLengths n times lengths mores offsets = eqb n times && (eqb n lengths && (eqb n mores && eqb n offsets))
 
@@ -29,7 +29,7 @@ orderRefusal k numbers times lengths mores offsets flagRoom usableRoom =
     ∷ refusalIf (ltb flagRoom (length numbers) || ltb usableRoom (length numbers)) outputShort
     ∷ [])
 
--- the answer, and the two lent lists after it: the values from their start, all else as it was
+-- the answer, and the caller's two lists after it, which begin with the values; the rest is unchanged
 pub record OrderedTo (k : ℕ) (numbers times lengths mores offsets flagged used : List ℕ) (answer : ℕ) (flagged′ used′ : List ℕ) : Type 0 where
   pub refusal : answer ≡ orderRefusal k numbers times lengths mores offsets (length flagged) (length used)
   pub filledFlags : flagged′ ≡ ifNone answer (over (flags (piecesOf numbers times lengths mores offsets)) flagged) flagged

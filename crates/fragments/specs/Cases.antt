@@ -1,4 +1,4 @@
--- Small lists of arrivals with their flags, by tables: the statement that the call's contract carries. Assumes nothing.
+-- Tables of small lists of arrivals with their flags, which the contract of the call cites. Assumes nothing.
 use Prim.Native.Nat.{ℕ}
 use mathlib.Core.Path.{_≡_}
 use mathlib.Core.List.{List, [], _∷_, map}
@@ -15,7 +15,7 @@ piece more s offset length = record { number = s; time = 0; length = length; mor
 abbrev pub mf : ℕ → ℕ → ℕ → Piece
 mf s offset length = piece 1 s offset length
 
--- one without
+-- a fragment with no more to come
 abbrev pub lf : ℕ → ℕ → ℕ → Piece
 lf s offset length = piece 0 s offset length
 
@@ -55,7 +55,7 @@ abbrev pub refusedTable : List (Piece × ℕ)
 refusedTable =
     (lf 3 1 0, 6) ∷ (lf 1 1 0, 17) ∷ (mf 1 0 9, 17) ∷ (lf 1 8191 8, 17) ∷ (lf 1 8191 7, 7) ∷ (wh 1 0, 7) ∷ []
 
--- small lists have the flags and the usable arrivals that their cases say, and single arrivals the refusals
+-- the definitions give the flags, the usable arrivals and the refusals of the tables
 pub record FlaggedAsGiven : Type 0 where
   -- the lists
   pub marked : map (λ (c : List Piece × (List ℕ × List ℕ)). (flags (c .0), usable (c .0))) fragmentCases

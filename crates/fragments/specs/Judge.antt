@@ -1,4 +1,4 @@
--- What is refused of arrivals that may be fragments. Assumes nothing.
+-- Refusals of arrivals that may be fragments. Assumes nothing.
 use Prim.Native.Nat.{ℕ, _%_}
 use mathlib.Core.Bool.{Bool, not, _&&_, _||_}
 use mathlib.Core.List.{List, [], _∷_, map}
@@ -13,12 +13,12 @@ use Rattle.fragments.specs.Pieces.{arrivalOf, isLast, isWhole, pieceEnd}
 abbrev pub endMost : ℕ
 endMost = 65535
 
--- a fragment of length 0, one with more to come and a length no multiple of 8, or one whose end is over 65,535
+-- a fragment is unfit if its length is 0, if more are to come and its length is no multiple of 8, or if its end is over 65,535
 unfoldable pub isUnfit : Piece → Bool
 isUnfit a =
     not (isWhole a) && (eqb (a .length) 0 || (not (isLast a) && not (eqb (a .length % 8) 0) || ltb endMost (pieceEnd a)))
 
--- one arrival, by K and the reference for its time: 6, 17, 7
+-- the refusal of one arrival, from K and the reference for its time: 6, 17, 7
 unfoldable pub judgePiece : ℕ → ℕ → Piece → ℕ
 judgePiece k reference a =
     firstRefusal
@@ -27,10 +27,10 @@ judgePiece k reference a =
     ∷ refusalIf (tooEarly reference (a .time)) timeBack
     ∷ [])
 
--- one arrival, after those before it, whose greatest time is the reference
+-- the refusal of one arrival after the earlier ones, whose greatest time is the reference
 unfoldable pub judgeAfter : ℕ → List Piece → Piece → ℕ
 judgeAfter k earlier a = judgePiece k (greatestTime (map arrivalOf earlier)) a
 
--- the arrivals in turn
+-- the refusal of the first arrival that is refused
 unfoldable pub judgePieces : ℕ → List Piece → ℕ
 judgePieces k l = firstRefusal (each (judgeAfter k) l)

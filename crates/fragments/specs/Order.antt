@@ -19,22 +19,22 @@ isReorderedFragment e a =
     ltb (a .number) (e .next) || (ltb (a .number) (e .packet)
     || (leb (e .next) (a .number) && (eqb (a .number) (e .packet) && ltb (a .offset) (e .fragment))))
 
--- in order with more to come, FragSeq# becomes the number and NextExpFrag the offset plus 1; without, NextExp becomes the
--- number plus 1 and both 0
+-- after an arrival in order: if more fragments are to come, FragSeq# becomes the number and NextExpFrag the offset plus 1; else NextExp becomes
+-- the number plus 1, and FragSeq# and NextExpFrag become 0
 unfoldable pub inOrderAfter : Expected → Piece → Expected
 inOrderAfter e a =
     cond (isLast a) (record { next = a .number + 1; packet = 0; fragment = 0 })
     (record { next = e .next; packet = a .number; fragment = a .offset + 1 })
 
--- reordered, nothing changes
+-- after a reordered arrival nothing changes
 unfoldable pub expectedAfter : Expected → Piece → Expected
 expectedAfter e a = cond (isReorderedFragment e a) e (inOrderAfter e a)
 
--- what is expected after some arrivals, of which copies change nothing
+-- what is expected after some arrivals; copies change nothing
 unfoldable pub expected : List Piece → Expected
 expected earlier = foldl expectedAfter atStart (noCopies earlier)
 
--- the flag, a number of an answer's case: in order, reordered, or a copy
+-- the flag of an arrival, which is the number of a case: copy, reordered, or in order
 unfoldable pub flagAfter : List Piece → Piece → ℕ
 flagAfter earlier a = cond (isCopy earlier a) duplicateNumber (cond (isReorderedFragment (expected earlier) a) reorderedAfterNumber inOrderNumber)
 

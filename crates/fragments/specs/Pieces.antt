@@ -1,4 +1,4 @@
--- Arrivals of packets that may be cut on the way (RFC 4737, section B.2), and copies among them. Assumes nothing.
+-- Arrivals of packets that may be fragmented on the way (RFC 4737, section B.2), and copies among them. Assumes nothing.
 use Prim.Native.Nat.{ℕ, _+_, _*_}
 use mathlib.Core.Bool.{Bool, false, cond, _&&_, _||_}
 use mathlib.Core.List.{List, [], _∷_, flatten}
@@ -16,7 +16,7 @@ piecesOf (n ∷ ns) times lengths mores offsets =
     record { number = n; time = getD times 0 0; length = getD lengths 0 0; more = getD mores 0 0; offset = getD offsets 0 0 }
     ∷ piecesOf ns (drop 1 times) (drop 1 lengths) (drop 1 mores) (drop 1 offsets)
 
--- the arrivals of five lent lists
+-- the arrivals of the caller's five lists
 abbrev pub piecesIn : RefT (List ℕ) → RefT (List ℕ) → RefT (List ℕ) → RefT (List ℕ) → RefT (List ℕ) → List Piece
 piecesIn numbers times lengths mores offsets = piecesOf (now numbers) (now times) (now lengths) (now mores) (now offsets)
 
@@ -24,7 +24,7 @@ piecesIn numbers times lengths mores offsets = piecesOf (now numbers) (now times
 abbrev pub arrivalOf : Piece → Arrival
 arrivalOf a = record { number = a .number; time = a .time }
 
--- no more fragments are to come after it
+-- a last fragment: no more are to come
 abbrev pub isLast : Piece → Bool
 isLast a = eqb (a .more) 0
 
@@ -32,11 +32,11 @@ isLast a = eqb (a .more) 0
 abbrev pub isWhole : Piece → Bool
 isWhole a = isLast a && eqb (a .offset) 0
 
--- the offset of its first octet in its packet; fragment offsets count units of 8 octets
+-- the offset of the first octet of an arrival in its packet; fragment offsets count units of 8 octets
 abbrev pub pieceStart : Piece → ℕ
 pieceStart a = 8 * a .offset
 
--- the offset after its last octet
+-- the offset after the last octet
 abbrev pub pieceEnd : Piece → ℕ
 pieceEnd a = 8 * a .offset + a .length
 
@@ -46,8 +46,8 @@ module _ {ℓ} {A : Type ℓ} where
   any p [] = false
   any p (a ∷ l) = p a || any p l
 
--- whether an arrival is a copy of an earlier one: equal in number, fragment offset and length; of two whole packets the
--- number alone decides
+-- whether arrival a is a copy of an earlier b: both have the same number, fragment offset and length. For two whole packets the number alone
+-- decides
 unfoldable pub copies : Piece → Piece → Bool
 copies a b = eqb (b .number) (a .number) && (isWhole a && isWhole b || eqb (b .offset) (a .offset) && eqb (b .length) (a .length))
 
@@ -55,7 +55,7 @@ copies a b = eqb (b .number) (a .number) && (isWhole a && isWhole b || eqb (b .o
 unfoldable pub isCopy : List Piece → Piece → Bool
 isCopy earlier a = any (copies a) earlier
 
--- an arrival, if it is no copy
+-- an arrival, unless it is a copy
 unfoldable pub firstAfter : List Piece → Piece → List Piece
 firstAfter earlier a = cond (isCopy earlier a) [] (a ∷ [])
 

@@ -20,11 +20,11 @@ everyBelow (suc n) p = everyBelow n p && p n
 unfoldable pub covered : List Piece → ℕ → ℕ → Bool
 covered l s n = everyBelow n (λ (o : ℕ). any (hasOctet s o) l)
 
--- whether packet s's arrivals cover every octet from 0 to the end of one with no more to come
+-- whether packet s's arrivals cover every octet before the end of one of its last fragments
 unfoldable pub complete : List Piece → ℕ → Bool
 complete l s = any (λ (a : Piece). eqb (a .number) s && (isLast a && covered l s (pieceEnd a))) l
 
--- usable: no copy, and its packet is complete; 1 if so, else 0
+-- 1 if an arrival is usable: it is no copy, and its packet is complete; else 0
 unfoldable pub usableAfter : List Piece → List Piece → Piece → ℕ
 usableAfter l earlier a = cond (not (isCopy earlier a) && complete l (a .number)) 1 0
 

@@ -1,4 +1,4 @@
--- Whole packets: the flags are those of the answers of the base. Assumes nothing.
+-- For whole packets the flags are those of the answers of rfc4737. Assumes nothing.
 use Prim.Native.Nat.{ℕ}
 use mathlib.Core.Bool.{false, not}
 use mathlib.Core.List.{List, map}
@@ -11,7 +11,7 @@ use Rattle.fragments.specs.declared.Piece.{Piece}
 use Rattle.fragments.specs.Pieces.{arrivalOf, isWhole, any}
 use Rattle.fragments.specs.Order.{flags}
 
--- the flag of an answer: the number of its case, which for a reordered packet does not tell the late time's direction
+-- the flag of an answer: the number of its case, with one number for both directions of a late time
 abbrev pub orderFlag : Answer → ℕ
 orderFlag (Duplicate d) = duplicateNumber
 orderFlag (InOrder d) = inOrderNumber

@@ -1,4 +1,4 @@
-// An arrival of the lists, and what is asked of it alone.
+// One arrival of the lists.
 ghost use mathlib.Core.Path.{_≡_};
 ghost use Prim.Native.Nat.{_<_};
 ghost use lib.ListN.{length, getD};
@@ -6,7 +6,7 @@ ghost use Rattle.fragments.specs.Pieces.{piecesIn, isWhole, pieceEnd};
 ghost use Rattle.fragments.specs.Private.{noPiece, Lists};
 use crate::Piece;
 
-// The arrival at index i of the lists.
+// Returns the arrival at index i of the lists.
 pub(crate) fn piece_at(
     numbers: &[u32],
     times: &[u64],
@@ -27,7 +27,7 @@ pub(crate) fn piece_at(
     }
 }
 
-// Whether an arrival is a whole packet.
+// Returns whether an arrival is a whole packet.
 pub(crate) fn is_whole(a: Piece) -> bool
     ensures { λ r. ⌜ r ≡ isWhole a ⌝ }
 {
@@ -37,7 +37,7 @@ pub(crate) fn is_whole(a: Piece) -> bool
     a.offset == 0
 }
 
-// The offset after the last octet of an arrival in its packet.
+// Returns the offset after the last octet of an arrival in its packet.
 pub(crate) fn piece_end(a: Piece) -> u32
     ensures { λ r. ⌜ r ≡ pieceEnd a ⌝ }
 {

@@ -1,4 +1,4 @@
-// How far a packet's arrivals cover it, and whether it is complete.
+// Finds how far the arrivals of a packet cover it, and whether it is complete.
 ghost use mathlib.Core.Path.{_≡_};
 ghost use mathlib.Core.Bool.{cond, _&&_};
 ghost use Prim.Native.Nat.{_<_};
@@ -14,7 +14,7 @@ use crate::arrival::piece_at;
 use crate::arrival::piece_end;
 use crate::tables::index_of;
 
-// How far a packet that is covered up to r is covered once an arrival is added.
+// Returns how far a packet is covered by an arrival too, if it was covered up to r.
 fn reach_after(r: u32, a: Piece) -> u32
     ensures { λ n. ⌜ n ≡ cond (leb (pieceStart a) r && ltb r (pieceEnd a)) (pieceEnd a) r ⌝ }
 {
@@ -27,7 +27,7 @@ fn reach_after(r: u32, a: Piece) -> u32
     r
 }
 
-// The first octet of packet s that is not covered: one pass over its arrivals, which stand in the order of their starts.
+// Returns the first octet of packet s that is not covered, by one pass over its arrivals, which are sorted by start.
 fn reach_of(
     numbers: &[u32],
     times: &[u64],
@@ -51,7 +51,7 @@ fn reach_of(
     r
 }
 
-// Whether an arrival has no more to come and ends by r.
+// Returns whether an arrival is a last fragment and ends at r or before.
 fn ends_by(r: u32, a: Piece) -> bool
     ensures { λ t. ⌜ t ≡ (isLast a && leb (pieceEnd a) r) ⌝ }
 {
@@ -61,7 +61,7 @@ fn ends_by(r: u32, a: Piece) -> bool
     piece_end(a) <= r
 }
 
-// Whether packet s is complete: a last fragment ends by its first octet that is not covered. The search begins with its last arrival.
+// Returns whether packet s is complete: a last fragment ends at its first octet that is not covered, or before. Starts with its last arrival.
 fn ends_covered(
     numbers: &[u32],
     times: &[u64],
@@ -87,7 +87,7 @@ fn ends_covered(
     false
 }
 
-// Whether packet s is complete; `run` has the indices of its arrivals, at least one. A whole packet is complete by itself.
+// Returns whether packet s is complete. `run` has the indices of its arrivals, at least one. A whole packet is complete by itself.
 pub(crate) fn complete(
     numbers: &[u32],
     times: &[u64],

@@ -1,4 +1,4 @@
-// The order flags and the usable arrivals, filled into two lists.
+// Fills two lists with the order flags and with which arrivals are usable.
 ghost use mathlib.Core.Path.{_≡_};
 ghost use mathlib.Core.Bool.{cond, not, _&&_, _||_};
 ghost use lib.Dec.{eqb};
@@ -12,7 +12,7 @@ ghost use Rattle.fragments.specs.Usable.{usable};
 ghost use Rattle.fragments.specs.Private.{Lists, NumbersWithin};
 ghost use Rattle.fragments.specs.Places.{Noted};
 use crate::Expected;
-use crate::PACKETS;
+use crate::MAX_PACKETS;
 use crate::Piece;
 use crate::arrival::is_whole;
 use crate::arrival::piece_at;
@@ -20,14 +20,14 @@ use rfc4737::numbering::DUPLICATE;
 use rfc4737::numbering::IN_ORDER;
 use rfc4737::numbering::REORDERED_AFTER;
 
-// The flags, each the number of an answer's case: a copy, reordered, and in order.
+// The flags are the numbers of the cases of an answer.
 const COPY: u8 = DUPLICATE as u8;
 
 const REORDERED: u8 = REORDERED_AFTER as u8;
 
 const ORDERED: u8 = IN_ORDER as u8;
 
-// Whether an arrival is reordered: the three cases of section B.3.
+// Returns whether an arrival is reordered: the three cases of section B.3.
 fn is_reordered(e: Expected, a: Piece) -> bool
     ensures { λ r. ⌜ r ≡ isReorderedFragment e a ⌝ }
 {
@@ -43,7 +43,7 @@ fn is_reordered(e: Expected, a: Piece) -> bool
     (a.offset as u32) < e.fragment
 }
 
-// The flag of an arrival.
+// Returns the flag of an arrival.
 fn flag_of(copy: bool, e: Expected, a: Piece) -> u8
     ensures { λ r. ⌜ r ≡ cond copy duplicateNumber (cond (isReorderedFragment e a) reorderedAfterNumber inOrderNumber) ⌝ }
 {
@@ -56,7 +56,7 @@ fn flag_of(copy: bool, e: Expected, a: Piece) -> u8
     ORDERED
 }
 
-// What is expected after an arrival.
+// Returns what is expected after an arrival.
 fn expected_after(copy: bool, e: Expected, a: Piece) -> Expected
     requires { ⌜ a .number < 4294967295 ⌝ }
     ensures { λ r. ⌜ r ≡ cond copy e (expectedAfter e a) ⌝ }
@@ -81,7 +81,7 @@ fn expected_after(copy: bool, e: Expected, a: Piece) -> Expected
     }
 }
 
-// 1 if an arrival is usable, else 0; `whole` is 1 if its packet is complete, else 0.
+// Returns 1 if an arrival is usable, else 0. `whole` is 1 if its packet is complete, else 0.
 fn usable_of(copy: bool, whole: u8) -> u8
     ensures { λ r. ⌜ r ≡ cond copy 0 whole ⌝ }
 {
@@ -91,8 +91,8 @@ fn usable_of(copy: bool, whole: u8) -> u8
     whole
 }
 
-// Whether an arrival is a copy. `mark` is not 0 if an earlier one has its number, offset and length, `seen` if an earlier whole packet
-// has its number.
+// Returns whether an arrival is a copy. `mark` is not 0 if an earlier arrival has its number, offset and length; `seen` is not 0 if an earlier
+// whole packet has its number.
 fn is_copy(a: Piece, mark: u8, seen: u8) -> bool
     ensures { λ r. ⌜ r ≡ (not (eqb mark 0) || (isWhole a && not (eqb seen 0))) ⌝ }
 {
@@ -105,7 +105,7 @@ fn is_copy(a: Piece, mark: u8, seen: u8) -> bool
     false
 }
 
-// `seen` after an arrival.
+// Returns `seen` after an arrival.
 fn seen_after(a: Piece, seen: u8) -> u8
     ensures { λ r. ⌜ r ≡ cond (isWhole a) 1 seen ⌝ }
 {
@@ -115,7 +115,7 @@ fn seen_after(a: Piece, seen: u8) -> u8
     seen
 }
 
-// Replaces the notes of the arrivals in both lists by their flags and by which are usable.
+// Replaces the notes in both lists by the flags of the arrivals and by which are usable.
 pub(crate) fn fill_flags_and_used(
     numbers: &[u32],
     times: &[u64],
@@ -131,7 +131,7 @@ pub(crate) fn fill_flags_and_used(
     ensures { λ _. ⌜ (now (flagged .exit) ≡ flags (piecesIn (numbers .entry) (times .entry) (lengths .entry) (mores .entry) (offsets .entry)))
         × (now (used .exit) ≡ usable (piecesIn (numbers .entry) (times .entry) (lengths .entry) (mores .entry) (offsets .entry))) ⌝ }
 {
-    let mut seen = [0u8; PACKETS];
+    let mut seen = [0u8; MAX_PACKETS];
     let mut e = Expected {
         next: 1,
         packet: 0,

@@ -1,4 +1,4 @@
-// What is refused: K, the lists, and the arrivals in turn.
+// Refusals of K, of the lists, and of the arrivals in turn.
 ghost use mathlib.Core.Path.{_≡_};
 ghost use Rattle.fragments.specs.Pieces.{piecesIn};
 ghost use Rattle.fragments.specs.Judge.{isUnfit, judgePiece, judgePieces};
@@ -24,7 +24,7 @@ use rfc4737::time::too_early;
 // The greatest end of a fragment.
 const END_MOST: u32 = 65535;
 
-// Whether an arrival is a fragment that is refused with 17.
+// Returns whether an arrival is a fragment that is refused with 17.
 fn is_unfit(a: Piece) -> bool
     ensures { λ r. ⌜ r ≡ isUnfit a ⌝ }
 {
@@ -43,7 +43,7 @@ fn is_unfit(a: Piece) -> bool
     END_MOST < piece_end(a)
 }
 
-// Judges one arrival: 6, 17, 7.
+// Returns the first refusal of one arrival: 6, 17, 7; 0 if none applies.
 fn judge_piece(k: u64, reference: u64, a: Piece) -> u32
     ensures { λ r. ⌜ r ≡ judgePiece k reference a ⌝ }
 {
@@ -59,7 +59,7 @@ fn judge_piece(k: u64, reference: u64, a: Piece) -> u32
     0
 }
 
-// Judges the arrivals in turn.
+// Returns the refusal of the first arrival that is refused; 0 if none is.
 fn judge_pieces(
     k: u64,
     numbers: &[u32],
@@ -85,7 +85,7 @@ fn judge_pieces(
     0
 }
 
-// Whether the lists are of one length.
+// Returns whether all lists have the same length.
 fn same_lengths(n: usize, times: usize, lengths: usize, mores: usize, offsets: usize) -> bool
     ensures { λ r. ⌜ r ≡ sameLengths n times lengths mores offsets ⌝ }
 {
@@ -101,7 +101,7 @@ fn same_lengths(n: usize, times: usize, lengths: usize, mores: usize, offsets: u
     n == offsets
 }
 
-// The first refusal that applies; 0 if none does.
+// Returns the first refusal that applies; 0 if none does.
 pub(crate) fn order_refusal(
     k: u32,
     numbers: &[u32],

@@ -1,5 +1,5 @@
-// Fragments: the order flag of packets that may be cut on the way, and which arrivals are usable in sample figures (RFC 4737,
-// Appendix B). The call is total.
+// Fragments (RFC 4737, Appendix B): the order flag of packets that may be fragmented on the way, and which arrivals are usable in the figures
+// of a sample. The call is total.
 ghost use mathlib.Core.Path.{_≡_};
 ghost use Prim.Native.Nat.{_≤_};
 ghost use lib.ListN.{length};
@@ -27,7 +27,7 @@ use notes::note_arrivals;
 use rfc4737::judge::SENT_MOST;
 
 // The greatest number of packets, and of arrivals.
-const PACKETS: usize = SENT_MOST as usize;
+const MAX_PACKETS: usize = SENT_MOST as usize;
 
 // An arrival: number, time, length in octets, more-fragments flag (set if not 0) and fragment offset.
 pub struct Piece {
@@ -38,14 +38,14 @@ pub struct Piece {
     pub offset: u16,
 }
 
-// What is expected: NextExp, FragSeq# and NextExpFrag.
+// What is expected next: NextExp, FragSeq# and NextExpFrag.
 pub struct Expected {
     pub next: u32,
     pub packet: u32,
     pub fragment: u32,
 }
 
-// Fills the two lists for arrivals that are accepted.
+// Fills both lists for accepted arrivals.
 fn order_accepted(
     k: u32,
     numbers: &[u32],
@@ -69,8 +69,9 @@ fn order_accepted(
     fill_flags_and_used(numbers, times, lengths, mores, offsets, marks, wholes);
 }
 
-// The order flags and the usable arrivals, filled into two lists from their start. With a refusal they stay as they were.
-// Cost: O(A log A + K) for A arrivals of K packets; O(A + K) while no packet has more than a few arrivals.
+// Fills the start of `flagged` with the order flags of the arrivals, and the start of `used` with 1 for each usable arrival and 0 for any other.
+// Returns the refusal, 0 for none. If the call is refused, both lists stay unchanged. Cost: O(A log A + K) for A arrivals of K packets; O(A + K)
+// if no packet has more than 16 arrivals.
 pub fn order(
     k: u32,
     numbers: &[u32],

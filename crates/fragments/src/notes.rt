@@ -1,4 +1,4 @@
-// The notes of each arrival, made before the flags: whether an earlier one has its number, offset and length, and whether its packet is
+// Notes of each arrival, made before the flags: whether an earlier arrival has its number, offset and length, and whether its packet is
 // complete.
 ghost use mathlib.Core.Path.{_≡_};
 ghost use Prim.Native.Nat.{_+_, _≤_, _<_};
@@ -7,7 +7,7 @@ ghost use Rattle.rfc4737.specs.Judge.{sentMost, arrivalsMost};
 ghost use Rattle.fragments.specs.Pieces.{piecesIn};
 ghost use Rattle.fragments.specs.Private.{Lists, NumbersWithin};
 ghost use Rattle.fragments.specs.Places.{Grouped, Run, NotedTo, Noted};
-use crate::PACKETS;
+use crate::MAX_PACKETS;
 use crate::arrival::piece_at;
 use crate::cover::complete;
 use crate::sort::key_of;
@@ -18,10 +18,10 @@ use crate::tables::fill_places;
 use crate::tables::index_of;
 use crate::tables::sum_counts;
 
-// Half the greatest number of arrivals.
-const SPARE: usize = PACKETS / 2;
+// The length of the spare list: half the greatest number of arrivals.
+const SPARE_LEN: usize = MAX_PACKETS / 2;
 
-// Notes the arrivals of packet s; `run` has their indices, in order. Equal ones stand side by side.
+// Notes the arrivals of packet s. `run` has their indices, sorted by key, so equal arrivals are neighbours.
 fn note_run(
     numbers: &[u32],
     times: &[u64],
@@ -75,7 +75,7 @@ fn note_packets(
         × (length (now marks) ≡ length (now numbers)) × (length (now wholes) ≡ length (now numbers)) ⌝ }
     ensures { λ _. ⌜ Noted (piecesIn (numbers .entry) (times .entry) (lengths .entry) (mores .entry) (offsets .entry)) (now (marks .exit)) (now (wholes .exit)) ⌝ }
 {
-    let mut spare = [0u16; SPARE];
+    let mut spare = [0u16; SPARE_LEN];
     let mut from = 0;
     let mut p = 0;
     while p < ends.len() {
@@ -114,8 +114,8 @@ pub(crate) fn note_arrivals(
         × (length (now marks) ≡ length (now numbers)) × (length (now wholes) ≡ length (now numbers)) ⌝ }
     ensures { λ _. ⌜ Noted (piecesIn (numbers .entry) (times .entry) (lengths .entry) (mores .entry) (offsets .entry)) (now (marks .exit)) (now (wholes .exit)) ⌝ }
 {
-    let mut table = [0u16; PACKETS];
-    let mut order = [0u16; PACKETS];
+    let mut table = [0u16; MAX_PACKETS];
+    let mut order = [0u16; MAX_PACKETS];
     let k = sent as usize;
     let n = numbers.len();
     let ends = &mut table[..k];
