@@ -42,8 +42,10 @@ relative = $(shell realpath -m --relative-to='$(1)' '$(2)')
 # What the pkg-config file calls the prefix; that of `make dist` is found from the file itself.
 PCPREFIX = $(PREFIX)
 
-# One target at a time: rt takes the processors itself, and two runs of it would share target/.
+# One target at a time: rt takes the processors itself, and two runs of it would share target/. So rt runs under the lock that the
+# command takes when it builds a program, where there is flock.
 .NOTPARALLEL:
+LOCKED := $(if $(shell command -v flock),flock -o target/lock)
 
 all: $(LIBRARY) $(SHARED) $(EXAMPLES) $(PROGRAMS)
 
@@ -53,11 +55,11 @@ target:
 # One run proves and builds all programs.
 $(PROGRAMS): target/programs
 target/programs: $(SOURCES) | target
-	rt check $(TOOLS)
+	$(LOCKED) rt check $(TOOLS)
 	touch $(PROGRAMS) $@
 
 $(LIBRARY): $(filter %.txt %.rt %.antt,$(SOURCES)) | target
-	rt staticlib capi
+	$(LOCKED) rt staticlib capi
 	cp target/staticlib/libcapi.a $@
 
 # The archive's code does not depend on where it stands (-z text would refuse it), so the shared object is made of it.
@@ -130,7 +132,7 @@ TARGET ?= $(shell sed -n 's/^\([a-z][^ ]*\) .*/\1/p' tools/cross/targets)
 OPT ?= -O3
 
 $(MODULE): $(filter %.txt %.rt %.antt,$(SOURCES)) tools/cross/module.sh | target
-	tools/cross/module.sh target/cross
+	$(LOCKED) tools/cross/module.sh target/cross
 
 cross: $(MODULE)
 	tests/exports.sh $(MODULE)

@@ -22,8 +22,10 @@ echo 'rt: octets proved (1 s)'
 echo 'fn octets::number_at: proved'
 sleep 1
 mkdir -p target/bin
-cp '$root/target/bin/'"\$2" target/bin
-echo "rt: \$2 proved (1 s)"
+for tool in "\${@:2}"; do
+    cp '$root/target/bin/'"\$tool" target/bin
+    echo "rt: \$tool proved (1 s)"
+done
 rmdir '$dir/busy'
 EOF
 chmod +x "$dir/kit/rt"
@@ -90,6 +92,21 @@ for i in 1 2 3 4; do same "command $i of four" "$dir/out.$i" "$example_report"; 
 sort "$dir/builds" > "$dir/out"
 printf 'check cmd_import\ncheck cmd_report\ncheck cmd_report\n' > "$dir/expected"
 same 'one build of each program, one at a time' "$dir/out" "$dir/expected"
+
+# The command and make at one moment: one of them waits for the other.
+if have make 'the command beside make'; then
+    rm -r "$checkout/target"
+    : > "$dir/builds"
+    mkdir "$checkout/include"
+    cp "$root/Makefile" "$checkout"
+    cp "$root/include/krakobran.h" "$checkout/include"
+    PATH=$dir/kit:$PATH make -s -C "$checkout" target/programs > "$dir/made" 2>&1 &
+    PATH=$kit "$krakobran" report "$example" > "$dir/out" 2> "$dir/err"
+    wait
+    same 'the command beside make' "$dir/out" "$example_report"
+    verdict 'make beside the command' "$([ -e "$checkout/target/programs" ] || echo ", $(cat "$dir/made")")"
+    verdict 'not both at once' "$(grep -x twice "$dir/builds" | sed 's/^/, /')"
+fi
 
 # A checkout that can't be written: a built program runs; one that is to be built is not.
 chmod -R a-w "$checkout"

@@ -57,6 +57,20 @@ wait "$!"
 verdict 'lines that come late' "$([ "$first, $second" = '1 at 1000 us: in order, jump 0, 2 at 3000 us: in order, jump 0' ] || echo ", $first, $second")"
 exec 6<&-
 
+# An interrupt ends what writes to the pipe, and then the counts are printed.
+printf '1 at 1000 us: in order, jump 0\naccepted 1, in order 1, reordered 0, copies 0, closed runs 0, open run 1\n' > "$dir/expected"
+: > "$dir/out"
+set -m
+{ echo '1;1' && exec sleep 60; } | PATH=$path "$krakobran" follow 1 > "$dir/out" 2> "$dir/err" &
+for ((i = 0; i < 600; i++)); do
+    [ ! -s "$dir/out" ] || break
+    sleep 0.1
+done
+kill -INT -- "-$(jobs -p %%)"
+wait "$!"
+judge 'an interrupt' 0 '' "$?"
+set +m
+
 : > "$dir/expected"
 try 'K of 0' 1 'K is 0 or over 4,096' follow 0 "$dir/log"
 try 'K of 4097' 1 'K is 0 or over 4,096' follow 4097 "$dir/log"

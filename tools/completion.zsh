@@ -6,7 +6,7 @@ if (( CURRENT == 2 )); then
     compadd -- $commands --help --version
 elif [[ $words[CURRENT] == --* && $words[2] == report ]]; then
     compadd -- --help --version --csv --json
-elif [[ $words[CURRENT - 1] == --bits ]]; then
+elif [[ $words[CURRENT-1] == --bits ]]; then
     compadd -- 8 10
 elif [[ $words[CURRENT] == --* && $words[2] == summary ]]; then
     compadd -- --help --version --json --all
