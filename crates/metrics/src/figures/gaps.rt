@@ -170,11 +170,15 @@ fn gap_over(discoverers: &[u16; PACKET_TABLE_LEN], last: u32, p: u32) -> Gap
     Gap::None
 }
 
-// The gap of position p.
+// The gap of position p. Where no discontinuity stands there is none, and nothing to search for.
 fn gap_at(discoverers: &[u16; PACKET_TABLE_LEN], p: u32) -> Gap
     requires { ⌜ (1 ≤ p) × (p ≤ sentMost) ⌝ }
     ensures { λ r. ⌜ ((l : List Answer) → DiscoverersAt l (now (discoverers .entry)) → r ≡ gapOf l (some p)) ⌝ }
 {
+    let place = p as usize;
+    if discoverers[place] == 0 {
+        return Gap::None;
+    }
     let last = last_to(discoverers, p - 1);
     gap_over(discoverers, last, p)
 }
