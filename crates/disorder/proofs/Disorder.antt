@@ -1,11 +1,11 @@
--- The total of disorder. With every payload size 1 a byte offset is how many numbers before it are greater (`offset-higher`), none for a
--- packet in order (`higher-next`). The next first arrival adds as many pairs in the wrong order (`wrong-snoc`). So the sum of the byte
--- offsets is the number of these pairs (`sum-wrong`, by induction over the arrivals from the end). That number is the least number of
--- exchanges of neighbours that puts first arrivals in rising order (`wrong-least`). Fewer do not: an exchange changes the order of one
--- pair alone, so it takes at most one from the wrong ones (`exchange-wrong`), and in rising order there is none (`rising-none`). That
--- number suffices: from the last arrival on, each passes those of a smaller number in the rising order of the arrivals behind it
--- (`insert`), and these are its wrong pairs (`sort`). For that the numbers of first arrivals differ (`firsts-differ`).
--- Here l and m are arrivals before and after an exchange, a and b two of them, fs first arrivals, s a number, p a test and n how many
+-- The total of disorder. If every payload size is 1, a byte offset is the number of greater numbers before it (`offset-higher`), 0 for a packet
+-- in order (`higher-next`). The next first arrival adds that many pairs in the wrong order (`wrong-snoc`). So the sum of the byte offsets is the
+-- number of wrong pairs (`sum-wrong`, by induction over the arrivals from the end). That number is the least number of exchanges of neighbours
+-- that sorts the first arrivals (`wrong-least`). Fewer do not suffice: an exchange changes the order of one pair, so it removes at most one
+-- wrong pair (`exchange-wrong`), and sorted arrivals have none (`rising-none`). That number suffices: from the last arrival on, each is moved
+-- past the smaller numbers among the sorted arrivals after it (`insert`), and these are its wrong pairs (`sort`). For this the numbers of first
+-- arrivals must differ (`firsts-differ`).
+-- l and m are arrivals before and after an exchange, a and b two of them, fs first arrivals, s is a number, p a test and n the number of
 -- exchanges. Assumes nothing.
 use Prim.Native.Nat.{ℕ, suc, _+_, _≤_, _<_}
 use mathlib.Core.Path.{_≡_, refl, sym, ap, _∙_}

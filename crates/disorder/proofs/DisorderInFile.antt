@@ -1,10 +1,10 @@
--- The total of disorder of a file. The tree counts the first arrivals by number, so that what it gives up to a number and how many are
--- above make up all (`lower-sum`). One more is in a wrong pair with each above it, and counts at its number (`paired-more`); whether an
--- arrival is a first one the table of packets tells (`firsts-seen`). And with sizes of 1 the total is the sum of byte offsets
--- (`sums-offsets`), since each arrival's packet has one of the sizes.
--- Here fs are the first arrivals, a the next one, p how many there are, how many of their pairs are wrong and a number that none is
--- above, k the greatest number for which the tree has a place, d the decoded file, y its layout, i the records before, n the number of
--- record i + 1, and a prime marks the tree after it. Assumes nothing.
+-- The total of disorder of a file. The tree counts the first arrivals by number: its sum up to a number, and the number of first arrivals above
+-- it, make up all (`lower-sum`). The next first arrival makes a wrong pair with each number above its own, and is counted at its number
+-- (`paired-more`). The table of packets tells whether an arrival is a first one (`firsts-seen`). If all sizes are 1, the total is the sum of the
+-- byte offsets (`sums-offsets`), since the packet of each arrival has one of the sizes.
+-- fs are the first arrivals, a is the next one, p has their number, the number of their wrong pairs and a number that none exceeds; k is the
+-- greatest index of the tree, d the decoded file, y its layout, i the number of records before, n the number of record i + 1. A prime marks the
+-- tree after it. Assumes nothing.
 use mathlib.Core.Path.{_≡_, refl, sym, ap, _∙_}
 use mathlib.Core.Bool.{Bool, true, false, cond}
 use mathlib.Core.List.{List, [], _∷_, _++_}

@@ -1,6 +1,6 @@
--- Moving the clock by c changes no total of disorder: the first arrivals of moved arrivals are the moved ones (rfc4737's `firsts-moved`),
--- and a pair is wrong by its numbers alone (`wrong-moved`, by induction over the arrivals). Here fs are first arrivals, s is the sample.
--- Assumes nothing.
+-- Moving the clock by c does not change the total of disorder: the first arrivals of the moved arrivals are the moved first arrivals (rfc4737's
+-- `firsts-moved`), and whether a pair is wrong depends only on its numbers (`wrong-moved`, by induction over the arrivals). fs are first
+-- arrivals, s is the sample. Assumes nothing.
 use Prim.Native.Nat.{ℕ, _+_}
 use native.Mathlib.Omega.{arith}
 use mathlib.Core.Path.{_≡_, refl, sym, ap, _∙_}

@@ -30,7 +30,7 @@ pairs (a ∷ l) = map (λ (b : Arrival). (a, b)) l ++ pairs l
 abbrev pub isWrong : Arrival × Arrival → Bool
 isWrong p = ltb (p .1 .number) (p .0 .number)
 
--- how many pairs came in the wrong order
+-- the number of pairs in the wrong order
 unfoldable pub wrongPairs : List Arrival → ℕ
 wrongPairs fs = count isWrong (pairs fs)
 
@@ -39,7 +39,7 @@ pub data Exchange : List Arrival → List Arrival → Type 0 where
   here : {a b : Arrival} {l : List Arrival} → Exchange (a ∷ b ∷ l) (b ∷ a ∷ l)
   after : {a : Arrival} {l m : List Arrival} → Exchange l m → Exchange (a ∷ l) (a ∷ m)
 
--- the last list comes of the first by n exchanges of neighbours, whichever they are
+-- n exchanges of neighbours lead from the first list to the second
 pub data Exchanges : ℕ → List Arrival → List Arrival → Type 0 where
   none : {l : List Arrival} → Exchanges 0 l l
   one : {n : ℕ} {k l m : List Arrival} → Exchange k l → Exchanges n l m → Exchanges (suc n) k m

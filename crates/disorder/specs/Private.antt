@@ -1,4 +1,4 @@
--- Definitions for the contracts of private functions, which no public contract reaches: the pairs of some first arrivals, and the tree that
+-- Definitions for the contracts of private functions; no public contract reaches them. The pairs of some first arrivals, and the tree that
 -- counts them. Assumes nothing.
 use mathlib.Core.Path.{_≡_}
 use mathlib.Core.List.{List}

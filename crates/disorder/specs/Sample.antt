@@ -17,7 +17,7 @@ use Rattle.disorder.specs.declared.SampleDisorder.{SampleDisorder}
 unfoldable pub disorderOf : Decoded → ℕ
 disorderOf d = wrongPairs (firsts (sampleArrivals d))
 
--- the answer of the call; with a refusal the total is 0
+-- the answer of the call; if the file is refused, the total is 0
 unfoldable pub sampleDisorder : Decoded → SampleDisorder
 sampleDisorder d = record { refusal = decodedRefusal d; total = disorderOf d }
 
@@ -25,7 +25,7 @@ sampleDisorder d = record { refusal = decodedRefusal d; total = disorderOf d }
 abbrev pub SumsOffsets : Decoded → Type 0
 SumsOffsets d = sampleOf d .sizes ≡ replicate (length (sampleOf d .sizes)) 1 → offsetSum (answersOf d) ≡ disorderOf d
 
--- moving the clock: the answer for the moved sample's file is that for the file, if no time passes the field's range
+-- moving the clock of a sample does not change the answer, if no time leaves its range
 abbrev pub DisorderMoved : List ℕ → Type 0
 DisorderMoved file =
     (s : Sample) (c : ℕ) → decode file ≡ accepted s → Below (2 ^ 64) (timesOf (movedSample c s .arrivals))

@@ -10,14 +10,14 @@ mod pairs;
 
 use pairs::disorder_of;
 
-// The total of disorder of a sample, at most 8,386,560, and the refusal (0 for none). With a refusal the total is 0.
+// The total of disorder of a sample, at most 8,386,560, and the refusal (0 for none). If the file is refused, the total is 0.
 #[repr(C)]
 pub struct SampleDisorder {
     pub refusal: u32,
     pub total: u32,
 }
 
-// The total of disorder of a sample. After the check of the file, one pass over the arrivals with a Fenwick tree.
+// Finds the total of disorder of a sample: checks the file, then passes over the arrivals once with a Fenwick tree.
 // Cost: O(A log K + K), with at most 25 steps in the tree for each first arrival.
 pub fn total(file: &[u8]) -> SampleDisorder
     ensures total { λ r. ⌜ r ≡ sampleDisorder (decode (now (file .entry))) ⌝ }

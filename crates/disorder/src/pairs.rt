@@ -1,4 +1,4 @@
-// The pairs of first arrivals that came in the wrong order.
+// Counts the pairs of first arrivals in the wrong order.
 ghost use mathlib.Core.Path.{_≡_};
 ghost use mathlib.Core.Bool.{cond};
 ghost use mathlib.Core.List.{List, [], _∷_, _++_};
@@ -15,14 +15,14 @@ use sample::Layout;
 // The length of a table by packet number; index 0 is not used.
 const PACKET_TABLE_LEN: usize = SENT_MOST as usize + 1;
 
-// The number of first arrivals, how many pairs of them came in the wrong order, and their greatest sequence number.
+// The number of first arrivals, the number of pairs of them in the wrong order, and their greatest sequence number.
 pub(crate) struct Pairs {
     pub count: u32,
     pub wrong: u32,
     pub greatest: u32,
 }
 
-// The pairs of no arrivals.
+// Returns the pairs of no arrivals.
 fn no_pairs() -> Pairs
     ensures { λ r. ⌜ r ≡ record { count = 0; wrong = 0; greatest = 0 } ⌝ }
 {
@@ -33,8 +33,8 @@ fn no_pairs() -> Pairs
     }
 }
 
-// The pairs after the next arrival, where `arrived` says that its packet arrived before. A first arrival is in a wrong pair with each
-// greater number that came before it. For a number above all of these the tree is not asked.
+// Returns the pairs after the next arrival; `arrived` tells whether its packet arrived before. A first arrival makes a wrong pair with each
+// greater number before it. If its number is the greatest so far, there is none, and the tree is not read.
 fn pairs_after(counts: &mut [u32], arrived: bool, number: u32, p: Pairs) -> Pairs
     requires { ⌜ (1 ≤ number) × (number < length (now counts)) × FewPairs (now counts) p ⌝ }
     ensures { λ r. ⌜ ((k : ℕ) (fs : List Arrival) (a : Arrival) → a .number ≡ number → PairTree k fs (now (counts .entry)) p
@@ -60,7 +60,7 @@ fn pairs_after(counts: &mut [u32], arrived: bool, number: u32, p: Pairs) -> Pair
     }
 }
 
-// The total of disorder of a sample, with a tree of zeros that has an index for each packet number.
+// Finds the total of disorder of a sample. `counts` is a tree of zeros with an index for each packet number.
 fn disorder_in(file: &[u8], layout: Layout, counts: &mut [u32]) -> u32
     requires { ⌜ FileLayout (decode (now file)) layout × (now counts ≡ replicate (layout .sent + 1) 0) ⌝ }
     ensures { λ r. ⌜ r ≡ disorderOf (decode (now (file .entry))) ⌝ }
@@ -79,7 +79,7 @@ fn disorder_in(file: &[u8], layout: Layout, counts: &mut [u32]) -> u32
     p.wrong
 }
 
-// The total of disorder of a sample. The tree ends at K, so that few packets cost few steps.
+// Finds the total of disorder of a sample. The tree ends at K, so that few packets cost few steps.
 pub(crate) fn disorder_of(file: &[u8], layout: Layout) -> u32
     requires { ⌜ FileLayout (decode (now file)) layout ⌝ }
     ensures { λ r. ⌜ r ≡ disorderOf (decode (now (file .entry))) ⌝ }

@@ -1,9 +1,8 @@
 -- Laws of the text of a line and of the call's answer. A late time has a minus only if it is before by more than 0 (`after-amount`,
--- `before-none`, `before-some`). What is written of a refusal's words are the words, or nothing where there are none (`words-read`). A line
--- is refused or not (`arrival-none`, `arrival-some`, `followed-refused`, `followed-step`), and so is its arrival (`outcome-refused`,
--- `outcome-noted`). The call's text has room or not (`line-short`, `line-written`), and so has the text of the counts (`counts-short`,
--- `counts-written`). Here r is a receiver, l a line, read what is read of it, s the step, n the octets of the text in `new`, out the lent
--- octets. Assumes nothing.
+-- `before-none`, `before-some`). The octets written for a refusal are its words, or none (`words-read`). A line is refused or not
+-- (`arrival-none`, `arrival-some`, `followed-refused`, `followed-step`), and so is its arrival (`outcome-refused`, `outcome-noted`). The caller's
+-- buffer has room for the text or not (`line-short`, `line-written`; `counts-short`, `counts-written`). r is a receiver, l a line, read the
+-- arrival read from it, s the step, n the length of the text in `new`, out the caller's buffer. Assumes nothing.
 use Prim.Native.Nat.{ℕ, _+_, _≤_, _<_}
 use native.Mathlib.Omega.{arith}
 use mathlib.Core.Path.{_≡_, refl, sym, ap, _∙_}

@@ -1,7 +1,7 @@
--- Imported arrivals are accepted as those of a sample. What holds of every arrival holds of every one in order, by induction over the
--- insertions (`order-all`), so the numbers stay in 1 to K. Whole microseconds do not go back where receive times do not (`since-rising`).
--- So each time is at or after the reference, and none is refused (`judge-none`, by induction). Of a label with these lists only the label
--- is refused (`label-alone`). l are arrivals and a is one, os the records, k is K, b what is taken off their times. Assumes nothing.
+-- A sample may have the imported arrivals. What holds for every arrival holds for every sorted one, by induction over the insertions
+-- (`order-all`), so the numbers stay from 1 to K. Whole microseconds do not go back if receive times do not (`since-rising`). So each time is at
+-- or after the reference, and none is refused (`judge-none`, by induction). With these lists only the label can be refused (`label-alone`). l
+-- are arrivals and a is one, os the records, k is K, b is what is subtracted from their times. Assumes nothing.
 use Prim.Native.Nat.{ℕ, zero, suc, _-_, _≤_, zero-le}
 use native.Mathlib.Omega.{arith}
 use mathlib.Core.Bool.{Bool, true, false, cond}

@@ -1,9 +1,9 @@
--- The importer's answers: K or the records are refused, a list is too short (8), or both lists are filled. Each case settles the first
--- refusal, and with it what is answered and left in the lists (`answered`). Nothing refused means that K, the number of arrivals and their
--- numbers are within their limits (`none-refused`), so 4,096 places are always enough (`import-room`). As the times filled in rise, none is
--- before the first (`filled-first`), which the conversion needs.
--- Here k is K, os the records, r a refusal, n how many arrivals, l the arrivals in order; numbers′ and times′ are the lists after the call,
--- d the list of times as filled. Assumes nothing.
+-- The answers of the importer: K or the records are refused, a list is too short (8), or both lists are filled. In each case the first refusal
+-- is known, and with it the answer and the lists (`answered`). If nothing is refused, K, the number of arrivals and their numbers are within
+-- their limits (`none-refused`), so lists of 4,096 always have room (`import-room`). The times filled in are sorted, so none is before the first
+-- (`filled-first`), which the conversion needs.
+-- k is K, os are the records, r is a refusal, n the number of arrivals, l the sorted arrivals; numbers′ and times′ are the lists after the call,
+-- d is the list of times as filled. Assumes nothing.
 use Prim.Native.Nat.{ℕ, zero, suc, _≤_, _<_}
 use native.Mathlib.Omega.{arith}
 use mathlib.Core.Bool.{_||_, or-true}

@@ -1,6 +1,6 @@
--- The clock. Quotient and remainder of stamp * 10^6 by 2^32 are the microseconds and what is taken off. Seconds and fractions apart give
--- the same quotient, and it rises with the stamp: all by arithmetic. So of times none of which is before the first, t, the smallest in
--- microseconds is the first's, by induction on the list l. Assumes nothing.
+-- The clock. Quotient and remainder of stamp * 10^6 by 2^32 are the microseconds and what rounding takes off. Seconds and fraction, multiplied
+-- apart, give the same quotient, which rises with the stamp: all by arithmetic. If no time of a list is before its first, t, the first is the
+-- smallest in microseconds, by induction on the list l. Assumes nothing.
 use Prim.Native.Nat.{ℕ, _+_, _*_, _/_, _%_, _≤_, min}
 use native.Mathlib.Omega.{arith}
 use mathlib.Core.List.{List, [], _∷_, foldl, map}

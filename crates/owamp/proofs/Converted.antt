@@ -1,9 +1,9 @@
--- Recorded times turned into whole microseconds from the smallest on. `after` are the first n times in microseconds, the base taken off. A
--- turn of the loop reads at i what stood there at first (`after-read`), so it stores the element of `after` (`after-at`). Nothing falls
--- below 0, since microseconds keep the order and no time is before the first (`after-least`). Where the times rise the smallest is the
--- first, so what the loop leaves are the times of `fromSmallest` (`times-converted`).
--- Here old are the times before, d at the loop's head, base and b what is taken off, t a time in microseconds, s a recorded one; l are
--- arrivals and a is one. Assumes nothing.
+-- Recorded times turned into whole microseconds since the smallest. `after` are the first n times in microseconds, minus the base. A turn of the
+-- loop reads the original time at i (`after-read`), so it stores the element of `after` (`after-at`). No difference is negative, since
+-- microseconds keep the order and no time is before the first (`after-least`). If the times are sorted, the first is the smallest, so the loop
+-- leaves the times of `fromSmallest` (`times-converted`).
+-- old are the times before, d the times at the head of the loop, base and b what is subtracted, t is a time in microseconds, s a recorded one; l
+-- are arrivals and a is one. Assumes nothing.
 use Prim.Native.Nat.{ℕ, _+_, _-_, _≤_, _<_}
 use native.Mathlib.Omega.{arith}
 use mathlib.Core.List.{List, [], _∷_, _++_, map}

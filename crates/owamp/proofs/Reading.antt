@@ -1,8 +1,8 @@
--- The records in turn. Record i + 1 stands at 25 * i, and its fields in it (`number-stands`, `time-stands`). The receive time is the
--- seconds and the fraction, one behind the other. What passes of the first i + 1 is what passes of the first i and, if it passes, the next
--- (`passing-take`). Where no number is refused every number lies in 1 to K (`numbers-all`).
--- Here os are the octets of the records, i a record's place, a a record as an arrival, l records, v, s and f what was read, z what is read
--- past the end. Assumes nothing.
+-- The records in turn. Record i + 1 begins at offset 25 * i (`number-stands`, `time-stands`). The receive time is the seconds and the fraction,
+-- one after the other. The arrivals among the first i + 1 records are those among the first i and, if it is one, the next (`passing-take`). If
+-- no number is refused, every number is from 1 to K (`numbers-all`).
+-- os are the octets of the records, i is an index of a record, a the arrival of a record, l are records, v, s and f are numbers read, z is the
+-- value read after the end. Assumes nothing.
 use Prim.Native.Nat.{ℕ, _+_, _-_, _*_, _^_, _≤_, _<_}
 use native.Mathlib.Numerals.{add-one}
 use native.Mathlib.Omega.{arith}

@@ -1,9 +1,8 @@
--- Arrivals written as records and read again. A record's octets are cut into what stands before the receive time, the receive time and the
--- last octet. From them its number and its stamp are read as written (`record-read`). So records one after the other read as the arrivals
--- with stamps (`items-read`, by induction), none of them lost, since a stamp has at least a second (`arrivals-read`). Stamps rise with
--- times (`stamp-rising`): where no time goes back the arrivals are in order as they stand, and have their numbers in their order
--- (`records-again`).
--- Here k is K, l are arrivals and a is one, s and t times. Assumes nothing.
+-- Arrivals written as records and read again. The octets of a record are those before the receive time, the receive time and the last octet.
+-- From them the number and the stamp are read as written (`record-read`). So consecutive records read as the arrivals with their stamps
+-- (`items-read`, by induction), none of them lost, since a stamp has at least one second (`arrivals-read`). Stamps rise with times
+-- (`stamp-rising`). So if no time goes back, the arrivals are sorted already, and keep their numbers in their order (`records-again`).
+-- k is K, l are arrivals and a is one, s and t are times. Assumes nothing.
 use Prim.Native.Nat.{ℕ, _+_, _-_, _*_, _%_, _^_, _≤_, _<_}
 use native.Mathlib.Omega.{arith}
 use mathlib.Core.Bool.{false}

@@ -1,9 +1,9 @@
--- The writer. A record is seven numbers put one behind the other into 25 octets. That is one put of them all (`record-put`, by `chain` for
--- each after the first). The first refusal of a file is its own, or that of its times (`own-refusal`, `times-refusal`). Written and read
--- again (`read-again`): without a refusal the records stand at the start and the file is accepted. So its numbers lie in 1 to K, and
+-- The writer. A record is seven numbers written one after the other into 25 octets, which is one put of all of them (`record-put`, by `chain` for
+-- each after the first). The first refusal of a file is its own or that of its times (`own-refusal`, `times-refusal`). Written and read again
+-- (`read-again`): if nothing is refused, the buffer begins with the records and the file is accepted. So its numbers are from 1 to K, and
 -- `records-again` gives what is read.
--- Here a to g are octets and d₁ to d₇ the lent octets after each put, s and f the seconds and the fraction of time t; y is a file's layout,
--- r a refusal, l are arrivals, k is K. Assumes nothing.
+-- a to g are octets and d₁ to d₇ the buffer after each put, s and f are the seconds and the fraction of time t; y is the layout of a file, r a
+-- refusal, l are arrivals, k is K. Assumes nothing.
 use Prim.Native.Nat.{ℕ, zero, suc, _+_, _-_, _≤_, _<_}
 use native.Mathlib.Omega.{arith}
 use mathlib.Core.List.{List, [], _∷_, _++_, append-assoc}

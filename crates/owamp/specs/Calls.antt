@@ -21,11 +21,11 @@ use Rattle.owamp.specs.declared.RecordsImport.{RecordsImport}
 
 -- ---- the importer
 
--- the arrivals of records: in order, in whole microseconds from the smallest
+-- the arrivals of records, in time order, in whole microseconds since the smallest time
 unfoldable pub importedArrivals : List ℕ → List Arrival
 importedArrivals os = fromSmallest (inTimeOrder (recordsArrivals os))
 
--- the first refusal that applies, with lists of the lengths `numbers` and `times`: 8 comes last
+-- the first refusal that applies, for lists of lengths `numbers` and `times`; 8 comes last
 unfoldable pub importRefusal : (k numbers times : ℕ) (os : List ℕ) → ℕ
 importRefusal k numbers times os =
     firstRefusal
@@ -33,8 +33,8 @@ importRefusal k numbers times os =
     ∷ refusalIf (ltb numbers (length (recordsArrivals os)) || ltb times (length (recordsArrivals os))) outputShort
     ∷ [])
 
--- the importer's answer, and the two lists after it: the arrivals' values from their start, all else as it was. With a refusal 0
--- arrivals, and the lists as they were
+-- the importer's answer, and the two lists after it, which begin with the arrivals; the rest is unchanged. If the import is refused, there
+-- are 0 arrivals and both lists are unchanged
 pub record RecordsImportedFrom (k : ℕ) (os numbers times : List ℕ) (answer : RecordsImport) (numbers′ times′ : List ℕ) : Type 0 where
   pub refusal : answer .refusal ≡ importRefusal k (length numbers) (length times) os
   pub arrivals : answer .arrivals ≡ ifNone (answer .refusal) (length (importedArrivals os)) 0
@@ -58,14 +58,14 @@ recordOctets a =
 unfoldable pub recordsOf : List Arrival → List ℕ
 recordsOf l = itemOctets recordOctets l
 
--- the arrivals of a sample's file; none with a refusal
+-- the arrivals of a sample file; none if it is refused
 abbrev pub arrivalsOfFile : List ℕ → List Arrival
 arrivalsOfFile file = sampleOf (decode file) .arrivals
 
--- the first refusal that applies to a sample's file: its own, then 18
+-- the first refusal that applies to a sample file: its own, then 18
 unfoldable pub exportRefusal : List ℕ → ℕ
 exportRefusal file = firstRefusal (decodedRefusal (decode file) ∷ judgeSeconds (arrivalsOfFile file) ∷ [])
 
--- the writer's answer, and the lent octets after it, which begin with the records
+-- the writer's answer, and the caller's buffer after it, which begins with the records
 abbrev pub RecordsWrittenTo : (file out : List ℕ) → WriteAnswer → List ℕ → Type 0
 RecordsWrittenTo file out answer out′ = Output (exportRefusal file) (recordsOf (arrivalsOfFile file)) out answer out′

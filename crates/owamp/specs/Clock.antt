@@ -1,16 +1,16 @@
--- Receive times, 32 bits of seconds and 32 of fractions of 2 to the 32, and whole microseconds. A receive time is taken as one number
--- of 64 bits: it counts fractions. Assumes nothing.
+-- Receive times and whole microseconds. A receive time has 32 bits of seconds and 32 bits of fraction. Here it is one number of 64 bits, which
+-- counts units of 2^-32 seconds. Assumes nothing.
 use Prim.Native.Nat.{ℕ, _+_, _-_, _*_, _/_, _%_, _<_, min}
 use mathlib.Core.List.{List, [], _∷_, foldl, map}
 use mathlib.Core.Path.{_≡_}
 use Rattle.rfc4737.specs.declared.Arrival.{Arrival}
 use Rattle.rfc4737.specs.Judge.{timesOf}
 
--- fractions to a second: 2 to the 32
+-- fractions in a second
 abbrev pub fractions : ℕ
 fractions = 4294967296
 
--- microseconds to a second
+-- microseconds in a second
 abbrev pub micros : ℕ
 micros = 1000000
 
@@ -30,26 +30,26 @@ pub record Distance (stamp : ℕ) : Type 0 where
   pub exact : microseconds stamp * fractions + takenOff stamp ≡ stamp * micros
   pub under : takenOff stamp < fractions
 
--- this holds of every receive time
+-- this holds for every receive time
 abbrev pub RoundedDown : Type 0
 RoundedDown = (stamp : ℕ) → Distance stamp
 
--- the smallest of some numbers; 0 if there are none
+-- the smallest number of a list; 0 for the empty list
 abbrev pub smallest : List ℕ → ℕ
 smallest [] = 0
 smallest (t ∷ ts) = foldl min t ts
 
--- an arrival in whole microseconds, `base` taken off
+-- an arrival with its time in whole microseconds since `base`
 abbrev pub since : ℕ → Arrival → Arrival
 since base a = record { number = a .number; time = microseconds (a .time) - base }
 
--- arrivals in whole microseconds, the smallest of these taken off each
+-- arrivals with their times in whole microseconds since the smallest
 unfoldable pub fromSmallest : List Arrival → List Arrival
 fromSmallest l = map (since (smallest (map microseconds (timesOf l)))) l
 
 -- ---- to receive times
 
--- the seconds of a written receive time: those of the sample's time, plus 1
+-- the seconds of a written receive time: the seconds of the sample's time, plus 1, since a receive time of 0 means a lost packet
 abbrev pub writtenSeconds : ℕ → ℕ
 writtenSeconds t = t / micros + 1
 

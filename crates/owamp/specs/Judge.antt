@@ -1,4 +1,4 @@
--- What is refused of records and K, and of times that are written. Assumes nothing.
+-- What is refused: of records and K, and of times to be written. Assumes nothing.
 use Prim.Native.Nat.{ℕ, _-_, _^_, _%_}
 use mathlib.Core.Bool.{not}
 use mathlib.Core.List.{List, [], _∷_, map}
@@ -10,7 +10,7 @@ use Rattle.rfc4737.specs.Refusals.{outside, refusalIf, firstRefusal, numberOuts
 use Rattle.owamp.specs.Record.{recordWidth, recordsArrivals}
 use Rattle.owamp.specs.Clock.{writtenSeconds}
 
--- 15: a length that is no multiple of 25
+-- 15 for a length that is no multiple of 25
 abbrev pub judgeLength : ℕ → ℕ
 judgeLength n = refusalIf (not (eqb (n % recordWidth) 0)) recordCut
 
@@ -18,11 +18,11 @@ judgeLength n = refusalIf (not (eqb (n % recordWidth) 0)) recordCut
 unfoldable pub judgeNumber : ℕ → Arrival → ℕ
 judgeNumber k a = refusalIf (outside 1 k (a .number)) numberOutside
 
--- the arrivals in turn: the first 6
+-- 6 if any arrival is refused with 6
 unfoldable pub judgeNumbers : ℕ → List Arrival → ℕ
 judgeNumbers k l = firstRefusal (map (judgeNumber k) l)
 
--- the first refusal that applies to K and records: 15, 4, 5 over all not lost, 6 in file order; 0 if none does
+-- the first refusal that applies to K and records: 15, 4, 5 for too many arrivals, 6; 0 if none does
 unfoldable pub recordsRefusal : ℕ → List ℕ → ℕ
 recordsRefusal k os =
     firstRefusal
@@ -36,10 +36,10 @@ recordsRefusal k os =
 abbrev pub secondsMost : ℕ
 secondsMost = 2 ^ 32 - 1
 
--- 18 for a time whose written seconds do not fit 32 bits
+-- 18 for a time whose written seconds do not fit in 32 bits
 unfoldable pub judgeTime : ℕ → ℕ
 judgeTime t = refusalIf (ltb secondsMost (writtenSeconds t)) secondsOver
 
--- the arrivals in turn: the first 18
+-- 18 if any arrival is refused with 18
 unfoldable pub judgeSeconds : List Arrival → ℕ
 judgeSeconds l = firstRefusal (map (λ (a : Arrival). judgeTime (a .time)) l)

@@ -1,5 +1,4 @@
--- OWAMP packet records: their layout, their order and clock, what is refused, what the calls return, and what is read again. Assumes
--- nothing.
+-- OWAMP packet records: layout, order and clock, refusals, the answers of the calls, and round trips. Assumes nothing.
 pub mod Record
 pub mod Order
 pub mod Clock

@@ -1,4 +1,4 @@
--- The packet record of RFC 4656, section 3.9: 25 octets, all numbers big-endian. The offsets of its fields stand here alone.
+-- The packet record of RFC 4656, section 3.9: 25 octets, all numbers big-endian. Only this file states the offsets of its fields.
 -- Assumes nothing.
 use Prim.Native.Nat.{ℕ, _+_, _/_}
 use mathlib.Core.Bool.{Bool, not}
@@ -37,7 +37,7 @@ sendTime = record { at = 8; width = 8 }
 abbrev pub receiveTime : Field
 receiveTime = record { at = 16; width = 8 }
 
--- the two halves of the receive time: seconds, and fractions of 2 to the 32
+-- the two halves of the receive time: seconds, and a fraction in units of 2^-32 seconds
 abbrev pub receiveSeconds : Field
 receiveSeconds = record { at = 16; width = 4 }
 
@@ -57,7 +57,7 @@ fieldOctets f v = beOctets (f .width) v
 
 -- ---- the records of a file
 
--- a record as an arrival, its time as recorded: sequence number 0 is packet 1
+-- the arrival of a record, with the time as recorded; sequence number 0 is packet 1
 unfoldable pub recordIn : List ℕ → Arrival
 recordIn os = record { number = fieldIn sequenceNumber os + 1; time = fieldIn receiveTime os }
 
@@ -69,10 +69,10 @@ recordCount os = length os / recordWidth
 abbrev pub recordsIn : List ℕ → List Arrival
 recordsIn os = itemsIn recordWidth recordIn (recordCount os) os
 
--- whether a record is an arrival; one with a receive time of zero is a lost packet
+-- whether a record is an arrival; a receive time of 0 means a lost packet
 abbrev pub isArrival : Arrival → Bool
 isArrival a = not (eqb (a .time) 0)
 
--- the arrivals in file order, their times as recorded
+-- the arrivals in file order, with their times as recorded
 unfoldable pub recordsArrivals : List ℕ → List Arrival
 recordsArrivals os = passing isArrival (recordsIn os)

@@ -1,4 +1,4 @@
-// What is refused of records and K, and of times that are written.
+// Refusals: of records and K, and of times to be written.
 ghost use mathlib.Core.Path.{_≡_};
 ghost use mathlib.Core.List.{[], _∷_};
 ghost use lib.ListN.{length};
@@ -25,13 +25,13 @@ use sample::Layout;
 // The greatest number of 32 bits.
 const SECONDS_MOST: u64 = 4_294_967_295;
 
-// What a pass over records finds: the number of arrivals, and the first refusal of an arrival, or 0.
+// The result of a pass over records: the number of arrivals, and the first refusal of an arrival, or 0.
 pub(crate) struct Judged {
     pub arrivals: usize,
     pub refusal: u32,
 }
 
-// 6 if a packet number is outside 1 to K, else 0.
+// Returns 6 if a packet number is outside 1 to K, else 0.
 fn judge_number(k: u64, number: u64) -> u32
     ensures { λ r. ⌜ r ≡ refusalIf (outside 1 k number) numberOutside ⌝ }
 {
@@ -41,7 +41,7 @@ fn judge_number(k: u64, number: u64) -> u32
     0
 }
 
-// The first of two refusals that applies.
+// Returns the first of two refusals that is not 0.
 fn first_of(first: u32, second: u32) -> u32
     ensures { λ r. ⌜ r ≡ firstRefusal (first ∷ second ∷ []) ⌝ }
 {
@@ -51,7 +51,7 @@ fn first_of(first: u32, second: u32) -> u32
     second
 }
 
-// Counts the arrivals among records and judges each by 6; a lost record is passed over.
+// Counts the arrivals among records and finds the first that is refused with 6. Skips lost records.
 pub(crate) fn judge_arrivals(records: &[u8], k: u64) -> Judged
     ensures { λ r. ⌜ (r .arrivals ≡ length (recordsArrivals (now (records .entry)))) × (r .refusal ≡ judgeNumbers k (recordsArrivals (now (records .entry)))) ⌝ }
 {
@@ -71,7 +71,7 @@ pub(crate) fn judge_arrivals(records: &[u8], k: u64) -> Judged
     Judged { arrivals, refusal }
 }
 
-// The first refusal that applies to K and records whose arrivals are judged: 15, 4, 5, 6; 0 if none does.
+// Returns the first refusal that applies to K and records: 15, 4, 5, 6; 0 if none does. `judged` is the result of `judge_arrivals`.
 pub(crate) fn records_refusal(records: &[u8], k: u32, judged: Judged) -> u32
     requires { ⌜ (judged .arrivals ≡ length (recordsArrivals (now records))) × (judged .refusal ≡ judgeNumbers k (recordsArrivals (now records))) ⌝ }
     ensures { λ r. ⌜ r ≡ recordsRefusal k (now (records .entry)) ⌝ }
@@ -88,7 +88,7 @@ pub(crate) fn records_refusal(records: &[u8], k: u32, judged: Judged) -> u32
     judged.refusal
 }
 
-// 18 if the written seconds of a time don't fit 32 bits, else 0.
+// Returns 18 if the written seconds of a time do not fit in 32 bits, else 0.
 fn judge_time(time: u64) -> u32
     ensures { λ r. ⌜ r ≡ judgeTime time ⌝ }
 {
@@ -98,7 +98,7 @@ fn judge_time(time: u64) -> u32
     0
 }
 
-// 18 if a time of an accepted file is refused, else 0: some time is refused exactly if the greatest is.
+// Returns 18 if a time of an accepted file is refused, else 0. It judges only the greatest time, since a time is refused exactly if that is.
 pub(crate) fn judge_seconds(file: &[u8], layout: Layout) -> u32
     requires { ⌜ (layout ≡ layoutOf (decode (now file))) × (layout .refusal ≡ 0) ⌝ }
     ensures { λ r. ⌜ r ≡ judgeSeconds (arrivalsOfFile (now (file .entry))) ⌝ }

@@ -1,5 +1,5 @@
-// OWAMP packet records (RFC 4656, section 3.9): imported into two lists of the caller, and written from a sample file. Every
-// public call is total.
+// OWAMP packet records (RFC 4656, section 3.9): imported into two of the caller's lists, and written from a sample file. Every public call
+// is total.
 ghost use mathlib.Core.Path.{_≡_};
 ghost use Prim.Native.Nat.{_*_, _≤_};
 ghost use lib.ListN.{length};
@@ -30,15 +30,15 @@ use rfc4737::refusal::OUTPUT_SHORT;
 use sample::Layout;
 use sample::WriteAnswer;
 
-// What was imported: the refusal (0 for none), and the number of arrivals, 0 with a refusal.
+// The answer of `import`: the refusal (0 for none), and the number of arrivals, 0 if refused.
 #[repr(C)]
 pub struct RecordsImport {
     pub refusal: u32,
     pub arrivals: u32,
 }
 
-// Imports the records of K sent packets: fills the lists of numbers and times from their start, in the order of the recorded
-// receive times. With a refusal they stay as they were. Cost: O(A) in order or reversed, O(A log A) at most.
+// Imports the records of K sent packets: fills the start of both lists with the arrivals, sorted by receive time. If the import is refused,
+// both lists stay unchanged. Cost: O(A) if the records are in order or reversed, O(A log A) at most.
 pub fn import(records: &[u8], k: u32, numbers: &mut [u32], times: &mut [u64]) -> RecordsImport
     ensures { λ r. ⌜ RecordsImportedFrom k (now (records .entry)) (now (numbers .entry)) (now (times .entry)) r (now (numbers .exit)) (now (times .exit)) ⌝ }
     ensures order { λ _. ⌜ OnlyOne timeOf (recordsArrivals (now (records .entry))) ⌝ }
@@ -75,7 +75,7 @@ pub fn import(records: &[u8], k: u32, numbers: &mut [u32], times: &mut [u64]) ->
     }
 }
 
-// Writes the records of an accepted file's arrivals from the start of `out`.
+// Writes the arrivals of an accepted file as records to the start of `out`.
 fn write_records(file: &[u8], layout: Layout, out: &mut [u8])
     requires { ⌜ ((layout ≡ layoutOf (decode (now file))) × (layout .refusal ≡ 0))
         × (recordWidth * (layout .arrivals) ≤ length (now out)) ⌝ }
@@ -93,7 +93,7 @@ fn write_records(file: &[u8], layout: Layout, out: &mut [u8])
     }
 }
 
-// Writes the records of a sample's file from the start of `out`. With a refusal `out` stays as it was. Cost: O(A).
+// Writes the arrivals of a sample file as records to the start of `out`. If the call is refused, `out` stays unchanged. Cost: O(A).
 pub fn write(file: &[u8], out: &mut [u8]) -> WriteAnswer
     ensures { λ r. ⌜ RecordsWrittenTo (now (file .entry)) (now (out .entry)) r (now (out .exit)) ⌝ }
     ensures again { λ _. ⌜ RecordsReadAgain (now (file .entry)) ⌝ }

@@ -1,4 +1,4 @@
-// The packet record of RFC 4656, section 3.9: where its fields stand, and one record read and written.
+// Reads and writes one packet record (RFC 4656, section 3.9).
 ghost use mathlib.Core.Path.{_≡_};
 ghost use Prim.Native.Nat.{_≤_, _<_};
 ghost use lib.ListN.{length, getD};
@@ -28,7 +28,7 @@ const RECEIVE_FRACTION: usize = 20;
 
 const TTL: usize = 24;
 
-// The packet number of record i + 1: sequence number 0 is packet 1.
+// Returns the packet number of record i + 1. Sequence number 0 is packet 1.
 pub(crate) fn number_of(records: &[u8], i: usize) -> u64
     requires { ⌜ i < recordCount (now records) ⌝ }
     ensures { λ r. ⌜ r ≡ getD (recordsIn (now (records .entry))) i noArrival .number ⌝ }
@@ -39,7 +39,7 @@ pub(crate) fn number_of(records: &[u8], i: usize) -> u64
     octets::number_at(one, SEQUENCE_NUMBER, 4) + 1
 }
 
-// The receive time of record i + 1, as recorded: seconds and fraction, two numbers of 4 octets, which compile to one load.
+// Returns the receive time of record i + 1 as recorded. It is read as two numbers of 4 octets, which compile to one load.
 pub(crate) fn time_of(records: &[u8], i: usize) -> u64
     requires { ⌜ i < recordCount (now records) ⌝ }
     ensures { λ r. ⌜ r ≡ getD (recordsIn (now (records .entry))) i noArrival .time ⌝ }
@@ -52,7 +52,7 @@ pub(crate) fn time_of(records: &[u8], i: usize) -> u64
     seconds * FRACTIONS + fraction
 }
 
-// Writes the record of an arrival.
+// Writes the record of an arrival to `lent`.
 pub(crate) fn put_packet_record(lent: &mut [u8], number: u32, time: u64)
     requires { ⌜ (1 ≤ number) × (length (now lent) ≡ recordWidth) ⌝ }
     ensures { λ _. ⌜ now (lent .exit) ≡ put 0 (recordOctets (record { number = number; time = time })) (now (lent .entry)) ⌝ }

@@ -1,7 +1,6 @@
--- `owamp::import` meets its contract: `records_refusal` gives the refusal of K and the records. With none (`none`), a list with fewer
--- places than arrivals is 8. Else `fill_arrivals` leaves the arrivals in order, whose times rise, so that `to_microseconds` may take off
--- the first, which is the smallest (`times-converted`). Beside each answer stand the theorems that the contract carries (`carried`).
--- Assumes nothing.
+-- `owamp::import` meets its contract: `records_refusal` gives the refusal of K and the records. If there is none (`none`), a list that is shorter
+-- than the number of arrivals is refused with 8. Else `fill_arrivals` leaves the sorted arrivals, so `to_microseconds` may subtract the first
+-- time, which is the smallest (`times-converted`). Beside each answer stand the theorems that the contract carries (`carried`). Assumes nothing.
 use borrow.Author.Needs.{needs}
 use native.Mathlib.Omega.{arith}
 use Prim.Native.Nat.{ℕ}

@@ -1,7 +1,6 @@
--- `owamp::write` meets its contract: a refusal of `check` is the file's own. With none the layout is that of an accepted file (`found`), so
--- `judge_seconds` may judge its times (18). Then too few lent octets are 8; else `write_records` writes the records. At each return the
--- first refusal is known, and what is written with it. Beside each answer stand the theorems that the contract carries (`carried`). Assumes
--- nothing.
+-- `owamp::write` meets its contract: a refusal of `check` is the file's own. If there is none, the layout is that of an accepted file (`found`), so
+-- `judge_seconds` may judge its times (18). Then a short buffer is refused with 8; else `write_records` writes the records. At each return the
+-- first refusal is known, and what is written. Beside each answer stand the theorems that the contract carries (`carried`). Assumes nothing.
 use borrow.Author.Needs.{needs}
 use native.Mathlib.Omega.{arith}
 use Prim.Native.Nat.{ℕ, _*_}

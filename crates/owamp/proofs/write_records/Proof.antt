@@ -1,6 +1,6 @@
--- `owamp::write_records` meets its contract. The loop's invariant: from the start on stand the records of the first i arrivals, all else is
--- as it was. A turn reads arrival i, whose number is at least 1 since the file is accepted (`there`, `number-within`). It puts its record
--- into the octets lent for it (`write-next`). The measure is the number of arrivals left. Assumes nothing.
+-- `owamp::write_records` meets its contract. The loop's invariant: the buffer begins with the records of the first i arrivals, the rest is
+-- unchanged. A turn reads arrival i, whose number is at least 1 since the file is accepted (`there`, `number-within`), and writes its record to
+-- the next 25 octets (`write-next`). The measure is the number of arrivals left. Assumes nothing.
 use borrow.Author.Needs.{needs}
 use native.Mathlib.Omega.{arith}
 use Prim.Native.Nat.{_+_, _-_, _*_, _≤_}

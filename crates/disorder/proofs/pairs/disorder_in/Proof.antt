@@ -1,6 +1,6 @@
--- `disorder::pairs::disorder_in` meets its contract. The loop's invariant: the table has the packets that have arrived before record i + 1,
--- the tree and the pairs are those of the first arrivals before it. The table tells whether record i + 1 is one (`firsts-seen`), and
--- `pairs_after` adds it then. The measure is what is left of the arrivals. Assumes nothing.
+-- `disorder::pairs::disorder_in` meets its contract. The loop's invariant: the table has the packets that arrived before record i + 1, and the
+-- tree and the pairs are those of the first arrivals before it. The table tells whether record i + 1 is a first arrival (`firsts-seen`), and
+-- `pairs_after` adds it then. The measure is the number of arrivals left. Assumes nothing.
 use mathlib.Core.Path.{_≡_, sym, ap, subst, _∙_}
 use mathlib.Core.List.{List}
 use lib.ListN.{length, replicate, length-replicate}

@@ -1,4 +1,4 @@
--- `disorder::pairs::disorder_of` meets its contract: the part of a table of zeros that is lent is zeros (`zeros`). Assumes nothing.
+-- `disorder::pairs::disorder_of` meets its contract: a part of a table of zeros is zeros (`zeros`). Assumes nothing.
 use borrow.Author.Needs.{needs}
 use native.Mathlib.Omega.{arith}
 use Prim.Native.Nat.{ℕ, _+_, _≤_, _<_}

@@ -1,7 +1,7 @@
--- `disorder::pairs::pairs_after` meets its contract: a copy changes nothing. `paired-more` says what one first arrival more makes of tree
--- and pairs: none is above a number that is above the greatest so far, which is the greatest then. Else the tree says how many have a
--- lower number (`lower-sum`). Nothing wraps, as there are fewer than 4,096 so far. The places in the code are after the test for the
--- greatest (t), after the tree was asked (s), and the start. q are the pairs so far. Assumes nothing.
+-- `disorder::pairs::pairs_after` meets its contract: a copy changes nothing. `paired-more` gives tree and pairs after the next first arrival. If
+-- its number is above the greatest so far, it makes no wrong pair and becomes the greatest. Else the tree gives the number of lower numbers
+-- (`lower-sum`). Nothing wraps, since there are fewer than 4,096 first arrivals so far. t is the place in the code after the test for the
+-- greatest, s the place after the tree was read; q are the pairs so far. Assumes nothing.
 use mathlib.Core.Path.{_≡_, sym, ap, _∙_}
 use Prim.Native.Nat.{_+_, _-_, _≤_, _<_}
 use lib.ListN.{length}

@@ -1,4 +1,4 @@
--- `owamp::judge::judge_number` meets its contract: `outside` answers the test. Assumes nothing.
+-- `owamp::judge::judge_number` meets its contract: `outside` computes the test. Assumes nothing.
 use borrow.Author.Needs.{needs}
 use Rattle.owamp.proofs.judge.judge_number.Statement.{statement}
 use Rattle.owamp.proofs.judge.judge_number.Tie as tie

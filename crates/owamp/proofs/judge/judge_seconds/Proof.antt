@@ -1,7 +1,6 @@
--- `owamp::judge::judge_seconds` meets its contract. The loop's invariant: the first refusal of all arrivals is that of the greatest time so
--- far or, if there is none, of the arrivals from i on. The arrival read at i is the sample's (`found`), and the refusals of two times one
--- after the other are that of the greater one (`greater`). The measure is the number of arrivals left.
--- Here g and t are times, rs refusals. Assumes nothing.
+-- `owamp::judge::judge_seconds` meets its contract. The loop's invariant: the first refusal of all arrivals is that of the greatest time so far
+-- or, if there is none, of the arrivals from i on. The arrival read at i is the sample's (`found`). The first refusal of two times is that of the
+-- greater (`greater`). The measure is the number of arrivals left. g and t are times, rs refusals. Assumes nothing.
 use borrow.Author.Needs.{needs}
 use borrow.Author.Tests.{ltb-true, ltb-false}
 use native.Mathlib.Omega.{arith}

@@ -1,5 +1,5 @@
--- `owamp::records::number_of` meets its contract: the first four octets of the record are its sequence number (`number-stands`), which one
--- more does not overflow. Assumes nothing.
+-- `owamp::records::number_of` meets its contract: the first four octets of the record are its sequence number (`number-stands`), and adding 1 does
+-- not overflow. Assumes nothing.
 use borrow.Author.Needs.{needs}
 use native.Mathlib.Omega.{arith}
 use denote.Ref.{now}

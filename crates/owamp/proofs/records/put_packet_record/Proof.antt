@@ -1,4 +1,4 @@
--- `owamp::records::put_packet_record` meets its contract: seven numbers put one behind the other into 25 octets are one put of the record
+-- `owamp::records::put_packet_record` meets its contract: seven numbers written one after the other into 25 octets are one put of the record
 -- (`record-put`). Assumes nothing.
 use borrow.Author.Needs.{needs}
 use denote.Ref.{now}

@@ -1,5 +1,5 @@
--- `owamp::records::time_of` meets its contract: the seconds and the fraction of the record, each below 2 to the 32, are its receive time
--- (`time-stands`). Assumes nothing.
+-- `owamp::records::time_of` meets its contract: the seconds and the fraction of the record, each below 2^32, are its receive time (`time-stands`).
+-- Assumes nothing.
 use borrow.Author.Needs.{needs}
 use native.Mathlib.Omega.{arith}
 use Prim.Native.Nat.{_<_}
