@@ -1,6 +1,5 @@
 // The summary of a sample, as text and as JSON: its counts, the least buffers of a receiver that restores order, and its ratios. `write_all`
 // adds the other figures of the whole sample.
-ghost use mathlib.Core.Path.{_≡_};
 ghost use Prim.Native.Nat.{_≤_};
 ghost use lib.ListN.{length};
 ghost use Rattle.sample.specs.Decode.{decode};

@@ -1,5 +1,4 @@
 // Writes the lines of the summary. Each function writes at an offset of a buffer that has room, and returns the offset after what it wrote.
-ghost use mathlib.Core.Path.{_≡_};
 ghost use Prim.Native.Nat.{_+_, _≤_};
 ghost use lib.ListN.{length};
 ghost use Rattle.sample.specs.Decode.{decode};

@@ -1,5 +1,4 @@
 // Writes parts of a text at an offset of a buffer that has room for them. Each function returns the offset after what it wrote.
-ghost use mathlib.Core.Path.{_≡_};
 ghost use Prim.Native.Nat.{_+_, _≤_};
 ghost use lib.ListN.{length, take};
 ghost use Rattle.decimal.specs.Decimal.{decimalOf};

@@ -1,11 +1,10 @@
--- What the call answers. With the file's own refusal (`swept-refused`), or with 8 where what is lent is too short (`swept-short`), the
--- decoded file is one refused, so that nothing is set and all stays. Else all lists have room (`wide`), and with the table cleared the
--- pass can begin (`ready`). It leaves what lies behind the table's first numbers, so that the table, cleared again, is zeros over what it
--- was (`table-after`). The lists have the figures of all answers over what they were. So at a record asked for there stand in each list
--- the figures of the answer that `metrics::answer` gives (`at-list`), and the first places of each list are the figures of all answers,
--- whose lines the report has (`first-list`): both engines agree (`swept`).
--- Here d is the decoded file, y its layout, e that it is, own that it is accepted, old what is lent before, table the cleared table, new
--- what is lent after the pass, f that it is filled, table′ the table cleared again, and after all that is lent then. Assumes nothing.
+-- The answer of the call. If the file is refused (`swept-refused`), or with 8 if the table or a list is too short (`swept-short`), the decoded
+-- file counts as refused, so nothing is set. Else all lists have room (`wide`), and with the table cleared the pass can begin (`ready`). The
+-- pass changes only the start of the table, so the table, cleared again, is zeros over what it was (`table-after`). The lists begin with the
+-- figures of all answers. So at each record they have the figures of the answer of `metrics::answer` (`at-list`), and their first entries are
+-- the figures of the answers in the report (`first-list`): both engines agree (`swept`).
+-- d is the decoded file, y its layout, e says so, own says that it is accepted; old is the caller's memory before, table the cleared table, new
+-- the memory after the pass, f says that it is filled; table′ is the table cleared again, and after the memory then. Assumes nothing.
 use mathlib.Core.Path.{_≡_, refl, sym, ap, _∙_}
 use mathlib.Core.Bool.{Bool, true, false}
 use mathlib.Core.List.{List, _++_, map}

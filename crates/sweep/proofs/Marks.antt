@@ -1,12 +1,11 @@
--- What the table holds of a packet under one arrival more, and what stands at the record of a jump. A packet below NextExp that has not
--- arrived has a discontinuity, which has a record (`skipping-jump`); one from NextExp on has none, and 0 stands there (`mark-ahead`). A
--- copy changes no mark (`mark-copy`). A first arrival marks its own packet as arrived, is the discontinuity of the packets that it skips,
--- and leaves all others as they were (`mark-more`, by whether packet s is its own, has arrived, is below NextExp, is skipped). The
--- position of a first arrival is one more than its place among the first arrivals, and stands at its record in the list of positions
--- (`position-at`, by `listed-at` of metrics). Last, one value put at places one by one, which is a splice (`skip-next`), and what stands
--- then at any place (`skipped-at`).
--- Here l are the arrivals, a the next one, s a packet's number, fs first arrivals, p a place among them or what stands there, and k what
--- is known of a discontinuity. Assumes nothing.
+-- The mark of a packet after the next arrival, and the values at the record of a jump. A packet below NextExp that has not arrived has a
+-- discontinuity, which has a record (`skipping-jump`); a packet from NextExp on has none, and its mark is 0 (`mark-ahead`). A copy changes no
+-- mark (`mark-copy`). A first arrival marks its own packet as arrived and is the discontinuity of the packets that it skips; all other marks
+-- stay (`mark-more`, by cases: packet s is its own, has arrived, is below NextExp, or is skipped). The position of a first arrival is its index
+-- among the first arrivals plus 1, and the list of positions has it at its record (`position-at`, by `listed-at` of metrics). Last, one value
+-- stored at consecutive indices is a splice (`skip-next`), with the values of `skipped-at`.
+-- l are the arrivals, a is the next one, s a packet, fs first arrivals, p an index among them or the arrival there, k what is known of a
+-- discontinuity. Assumes nothing.
 use mathlib.Core.Path.{_≡_, refl, sym, ap, _∙_}
 use mathlib.Core.Bool.{Bool, true, false, cond, _&&_, true≢false, or-true}
 use mathlib.Core.List.{List, [], _∷_, _++_, map-append}

@@ -1,7 +1,7 @@
--- Moving the clock changes nothing of the sweep. What it answers and leaves depends on the layout, on what the table is set to and on the
--- answers alone (`alike`), and these are the same of the moved sample: the answers by rfc4737's `answers-moved`, and there are as many
--- arrivals. So is whether what is lent is too short. Here c is the amount, s the sample, d and e two decoded files, y what is answered.
--- Assumes nothing.
+-- Moving the clock does not change the sweep. The answer and the memory after it depend only on the layout, on the start of the table and on
+-- the answers (`alike`). These are the same for the moved sample: the answers by rfc4737's `answers-moved`, and the number of arrivals. So is
+-- whether the table or a list is too short. c is the amount, s the sample, d and e are two decoded files, y is the call's answer. Assumes
+-- nothing.
 use Prim.Native.Nat.{ℕ}
 use mathlib.Core.Path.{_≡_, refl, sym, ap, subst, _∙_}
 use mathlib.Core.Bool.{Bool, true, false}

@@ -1,6 +1,6 @@
--- The pass on plain values: what is lent after the first i records. LentAfter says that the lists hold these records' figures, then what
--- they held, and the table what these records left. One record more is `lent-next`, and after the last `lent-end` gives what the pass
--- promises. d is the file as read, y its layout, old and new what was lent before and now. Assumes nothing.
+-- The pass on plain values: the caller's memory after the first i records. `LentAfter` says that the lists begin with the figures of these
+-- records and are unchanged after them, and that the table is as these records left it. `lent-next` is the next record, and after the last
+-- `lent-end` gives the contract of the pass. d is the decoded file, y its layout, old and new are the memory before and now. Assumes nothing.
 use mathlib.Core.Path.{_≡_, refl, sym, ap, subst, _∙_}
 use mathlib.Core.List.{List, [], _∷_, _++_, map, map-append}
 use Prim.Native.Nat.{ℕ, _+_, _-_, _≤_, _<_}

@@ -1,12 +1,12 @@
--- The figures of record i + 1 by what stands at its packet in the table, the mark, and the table after it. A packet that has arrived has
--- the mark 4,097, and any other 0 or the number of a record, which is at most 4,096. So the mark tells a copy (`is-copy`, `is-new`). The
--- mark of a reordered packet is the record of its discontinuity: at that record stand its time in the file (`jump-time`) and its position
--- in the list of positions (`jump-position`), which give late time and extent (`figures-late`). A copy leaves the table (`held-copy`).
--- Under a first arrival `mark-more` says what must stand at each packet (`held-new`): where it is reordered only its own mark changes
--- (`held-late`), and where it is in order the packets that it skips have been filled before (`held-in-order`).
--- Here d is the decoded file, y its layout, i the records before, number and mark those of record i + 1, k what is known of them, h on
--- which side of 4,096 the mark is, late that the number is below NextExp, t that the table is that after the records before, s any
--- packet's number, which stands at place s - 1, and table′ the table after the record. Assumes nothing.
+-- The figures of record i + 1, and the table after it, from the mark of its packet. A packet that has arrived has the mark 4,097; any other has
+-- 0 or a record, which is at most 4,096. So the mark tells a copy from a first arrival (`is-copy`, `is-new`). The mark of a reordered packet is
+-- the record of its discontinuity. The file has its time there (`jump-time`), and the list of positions its position (`jump-position`); these
+-- give the late time and the extent (`figures-late`). A copy leaves the table unchanged (`held-copy`). After a first arrival `mark-more` gives
+-- the mark of each packet (`held-new`). If it is reordered, only its own mark changes (`held-late`); if it is in order, the packets that it
+-- skips were filled before (`held-in-order`).
+-- d is the decoded file, y its layout, i the number of records before; number and mark are those of record i + 1, k says so; h says on which
+-- side of 4,096 the mark is, late that the number is below NextExp, t that the table is that of the records before; s is any packet, at index
+-- s - 1, and table′ the table after the record. Assumes nothing.
 use mathlib.Core.Path.{_≡_, refl, sym, ap, _∙_}
 use mathlib.Core.Bool.{Bool, true, false, cond, _&&_}
 use mathlib.Core.List.{List, [], _∷_, _++_}

@@ -1,5 +1,5 @@
--- The answer of the sweep, and the lent table and lists after it. Both engines give the same, and moving the clock changes nothing.
--- Assumes nothing.
+-- The answer of the sweep, and the caller's table and lists after it. Both engines find the same figures, and moving the clock changes
+-- nothing. Assumes nothing.
 use mathlib.Core.Path.{_≡_}
 use mathlib.Core.Bool.{Bool, _||_}
 use mathlib.Core.List.{List, []}
@@ -25,9 +25,9 @@ use Rattle.metrics.specs.Report.{sampleText}
 use Rattle.sweep.specs.declared.Figures.{Figures}
 use Rattle.sweep.specs.Figures.{figuresOf, flagsOf, positionsOf, extentsOf, latesOf}
 
--- ---- what is lent
+-- ---- the caller's memory
 
--- the length of the table: one number for each packet that there can be
+-- the length of the table: one number for each possible packet
 abbrev pub tablePlaces : ℕ
 tablePlaces = sentMost
 
@@ -48,7 +48,7 @@ unfoldable pub lentShort : (arrivals table flags positions extents lates : ℕ) 
 lentShort arrivals table flags positions extents lates =
     ltb table tablePlaces || (ltb flags arrivals || (ltb positions arrivals || (ltb extents arrivals || ltb lates arrivals)))
 
--- whether what is lent is too short for a sample
+-- whether the table or a list is too short for a sample
 abbrev pub lentShortFor : Decoded → Lent → Bool
 lentShortFor d old =
     lentShort (length (sampleArrivals d)) (length (old .table)) (length (old .flags)) (length (old .positions)) (length (old .extents))
@@ -56,13 +56,13 @@ lentShortFor d old =
 
 -- ---- the call
 
--- what the table's first numbers are set to: zeros, or nothing is set with a refusal
+-- the start of the table after the call: zeros; nothing is set if the file is refused
 abbrev pub cleared : Decoded → List ℕ
 cleared (refused r) = []
 cleared (accepted s) = replicate tablePlaces 0
 
--- the answer for a decoded file, and what was lent after it. The table's first numbers are 0, the lists have the figures of every record
--- from their start, and all else is as it was
+-- the answer for a decoded file, and the caller's memory after it: the table begins with zeros, the lists begin with the figures of every
+-- record, and the rest is unchanged
 pub record Swept (d : Decoded) (old : Lent) (answer : Layout) (new : Lent) : Type 0 where
   pub layout : answer ≡ layoutOf d
   pub table : new .table ≡ over (cleared d) (old .table)
@@ -71,13 +71,13 @@ pub record Swept (d : Decoded) (old : Lent) (answer : Layout) (new : Lent) : Typ
   pub extents : new .extents ≡ over (extentsOf (answersOf d)) (old .extents)
   pub lates : new .lates ≡ over (latesOf (answersOf d)) (old .lates)
 
--- the call's answer, and what was lent after it: 8 comes after the sample's own refusals
+-- the call's answer, and the caller's memory after it; 8 comes after the file's own refusals
 abbrev pub SweptTo : (d : Decoded) (old : Lent) (answer : Layout) (new : Lent) → Type 0
 SweptTo d old answer new = Swept (unlessShort (lentShortFor d old) d) old answer new
 
 -- ---- both engines
 
--- what stands in the four lists at the record `asked`, counted from 1
+-- the figures of record `asked` in the four lists; records count from 1
 abbrev pub figuresAt : Lent → ℕ → Figures
 figuresAt l asked =
     record {
@@ -87,14 +87,14 @@ figuresAt l asked =
       late = atRecord 0 (l .lates) asked;
     }
 
--- both engines agree. After a sweep that is not refused, the lists have at each record the figures of the answer of `metrics::answer`,
--- which is `recordAnswer`, unless that call is refused
+-- both engines agree: after a sweep that is not refused, the lists hold for each record of the sample the figures of the answer of
+-- `metrics::answer`, which is `recordAnswer`
 pub record EnginesAgree (d : Decoded) (answer : Layout) (new : Lent) : Type 0 where
   pub at : answer .refusal ≡ 0 → (asked : ℕ) → recordAnswer d asked .refusal ≡ 0
       → figuresAt new asked ≡ figuresOf (recordAnswer d asked .answer)
 
--- the report agrees, too. There are answers, one for each record, whose listing is the report that `metrics::listing` writes. Their figures
--- stand in the lists after a sweep that is not refused
+-- the report agrees, too: there are answers, one for each record, whose listing is the report that `metrics::listing` writes. After a sweep
+-- that is not refused, the lists hold their figures
 pub record ReportAgrees (d : Decoded) (answer : Layout) (new : Lent) : Type 0 where
   pub answers : List Answer
   pub listed : sampleText d ≡ listingOf (length (sampleOf d .sizes)) (sampleArrivals d) answers (counts answers)
@@ -104,14 +104,14 @@ pub record ReportAgrees (d : Decoded) (answer : Layout) (new : Lent) : Type 0 wh
   pub extents : answer .refusal ≡ 0 → take (answer .arrivals) (new .extents) ≡ extentsOf answers
   pub lates : answer .refusal ≡ 0 → take (answer .arrivals) (new .lates) ≡ latesOf answers
 
--- and the rows of `metrics::record_rows`: the figures of a record stand in its row, at the places 1, 2, 4 and 5
+-- the rows of `metrics::record_rows` agree, too: a record's figures are the first, second, fourth and fifth number of its row
 pub record RowsAgree : Type 0 where
   pub figures : (a : Answer)
       → figuresOf a ≡ record { flag = getD (rowOf a) 0 0; position = getD (rowOf a) 1 0; extent = getD (rowOf a) 3 0; late = getD (rowOf a) 4 0 }
 
 -- ---- moving the clock
 
--- the sweep of the moved sample's file returns and leaves the same as that of the file, if no time passes the field's range
+-- moving the clock of the sample changes neither the answer nor the lists, if no time leaves its range
 abbrev pub SweepMoved : List ℕ → Type 0
 SweepMoved file =
     (s : Sample) (c : ℕ) → decode file ≡ accepted s → Below (2 ^ 64) (timesOf (movedSample c s .arrivals))

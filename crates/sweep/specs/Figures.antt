@@ -1,12 +1,12 @@
--- The figures of a record as four numbers, by the cases of its answer. Assumes nothing.
+-- The figures of a record as four numbers. Assumes nothing.
 use Prim.Native.Nat.{ℕ}
 use mathlib.Core.List.{List, map}
 use Rattle.rfc4737.specs.declared.Answer.{Answer}
 use Rattle.rfc4737.specs.Numbering.{answerNumber, amountOf}
 use Rattle.sweep.specs.declared.Figures.{Figures}
 
--- the number of the answer's case, the position, the extent and the late time's amount. The cases are 0 in order, 1 reordered after,
--- 2 reordered before and 3 a duplicate. Figures that a record lacks are 0
+-- the number of the answer's case, the position, the extent and the amount of the late time. The cases are 0 in order, 1 reordered after,
+-- 2 reordered before, 3 duplicate. Figures that a record lacks are 0
 unfoldable pub figuresOf : Answer → Figures
 figuresOf (Answer.InOrder d) = record { flag = answerNumber (Answer.InOrder d); position = d .position; extent = 0; late = 0 }
 figuresOf (Answer.Reordered d) =

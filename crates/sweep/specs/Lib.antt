@@ -1,4 +1,4 @@
--- The answer of the sweep (Calls, over Figures). Assumes nothing.
+-- The sweep: the figures of a record, and the answer of the call. Assumes nothing.
 pub mod Figures
 pub mod Calls
 pub mod Private

@@ -1,5 +1,5 @@
--- Definitions for the contracts of private functions, which no public contract reaches: the table after some arrivals, and the lists
--- before, during and after the pass. Assumes nothing.
+-- Definitions for the contracts of private functions; no public contract reaches them. The table after some arrivals, and the lists before,
+-- during and after the pass. Assumes nothing.
 use mathlib.Core.Path.{_≡_}
 use mathlib.Core.Bool.{cond}
 use mathlib.Core.List.{List}
@@ -21,7 +21,7 @@ use Rattle.sweep.specs.declared.table.State.{State}
 use Rattle.sweep.specs.Figures.{flagsOf, positionsOf, extentsOf, latesOf}
 use Rattle.sweep.specs.Calls.{tablePlaces, Lent}
 
--- the mark of a packet that has arrived: no record has this number
+-- the mark of a packet that has arrived; it is greater than any record
 abbrev pub arrivedMark : ℕ
 arrivedMark = arrivalsMost + 1
 
@@ -30,8 +30,8 @@ unfoldable pub recordOf : List Arrival → Option FirstArrival → ℕ
 recordOf earlier none = 0
 recordOf earlier (some p) = firstRecord (p .number) earlier
 
--- the mark of packet s after some arrivals: that it has arrived, else the record of its discontinuity, which is the jump that skipped it.
--- If none has, it is 0
+-- the mark of packet s after some arrivals: `arrivedMark` if it has arrived, else the record of its discontinuity, the jump that skipped it;
+-- 0 if no jump has
 unfoldable pub markOf : List Arrival → ℕ → ℕ
 markOf earlier s = cond (has s earlier) arrivedMark (recordOf earlier (discontinuity (firsts earlier) s))
 
@@ -56,15 +56,15 @@ pub record SweepReady (d : Decoded) (layout : Layout) (l : Lent) : Type 0 where
   pub zeros : (k : ℕ) → k < tablePlaces → getD (l .table) k 0 ≡ 0
   pub lists : Room (layout .arrivals) (l .flags) (l .positions) (l .extents) (l .lates)
 
--- the four lists after the figures of record i + 1 were put
+-- the four lists after the figures of record i + 1 were stored
 pub record Put (i : ℕ) (x : Figures) (f p e l f′ p′ e′ l′ : List ℕ) : Type 0 where
   pub flags : f′ ≡ set f i (x .flag)
   pub positions : p′ ≡ set p i (x .position)
   pub extents : e′ ≡ set e i (x .extent)
   pub lates : l′ ≡ set l i (x .late)
 
--- what is lent after the records with the answers m: the lists have their figures from their start. All else but the table's first
--- numbers is as it was
+-- the caller's memory after the records with answers m: the lists begin with their figures. Apart from the start of the table the rest is
+-- unchanged
 pub record FilledWith (m : List Answer) (old new : Lent) : Type 0 where
   pub table : drop tablePlaces (new .table) ≡ drop tablePlaces (old .table)
   pub tableLength : length (new .table) ≡ length (old .table)

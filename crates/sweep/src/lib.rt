@@ -1,5 +1,5 @@
-// The second engine: after the checks one pass over the arrivals of a sample, with a table by packet number in the caller's buffer.
-// It fills the caller's lists with the flag, position, extent and late time of every record. Cost: O(A + K).
+// The second engine: one pass over the arrivals of a checked sample, with a table by packet number. It fills the caller's lists with the flag,
+// position, extent and late time of every record. Cost: O(A + K).
 ghost use mathlib.Core.Path.{_≡_};
 ghost use Rattle.sample.specs.Decode.{decode};
 ghost use Rattle.sweep.specs.Calls.{lentShort, lent, SweptTo, EnginesAgree, ReportAgrees, SweepMoved, RowsAgree};
@@ -15,8 +15,8 @@ use sample::refused_layout;
 use table::PACKET_TABLE_LEN;
 use table::clear;
 
-// The figures of a record: the number of its answer's case, its position, extent, and the amount of its late time. Figures that it
-// lacks are 0.
+// The figures of a record: the number of its answer's case, its position, its extent, and the amount of its late time. Figures that it lacks
+// are 0.
 pub struct Figures {
     pub flag: u8,
     pub position: u32,
@@ -24,7 +24,7 @@ pub struct Figures {
     pub late: u64,
 }
 
-// Whether the table or one of the four lists, of these lengths, is too short for a sample of `arrivals` arrivals.
+// Returns whether the table or one of the four lists, of these lengths, is too short for `arrivals` arrivals.
 fn too_short(
     arrivals: u32,
     table: usize,
@@ -51,8 +51,8 @@ fn too_short(
     lates < count
 }
 
-// Fills the lists with the figures of every record of a file, and sets the first 4,096 numbers of the table to 0. With a refusal table
-// and lists stay as they were. Returns the layout of `sample::check`, or refusal 8.
+// Fills the lists with the figures of every record of a file, and sets the first 4,096 numbers of the table to 0. Returns the layout of
+// `sample::check`, or refusal 8 if the table or a list is too short. If the call is refused, table and lists stay unchanged.
 pub fn sweep(
     file: &[u8],
     table: &mut [u16],

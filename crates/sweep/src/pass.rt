@@ -1,4 +1,4 @@
-// The pass over the arrivals: each record's figures go into the lists, and the table follows.
+// The pass over the arrivals: stores the figures of each record in the lists, and updates the table.
 ghost use mathlib.Core.Path.{_≡_};
 ghost use Prim.Native.Nat.{_+_, _≤_};
 ghost use lib.ListN.{take, drop};
@@ -30,17 +30,17 @@ const FLAG_BEFORE: u8 = REORDERED_BEFORE as u8;
 
 const FLAG_DUPLICATE: u8 = DUPLICATE as u8;
 
-// The greatest number of a record; the mark of a packet that has arrived is over it.
-const RECORDS: usize = ARRIVALS_MOST as usize;
+// The greatest record. The mark of a packet that has arrived is greater.
+const MAX_RECORD: usize = ARRIVALS_MOST as usize;
 
-// A number of the table, as an index.
+// Returns a number of the table as an index.
 fn index_of(x: u16) -> usize
     ensures { λ r. ⌜ r ≡ x ⌝ }
 {
     x as usize
 }
 
-// The figures of a record.
+// Returns the figures of a record.
 fn figures(flag: u8, position: u32, extent: u32, late: u64) -> Figures
     ensures { λ r. ⌜ r ≡ record { flag = flag; position = position; extent = extent; late = late } ⌝ }
 {
@@ -52,7 +52,7 @@ fn figures(flag: u8, position: u32, extent: u32, late: u64) -> Figures
     }
 }
 
-// The arrival of record i + 1, read where it stands, with no test of the file's length in the loop.
+// Returns the arrival of record i + 1, read without a test of the file's length.
 fn arrival_at(file: &[u8], layout: Layout, i: usize) -> Arrival
     requires { ⌜ HasRecord (decode (now file)) layout i ⌝ }
     ensures { λ r. ⌜ (r ≡ arrivalAt (decode (now (file .entry))) i) × (1 ≤ r .number) × (r .number ≤ tablePlaces) ⌝ }
@@ -63,7 +63,7 @@ fn arrival_at(file: &[u8], layout: Layout, i: usize) -> Arrival
     sample::arrival_of(twelve)
 }
 
-// Puts the figures of record i + 1 into the lists at index i.
+// Stores the figures of record i + 1 at index i of the lists.
 fn put_figures(
     flags: &mut [u8],
     positions: &mut [u32],
@@ -83,8 +83,8 @@ fn put_figures(
     lates[place] = f.late;
 }
 
-// Passes record i + 1: puts its figures into the lists and notes it in the table. Cost of all records: O(A + K). Each case puts its
-// own figures and returns, so that the compiler decides it by a branch and keeps the lists' addresses in registers.
+// Passes record i + 1: stores its figures in the lists and updates the table. Cost of all records: O(A + K). Each case stores its own figures
+// and returns, so that the compiler uses a branch and keeps the addresses of the lists in registers.
 fn pass_record(
     file: &[u8],
     layout: Layout,
@@ -107,7 +107,7 @@ fn pass_record(
     let number = arrival.number;
     let at = number as usize - 1;
     let mark = index_of(table[at]);
-    if RECORDS < mark {
+    if MAX_RECORD < mark {
         let f = figures(FLAG_DUPLICATE, 0, 0, 0);
         put_figures(flags, positions, extents, lates, i, f);
         return state;

@@ -1,4 +1,4 @@
--- `sweep::too_short` meets its contract: each return is one part of `lentShort`, where those before it do not hold. Assumes nothing.
+-- `sweep::too_short` meets its contract: each return is one part of `lentShort` where the parts before it do not hold. Assumes nothing.
 use borrow.Author.Tests.{lt-ltb, le-ltb}
 use Rattle.sweep.specs.Calls.{lentShort}
 use Rattle.sweep.proofs.too_short.Statement.{statement}

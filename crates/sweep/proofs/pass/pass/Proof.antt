@@ -1,6 +1,6 @@
 -- `sweep::pass::pass` meets its contract. The loop's invariant is `LentAfter`: the lists and the table are as after the first i records.
--- `pass_record` makes it that of one more (`lent-next`), and after the last it is the contract (`lent-end`). The measure is the records
--- that are left. Assumes nothing.
+-- `pass_record` passes the next (`lent-next`), and after the last the invariant is the contract (`lent-end`). The measure is the number of
+-- records left. Assumes nothing.
 use Prim.Native.Nat.{_-_}
 use native.Mathlib.Omega.{arith}
 use Rattle.sample.specs.Decode.{decode}

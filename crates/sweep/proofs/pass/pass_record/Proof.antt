@@ -1,9 +1,9 @@
--- `sweep::pass::pass_record` meets its contract: what it reads is the number of record i + 1 and the mark at its packet (`known`). A mark
--- over 4,096 is a copy's. From NextExp on the record is in order. Else it is reordered, with the record of its discontinuity as the mark,
--- and before or after that one's time. In each case one law gives the figures (`figures-copy`, `figures-in-order`, `figures-late`) and
--- one the table (`held-copy`, `held-in-order`, `held-late`).
--- Here w is the place where the mark is read, i where NextExp is asked, n where skipped packets are noted, and l where the discontinuity
--- is read. At g the figures are made, at p they are put, and at o the positions are handed back. Assumes nothing.
+-- `sweep::pass::pass_record` meets its contract: it reads the number of record i + 1 and the mark of its packet (`known`). A mark over 4,096
+-- means a copy. A number from NextExp on is in order. Any other record is reordered; its mark is the record of its discontinuity, and its time is
+-- before or after that of the discontinuity. In each case one law gives the figures (`figures-copy`, `figures-in-order`, `figures-late`) and one
+-- the table (`held-copy`, `held-in-order`, `held-late`).
+-- w is the place in the code where the mark is read, i where NextExp is compared, n where skipped packets are noted, l where the discontinuity is
+-- read, g where the figures are made, p where they are stored, and o where the list of positions comes back. Assumes nothing.
 use borrow.Author.Needs.{needs}
 use native.Mathlib.Omega.{arith}
 use borrow.Author.Tests.{lt-ltb, le-ltb}

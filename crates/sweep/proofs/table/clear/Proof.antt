@@ -1,5 +1,5 @@
--- `sweep::table::clear` meets its contract. The loop's invariant: the table is k zeros and then what it was behind them, and has room for
--- all. Each turn sets the next to 0 (`fill-next`). The measure is the places that are left. Assumes nothing.
+-- `sweep::table::clear` meets its contract. The loop's invariant: the table begins with k zeros, is unchanged after them, and keeps its length.
+-- Each turn sets the next number to 0 (`fill-next`). The measure is the number of entries left. Assumes nothing.
 use Prim.Native.Nat.{ℕ, _-_, _≤_}
 use native.Mathlib.Omega.{arith}
 use borrow.Author.Needs.{needs}

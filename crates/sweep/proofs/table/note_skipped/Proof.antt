@@ -1,5 +1,5 @@
--- `sweep::table::note_skipped` meets its contract. The loop's invariant: the places from `from` to before k hold the jump's record, and
--- all else is as it was. Each turn fills the next (`skip-next`). The measure is the places that are left. Assumes nothing.
+-- `sweep::table::note_skipped` meets its contract. The loop's invariant: the entries from `from` to k - 1 are the jump's record, the others
+-- unchanged. Each turn sets the next (`skip-next`). The measure is the number of entries left. Assumes nothing.
 use Prim.Native.Nat.{_-_, _≤_}
 use native.Mathlib.Omega.{arith}
 use lib.ListN.{length, take, replicate}
