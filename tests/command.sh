@@ -22,14 +22,14 @@ printf '    help [WORD]\n        Prints this text, or its part on a command.\n  
 try 'help on a word' 0 '' help help
 try '--help after a word' 0 '' help --help
 try '--help before a word' 0 '' --help help
-for word in report import export check worse picture; do
+for word in report summary import export check worse picture follow help; do
     "$krakobran" help "$word" > "$dir/expected"
     try "$word --help" 0 '' "$word" --help
     try "$word --help after its arguments" 0 '' "$word" x --help
 done
 printf 'krakobran %s\n' "$version" > "$dir/expected"
 try '--version' 0 '' --version
-for word in report import export check worse picture help; do try "$word --version" 0 '' "$word" --version; done
+for word in report summary import export check worse picture follow help; do try "$word --version" 0 '' "$word" --version; done
 : > "$dir/expected"
 try 'a summary with two options' 2 'usage: krakobran summary [--json|--all] FILE' summary --json --all "$example"
 try 'an option that there is not' 2 'there is no option --xml; see krakobran help' report --xml "$example"

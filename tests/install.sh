@@ -15,7 +15,7 @@ same_command() {
     for arguments in "report $example" "report --csv $example" "report --json $example" \
         "import log 290 100 $root/examples/supplier.log" "export log $example" "export owamp $example" \
         "check $example $root/crates/cmd_report/stdout" "worse $example $root/crates/cmd_picture/stdin" "picture $root/crates/cmd_picture/stdin" \
-        "summary $root/crates/cmd_summary/stdin" \
+        "summary $root/crates/cmd_summary/stdin" "summary --all $example" "follow 290 $root/examples/supplier.log" \
         'help' 'help worse' '--version'; do
         read -ra list <<< "$arguments"
         "$root/krakobran" "${list[@]}" > "$dir/expected"

@@ -8,20 +8,22 @@ longest_report > "$dir/report"
 printf '%d;1\n' {1..4096} > "$dir/log"
 full="standard output: the result can't be written whole"
 
-# WORD: its arguments, on the longest input; an option is one of `report`.
+# WORD: its arguments, on the longest input; an option is one of `report`, and `--all` of `summary`.
 arguments() {
     case $1 in
-        report | picture) list=("$1" "$dir/longest") ;;
+        report | summary | picture) list=("$1" "$dir/longest") ;;
         --csv | --json) list=(report "$1" "$dir/longest") ;;
+        --all) list=(summary "$1" "$dir/longest") ;;
         import) list=(import log 4096 100 "$dir/log") ;;
         export) list=(export log "$dir/longest") ;;
         check) list=(check "$dir/longest" "$dir/report") ;;
         worse) list=(worse "$dir/longest" "$example") ;;
+        follow) list=(follow 4096 "$dir/log") ;;
         help) list=(help) ;;
     esac
 }
 
-for word in report --csv --json import export check worse picture help; do
+for word in report --csv --json summary --all import export check worse picture follow help; do
     arguments "$word"
     "$krakobran" "${list[@]}" > "$dir/whole"
 
@@ -36,7 +38,7 @@ for word in report --csv --json import export check worse picture help; do
     timeout 60 "$krakobran" "${list[@]}" 2> "$dir/err" >&-
     judge "$word, standard output closed" 1 'standard output: it is closed' "$?"
 done
-for word in report --csv --json import picture; do
+for word in report --csv --json import picture follow; do
     arguments "$word"
     "$krakobran" "${list[@]}" | head -c 1024 > "$dir/expected"
     (ulimit -f 1 && exec timeout 60 "$krakobran" "${list[@]}" > "$dir/out" 2> "$dir/err")
@@ -79,7 +81,7 @@ krakobran=$root/krakobran
 : > "$dir/expected"
 for arguments in 'report -' 'report --csv -' 'report --json -' 'import log 5 100 -' 'import owamp 5 100 -' 'export log -' \
     'export owamp -' "check - $example_report" \
-    "check $example -" "worse - $example" "worse $example -" 'picture -'; do
+    "check $example -" "worse - $example" "worse $example -" 'summary -' 'summary --json -' 'summary --all -' 'picture -' 'follow 5 -'; do
     read -ra list <<< "$arguments"
     name=${arguments//"$root/"/}
     try "$name, a directory" 1 "standard input: it can't be read" "${list[@]}" < /etc
@@ -118,8 +120,26 @@ sys.exit(process.wait())' "$dir/input" "$krakobran" "$@" > "$dir/out" 2> "$dir/e
     judge 'worse, the first from a socket' 0 '' "$?"
 fi
 
-# A file that can't be read, or whose name is too long, is no empty file.
+# A file that can't be read, or whose name is too long, is no empty file. A file that only its owner can read is read where it is
+# standard input already. To be another user this needs root's rights, and a checkout that the other one can read.
 : > "$dir/expected"
+other=(setpriv --reuid=65534 --regid=65534 --clear-groups)
+if [ "$(id -u)" -eq 0 ] && have setpriv "another user's file" && "${other[@]}" "$krakobran" --version > "$dir/out" 2>&1; then
+    chmod 755 "$dir"
+    cp "$example" "$dir/own"
+    cp "$example_report" "$dir/listing"
+    chmod 600 "$dir/own"
+    "${other[@]}" "$krakobran" report "$dir/own" > "$dir/out" 2> "$dir/err"
+    judge "another user's file" 1 "own: it can't be read" "$?"
+    "${other[@]}" "$krakobran" worse "$dir/listing" "$dir/own" > "$dir/out" 2> "$dir/err"
+    judge "another user's second file" 1 "own: it can't be read" "$?"
+    "${other[@]}" "$krakobran" follow 5 "$dir/own" > "$dir/out" 2> "$dir/err"
+    judge "another user's log" 1 "own: it can't be read" "$?"
+    echo 'the listing is right' > "$dir/expected"
+    "${other[@]}" "$krakobran" check - "$dir/listing" < "$dir/own" > "$dir/out" 2> "$dir/err"
+    judge "another user's file as standard input" 0 '' "$?"
+    : > "$dir/expected"
+fi
 try 'a name that is too long' 1 'there is no such file' worse "$example" "$dir/$(xs 300)"
 
 # The programs that open files themselves say which one they can't open.
