@@ -215,6 +215,10 @@ short_8, short_10 = b"100;1\n200;2\n255;3\n0;4\n3;5\n254;6\n", "500;1\n1000;2\n1
 at = [1000, 2000, 3000, 4000, 5000, 6000]
 same("import_log, 8 bits", krakobran.import_log(short_8, 259, 8), ([100, 200, 255, 256, 259, 254], at))
 same("import_log, 10 bits", krakobran.import_log(short_10, 1029, 10), ([500, 1000, 1023, 1024, 1029, 1020], at))
+short_sample = Sample.from_log(short_8, 259, 100, "radio", bits=8)
+same("from_log, 8 bits", short_sample.lists()[1:], ([100, 200, 255, 256, 259, 254], at))
+same("from_log, 8 bits and a label", (short_sample.label, short_sample.layout.sent), ("radio", 259))
+refused("refused 6, the line of a log of 8 bits", 6, lambda: Sample.from_log(b"1;1\n256;2\n", 259, 100, bits=8), 2)
 same("refused_line, 8 and 10 bits", (krakobran.refused_line(short_8, 258, 8), krakobran.refused_line(short_10, 1028, 10)), (5, 5))
 same("full_numbers_8", krakobran.full_numbers_8(346, [100, 200, 255, 0, 3, 254, 90], [0] * 7), [100, 200, 255, 256, 259, 254, 346])
 same("full_numbers_10", krakobran.full_numbers_10(1029, [500, 1000, 5, 1020], [0] * 4), [500, 1000, 1029, 1020])

@@ -445,9 +445,12 @@ class Sample:
         )
 
     @classmethod
-    def from_log(cls, log: Union[str, bytes], sent: int, size: int, label: Union[str, bytes] = "") -> "Sample":
-        """The sample of a supplier's text log of `sent` packets, each with a payload of `size` octets."""
-        numbers, times = import_log(log, sent)
+    def from_log(
+        cls, log: Union[str, bytes], sent: int, size: int, label: Union[str, bytes] = "", bits: Optional[int] = None
+    ) -> "Sample":
+        """The sample of a supplier's text log of `sent` packets, each with a payload of `size` octets; with `bits`, 8 or 10, the log's
+        numbers are short, and the sample has the full ones. Refused as `import_log` says; then 3 and 13 by the label."""
+        numbers, times = import_log(log, sent, bits)
         return cls.of(label, [size] * sent, numbers, times)
 
     @classmethod
