@@ -1,7 +1,7 @@
--- Digits written into memory from the last to the first. `lowest k n` are the last k digits of n, and all of them where k is how many n
--- has. The last digit of n stored, and then the last k of its tens written in front of it, are the last k + 1 of n (`write-one`): one
--- write after what stands behind it is one write of both. Twice this is a turn, which leaves the last i - 2 of n / 100 to be written
--- (`write-two`). Here at is the place of the first digit, old memory before, i how many digits are left. Assumes nothing.
+-- Digits written into memory from the last to the first. `lowest k n` are the last k digits of n, and all of them if n has k digits. The
+-- last digit of n stored, and then the last k of its tens written in front of it, are the last k + 1 of n (`write-one`): one write after
+-- what stands behind it is one write of both. Twice this is a turn, which leaves the last i - 2 of n / 100 to be written (`write-two`).
+-- Here at is the offset of the first digit, old memory before, i the number of digits left. Assumes nothing.
 use mathlib.Core.Path.{_≡_, refl, sym, ap, _∙_}
 use mathlib.Core.List.{List, [], _∷_, _++_}
 use Prim.Native.Nat.{ℕ, zero, suc, _+_, _-_, _/_, _%_, _≤_, _<_}

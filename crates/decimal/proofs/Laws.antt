@@ -1,9 +1,9 @@
 -- A number in decimal. `by-tens` is the induction over digits: a number below ten, and a longer one from the number of its tens, n / 10.
 -- Digits do not depend on the bound (`same-places`), so `decimalOf` is one digit below ten (`one-digit`), else the digits of the tens and
--- then the last one (`more-digits`). By this induction the digits read back as n (`reads-back`) and there is always one. How many there
--- are goes by powers of ten: each division by ten takes one off, so below 10 ^ k there are at most k, and from 10 ^ k on more than k
--- (`at-most`, `at-least`, `exactly`). Here n is a number, t its tens, o its last digit or an octet, k a count of digits, f and g are
--- bounds, os octets. Assumes nothing.
+-- then the last one (`more-digits`). By this induction the digits read back as n (`reads-back`) and there is always one. Their number goes
+-- by powers of ten: each division by ten takes one off, so below 10 ^ k there are at most k, and from 10 ^ k on more than k (`at-most`,
+-- `at-least`, `exactly`). Here n is a number, t its tens, o its last digit or an octet, k a count of digits, f and g are bounds, os
+-- octets. Assumes nothing.
 use mathlib.Core.Path.{_≡_, refl, ap}
 use mathlib.Core.List.{List, [], _∷_, _++_, foldl-append}
 use Prim.Native.Nat.{ℕ, zero, suc, _+_, _-_, _*_, _/_, _%_, _^_, _≤_, _<_}

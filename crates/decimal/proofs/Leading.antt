@@ -1,9 +1,9 @@
--- The digits that a text begins with. How many there are goes by the first octet, a digit or not (`count-none`, `count-one`). A number in
--- decimal is digits alone, by induction over its digits (`count-decimal`); so where no digit follows exactly its digits are read, and
--- they read as the number (`back`). A loop that counts octets is at `Counted`: those from `at` to `end` are counted. So is the loop that
--- reads digits, and `value` is their number or the greatest of 64 bits (`Passed`). A digit more keeps it (`passed-more`), since a number
--- cut to the greatest stays there with every digit more (`least-more`); where no digit stands all are read (`passed-all`).
--- Here o is an octet, t a text, n a number, l and os octets. Assumes nothing.
+-- The digits that a text begins with. Their number goes by the first octet, a digit or not (`count-none`, `count-one`). A number in
+-- decimal is digits alone, by induction over its digits (`count-decimal`); so if no digit follows, exactly its digits are read, and they
+-- read as the number (`back`). A loop that counts octets is at `Counted`: those from `at` to `end` are counted. So is the loop that reads
+-- digits, and `value` is their number or the greatest of 64 bits (`Passed`). The next digit keeps this (`passed-more`), since a value that
+-- is cut to the greatest stays there (`least-more`); at an octet that is no digit all are read (`passed-all`). Here o is an octet, t a
+-- text, n a number, l and os octets. Assumes nothing.
 use Prim.Native.Nat.{ℕ, suc, _+_, _*_, _-_, _%_, _/_, _≤_, _<_, min}
 use native.Mathlib.Nat.{add-zero}
 use native.Mathlib.Omega.{arith}

@@ -1,4 +1,4 @@
--- The decimal digits at an offset of octets, and their value, at most the greatest number of 64 bits. Assumes nothing.
+-- The decimal digits from an offset on, and their value, at most the greatest number of 64 bits. Assumes nothing.
 use Prim.Native.Nat.{ℕ, suc, _+_, _-_, _^_, _<_, min}
 use mathlib.Core.Bool.{Bool, cond, _&&_}
 use mathlib.Core.List.{List, [], _∷_, _++_}
@@ -12,7 +12,7 @@ use Rattle.decimal.specs.declared.reading.Number.{Number}
 unfoldable pub digit : ℕ → Bool
 digit o = leb 48 o && leb o 57
 
--- how many digits a text begins with
+-- the number of digits that a text begins with
 unfoldable pub digitCount : List ℕ → ℕ
 digitCount [] = 0
 digitCount (o ∷ t) = cond (digit o) (suc (digitCount t)) 0

@@ -7,7 +7,7 @@ ghost use Rattle.decimal.specs.Decimal.{decimalOf};
 
 pub mod reading;
 
-// How many digits v has, 1 to 20. Four are cut off at a time.
+// The number of digits of v, 1 to 20, counted four at a time.
 pub fn count(v: u64) -> usize
     ensures { λ r. ⌜ r ≡ length (decimalOf v) ⌝ }
 {
@@ -36,7 +36,7 @@ fn last_digit(n: u64) -> u8
     (48 + n % 10) as u8
 }
 
-// Writes the `n` digits of `v` from `at` on, the last ones first and two at a time.
+// Writes the `n` digits of `v` from `at` on, two at a time, the last ones first.
 fn write_decimal(out: &mut [u8], at: usize, n: usize, v: u64)
     requires { ⌜ (n ≡ length (decimalOf v)) × (at + n ≤ length (now out)) ⌝ }
     ensures { λ _. ⌜ now (out .exit) ≡ splice at (decimalOf v) (now (out .entry)) ⌝ }
@@ -56,7 +56,7 @@ fn write_decimal(out: &mut [u8], at: usize, n: usize, v: u64)
     }
 }
 
-// Writes the digits of `v` from `at` on if there is room for all of them; returns how many there are.
+// Writes the digits of `v` from `at` on if there is room for all of them; returns their number.
 pub fn put_decimal(out: &mut [u8], at: usize, v: u64) -> usize
     ensures { λ r. ⌜ (r ≡ length (decimalOf v)) × (now (out .exit) ≡ put at (decimalOf v) (now (out .entry))) ⌝ }
 {

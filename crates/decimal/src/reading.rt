@@ -1,5 +1,5 @@
-// Decimal digits read from octets. Their value is exact up to the greatest number of 64 bits, and stays there with every
-// further digit. So any number of digits is read.
+// Reads decimal digits, any number of them. Their value is exact up to the greatest number of 64 bits; a greater value is read as that
+// number.
 ghost use mathlib.Core.Path.{_≡_};
 ghost use Prim.Native.Nat.{_+_, _*_, _-_, _≤_, min};
 ghost use Rattle.decimal.specs.Reading.{digit, wordMost, numberAt, ReadsBack};
@@ -42,7 +42,7 @@ fn with_digit(value: u64, octet: u8) -> u64
     tens + last
 }
 
-// Reads the digits from offset `at` on. Where there are none, the end is `at` and the value 0.
+// Reads the digits from offset `at` on. If there are none, the end is `at` and the value 0.
 pub fn number_at(s: &[u8], at: usize) -> Number
     ensures { λ r. ⌜ r ≡ numberAt at (now (s .entry)) ⌝ }
     ensures back { λ _. ⌜ ReadsBack ⌝ }

@@ -1,4 +1,4 @@
--- How many digits the figures of a sample can have. Assumes nothing.
+-- Bounds of the figures of a sample, and so of the number of their digits. Assumes nothing.
 use Prim.Native.Nat.{ℕ, _^_, _<_, _≤_}
 use Rattle.rfc4737.specs.declared.Answer.{Answer}
 use Rattle.rfc4737.specs.declared.Answer.the-variants.{Duplicate, InOrder, Reordered}
@@ -10,12 +10,12 @@ use Rattle.rfc4737.specs.Reordered.{offsetMost}
 use Rattle.rfc4737.specs.Runs.{squaresMost}
 use Rattle.rfc4737.specs.Times.{backMost}
 
--- at most four digits. So have K, A and every record, number, position, extent, jump size, largest n and count of a sample: none is over
--- 4,096
+-- n has at most four digits. K, A and every record, number, position, extent, jump size, largest n and count of a sample are at most
+-- 4,096, and so have at most four
 abbrev pub FourDigits : ℕ → Type 0
 FourDigits n = n < 10 ^ 4
 
--- a late time: after, it is one of 64 bits, of at most 20 digits; before, it is at most 1,000
+-- a late time: after, it has 64 bits and at most 20 digits; before, it is at most 1,000
 abbrev pub TimeWithin : LateTime → Type 0
 TimeWithin (After t) = t < 2 ^ 64
 TimeWithin (Before t) = t ≤ backMost

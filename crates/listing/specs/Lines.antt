@@ -32,13 +32,13 @@ sign (Before t) = cond (ltb 0 t) (minus ∷ []) []
 unfoldable pub lateTime : LateTime → List ℕ
 lateTime t = sign t ++ decimalOf (amountOf t)
 
--- fields parted by one space
+-- fields with one space between them
 abbrev pub joinedBySpaces : List (List ℕ) → List ℕ
 joinedBySpaces [] = []
 joinedBySpaces (f ∷ []) = f
 joinedBySpaces (f ∷ (g ∷ fs)) = f ++ (space ∷ joinedBySpaces (g ∷ fs))
 
--- a line: fields parted by one space, and a line feed at its end
+-- a line: fields with one space between them, and a line feed
 abbrev pub line : List (List ℕ) → List ℕ
 line fs = joinedBySpaces fs ++ (lineFeed ∷ [])
 
@@ -64,25 +64,26 @@ recordLine r n a = line (number r ∷ number n ∷ answerFields a)
 unfoldable pub endLine : Counts → List ℕ
 endLine c =
     line
-    (endWord ∷ number (c .arrived) ∷ number (c .reordered) ∷ number (c .duplicates) ∷ number (c .runs .closed) ∷ number (c .runs .squares) ∷ number (c .runs .current) ∷ [])
+    (endWord ∷ number (c .arrived) ∷ number (c .reordered) ∷ number (c .duplicates)
+    ∷ number (c .runs .closed) ∷ number (c .runs .squares) ∷ number (c .runs .current) ∷ [])
 
 -- the one line of a refused input
 unfoldable pub refusedLine : ℕ → List ℕ
 refusedLine n = line (refusedWord ∷ number n ∷ [])
 
--- `new` is `old` with a line put at offset `at`, if there is room for all of it. In any case r is the length of the line
+-- `new` is `old` with the line `text` at offset `at`, if there is room for all of it, else `old`. In any case r is the length of the line
 abbrev pub LinePut : (at : ℕ) (text old : List ℕ) (r : ℕ) (new : List ℕ) → Type 0
 LinePut at text old r new = (r ≡ length text) × (new ≡ put at text old)
 
 -- ---- the listing
 
--- the lines of records counted from r, each with its answer
+-- the lines of the records of arrivals l with the answers m; the first record is r
 unfoldable pub recordLinesFrom : ℕ → List Arrival → List Answer → List ℕ
 recordLinesFrom r [] m = []
 recordLinesFrom r (a ∷ l) [] = []
 recordLinesFrom r (a ∷ l) (b ∷ m) = recordLine r (a .number) b ++ recordLinesFrom (r + 1) l m
 
--- the lines of all records, counted from 1
+-- the lines of all records; the first is 1
 unfoldable pub recordLines : List Arrival → List Answer → List ℕ
 recordLines l m = recordLinesFrom 1 l m
 

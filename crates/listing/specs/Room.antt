@@ -1,9 +1,9 @@
--- How many octets suffice for a line and for a listing. Assumes nothing.
+-- The lengths that suffice for a line and for a listing, in octets. Assumes nothing.
 use Prim.Native.Nat.{ℕ, _*_}
 use Rattle.rfc4737.specs.Judge.{arrivalsMost}
 
--- the greatest length of a line, whatever its figures. It has `late`, six numbers of 32 bits and a time of 64 bits, an octet after each of
--- these eight, and a minus
+-- the greatest length of a line, whatever its figures: `late`, six numbers of 32 bits, a time of 64 bits, an octet after each of these
+-- eight fields, and a minus
 abbrev pub lineMost : ℕ
 lineMost = 93
 

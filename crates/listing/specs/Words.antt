@@ -5,11 +5,11 @@ use Prim.Native.Nat.{ℕ}
 use mathlib.Core.List.{List}
 use Rattle.octets.specs.Text.{ascii}
 
--- between two fields
+-- the octet between two fields
 abbrev pub space : ℕ
 space = code " "
 
--- in front of the amount of a late time that is before
+-- the octet in front of the amount of a late time that is before
 abbrev pub minus : ℕ
 minus = code "-"
 

@@ -1,6 +1,6 @@
-// The lines of the report, written into the caller's buffer. A public function writes its line whole, or nothing where there is no
-// room for all of it, and returns the length of the line. A private function writes a part of a line where there is room, and returns
-// the offset after it. A caller names that offset after the field that goes there.
+// Writes the lines of the report into the caller's buffer. A public function writes its whole line, or nothing if there is no room for
+// all of it, and returns the length of the line. A private function writes a part of a line, for which there is room, from offset `at`
+// on and returns the offset after it; its caller names that offset after the field that goes there.
 ghost use mathlib.Core.List.{[], _∷_, _++_};
 ghost use Prim.Native.Nat.{_+_, _≤_, _<_};
 ghost use lib.ListN.{length};
@@ -17,17 +17,17 @@ use rfc4737::ReorderedFigures;
 use rfc4737::judge::ARRIVALS_MOST;
 use rfc4737::numbering::amount;
 
-// Between two fields.
+// The octet between two fields.
 const SPACE: u8 = b' ';
 
-// At the end of a line.
+// The octet at the end of a line.
 const LINE_FEED: u8 = b'\n';
 
-// In front of the amount of a late time that is before.
+// The octet in front of the amount of a late time that is before.
 const MINUS: u8 = b'-';
 
-// The greatest length of a line, whatever its figures. It has `late`, six numbers of 32 bits and a time of 64 bits, an octet after each
-// of these eight, and a minus.
+// The greatest length of a line, whatever its figures: `late`, six numbers of 32 bits, a time of 64 bits, an octet after each of these
+// eight fields, and a minus.
 pub const LINE: usize = 93;
 
 // The octets that suffice for any listing: 64 for each of 4,096 records. The longest line of a record has 61. The rest holds the first
@@ -37,7 +37,8 @@ pub const LISTING_OCTETS: usize = 64 * ARRIVALS_MOST as usize;
 // Writes a word and the octet after it.
 fn write_word(out: &mut [u8], at: usize, word: &[u8], after: u8) -> usize
     requires { ⌜ at + (length (now word) + 1) ≤ length (now out) ⌝ }
-    ensures { λ r. ⌜ PartWritten at (length (now (word .entry)) + 1) r (now (word .entry) ++ (after ∷ [])) (now (out .entry)) (now (out .exit)) ⌝ }
+    ensures { λ r. ⌜ PartWritten at (length (now (word .entry)) + 1) r (now (word .entry) ++ (after ∷ []))
+        (now (out .entry)) (now (out .exit)) ⌝ }
 {
     octets::put_octets(out, at, word);
     let end = at + word.len();
@@ -173,36 +174,36 @@ pub fn put_header(out: &mut [u8], at: usize, k: u32, a: u32) -> usize
 }
 
 // Writes the answer of a duplicate.
-fn write_duplicate(out: &mut [u8], at: usize, f: DuplicateFigures) -> usize
+fn write_duplicate(out: &mut [u8], at: usize, figures: DuplicateFigures) -> usize
     requires { ⌜ at + 16 ≤ length (now out) ⌝ }
-    ensures { λ r. ⌜ PartWritten at 16 r (line (answerFields (Duplicate f))) (now (out .entry)) (now (out .exit)) ⌝ }
+    ensures { λ r. ⌜ PartWritten at 16 r (line (answerFields (Duplicate figures))) (now (out .entry)) (now (out .exit)) ⌝ }
 {
     let first = write_word(out, at, b"copy", SPACE);
-    write_number(out, first, f.first, LINE_FEED)
+    write_number(out, first, figures.first, LINE_FEED)
 }
 
 // Writes the answer of an in-order packet.
-fn write_in_order(out: &mut [u8], at: usize, f: InOrderFigures) -> usize
+fn write_in_order(out: &mut [u8], at: usize, figures: InOrderFigures) -> usize
     requires { ⌜ at + 25 ≤ length (now out) ⌝ }
-    ensures { λ r. ⌜ PartWritten at 25 r (line (answerFields (InOrder f))) (now (out .entry)) (now (out .exit)) ⌝ }
+    ensures { λ r. ⌜ PartWritten at 25 r (line (answerFields (InOrder figures))) (now (out .entry)) (now (out .exit)) ⌝ }
 {
     let position = write_word(out, at, b"in", SPACE);
-    let jump = write_number(out, position, f.position, SPACE);
-    write_number(out, jump, f.jump, LINE_FEED)
+    let jump = write_number(out, position, figures.position, SPACE);
+    write_number(out, jump, figures.jump, LINE_FEED)
 }
 
 // Writes the answer of a reordered packet.
-fn write_reordered(out: &mut [u8], at: usize, f: ReorderedFigures) -> usize
+fn write_reordered(out: &mut [u8], at: usize, figures: ReorderedFigures) -> usize
     requires { ⌜ at + 71 ≤ length (now out) ⌝ }
-    ensures { λ r. ⌜ PartWritten at 71 r (line (answerFields (Reordered f))) (now (out .entry)) (now (out .exit)) ⌝ }
+    ensures { λ r. ⌜ PartWritten at 71 r (line (answerFields (Reordered figures))) (now (out .entry)) (now (out .exit)) ⌝ }
 {
     let position = write_word(out, at, b"late", SPACE);
-    let extent = write_number(out, position, f.position, SPACE);
-    let time = write_number(out, extent, f.extent, SPACE);
-    let late = f.late;
+    let extent = write_number(out, position, figures.position, SPACE);
+    let time = write_number(out, extent, figures.extent, SPACE);
+    let late = figures.late;
     let offset = write_late_time(out, time, late, SPACE);
-    let largest = write_number(out, offset, f.offset, SPACE);
-    write_number(out, largest, f.largest, LINE_FEED)
+    let largest = write_number(out, offset, figures.offset, SPACE);
+    write_number(out, largest, figures.largest, LINE_FEED)
 }
 
 // Writes an answer and the line feed after it.
@@ -241,37 +242,37 @@ pub fn put_record(out: &mut [u8], at: usize, record: u32, number: u32, answer: A
 }
 
 // Writes the last line.
-fn write_end(out: &mut [u8], at: usize, c: Counts) -> usize
+fn write_end(out: &mut [u8], at: usize, counts: Counts) -> usize
     requires { ⌜ at + 70 ≤ length (now out) ⌝ }
-    ensures { λ r. ⌜ PartWritten at 70 r (endLine c) (now (out .entry)) (now (out .exit)) ⌝ }
+    ensures { λ r. ⌜ PartWritten at 70 r (endLine counts) (now (out .entry)) (now (out .exit)) ⌝ }
 {
-    let runs = c.runs;
+    let runs = counts.runs;
     let arrived = write_word(out, at, b"end", SPACE);
-    let reordered = write_number(out, arrived, c.arrived, SPACE);
-    let duplicates = write_number(out, reordered, c.reordered, SPACE);
-    let closed = write_number(out, duplicates, c.duplicates, SPACE);
+    let reordered = write_number(out, arrived, counts.arrived, SPACE);
+    let duplicates = write_number(out, reordered, counts.reordered, SPACE);
+    let closed = write_number(out, duplicates, counts.duplicates, SPACE);
     let squares = write_number(out, closed, runs.closed, SPACE);
     let current = write_number(out, squares, runs.squares, SPACE);
     write_number(out, current, runs.current, LINE_FEED)
 }
 
 // Puts the last line: L, reordered, duplicates, closed runs, sum of squares, open run.
-pub fn put_end(out: &mut [u8], at: usize, c: Counts) -> usize
-    ensures { λ r. ⌜ LinePut at (endLine c) (now (out .entry)) r (now (out .exit)) ⌝ }
+pub fn put_end(out: &mut [u8], at: usize, counts: Counts) -> usize
+    ensures { λ r. ⌜ LinePut at (endLine counts) (now (out .entry)) r (now (out .exit)) ⌝ }
 {
     let mut text = [0u8; LINE];
-    let n = write_end(&mut text, 0, c);
+    let n = write_end(&mut text, 0, counts);
     octets::put_octets(out, at, &text[..n]);
     n
 }
 
 // Writes the line of a refused input.
-fn write_refused(out: &mut [u8], at: usize, n: u32) -> usize
+fn write_refused(out: &mut [u8], at: usize, refusal: u32) -> usize
     requires { ⌜ at + 19 ≤ length (now out) ⌝ }
-    ensures { λ r. ⌜ PartWritten at 19 r (refusedLine n) (now (out .entry)) (now (out .exit)) ⌝ }
+    ensures { λ r. ⌜ PartWritten at 19 r (refusedLine refusal) (now (out .entry)) (now (out .exit)) ⌝ }
 {
     let number = write_word(out, at, b"refused", SPACE);
-    write_number(out, number, n, LINE_FEED)
+    write_number(out, number, refusal, LINE_FEED)
 }
 
 // Puts the one line of a refused input.

@@ -1,7 +1,6 @@
--- Lists whose elements are all below n. `below-fits` takes the fact from what is known of a slice's elements. The other laws carry it to
--- a list's pieces and from them to the list, one element at a time (`below-cons`, `below-tail`). An empty list needs 0 < n, which any
--- list below n gives (`below-pos`), since a place past its end reads 0. xs and ys are lists, x the first element, k a count. Assumes
--- nothing.
+-- Lists whose elements are all below n. `below-fits` takes the fact from what is known of a slice's elements. The other laws carry it to a
+-- list's pieces and from them to the list, one element at a time (`below-cons`, `below-tail`). An empty list needs 0 < n, which any list
+-- below n gives (`below-pos`), since an index past the end reads 0. xs and ys are lists, x the first element, k a count. Assumes nothing.
 use Prim.Native.Nat.{ℕ, zero, suc, _^_, _≤_, _<_}
 use native.Mathlib.Nat.{lt-of-lt-of-le}
 use mathlib.Core.List.{List, [], _∷_, _++_}

@@ -1,10 +1,10 @@
--- Big-endian numbers. The value is a left fold, so one octet more at the end is a step of it (`value-snoc`), and what a fold starts from
+-- Big-endian numbers. The value is a left fold, so the next octet at the end is a step of it (`value-snoc`), and what a fold starts from
 -- is multiplied by 256 for each octet after it (`value-append`). This gives the bound, by induction from the front. The octets are made
--- from the last, by induction on the width. Reading undoes writing, by induction on the width: the last octet is v % 256, and those
--- before it read as v / 256 cut to one octet less, which is v cut to the width (`value-octets-mod`), so v itself if it fits
--- (`value-octets`). Writing undoes reading, by induction on the width too: of the value the last octet is the remainder, and the value of
--- those before it the quotient (`octets-value`). Here os are octets and o is one, v a number, w a width; at is a place, n a count of
--- octets, l and old memory. Assumes nothing.
+-- from the last, by induction on the width. Reading undoes writing, by induction on the width: the last octet is v % 256, and those before
+-- it read as v / 256 cut to one octet less, which is v cut to the width (`value-octets-mod`), so v itself if it fits (`value-octets`).
+-- Writing undoes reading, by induction on the width too: of the value the last octet is the remainder, and the value of those before it
+-- the quotient (`octets-value`). Here os are octets and o is one, v a number, w a width; at is an offset, n a count of octets, l and old
+-- memory. Assumes nothing.
 use Prim.Native.Nat.{ℕ, zero, suc, _+_, _*_, _/_, _%_, _^_, _≤_, _<_}
 use native.Mathlib.Nat.{le-trans, lt-of-lt-of-le, mod-one, mod-eq-of-lt, div-div-eq-div-mul, div-one, pow-zero, pow-suc, pow-succ', pow-le-pow-right, one-le-pow, mul-one, add-mul, mul-assoc, add-assoc, add-zero, zero-mul, zero-add, add-suc}
 use native.Mathlib.Numerals.{add-one}

@@ -1,10 +1,10 @@
--- Lent memory. A part is `take` after `drop`, and its laws follow from theirs. `splice` is three pieces one after the other: what stood
--- before the place, what is written, what stood after. Each law of it takes them apart by their lengths, and two writes side by side are
--- one (`splice-next`, `splice-prior`). `over` is `splice` at place 0. `put` is `splice` where there is room, and else changes nothing.
--- Last come two loops that store xs element by element: after i turns memory holds the first i of xs from a place on (`copy-next`), or at
--- the start (`fill-next`), and the store of a turn makes them i + 1.
--- Here l is any list, old memory before a write, xs and ys what is written, at and next the places, n, m and k counts, z what is read
--- past an end; in the loops d is memory at the head and x the element stored. Assumes nothing.
+-- Laws of memory. A part is `take` after `drop`, and its laws follow from theirs. `splice` is three pieces one after the other: what stood
+-- before the offset, what is written, what stood after. Its laws take them apart by their lengths; two writes side by side are one
+-- (`splice-next`, `splice-prior`). `over` is `splice` at offset 0. `put` is `splice` if there is room, and else changes nothing. Last come
+-- two loops that store xs element by element: after i turns memory holds the first i of xs from an offset on (`copy-next`), or at the
+-- start (`fill-next`), and a turn stores the next one. Here l is any list, old memory before a write, xs and ys what is written, at and
+-- next are offsets, n, m and k counts, z what is read past an end; in the loops d is memory at the head and x the element stored. Assumes
+-- nothing.
 use Prim.Native.Nat.{ℕ, zero, suc, _+_, _-_, _≤_, _<_, zero-le}
 use native.Mathlib.Nat.{zero-add, add-zero, add-assoc, zero-sub, sub-zero, suc-sub-suc}
 use native.Mathlib.Numerals.{add-one}

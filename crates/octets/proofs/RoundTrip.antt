@@ -1,5 +1,5 @@
 -- `ReadBack`: both directions are laws of BigEndian.antt, for every width. A number in memory is `put-value`, since `min width 8` is the
--- width where that is at most 8. The table of cases is computed. Assumes nothing.
+-- width if that is at most 8. The table of cases is computed. Assumes nothing.
 use Prim.Native.Nat.{ℕ, _≤_, min}
 use native.Mathlib.Omega.{arith}
 use mathlib.Core.Path.{_≡_, refl, ap, _∙_}

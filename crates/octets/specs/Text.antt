@@ -15,12 +15,12 @@ ascii (text._∷_ c t) = code c ∷ ascii t
 abbrev pub lineFeed : ℕ
 lineFeed = code "\n"
 
--- lines with octet o in front of the first of them
+-- octet o in front of the first of these lines; a line of o alone if there is none
 abbrev pub inFront : ℕ → List (List ℕ) → List (List ℕ)
 inFront o [] = (o ∷ []) ∷ []
 inFront o (l ∷ ls) = (o ∷ l) ∷ ls
 
--- the lines of a text, each with the line feed that ends it. What stands after the last line feed is a line without one
+-- the lines of a text, each with the line feed that ends it; octets after the last line feed are a line without one
 unfoldable pub lines : List ℕ → List (List ℕ)
 lines [] = []
 lines (o ∷ t) = cond (eqb o lineFeed) ((o ∷ []) ∷ lines t) (inFront o (lines t))

@@ -18,7 +18,7 @@ fn octets_of(width: usize) -> usize
     if width < MAX_WIDTH { width } else { MAX_WIDTH }
 }
 
-// Whether n octets from offset `at` on lie within the first `len`. The sum `at + n` is never made, so nothing wraps.
+// Whether n octets from offset `at` on lie within the first `len`. The sum `at + n`, which may wrap, is never computed.
 pub fn has_room(len: usize, at: usize, n: usize) -> bool
     ensures { λ r. ⌜ r ≡ leb (at + n) len ⌝ }
 {
@@ -40,7 +40,7 @@ fn value_of(s: &[u8], at: usize, n: usize) -> u64
     v
 }
 
-// Reads the number at offset `at`: the value of `width` octets, at most 8 of them. Where there are fewer, those up to the end are
+// Reads the number at offset `at`: the value of `width` octets, at most 8 of them. If `s` ends before that, the octets up to its end are
 // read.
 pub fn number_at(s: &[u8], at: usize, width: usize) -> u64
     ensures { λ r. ⌜ r ≡ beValue (part at (min width 8) (now (s .entry))) ⌝ }
@@ -70,7 +70,7 @@ fn write_number(out: &mut [u8], at: usize, n: usize, v: u64)
     }
 }
 
-// Writes v at offset `at` as `width` octets, at most 8 of them. Writes nothing where there is no room for all of them.
+// Writes v at offset `at` as `width` octets, at most 8 of them. Writes nothing if there is no room for all of them.
 pub fn put_number(out: &mut [u8], at: usize, width: usize, v: u64)
     ensures { λ _. ⌜ now (out .exit) ≡ put at (beOctets (min width 8) v) (now (out .entry)) ⌝ }
     ensures back { λ _. ⌜ ReadBack ⌝ }
@@ -93,7 +93,7 @@ fn write_octets(out: &mut [u8], at: usize, s: &[u8])
     }
 }
 
-// Copies s to `out` from offset `at` on. Writes nothing where there is no room for all of it.
+// Copies s to `out` from offset `at` on. Writes nothing if there is no room for all of it.
 pub fn put_octets(out: &mut [u8], at: usize, s: &[u8])
     ensures { λ _. ⌜ now (out .exit) ≡ put at (now (s .entry)) (now (out .entry)) ⌝ }
 {

@@ -1,5 +1,5 @@
--- The words of all refusals fit: each of the table's does, by computation. The answer for a number that is known to be a refusal (`named`),
--- and that another one is refused (`no-refusal`). Here n and m are numbers. Assumes nothing.
+-- The words of all refusals fit, by computation over the table. `named` is the answer for a number that is known to be a refusal;
+-- `no-refusal` says that any other number is refused. Here n and m are numbers. Assumes nothing.
 use Prim.Native.Nat.{ℕ, zero, suc, _+_, _≤_, _<_, max}
 use native.Mathlib.Omega.{arith}
 use mathlib.Core.List.{List, [], _∷_}

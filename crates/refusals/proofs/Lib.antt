@@ -1,2 +1,2 @@
--- Laws of what is refused of a number.
+-- Laws of the words of the refusals.
 mod Asked

@@ -5,7 +5,7 @@ use lib.ListN.{length, getD}
 use Rattle.octets.specs.Text.{ascii}
 use Rattle.rfc4737.specs.Refusals.{outside, refusalIf, askedOutside}
 
--- the words of each number, from 0, which is no refusal
+-- the words of refusal n at index n; index 0, which is no refusal, has none
 abbrev pub allWords : List (List ℕ)
 allWords =
     []

@@ -7,10 +7,10 @@ use rfc4737::refusal::ASKED_OUTSIDE;
 use rfc4737::refusal::OUTPUT_SHORT;
 use sample::WriteAnswer;
 
-// The octets that suffice for the words of any refusal.
+// The length that suffices for the words of any refusal, in octets.
 pub const OCTETS: usize = 128;
 
-// Writes octets from the start of `out`, or nothing if there is no room for all of them.
+// Writes `octets` from the start of `out`; refuses with 8, and writes nothing, if they do not fit.
 fn write_whole(octets: &[u8], out: &mut [u8]) -> WriteAnswer
     requires { ⌜ length (now octets) ≤ 128 ⌝ }
     ensures { λ r. ⌜ Output 0 (now (octets .entry)) (now (out .entry)) r (now (out .exit)) ⌝ }
@@ -83,7 +83,7 @@ fn words_above_6(refusal: u32, out: &mut [u8]) -> WriteAnswer
 }
 
 // Writes the words of a refusal from the start of `out`. Refusals: 9 for a number that is no refusal, 8 if the words do not fit; `out`
-// then stays as it was. Six arms to a function, for the time of the check.
+// then stays as it was. Six arms to each function keep the check short.
 pub fn words(refusal: u32, out: &mut [u8]) -> WriteAnswer
     ensures { λ r. ⌜ Output (askedRefusal refusal) (wordsOf refusal) (now (out .entry)) r (now (out .exit)) ⌝ }
     ensures fit { λ _. ⌜ WordsFit ⌝ }

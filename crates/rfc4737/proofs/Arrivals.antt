@@ -1,11 +1,11 @@
--- A left fold, `each` and `count`, then membership, the first arrivals and the record of a first copy, under one more at the end and over
--- the first i + 1 elements, which are the first i and the one at i (`take-more`). The first arrivals are a left fold too: a packet that
--- is among them adds nothing (`with-duplicate`), any other is the last of them (`with-first`). Either way the packets among them stay
--- those among the arrivals (`has-firsts`, by induction on one arrival more), since a copy of a packet that is there does not change which
--- packets are there (`absorbed`). So both hold by whether the packet has arrived (`firsts-duplicate`, `firsts-first`). The record of a
--- first copy is looked for from the front, so `record-append` goes by induction on the list, for any record r to count from. Here l are
--- the arrivals, a is the next one, fs are the first arrivals, s is a packet's number, d what stands past the end of a list, t the outcome
--- of a test. Assumes nothing.
+-- Laws of left folds, `each`, `count`, membership, the first arrivals and the record of a first copy: with the next element at the end,
+-- and over the first i + 1 elements, which are the first i and the one at i (`take-more`). The first arrivals are a left fold too: a
+-- packet that is among them adds nothing (`with-duplicate`), any other is the last of them (`with-first`). Either way the packets among
+-- them stay those among the arrivals (`has-firsts`, by induction on the next arrival), since a copy of a packet that is there does not
+-- change which packets are there (`absorbed`). So both hold by whether the packet has arrived (`firsts-duplicate`, `firsts-first`). The
+-- record of a first copy is looked for from the front, so `record-append` goes by induction on the list, for any record r to count from.
+-- Here l are the arrivals, a is the next one, fs are the first arrivals, s is a packet's number, d what stands past the end of a list, t
+-- the outcome of a test. Assumes nothing.
 use mathlib.Core.Path.{_≡_, refl, sym, ap, subst, _∙_}
 use mathlib.Core.Bool.{Bool, true, false, cond, _||_, or-assoc, or-false}
 use mathlib.Core.List.{List, [], _∷_, _++_, foldl, foldl-append}

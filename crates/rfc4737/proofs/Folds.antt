@@ -1,10 +1,10 @@
 -- Laws of folds over first arrivals and over answers. NextExp, the byte offset, the largest n, and the counts, runs and tally of answers
--- are left folds, and the answers are an `each`. So the law of one more at the end (`next-more`, `answers-more`, `runs-more` and so on)
--- is `fold-more`, `count-more` or `each-more` at its step. Over the first i + 1 elements of a list it is `answers-take`, and `fold-take`
--- of Arrivals for any fold. What the counts add up to, and the bounds of the figures, go by induction on one more at the end
--- (`snoc-ind`): `more` rewrites by the law of one more, and `go` takes the step by its test or by the case of the answer. In `squares-le`
--- the squares of the closed runs, with m for each packet of the open run, are at most m for each first arrival: an in-order packet adds m
--- to both sides, and a reordered one puts the square of the open run, which is no longer than m, for m times its length.
+-- are left folds, and the answers are an `each`. So the law of the next element (`next-more`, `answers-more`, `runs-more` and so on) is
+-- `fold-more`, `count-more` or `each-more` at its step. Over the first i + 1 elements of a list it is `answers-take`, and `fold-take` of
+-- Arrivals for any fold. What the counts add up to, and the bounds of the figures, go by induction on the next element at the end
+-- (`snoc-ind`): `more` rewrites by the law of the next element, and `go` takes the step by its test or by the case of the answer. In
+-- `squares-le` the squares of the closed runs, with m for each packet of the open run, are at most m for each first arrival: an in-order
+-- packet adds m to both sides, and a reordered one puts the square of the open run, which is no longer than m, for m times its length.
 -- Here fs are the first arrivals, l the arrivals or the answers, a the next of them, s a packet's number, t the outcome of a test or a
 -- tally, and k a place of the tally. Assumes nothing.
 use mathlib.Core.Path.{_≡_, refl, sym, ap, _∙_}

@@ -1,12 +1,11 @@
--- The jumps among first arrivals, by induction on one more of them at the end. The key is `search-agrees`: of a packet s that is not
--- among them, the earliest first arrival of a greater number is the first jump of a greater number. Beside it is carried that NextExp is
--- at most s while no jump is above s. So the next first arrival a, if it is above s, is above NextExp and a jump, and both searches find
--- it. If it is below s neither does, and NextExp stays at most s. What was found before both keep. Hence a reordered packet, which is
--- below NextExp, has a discontinuity, and it is a jump (`reordered-discontinuity`). Every jump stands at one of the positions and is
--- below NextExp (`jumps-within`), and the next one is above NextExp, so jumps rise (`jumps-rise`). Neither jumps nor discontinuities are
--- later than the first arrivals (`jumps-until`, `discontinuity-until`).
--- Here fs are the first arrivals, p and q first arrivals with their positions, o what a search found, and t the outcome of a test or a
--- time. Assumes nothing.
+-- The jumps among first arrivals, by induction on the next one at the end. The key is `search-agrees`: of a packet s that is not among
+-- them, the earliest first arrival of a greater number is the first jump of a greater number. Beside it is carried that NextExp is at most
+-- s while no jump is above s. So the next first arrival a, if it is above s, is above NextExp and a jump, and both searches find it. If it
+-- is below s neither does, and NextExp stays at most s. What was found before both keep. Hence a reordered packet, which is below NextExp,
+-- has a discontinuity, and it is a jump (`reordered-discontinuity`). Every jump stands at one of the positions and is below NextExp
+-- (`jumps-within`), and the next one is above NextExp, so jumps rise (`jumps-rise`). Neither jumps nor discontinuities are later than the
+-- first arrivals (`jumps-until`, `discontinuity-until`). Here fs are the first arrivals, p and q first arrivals with their positions, o
+-- what a search found, and t the outcome of a test or a time. Assumes nothing.
 use Prim.Native.Nat.{ℕ, _+_, _-_, _≤_, _<_}
 use mathlib.Core.Path.{_≡_, refl, sym, _∙_}
 use mathlib.Core.Bool.{Bool, true, false, cond, not, _&&_, _||_, true≢false}

@@ -1,11 +1,11 @@
--- Moving the clock by c: the answers of a sample, and what is refused of it, stay as they are. Of two times only which is the lesser and
--- how far apart they are is asked, and neither changes where both are moved (`less-moved`, `between-moved`). The reference for the first
+-- Moving the clock by c: the answers of a sample, and what is refused of it, stay as they are. Of two times it only matters which is the
+-- lesser and how far apart they are, and neither changes if both are moved (`less-moved`, `between-moved`). The reference for the first
 -- arrival is 0, which does not move; against it no time is too early, and the next reference is the arrival's own time (`early-first`,
 -- `reference-first`). From there on the reference moves with the times (`greatest-after`, `judge-after`), and so nothing else is refused
 -- (`judge-moved`). Numbers and positions do not change: first arrivals and jumps of moved arrivals are the moved ones (`firsts-moved`,
 -- `jumps-moved`), what is folded over numbers is the same (`numbers-moved`), and the discontinuity is the moved one, with the same extent,
--- by positions, and the same late time, by two moved times. Together these give each answer (`first-moved`, `answer-moved`).
--- Here l are the arrivals, fs the first arrivals, a the next arrival, d a discontinuity, and b the outcome of a test. Assumes nothing.
+-- by positions, and the same late time, by two moved times. Together these give each answer (`first-moved`, `answer-moved`). Here l are
+-- the arrivals, fs the first arrivals, a the next arrival, d a discontinuity, and b the outcome of a test. Assumes nothing.
 use Prim.Native.Nat.{ℕ, _+_, _-_}
 use mathlib.Core.Path.{_≡_, refl, sym, ap, _∙_}
 use mathlib.Core.Bool.{Bool, true, false, cond, _||_}

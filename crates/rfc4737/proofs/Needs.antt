@@ -1,7 +1,7 @@
--- Needs of packets and sizes of buffers. A test that passes wherever another does counts no fewer (`count-grows`), so a greater buffer
+-- Needs of packets and sizes of buffers. A test that passes whenever another does counts no fewer (`count-grows`), so a greater buffer
 -- accommodates no fewer (`accommodated-grows`). A buffer of the greatest need accommodates all (`all-in`), and any smaller one misses the
--- packet that needs most (`some-out`), each by induction on one answer more.
--- Here m is the measure, l a list of numbers or of answers, n or a the next of them. Assumes nothing.
+-- packet that needs most (`some-out`), each by induction on the next answer. Here m is the measure, l a list of numbers or of answers, n
+-- or a the next of them. Assumes nothing.
 use mathlib.Core.Path.{_≡_, refl, sym, ap, _∙_}
 use mathlib.Core.Bool.{Bool, true, false, cond, not, _&&_, true≢false}
 use mathlib.Core.List.{List, [], _∷_, _++_, map, map-append}

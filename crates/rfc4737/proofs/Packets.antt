@@ -1,9 +1,9 @@
--- What holds of every arrival holds of the first arrivals (`all-firsts`), and NextExp is at most K + 1 where all packets are of 1 to K
--- (`next-high`), both by induction on one arrival more. Then there are at most K first arrivals (`firsts-most`): of the packets 1 to K at
--- most K pass a test (`packets-most`), and those that are among the first arrivals are as many as the first arrivals (`packets-firsts`).
--- For this, one first arrival more makes one packet more pass: where the test g is the test f, and packet s besides, which f did not pass,
--- as many of the packets below s pass g as f (`packets-below`), and from s on one more (`packets-from`).
--- Here k is K, l are the arrivals, fs the first arrivals, a is the next, and t the outcome of a test. Assumes nothing.
+-- What holds of every arrival holds of the first arrivals (`all-firsts`), and NextExp is at most K + 1 if all packets are of 1 to K
+-- (`next-high`), both by induction on the next arrival. Then there are at most K first arrivals (`firsts-most`): of the packets 1 to K at
+-- most K pass a test (`packets-most`), and the packets among the first arrivals are as many as these (`packets-firsts`). For this, let the
+-- test g pass packet s, which f does not, and else what f passes. Then as many of the packets below s pass g as f (`packets-below`), and
+-- from s on one more passes (`packets-from`). Here k is K, l are the arrivals, fs the first arrivals, a is the next, and t the outcome of
+-- a test. Assumes nothing.
 use Prim.Native.Nat.{ℕ, zero, suc, _+_, _≤_, _<_}
 use mathlib.Core.Path.{_≡_, refl, sym, ap, _∙_}
 use mathlib.Core.Bool.{Bool, true, false, cond, _||_, or-false, or-true}

@@ -1,5 +1,5 @@
--- Arrivals as a list of numbers ns and a list of times ts of one length, by induction on both at once: where one ends before the other,
--- the lengths differ. i is a place, z what stands past the end. Assumes nothing.
+-- Arrivals as a list of numbers ns and a list of times ts of one length, by induction on both at once: if one ends before the other, the
+-- lengths differ. i is an index, z what is read past the end. Assumes nothing.
 use Prim.Native.Nat.{ℕ, zero, suc, _<_}
 use native.Mathlib.Omega.{arith}
 use mathlib.Core.Path.{_≡_, refl, ap}

@@ -1,6 +1,6 @@
 -- The discontinuity of a packet is the jump that skipped it: the jump before which the packet was not below NextExp, and after which it
--- was. By induction on one first arrival more: where there was a discontinuity before, it is the same, and the new arrival comes after it
--- (`skipped-more`). Where there was none, it is the new arrival, and NextExp before it is at most s, since no jump was above s
+-- was. By induction on the next first arrival: if there was a discontinuity before, it is the same, and the new arrival comes after it
+-- (`skipped-more`). If there was none, it is the new arrival, and NextExp before it is at most s, since no jump was above s
 -- (`search-agrees` of Jumps). Here s is the packet, which has not arrived, fs are the first arrivals, a is the new one, d the
 -- discontinuity. Assumes nothing.
 use Prim.Native.Nat.{ℕ, _≤_, _<_}

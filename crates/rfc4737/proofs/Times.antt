@@ -1,6 +1,6 @@
 -- The greatest time of some arrivals is a left fold of `nextReference`, which is at least the reference and the time (`reference-above`).
--- So no arrival is after it (`until-greatest`), by induction on one arrival more: it does not fall, and is at least the new time. l are
--- the arrivals, a is the next. Assumes nothing.
+-- So no arrival is after it (`until-greatest`), by induction on the next arrival: the greatest time does not fall, and is at least the new
+-- time. l are the arrivals, a is the next. Assumes nothing.
 use Prim.Native.Nat.{ℕ, _≤_}
 use mathlib.Core.Path.{_≡_, refl}
 use mathlib.Core.Bool.{Bool, true, false, cond}

@@ -12,7 +12,7 @@ unfoldable pub has : ℕ → List Arrival → Bool
 has s [] = false
 has s (a ∷ l) = eqb (a .number) s || has s l
 
--- the first arrivals after the next arrival a: it is one of them if its packet is not among them
+-- the first arrivals fs and the next arrival a, which is one of them unless its packet is there already
 unfoldable pub withArrival : List Arrival → Arrival → List Arrival
 withArrival fs a = cond (has (a .number) fs) fs (fs ++ (a ∷ []))
 
@@ -30,16 +30,16 @@ unfoldable pub firstRecord : ℕ → List Arrival → ℕ
 firstRecord s l = recordFrom 1 s l
 
 module _ {ℓ κ} {A : Type ℓ} {B : Type κ} where
-  -- f of each element and the elements before it: those of `before`, then those of the list
+  -- f applied to each element and the elements before it, where those of `before` come before all
   unfoldable pub eachAfter : (List A → A → B) → List A → List A → List B
   eachAfter f before [] = []
   eachAfter f before (a ∷ l) = f before a ∷ eachAfter f (before ++ (a ∷ [])) l
 
-  -- f of each element of a list and the elements before it
+  -- f applied to each element of a list and the elements before it
   unfoldable pub each : (List A → A → B) → List A → List B
   each f l = eachAfter f [] l
 
 module _ {ℓ} {A : Type ℓ} where
-  -- how many elements of a list pass a test
+  -- the number of elements of a list that pass a test
   unfoldable pub count : (A → Bool) → List A → ℕ
   count p l = foldl (λ (n : ℕ) (a : A). cond (p a) (n + 1) n) 0 l

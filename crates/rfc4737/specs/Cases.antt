@@ -1,7 +1,7 @@
--- The cases P1 to P9 of the scope, and two that are added here: P10 for request 2 and P11 for request 5. Each has what is sent, what
--- arrives and the figures that must come of it; the definitions give these figures (`CasesHold`). Unless a case says otherwise, K is the
--- greatest number that arrives, every size is 100, and record r arrives at 10 times r. A ratio stands as the quotient of its two counts;
--- a table below gives some quotients as f64. Assumes nothing.
+-- The cases P1 to P9 of the scope, and two that are added here: P10 for request 2 and P11 for request 5. Each case has K, the arrivals and
+-- the figures that must come of them; `CasesHold` says that the definitions give these figures. Unless a case says otherwise, K is the
+-- greatest number that arrives, every size is 100, and record r arrives at 10 times r. A ratio is written as the quotient of two counts;
+-- a table at the end gives some quotients as f64. Assumes nothing.
 use Prim.Native.Nat.{ℕ, _+_, _-_, _*_}
 use mathlib.Core.Path.{_≡_}
 use mathlib.Core.Bool.{false, cond}
@@ -27,7 +27,7 @@ use Rattle.rfc4737.specs.Runs as run
 use Rattle.rfc4737.specs.Tally as tallying
 use Rattle.rfc4737.specs.Ratios as ratio
 
--- what is measured of a sample; the lengths are those of the closed runs, in order
+-- the figures of a sample; `lengths` are those of the closed runs, in order
 pub record Figures : Type 0 where
   pub answers : List Answer
   pub discontinuities : List ℕ
@@ -42,7 +42,7 @@ pub record Case : Type 0 where
   pub arrivals : List Arrival
   pub given : Figures
 
--- the length of the run that an answer closes, if it closes one, after the answers before it
+-- the length of the run that answer a closes, after the answers `before`; nothing if it closes none
 unfoldable pub closes : List Answer → Answer → List ℕ
 closes before a = cond (run.isReordered a) (run.runs before .current ∷ []) []
 
@@ -65,7 +65,7 @@ measured c = caseFigures (answer.answers (sizeIn (replicate (c .sent) 100)) (c .
 
 -- ---- how the table is written
 
--- numbers of which record r arrives at 10 times r
+-- arrivals with these numbers, where record r arrives at 10 times r
 unfoldable pub everyTen : List ℕ → List Arrival
 everyTen ns = each (λ (before : List ℕ) (n : ℕ). record { number = n; time = 10 * (length before + 1) }) ns
 
@@ -83,14 +83,14 @@ abbrev lateBefore : ℕ → ℕ → ℕ → ℕ → ℕ → Answer
 lateBefore position extent time offset largest =
     Reordered (record { position = position; extent = extent; late = Before time; offset = offset; largest = largest })
 
--- the gaps of n records: those of `places`, each as record and gap, and none of the others
+-- the gaps of n records: `places` has pairs of record and gap; the other records have none
 unfoldable pub withGaps : ℕ → List (ℕ × ℕ) → List Gap
 withGaps n places = foldl (λ (g : List Gap) (p : ℕ × ℕ). set g (p .0 - 1) (Positions (p .1))) (replicate n None) places
 
 abbrev noGaps : ℕ → List Gap
 noGaps n = replicate n None
 
--- the tally of `places`, each as place and count, and 0 at the others
+-- a tally: `places` has pairs of place and count; the other counts are 0
 unfoldable pub tallied : List (ℕ × ℕ) → List ℕ
 tallied places = foldl (λ (t : List ℕ) (p : ℕ × ℕ). set t (p .0) (p .1)) (replicate tallying.tallyPlaces 0) places
 
@@ -133,7 +133,9 @@ unfoldable pub p2 : Case
 p2 =
     record {
       sent = 11;
-      arrivals = arrivalsFrom (1 ∷ 2 ∷ 3 ∷ 7 ∷ 8 ∷ 9 ∷ 10 ∷ 4 ∷ 5 ∷ 6 ∷ 11 ∷ []) (68 ∷ 88 ∷ 108 ∷ 188 ∷ 208 ∷ 228 ∷ 248 ∷ 250 ∷ 252 ∷ 256 ∷ 268 ∷ []);
+      arrivals =
+          arrivalsFrom (1 ∷ 2 ∷ 3 ∷ 7 ∷ 8 ∷ 9 ∷ 10 ∷ 4 ∷ 5 ∷ 6 ∷ 11 ∷ [])
+          (68 ∷ 88 ∷ 108 ∷ 188 ∷ 208 ∷ 228 ∷ 248 ∷ 250 ∷ 252 ∷ 256 ∷ 268 ∷ []);
       given =
           record {
             answers =
@@ -348,4 +350,5 @@ quotientTable =
 -- every case of the table has the figures given for it, and every quotient is the f64 given for it
 pub record CasesHold : Type 0 where
   pub figures : map measured workedCases ≡ map (λ (c : Case). c .given) workedCases
-  pub quotients : map (λ (q : (ℕ × ℕ) × Float). quotient (q .0 .0) (q .0 .1)) quotientTable ≡ map (λ (q : (ℕ × ℕ) × Float). q .1) quotientTable
+  pub quotients : map (λ (q : (ℕ × ℕ) × Float). quotient (q .0 .0) (q .0 .1)) quotientTable
+      ≡ map (λ (q : (ℕ × ℕ) × Float). q .1) quotientTable

@@ -12,7 +12,7 @@ use Rattle.rfc4737.specs.declared.LateTime.the-variants.{After}
 use Rattle.rfc4737.specs.Order.{FirstArrival, placed}
 use Rattle.rfc4737.specs.Times.{elapsed}
 
--- of first arrivals in order of position, the earliest with a number greater than s
+-- the earliest of the first arrivals that has a number greater than s, if there is one
 unfoldable pub firstAbove : ℕ → List FirstArrival → Option FirstArrival
 firstAbove s [] = none
 firstAbove s (p ∷ ps) = cond (ltb s (p .number)) (some p) (firstAbove s ps)

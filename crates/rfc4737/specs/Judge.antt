@@ -1,4 +1,4 @@
--- The judge of K and the arrivals, wherever they come from: a file, a text, lists. Assumes nothing.
+-- The refusals of K and of arrivals, wherever these come from: a file, a text log or lists. Assumes nothing.
 use Prim.Native.Nat.{ℕ}
 use mathlib.Core.Bool.{not}
 use mathlib.Core.List.{List, [], _∷_, map}
@@ -44,17 +44,17 @@ judgeSent k = refusalIf (outside 1 sentMost k) sentOutside
 abbrev pub judgeArrivals : ℕ → ℕ
 judgeArrivals n = refusalIf (outside 0 arrivalsMost n) manyArrivals
 
--- one arrival, by K and the reference for its time: 6 before 7
+-- the refusal of one arrival, 0 for none, by K and the reference for its time: 6 comes before 7
 unfoldable pub judgeOne : ℕ → ℕ → Arrival → ℕ
 judgeOne k reference a =
     firstRefusal (refusalIf (outside 1 k (a .number)) numberOutside ∷ refusalIf (tooEarly reference (a .time)) timeBack ∷ [])
 
--- the arrivals in turn
+-- the first refusal of arrivals in turn, 0 for none
 unfoldable pub judge : ℕ → ℕ → List Arrival → ℕ
 judge k reference [] = 0
 judge k reference (a ∷ l) = firstRefusal (judgeOne k reference a ∷ judge k (nextReference reference (a .time)) l ∷ [])
 
--- the first refusal that applies to K and the lists, 0 if none does: 4, 5 by the list of numbers, 12, the arrivals in turn
+-- the first refusal that applies to K and the lists, 0 if none does: 4; 5, by the list of numbers; 12; then the arrivals in turn
 unfoldable pub refusalOfLists : ℕ → List ℕ → List ℕ → ℕ
 refusalOfLists k numbers times =
     firstRefusal

@@ -1,4 +1,4 @@
--- What is measured, after RFC 4737, a file for each section, in the order of the scope. Assumes nothing.
+-- The definitions of all figures, after RFC 4737, in the order of the scope. Assumes nothing.
 pub mod Arrivals
 pub mod Times
 pub mod Order

@@ -21,13 +21,13 @@ abbrev pub waitingTime : LateTime → ℕ
 waitingTime (LateTime.After t) = t
 waitingTime (LateTime.Before t) = 0
 
--- the need of a reordered packet
+-- the need of a reordered packet with the figures f, in the unit of a measure
 abbrev pub neededBy : Measure → ReorderedFigures → ℕ
 neededBy Measure.Packets f = f .extent
 neededBy Measure.Octets f = f .offset
 neededBy Measure.Time f = waitingTime (f .late)
 
--- the need of any record
+-- the need of a record, by its answer
 abbrev pub neededFor : Measure → Answer → ℕ
 neededFor m (Duplicate d) = 0
 neededFor m (InOrder d) = 0
@@ -39,7 +39,7 @@ neededFor m (Reordered f) = neededBy m f
 unfoldable pub greatest : List ℕ → ℕ
 greatest l = foldl (λ (m n : ℕ). cond (ltb m n) n m) 0 l
 
--- the greatest need of any record; 0 where none is reordered
+-- the greatest need of any record; 0 if none is reordered
 unfoldable pub greatestNeed : Measure → List Answer → ℕ
 greatestNeed m l = greatest (map (neededFor m) l)
 
@@ -47,6 +47,6 @@ greatestNeed m l = greatest (map (neededFor m) l)
 abbrev pub accommodates : Measure → ℕ → Answer → Bool
 accommodates m size a = not (isDuplicate a) && leb (neededFor m a) size
 
--- how many first arrivals a buffer of this size accommodates
+-- the number of first arrivals that a buffer of this size accommodates
 unfoldable pub accommodated : Measure → ℕ → List Answer → ℕ
 accommodated m size l = count (accommodates m size) l

@@ -11,7 +11,7 @@ use Rattle.rfc4737.specs.Arrivals.{each}
 unfoldable pub nextAfter : ℕ → ℕ → ℕ
 nextAfter next s = cond (leb next s) (s + 1) next
 
--- NextExp: 1 at the start
+-- NextExp after the first arrivals fs; 1 at the start
 unfoldable pub nextExp : List Arrival → ℕ
 nextExp fs = foldl (λ (next : ℕ) (a : Arrival). nextAfter next (a .number)) 1 fs
 
@@ -33,7 +33,7 @@ pub record FirstArrival : Type 0 where
   pub number : ℕ
   pub time : ℕ
 
--- a first arrival at its position, after the first arrivals before it
+-- the first arrival a with its position, after the first arrivals fs
 abbrev pub placeAfter : List Arrival → Arrival → FirstArrival
 placeAfter fs a = record { position = length fs + 1; number = a .number; time = a .time }
 
@@ -41,7 +41,7 @@ placeAfter fs a = record { position = length fs + 1; number = a .number; time = 
 unfoldable pub placed : List Arrival → List FirstArrival
 placed fs = each placeAfter fs
 
--- the jump that an arrival is, if it is one
+-- the first arrival a in a list of one if it is a jump; else no jump
 unfoldable pub jumpAfter : List Arrival → Arrival → List FirstArrival
 jumpAfter fs a = cond (isJump fs (a .number)) (placeAfter fs a ∷ []) []
 

@@ -19,7 +19,7 @@ isNReordered n (Duplicate d) = false
 isNReordered n (InOrder d) = false
 isNReordered n (Reordered d) = leb n (d .largest)
 
--- how many packets are n-reordered
+-- the number of n-reordered packets
 unfoldable pub nReordered : ℕ → List Answer → ℕ
 nReordered n l = count (isNReordered n) l
 
@@ -27,7 +27,7 @@ nReordered n l = count (isNReordered n) l
 unfoldable pub quotient : ℕ → ℕ → Float
 quotient part whole = div binary64 (ofInt binary64 (pos part)) (ofInt binary64 (pos whole))
 
--- the share of the packets whose answers pass a test: how many do, over L
+-- the share of the packets whose answers pass a test: their number over L
 unfoldable pub share : (Answer → Bool) → List Answer → Float
 share p l = quotient (count p l) (arrived l)
 

@@ -77,19 +77,19 @@ fragmentUnfit = 17
 abbrev pub secondsOver : ℕ
 secondsOver = 18
 
--- whether a number lies in low to high
+-- whether n lies in `low` to `high`
 abbrev pub within : ℕ → ℕ → ℕ → Bool
 within low high n = leb low n && leb n high
 
--- whether a number lies outside low to high
+-- whether n lies outside `low` to `high`
 unfoldable pub outside : ℕ → ℕ → ℕ → Bool
 outside low high n = not (within low high n)
 
--- a refusal if it applies, else 0, which is no refusal
+-- `refusal` if it applies, else 0, which is no refusal
 abbrev pub refusalIf : Bool → ℕ → ℕ
 refusalIf applies refusal = cond applies refusal 0
 
--- of refusals in their order, each 0 if it does not apply, the first that applies; 0 if none does
+-- the first refusal of a list that applies; one that does not apply is 0 there. 0 if none applies
 abbrev pub firstRefusal : List ℕ → ℕ
 firstRefusal [] = 0
 firstRefusal (zero ∷ rs) = firstRefusal rs

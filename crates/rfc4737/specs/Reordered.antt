@@ -29,7 +29,7 @@ pub record HasDiscontinuity (earlier : List Arrival) (a : Arrival) (f : Reordere
   pub is : discontinuity (firsts earlier) (a .number) ≡ some at
   pub extent : 1 ≤ f .extent
 
--- every reordered packet, numbered from 1 on, has one, whatever arrived before it
+-- every reordered packet with a number of at least 1 has one, whatever arrived before it
 abbrev pub ReorderedHaveDiscontinuity : Type 0
 ReorderedHaveDiscontinuity =
     (size : ℕ → ℕ) (earlier : List Arrival) (a : Arrival) (f : ReorderedFigures) → 1 ≤ a .number

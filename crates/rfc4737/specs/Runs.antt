@@ -8,7 +8,7 @@ use Rattle.rfc4737.specs.declared.Runs.{Runs}
 use Rattle.rfc4737.specs.declared.Counts.{Counts}
 use Rattle.rfc4737.specs.Arrivals.{count}
 
--- the limit of the sum of squares in a fit receiver state: 4,096 squared, the greatest sum of 4,096 arrivals
+-- the limit of the sum of squares in a fit receiver state: 4,096 squared. No sum of 4,096 arrivals is greater
 abbrev pub squaresMost : ℕ
 squaresMost = 16777216
 
@@ -27,7 +27,7 @@ isReordered (Duplicate d) = false
 isReordered (InOrder d) = false
 isReordered (Reordered d) = true
 
--- L, the number of first arrivals: how many answers are no duplicates
+-- L, the number of first arrivals: of answers that are no duplicates
 unfoldable pub arrived : List Answer → ℕ
 arrived l = count (λ (a : Answer). not (isDuplicate a)) l
 
@@ -36,7 +36,7 @@ arrived l = count (λ (a : Answer). not (isDuplicate a)) l
 unfoldable pub lengthened : Runs → Runs
 lengthened r = record { closed = r .closed; squares = r .squares; current = r .current + 1 }
 
--- a reordered one closes it, whatever its length
+-- a reordered packet closes the open run, whatever its length
 unfoldable pub ended : Runs → Runs
 ended r = record { closed = r .closed + 1; squares = r .squares + r .current * r .current; current = 0 }
 

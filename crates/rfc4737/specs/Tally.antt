@@ -1,5 +1,5 @@
--- The extent tally, a term of the scope, over the answers of a sample. It has 101 counts: place e for the extents 1 to 100, place 0 for
--- all greater ones. Assumes nothing.
+-- The extent tally, a term of the scope, over the answers of a sample. It has 101 counts: the one at place e, 1 to 100, is of the extent e,
+-- and the one at place 0 of all greater extents. Assumes nothing.
 use Prim.Native.Nat.{ℕ, _+_}
 use mathlib.Core.Bool.{cond}
 use mathlib.Core.List.{List, foldl}
@@ -12,7 +12,7 @@ use Rattle.rfc4737.specs.declared.Answer.the-variants.{Duplicate, InOrde
 abbrev pub tallyMost : ℕ
 tallyMost = 100
 
--- the places of a tally
+-- the number of places of a tally
 abbrev pub tallyPlaces : ℕ
 tallyPlaces = 101
 

@@ -1,4 +1,4 @@
--- The rules about arrival times, which may be equal and go back a little; one name for each rule. Assumes nothing.
+-- The rules about arrival times. Times may be equal, and may go back a little. Assumes nothing.
 use Prim.Native.Nat.{ℕ, _-_}
 use mathlib.Core.Bool.{Bool, false, cond, _||_}
 use mathlib.Core.List.{List, [], _∷_, foldl}

@@ -1,4 +1,4 @@
-// The judge of K and the arrivals, one function for each case. Files, texts and lists share it.
+// Checks K and the arrivals. Files, text logs and lists share these functions.
 ghost use mathlib.Core.Path.{_≡_};
 ghost use lib.ListN.{length};
 ghost use Rattle.rfc4737.specs.Refusals.{outside};
@@ -18,7 +18,7 @@ pub const SENT_MOST: u64 = 4096;
 // The greatest number of arrivals.
 pub const ARRIVALS_MOST: u64 = 4096;
 
-// Whether a number lies outside `low` to `high`.
+// Whether `n` lies outside `low` to `high`.
 pub fn outside(low: u64, high: u64, n: u64) -> bool
     ensures { λ r. ⌜ r ≡ outside low high n ⌝ }
 {
@@ -31,7 +31,7 @@ pub fn outside(low: u64, high: u64, n: u64) -> bool
     false
 }
 
-// Judges one arrival: 6 before 7.
+// The refusal of one arrival, 0 for none: 6 comes before 7.
 pub fn judge_one(k: u64, reference: u64, number: u64, time: u64) -> u32
     ensures { λ r. ⌜ r ≡ judgeOne k reference (record { number = number; time = time }) ⌝ }
 {
@@ -52,10 +52,13 @@ pub struct Judged {
     pub reference: u64,
 }
 
-// Judges the next of several arrivals. Two tests accept a number in 1 to K at a time that does not go back; any other arrival goes
-// to `judge_one`.
+// Judges the next of several arrivals. Most arrivals have a number in 1 to K and a time that does not go back, and take two tests; all
+// others go to `judge_one`.
 pub fn judge_next(k: u64, reference: u64, number: u64, time: u64) -> Judged
-    ensures { λ r. ⌜ r ≡ record { refusal = judgeOne k reference (record { number = number; time = time }); reference = nextReference reference time } ⌝ }
+    ensures { λ r. ⌜ r ≡ record {
+      refusal = judgeOne k reference (record { number = number; time = time });
+      reference = nextReference reference time;
+    } ⌝ }
 {
     if reference <= time {
         if !outside(1, k, number) {
@@ -71,7 +74,7 @@ pub fn judge_next(k: u64, reference: u64, number: u64, time: u64) -> Judged
     }
 }
 
-// Judges the arrivals of two lists in turn.
+// The first refusal of the arrivals of two lists, 0 for none.
 fn judge_lists(k: u64, numbers: &[u32], times: &[u64]) -> u32
     requires { ⌜ length (now times) ≡ length (now numbers) ⌝ }
     ensures { λ r. ⌜ r ≡ judge k 0 (arrivalsFrom (now (numbers .entry)) (now (times .entry))) ⌝ }

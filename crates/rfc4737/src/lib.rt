@@ -1,6 +1,6 @@
-// The values that the definitions of specs/ name: an arrival, the answer for a record, and the figures of a sample. What each value
-// means is said in specs/, after RFC 4737. The modules have the numbers of an answer's cases and of the refusals, the rules about
-// times, and the judge of K and the arrivals. Every crate above shares them.
+// The types of the figures after RFC 4737: an arrival, the answer for a record, and the figures of a sample; specs/ defines each figure.
+// The modules number the cases of an answer and the refusals, have the rules about times, and check K and the arrivals. All other
+// crates share them.
 
 // The numbers of an answer's cases.
 pub mod numbering;
@@ -11,7 +11,7 @@ pub mod refusal;
 // The rules about arrival times.
 pub mod time;
 
-// The judge of K and the arrivals.
+// The check of K and the arrivals.
 pub mod judge;
 
 // An arrival of a test packet: its sequence number, and its arrival time in microseconds.
@@ -54,7 +54,7 @@ pub enum Answer {
     Reordered(ReorderedFigures),
 }
 
-// The runs of in-order packets: how many are closed, the sum of the squares of their lengths, and the
+// The runs of in-order packets: the number of closed runs, the sum of the squares of their lengths, and the
 // length of the open run.
 #[repr(C)]
 pub struct Runs {

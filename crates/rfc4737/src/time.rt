@@ -1,4 +1,4 @@
-// The rules about arrival times: whether one goes back too far, what the next is compared with, and how far apart two are. Files,
+// The rules about arrival times: whether a time goes back too far, the reference for the next one, and the late time between two. Files,
 // lists and the receiver share them.
 
 use crate::LateTime;

@@ -1,9 +1,9 @@
--- What the reader and the writer answer, by cases. The reader: the file is refused, a list is too short (8), or the lists are filled. The
--- first refusal that applies settles what `decodeInto` gives, and with it the answer and the lists. Where nothing is refused the counts
--- found are those of the file, so what was read by the layout is what its sections hold (`read-filled`). The writer: the label or a list
--- is refused, the lent octets are too few, or three sections were written one after the other, which is one write of the file from the
--- start (`write-filled`). Here y is what the check found, e that it is the file's layout, z that it has no refusal; n is a refusal;
--- sizes′, numbers′, times′ and out′ are what is lent after the call. Assumes nothing.
+-- What the reader and the writer return, by cases. The reader: the file is refused, a list is too short (8), or the lists are filled. The
+-- first refusal that applies decides the result of `decodeInto`, and with it the answer and the lists. If nothing is refused, the counts
+-- are those of the file, so the values read by the layout are those of its sections (`read-filled`). The writer: the label or a list is
+-- refused, the buffer is too short, or three sections are written one after the other, which is one write of the file from the start
+-- (`write-filled`). Here y is the layout that `check` returns, e says that it is the file's, z that it has no refusal; n is a refusal;
+-- sizes′, numbers′, times′ and out′ are the caller's lists and buffer after the call. Assumes nothing.
 use Prim.Native.Nat.{ℕ, _+_, _*_, _≤_, _<_, zero-le}
 use native.Mathlib.Omega.{arith}
 use mathlib.Core.Bool.{true, false, _||_}

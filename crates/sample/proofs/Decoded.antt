@@ -19,7 +19,7 @@ use Rattle.rfc4737.specs.Refusals.{refusalIf, endsEarly, octetsFollow, longLabe
 use Rattle.rfc4737.specs.Judge.{sentMost, arrivalsMost, judgeSent, judgeArrivals, judge}
 use Rattle.sample.specs.Format.{Sample, labelMost, octetWidth, sizeWidth, arrivalWidth, itemsAt, endOf}
 use Rattle.sample.specs.Judge.{judgeLabel, someUnshown, judgeOctets}
-use Rattle.sample.specs.Decode.{countAt, labelCount, sentAt, sentCount, arrivedAt, arrivalCount, fileEnd, arrivalIn, sampleIn, sectionStage, fileRefusal, refused, accepted, decided, decode, decodedRefusal, layoutOf}
+use Rattle.sample.specs.Decode.{countAt, labelCount, sentAt, sentCount, arrivedAt, arrivalCount, fileEnd, arrivalIn, sampleIn, sectionStage, fileRefusal, refused, accepted, acceptedUnless, decode, decodedRefusal, layoutOf}
 use Rattle.rfc4737.proofs.Due.{each-none, first-due, first-one, case-none, limit-none, not-outside}
 use Rattle.sample.proofs.Items.{items-length}
 
@@ -119,7 +119,7 @@ none-refused file w =
 -- ---- the answer
 
 -- a refusal of an answer is the one that applied
-pub decided-refusal : (r : ℕ) (s : Sample) → decodedRefusal (decided r s) ≡ r
+pub decided-refusal : (r : ℕ) (s : Sample) → decodedRefusal (acceptedUnless r s) ≡ r
 decided-refusal zero s = refl
 decided-refusal (suc r) s = refl
 
@@ -135,7 +135,7 @@ unfolding decode
 decode-accepted file e = rw e
 
 -- an answer that accepts
-decided-accepted : (r : ℕ) (s t : Sample) → decided r s ≡ accepted t → (r ≡ 0) × (s ≡ t)
+decided-accepted : (r : ℕ) (s t : Sample) → acceptedUnless r s ≡ accepted t → (r ≡ 0) × (s ≡ t)
 decided-accepted zero s t e = (refl, cc)
 decided-accepted (suc r) s t e = absurd (let z : _≡_ {A = ℕ} 0 1 = cc in omega arith)
 

@@ -1,11 +1,11 @@
 -- Decoding accepts exactly the octets of fit samples (`exact`). Nothing of a sample is refused exactly if it keeps its limits (`limits`,
--- `within-limits`). One way: in an accepted file each section's count and items, written back, are the octets that they were read from,
--- so each section is a part of the file. The parts lie side by side and the last one ends with the file, so together they are the file
--- (`file-back`). Its sample is fit, since what is read from a field's octets fits that field (`sample-fit`). The other way: in the file
--- of a fit sample each section is found where those before it end, its count is read as it was written, and so are its items, as they fit
+-- `within-limits`). One way: in an accepted file each section's count and items, written back, are the octets that they were read from, so
+-- each section is a part of the file. The parts lie side by side and the last one ends with the file, so together they are the file
+-- (`file-back`). Its sample is fit, since what is read from a field's octets fits that field (`sample-fit`). The other way: in the file of
+-- a fit sample each section is found where those before it end, its count is read as it was written, and so are its items, as they fit
 -- their fields (`section-count`, `section-items`). So the sample found is the one that was written, and nothing is refused
 -- (`decode-file`). Here s is a sample and f that it is fit, o that the file is octets, w that nothing of it is refused; p is what stands
--- before a section, os its items' octets, rest what follows it, n its count and at its place. Assumes nothing.
+-- before a section, os its items' octets, rest what follows it, n its count and at its offset. Assumes nothing.
 use Prim.Native.Nat.{ℕ, _+_, _*_, _^_, _≤_, _<_}
 use native.Mathlib.Omega.{arith}
 use mathlib.Core.Bool.{Bool, true, false}

@@ -2,9 +2,9 @@
 -- `items-stand`), and there are width times as many octets as items (`octets-many`). Where each item, written, reads back as itself so do
 -- all of them (`read-written`), and where each item's octets, read, are written back as themselves so are all octets (`written-read`):
 -- both by splitting off the first item. Then an arrival, two numbers one after the other, and a size, one number, have this. Last come
--- their values, as the loops find them in the part that is taken for each.
--- Here `item` reads an item from its octets and `octets` writes it; xs are items, os octets, n or count a number of items, at and start
--- places, i an item's place, z what is read past the end, a an arrival. Assumes nothing.
+-- their values, as the loops find them in the part that is taken for each. Here `item` reads an item from its octets and `octets` writes
+-- it; xs are items, os octets, n or count a number of items, at and start are offsets, i an item's index, z what is read past the end, a
+-- an arrival. Assumes nothing.
 use Prim.Native.Nat.{ℕ, zero, suc, _+_, _*_, _^_, _-_, _≤_, _<_}
 use native.Mathlib.Nat.{mul-zero, mul-suc}
 use native.Mathlib.Omega.{arith}

@@ -1,6 +1,6 @@
--- Moving the clock of a sample s by c. The judge of arrivals answers the same by any clock (`judge-moved`), and nothing else that is
--- refused asks for times. So a sample of an accepted file, which is fit by `exact`, is fit after the move where its times still fit their
--- field, and its file decodes to it. Two movements are one by the sum, since they are for each arrival (`moved-twice`). Assumes nothing.
+-- Moving the clock of a sample s by c. The refusals of arrivals are the same by any clock (`judge-moved`), and no other refusal depends on
+-- times. So a sample of an accepted file, which is fit by `exact`, is fit after the move if its times still fit their field, and its file
+-- decodes to it. Two moves are one by the sum, since they are so for each arrival (`moved-twice`). Assumes nothing.
 use Prim.Native.Nat.{ℕ}
 use mathlib.Core.List.{List}
 use mathlib.Core.Path.{ap, _∙_}

@@ -1,8 +1,7 @@
--- What is found in a file at the places of its own layout is what its sample has. Each law goes by what the file decodes to: of an
--- accepted one the laws about its octets say it (`size-found`, `arrival-found`, `octets-inside`), and a refused one has a layout of no
--- packets and no arrivals, so that nothing is asked for. The octets of a record say its arrival since they are there, so that
--- `arrivalFound` reads them. Here y is the layout, e that it is the file's, h that there is such a packet or record, q what was read.
--- Assumes nothing.
+-- What stands in a file at the offsets of its own layout is what its sample has. Each law goes by what the file decodes to: of an accepted
+-- one the laws about its octets say it (`size-found`, `arrival-found`, `octets-inside`), and a refused one has a layout of no packets and
+-- no arrivals, so that nothing is asked for. The octets of a record say its arrival since they are there, so that `arrivalFound` reads
+-- them. Here y is the layout, e that it is the file's, h that there is such a packet or record, q what was read. Assumes nothing.
 use Prim.Native.Nat.{ℕ, _+_, _*_, _≤_, _<_}
 use native.Mathlib.Omega.{arith}
 use mathlib.Core.Path.{_≡_, refl, sym, ap, _∙_}

@@ -1,7 +1,7 @@
--- What a call that writes answers, case by case: `own` is its own refusal, `os` the octets that it has to write, `out` the lent ones
--- before it and `out′` after it. Each case settles the first refusal, `own` before 8, and with it the octets, all or none. An answer
--- without a refusal says that there was none of its own and that the octets stand at the start (`own-none`, `output-read`). r is a
--- refusal, n the length that is answered, w that it is the call's answer. Assumes nothing.
+-- The answer of a call that writes, case by case: `own` is its own refusal, `os` the octets to write, `out` and `out′` the caller's buffer
+-- before and after it. In each case the first refusal is known, `own` before 8, and with it whether all octets are written or none. An
+-- answer without a refusal says that `own` is 0 and that the octets stand at the start (`own-none`, `output-read`). r is a refusal, n the
+-- length returned, w that this is the call's answer. Assumes nothing.
 use Prim.Native.Nat.{ℕ, zero, suc, _≤_, _<_}
 use native.Mathlib.Omega.{arith}
 use mathlib.Core.Path.{_≡_, refl, sym, ap, ap₂, _∙_}

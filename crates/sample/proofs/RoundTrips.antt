@@ -1,9 +1,9 @@
 -- Both round trips. Read, then written (`written-again`): a read without a refusal means that the file is accepted and that the lists
--- begin with its sample's values (`into-none`). The writer is given these, so it writes the sample's file, which is the file that was
--- read (`file-back`). Written, then read (`read-again`): a write without a refusal means that label and lists are not refused and that
--- their file stands at the start (`output-read`). It decodes to their sample (`decode-file`), which the lists have room for
--- (`into-room`). Here s is the sample; a, b and c are numbers of places; what is lent is sizes, numbers, times (in `read-again` sizes₀,
--- numbers₀, times₀) and out before a call, and with ′ after it. Assumes nothing.
+-- begin with its sample's values (`into-none`). The writer is given these, so it writes the sample's file, which is the file that was read
+-- (`file-back`). Written, then read (`read-again`): a write without a refusal means that label and lists are not refused and that their
+-- file stands at the start (`output-read`). It decodes to their sample (`decode-file`), which the lists have room for (`into-room`). Here
+-- s is the sample; a, b and c are lengths of lists; sizes, numbers, times (in `read-again` sizes₀, numbers₀, times₀) and out are the
+-- caller's lists and buffer before a call, with ′ after it. Assumes nothing.
 use Prim.Native.Nat.{ℕ, zero, suc, _^_, _≤_}
 use native.Mathlib.Omega.{arith}
 use mathlib.Core.Bool.{Bool, true, false}

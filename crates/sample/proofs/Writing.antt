@@ -1,10 +1,9 @@
--- Items written into lent octets one after the other: after i turns of a loop from a place on, memory is `splice` of the first i items'
--- octets there. A turn puts an item's octets over all of the part that is lent for them, which is a splice where the first i end, so both
--- are one of i + 1 (`write-next`). A section is its count and then its items (`section-done`), and an arrival's octets are its number and
--- then its time (`arrival-put`): two writes side by side that are one.
--- Here `octets` gives an item's octets, `width` of them; xs are the items, at their place, old memory where the loop begins and d at its
--- head, inv the invariant, lent the part after the put, z what is read past the end; ns and ts are lists of numbers and of times. Assumes
--- nothing.
+-- Items written into a buffer one after the other: after i turns of a loop, memory is `splice` of the octets of the first i items from an
+-- offset on. A turn borrows the part of the next item and overwrites all of it. That is a splice where the first i items end, so both are
+-- one splice of i + 1 items (`write-next`). A section is its count and then its items (`section-done`), and an arrival's octets are its
+-- number and then its time (`arrival-put`): two writes side by side that are one. Here `octets` gives an item's octets, `width` of them;
+-- xs are the items, at their offset, old memory where the loop begins and d at its head, inv the invariant, lent the part after the put, z
+-- what is read past the end; ns and ts are lists of numbers and of times. Assumes nothing.
 use Prim.Native.Nat.{ℕ, suc, _+_, _*_, _-_, _≤_, _<_}
 use native.Mathlib.Nat.{mul-suc, mul-le-mul, le-refl}
 use native.Mathlib.Omega.{arith}

@@ -24,11 +24,11 @@ labelPlace (accepted s) = itemsAt 0
 
 -- ---- the reader
 
--- whether one of three lists, of these lengths, is too short for a file of this layout
+-- whether one of three lists, of the lengths `sizes`, `numbers` and `times`, is too short for a file of this layout
 unfoldable pub listsShort : (layout : Layout) (sizes numbers times : ℕ) → Bool
 listsShort layout sizes numbers times = ltb sizes (layout .sent) || (ltb numbers (layout .arrivals) || ltb times (layout .arrivals))
 
--- a decoded file, refused with 8 if the lent lists are too short for its sample; the file's own refusals come first
+-- a decoded file, refused with 8 if the caller's lists are too short for its sample; the file's own refusals come first
 unfoldable pub unlessShort : (short : Bool) → Decoded → Decoded
 unlessShort short (refused r) = refused r
 unlessShort short (accepted s) = cond short (refused outputShort) (accepted s)
@@ -55,7 +55,7 @@ ReadFrom file sizes numbers times answer sizes′ numbers′ times′ =
 abbrev pub sampleFrom : (label sizes numbers times : List ℕ) → Sample
 sampleFrom label sizes numbers times = record { label = label; sizes = sizes; arrivals = arrivalsFrom numbers times }
 
--- the writer's answer, and the lent octets after it: those of the sample's file
+-- the writer's answer, and the caller's buffer after it, which begins with the sample's file
 abbrev pub WrittenTo : (label sizes numbers times out : List ℕ) → WriteAnswer → List ℕ → Type 0
 WrittenTo label sizes numbers times out answer out′ =
     Output (sampleRefusal label sizes numbers times) (fileOf (sampleFrom label sizes numbers times)) out answer out′

@@ -1,4 +1,4 @@
--- The order of the refusals, by small files: one statement over a table of them. The check's contract carries it. Assumes nothing.
+-- The order of the refusals, shown by a table of small files. The contract of `check` carries it. Assumes nothing.
 use Prim.Native.Nat.{ℕ}
 use mathlib.Core.List.{List, [], _∷_, _++_, map}
 use mathlib.Core.Path.{_≡_}
@@ -30,7 +30,7 @@ refusalCases =
     -- arrivals: fit with equal times, a number that is 0 or over K, a time that goes back by 1,000 and by 1,001
     ∷ (twoSent (1 ∷ 2 ∷ []) (10 ∷ 10 ∷ []), 0) ∷ (twoSent (1 ∷ 0 ∷ []) (10 ∷ 10 ∷ []), 6) ∷ (twoSent (1 ∷ 3 ∷ []) (10 ∷ 10 ∷ []), 6)
     ∷ (twoSent (1 ∷ 2 ∷ []) (2000 ∷ 1000 ∷ []), 0) ∷ (twoSent (1 ∷ 2 ∷ []) (2000 ∷ 999 ∷ []), 7)
-    -- a time is held to the greatest earlier one, and not to the one before; it may be that of a copy
+    -- a time is compared with the greatest earlier one, not with the one before it; that may be the time of a copy
     ∷ (twoSent (1 ∷ 1 ∷ 1 ∷ []) (2000 ∷ 1500 ∷ 1000 ∷ []), 0) ∷ (twoSent (1 ∷ 1 ∷ 1 ∷ []) (2000 ∷ 1500 ∷ 999 ∷ []), 7)
     ∷ (twoSent (1 ∷ 1 ∷ 1 ∷ []) (1500 ∷ 2000 ∷ 999 ∷ []), 7)
     -- 6 before 7 in one arrival; 2 before both

@@ -1,5 +1,5 @@
--- Decoding a file by stages. Order in the file: each count is read (1), judged (3, 4 or 5), then its section's length (1), and after
--- the label's its octets (13); then 2; then the arrivals in turn, 6 before 7. Assumes nothing.
+-- Decoding a file in stages, in the order of its refusals. For each section its count is read (1) and judged (3, 4 or 5), then its length
+-- (1); for the label then its octets (13). Then come octets that follow (2), and the arrivals in turn, 6 before 7. Assumes nothing.
 use Prim.Native.Nat.{ℕ, zero, suc}
 use mathlib.Core.List.{List, [], _∷_}
 use lib.Dec.{ltb}
@@ -19,11 +19,11 @@ use Rattle.sample.specs.declared.Layout.{Layout}
 unfoldable pub countAt : (at : ℕ) (file : List ℕ) → ℕ
 countAt at file = beValue (part at countWidth file)
 
--- the number of octets of the label
+-- the length of the label
 abbrev pub labelCount : List ℕ → ℕ
 labelCount file = countAt 0 file
 
--- where the section of sent packets begins
+-- the offset of the section of sent packets
 abbrev pub sentAt : List ℕ → ℕ
 sentAt file = sentStart (labelCount file)
 
@@ -31,7 +31,7 @@ sentAt file = sentStart (labelCount file)
 abbrev pub sentCount : List ℕ → ℕ
 sentCount file = countAt (sentAt file) file
 
--- where the section of arrivals begins
+-- the offset of the section of arrivals
 abbrev pub arrivedAt : List ℕ → ℕ
 arrivedAt file = arrivedStart (labelCount file) (sentCount file)
 
@@ -39,17 +39,17 @@ arrivedAt file = arrivedStart (labelCount file) (sentCount file)
 abbrev pub arrivalCount : List ℕ → ℕ
 arrivalCount file = countAt (arrivedAt file) file
 
--- where the last section ends
+-- the offset after the last section
 abbrev pub fileEnd : List ℕ → ℕ
 fileEnd file = lastEnd (labelCount file) (sentCount file) (arrivalCount file)
 
 -- ---- what the sections hold
 
--- an arrival in its octets: its number, then its time
+-- the arrival in these octets: its number, then its time
 unfoldable pub arrivalIn : List ℕ → Arrival
 arrivalIn os = record { number = beValue (part 0 numberWidth os); time = beValue (part numberWidth timeWidth os) }
 
--- the sample
+-- the sample in a file
 unfoldable pub sampleIn : List ℕ → Sample
 sampleIn file =
     record {
@@ -60,17 +60,18 @@ sampleIn file =
 
 -- ---- what is refused
 
--- the section that begins at `at`, with items of `width` octets each: its count is read (1), judged, then its length (1)
-unfoldable pub sectionStage : (at width : ℕ) (judged : ℕ → ℕ) (file : List ℕ) → ℕ
-sectionStage at width judged file =
+-- the refusal of the section that begins at `at`, with items of `width` octets each; 0 for none. Its count is read (1) and judged, then its
+-- length (1)
+unfoldable pub sectionStage : (at width : ℕ) (judgeCount : ℕ → ℕ) (file : List ℕ) → ℕ
+sectionStage at width judgeCount file =
     firstRefusal
     (refusalIf (ltb (length file) (itemsAt at)) endsEarly
-    ∷ judged (countAt at file)
+    ∷ judgeCount (countAt at file)
     ∷ refusalIf (ltb (length file) (endOf at width (countAt at file))) endsEarly
     ∷ [])
 
--- the first refusal that applies to a file, 0 if none does. In their order: those of the label's section, its octets, the sent packets'
--- section, the arrivals' section, the end of the file, and the arrivals in turn
+-- the first refusal that applies to a file, 0 if none does. In order: the label's section, its octets, the section of sent packets, the
+-- section of arrivals, the end of the file, and the arrivals in turn
 unfoldable pub fileRefusal : List ℕ → ℕ
 fileRefusal file =
     firstRefusal
@@ -84,31 +85,31 @@ fileRefusal file =
 
 -- ---- the answer
 
--- what decoding gives: a refusal or a sample
+-- the result of decoding: a refusal or a sample
 pub data Decoded : Type 0 where
   refused : ℕ → Decoded
   accepted : Sample → Decoded
 
 -- the sample, unless a refusal applies
-abbrev pub decided : ℕ → Sample → Decoded
-decided zero s = accepted s
-decided (suc r) s = refused (suc r)
+abbrev pub acceptedUnless : ℕ → Sample → Decoded
+acceptedUnless zero s = accepted s
+acceptedUnless (suc r) s = refused (suc r)
 
 -- what a file decodes to
 unfoldable pub decode : List ℕ → Decoded
-decode file = decided (fileRefusal file) (sampleIn file)
+decode file = acceptedUnless (fileRefusal file) (sampleIn file)
 
--- the sample of an answer; a refusal has the empty one
+-- the sample of a decoded file; that of a refused file is empty
 abbrev pub sampleOf : Decoded → Sample
 sampleOf (refused r) = record { label = []; sizes = []; arrivals = [] }
 sampleOf (accepted s) = s
 
--- the refusal of an answer; a sample has none
+-- the refusal of a decoded file; 0 if it is accepted
 abbrev pub decodedRefusal : Decoded → ℕ
 decodedRefusal (refused r) = r
 decodedRefusal (accepted s) = 0
 
--- the answer in numbers: the refusal, the number of octets of the label, K and A. With a refusal the other three are 0
+-- the layout of a decoded file: the refusal, the length of the label, K and A. With a refusal the other three are 0
 abbrev pub layoutOf : Decoded → Layout
 layoutOf d =
     record {

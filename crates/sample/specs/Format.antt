@@ -8,13 +8,13 @@ use Rattle.rfc4737.specs.declared.Arrival.{Arrival}
 use Rattle.rfc4737.specs.Judge.{sentMost, arrivalsMost}
 
 -- a sample: its label, the payload size of each sent packet from packet 1 on, and the arrivals in order of arrival. K is the number of
--- sizes, A that of arrivals
+-- sizes, A the number of arrivals
 pub record Sample : Type 0 where
   pub label : List ℕ
   pub sizes : List ℕ
   pub arrivals : List Arrival
 
--- the greatest number of octets of a label
+-- the greatest length of a label, in octets
 abbrev pub labelMost : ℕ
 labelMost = 64
 
@@ -26,7 +26,7 @@ shownLeast = 0x20
 abbrev pub shownMost : ℕ
 shownMost = 0x7E
 
--- ---- the layout: how many octets each field has, and where the sections stand by their counts alone
+-- ---- the layout: the width of each field in octets, and the offsets of the sections, by their counts alone
 
 -- the count of a section
 abbrev pub countWidth : ℕ
@@ -52,23 +52,23 @@ timeWidth = 8
 abbrev pub arrivalWidth : ℕ
 arrivalWidth = numberWidth + timeWidth
 
--- where the items of a section begin that begins at `at`
+-- the offset of the items of a section that begins at `at`
 abbrev pub itemsAt : (at : ℕ) → ℕ
 itemsAt at = at + countWidth
 
--- where a section ends that begins at `at`, with `count` items of `width` octets each
+-- the offset after a section that begins at `at`, with `count` items of `width` octets each
 abbrev pub endOf : (at width count : ℕ) → ℕ
 endOf at width count = itemsAt at + width * count
 
--- where the section of sent packets begins: the label's, before it, begins at 0
+-- the offset of the section of sent packets; the label's section, before it, begins at 0
 abbrev pub sentStart : (label : ℕ) → ℕ
 sentStart label = endOf 0 octetWidth label
 
--- where the section of arrivals begins
+-- the offset of the section of arrivals
 abbrev pub arrivedStart : (label sent : ℕ) → ℕ
 arrivedStart label sent = endOf (sentStart label) sizeWidth sent
 
--- where the last section ends
+-- the offset after the last section
 abbrev pub lastEnd : (label sent arrivals : ℕ) → ℕ
 lastEnd label sent arrivals = endOf (arrivedStart label sent) arrivalWidth arrivals
 

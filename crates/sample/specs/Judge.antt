@@ -13,7 +13,7 @@ use Rattle.sample.specs.Format.{Sample, labelMost, shownLeast, shownMost
 abbrev pub judgeLabel : ℕ → ℕ
 judgeLabel n = refusalIf (outside 0 labelMost n) longLabel
 
--- whether one of the octets cannot be shown: it lies outside hexadecimal 20 to 7E
+-- whether one of the octets lies outside hexadecimal 20 to 7E
 unfoldable pub someUnshown : List ℕ → Bool
 someUnshown [] = false
 someUnshown (o ∷ os) = outside shownLeast shownMost o || someUnshown os
@@ -22,9 +22,10 @@ someUnshown (o ∷ os) = outside shownLeast shownMost o || someUnshown os
 abbrev pub judgeOctets : List ℕ → ℕ
 judgeOctets label = refusalIf (someUnshown label) octetOutside
 
--- the first refusal that applies to a label and lists: 3, 13, then those of K, the number of sizes, and of the lists
+-- the first refusal that applies to a label and lists, 0 if none does: 3, 13, then those of K (the number of sizes) and of the lists
 unfoldable pub sampleRefusal : (label sizes numbers times : List ℕ) → ℕ
-sampleRefusal label sizes numbers times = firstRefusal (judgeLabel (length label) ∷ judgeOctets label ∷ refusalOfLists (length sizes) numbers times ∷ [])
+sampleRefusal label sizes numbers times =
+    firstRefusal (judgeLabel (length label) ∷ judgeOctets label ∷ refusalOfLists (length sizes) numbers times ∷ [])
 
 -- a fit sample: nothing of its label and lists is refused, and every value that is not judged fits its field
 pub record FitSample (s : Sample) : Type 0 where

@@ -28,7 +28,7 @@ sizeFound file layout j = beValue (part (sizesAt layout + sizeWidth * j) sizeWid
 abbrev pub noArrival : Arrival
 noArrival = record { number = 0; time = 0 }
 
--- the arrival of record i + 1 in its octets; none if the file ends before them
+-- the arrival of record i + 1; `noArrival` if the file ends before its octets
 unfoldable pub arrivalFound : (file : List ℕ) (layout : Layout) (i : ℕ) → Arrival
 arrivalFound file layout i =
     let at = arrivalsAt layout + arrivalWidth * i in
@@ -36,18 +36,18 @@ arrivalFound file layout i =
 
 -- ---- by the file's own layout these are the values of its sample
 
--- `size` is that of packet j + 1
+-- `size` is the payload size of packet j + 1
 abbrev pub SizeOfSample : (file : List ℕ) (layout : Layout) (j size : ℕ) → Type 0
 SizeOfSample file layout j size = layout ≡ layoutOf (decode file) → j < layout .sent → size ≡ getD (sampleOf (decode file) .sizes) j 0
 
--- `arrival` is that of record i + 1
+-- `arrival` is the arrival of record i + 1
 abbrev pub ArrivalOfSample : (file : List ℕ) (layout : Layout) (i : ℕ) (arrival : Arrival) → Type 0
 ArrivalOfSample file layout i arrival =
     layout ≡ layoutOf (decode file) → i < layout .arrivals → arrival ≡ getD (sampleOf (decode file) .arrivals) i noArrival
 
--- the arrivals stand from offset `place` on, in a file of this layout
+-- in a file of this layout the arrivals begin at offset `place`
 pub record ArrivalsFrom (file : List ℕ) (layout : Layout) (place : ℕ) : Type 0 where
   -- the octets of record i + 1 lie within the file
   pub inside : (i : ℕ) → layout ≡ layoutOf (decode file) → i < layout .arrivals → place + arrivalWidth * i + arrivalWidth ≤ length file
-  -- and are those of its arrival
+  -- and hold its arrival
   pub arrival : (i : ℕ) → ArrivalOfSample file layout i (arrivalIn (part (place + arrivalWidth * i) arrivalWidth file))

@@ -13,7 +13,7 @@ use Rattle.sample.specs.declared.sections.Reading.the-variants.{Value, E
 use Rattle.sample.specs.declared.sections.Section.{Section}
 use Rattle.sample.specs.declared.sections.Section.the-variants.{Whole, Refused}
 
--- the value n, read from the octets before offset `place`, unless the file ends before it
+-- the value n, read from octets before offset `place`, unless the file ends before that offset
 unfoldable pub readingTo : (place n : ℕ) → List ℕ → Reading
 readingTo place n file = cond (ltb (length file) place) Ended (Value n)
 

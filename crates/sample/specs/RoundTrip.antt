@@ -36,12 +36,13 @@ among n (m ∷ l) = eqb n m || among n l
 pub record Lengths (file : List ℕ) : Type 0 where
   -- an accepted file is no longer
   pub most : (s : Sample) → decode file ≡ accepted s → length file ≤ longest
-  -- some accepted file is as long: that of a sample that is filled up to the limits
+  -- some accepted file is as long: that of a sample with the greatest counts
   pub reached : decode (fileOf (filled labelMost sentMost arrivalsMost)) ≡ accepted (filled labelMost sentMost arrivalsMost)
   pub reachedBy : length (fileOf (filled labelMost sentMost arrivalsMost)) ≡ longest
   -- a longer file is refused with 2, 3, 13, 4 or 5
-  pub longer : longest < length file → among (decodedRefusal (decode file)) (octetsFollow ∷ longLabel ∷ octetOutside ∷ sentOutside ∷ manyArrivals ∷ []) ≡ true
-  -- and decoded as its first octets are, one more than the longest sample has
+  pub longer : longest < length file
+      → among (decodedRefusal (decode file)) (octetsFollow ∷ longLabel ∷ octetOutside ∷ sentOutside ∷ manyArrivals ∷ []) ≡ true
+  -- and it decodes as its first octets do, of which there is one more than the longest sample has
   pub begun : longest < length file → decode file ≡ decode (take (longest + 1) file)
 
 -- an accepted file that is read and written again, its label with it, gives the same octets
@@ -51,11 +52,13 @@ WrittenAgain file =
     → ReadFrom file sizes numbers times read sizes′ numbers′ times′
     → read .refusal ≡ 0
     → length file ≤ length out
-    → WrittenTo (sampleOf (decode file) .label) (take (read .sent) sizes′) (take (read .arrivals) numbers′) (take (read .arrivals) times′) out written out′
+    → WrittenTo (sampleOf (decode file) .label) (take (read .sent) sizes′) (take (read .arrivals) numbers′) (take (read .arrivals) times′)
+    out written out′
     → (written ≡ record { refusal = 0; length = length file }) × (out′ ≡ over file out)
 
--- what reading a file gives that was written from a label and lists: the same label and lists
-pub record SameLists (label sizes numbers times file sizes₀ numbers₀ times₀ : List ℕ) (answer : Layout) (sizes′ numbers′ times′ : List ℕ) : Type 0 where
+-- reading a file that was written from a label and lists gives the same label and lists
+pub record SameLists (label sizes numbers times file sizes₀ numbers₀ times₀ : List ℕ) (answer : Layout)
+    (sizes′ numbers′ times′ : List ℕ) : Type 0 where
   pub layout : answer ≡ record { refusal = 0; label = length label; sent = length sizes; arrivals = length numbers }
   pub sameLabel : sampleOf (decode file) .label ≡ label
   pub sameSizes : sizes′ ≡ over sizes sizes₀

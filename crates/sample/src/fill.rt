@@ -1,4 +1,4 @@
-// The values of a file, filled into the caller's lists from their start.
+// Fills the caller's lists with the values of a file, from their start.
 ghost use mathlib.Core.Path.{_≡_};
 ghost use Prim.Native.Nat.{_+_, _*_, _≤_};
 ghost use lib.ListN.{length, drop};
@@ -11,7 +11,7 @@ use crate::arrival_of;
 use crate::widths::ARRIVAL_WIDTH;
 use crate::widths::SIZE_WIDTH;
 
-// Fills `sizes` with the `count` payload sizes from offset `at` on. It goes from the last down: upward, LLVM reads eight sizes at a
+// Fills `sizes` with the `count` payload sizes from offset `at` on, the last one first: in the other order LLVM reads eight sizes at a
 // time by single octets, which is slower.
 pub(crate) fn fill_sizes(file: &[u8], at: usize, count: usize, sizes: &mut [u16])
     requires { ⌜ (at + sizeWidth * count ≤ length (now file)) × (count ≤ length (now sizes)) ⌝ }
@@ -27,7 +27,7 @@ pub(crate) fn fill_sizes(file: &[u8], at: usize, count: usize, sizes: &mut [u16]
     }
 }
 
-// Fills `numbers` and `times` from the `count` arrivals from offset `at` on.
+// Fills `numbers` and `times` with the `count` arrivals from offset `at` on.
 pub(crate) fn fill_arrivals(
     file: &[u8],
     at: usize,
@@ -36,7 +36,8 @@ pub(crate) fn fill_arrivals(
     times: &mut [u64],
 )
     requires { ⌜ (at + arrivalWidth * count ≤ length (now file)) × (count ≤ length (now numbers)) × (count ≤ length (now times)) ⌝ }
-    ensures { λ _. ⌜ (now (numbers .exit) ≡ over (numbersOf (itemsIn arrivalWidth arrivalIn count (drop at (now (file .entry))))) (now (numbers .entry)))
+    ensures { λ _. ⌜ (now (numbers .exit)
+        ≡ over (numbersOf (itemsIn arrivalWidth arrivalIn count (drop at (now (file .entry))))) (now (numbers .entry)))
         × (now (times .exit) ≡ over (timesOf (itemsIn arrivalWidth arrivalIn count (drop at (now (file .entry))))) (now (times .entry))) ⌝ }
 {
     let mut i = 0;

@@ -1,4 +1,4 @@
-// The judges of a label's octets and of a file's arrivals.
+// Checks a label's octets and a file's arrivals.
 ghost use mathlib.Core.Path.{_≡_};
 ghost use Prim.Native.Nat.{_+_, _*_, _≤_};
 ghost use lib.ListN.{length, drop};
@@ -17,7 +17,7 @@ const SHOWN_LEAST: u64 = 0x20;
 // The greatest octet of a label.
 const SHOWN_MOST: u64 = 0x7E;
 
-// Whether one of the octets cannot be shown.
+// Whether one of the octets lies outside SHOWN_LEAST to SHOWN_MOST.
 pub(crate) fn some_unshown(octets: &[u8]) -> bool
     ensures { λ r. ⌜ r ≡ someUnshown (now (octets .entry)) ⌝ }
 {
@@ -31,7 +31,7 @@ pub(crate) fn some_unshown(octets: &[u8]) -> bool
     false
 }
 
-// Judges the `count` arrivals from offset `at` on, in turn.
+// The first refusal of the `count` arrivals from offset `at` on, 0 for none.
 pub(crate) fn judge_file(file: &[u8], at: usize, sent: u64, count: usize) -> u32
     requires { ⌜ at + arrivalWidth * count ≤ length (now file) ⌝ }
     ensures { λ r. ⌜ r ≡ judge sent 0 (itemsIn arrivalWidth arrivalIn count (drop at (now (file .entry)))) ⌝ }

@@ -1,4 +1,4 @@
-// The sample file: checked, read and written. Every public call is total.
+// Checks, reads and writes sample files. Every public call is total.
 ghost use mathlib.Core.Path.{_≡_};
 ghost use Prim.Native.Nat.{ℕ, _+_, _*_};
 ghost use mathlib.Core.List.{List};
@@ -38,13 +38,13 @@ use widths::OCTET_WIDTH;
 use widths::SIZE_WIDTH;
 use widths::TIME_WIDTH;
 
-// The greatest number of octets of a label.
+// The greatest length of a label, in octets.
 const LABEL_MOST: u64 = 64;
 
-// The number of octets of the longest sample.
+// The length of the longest sample, in octets.
 pub const LONGEST: usize = 57_414;
 
-// The layout of a file: the refusal (0 for none), the number of octets of the label, K and A. With a refusal the other three are 0.
+// The layout of a file: the refusal (0 for none), the length of the label, K and A. With a refusal the other three are 0.
 #[repr(C)]
 pub struct Layout {
     pub refusal: u32,
@@ -72,7 +72,7 @@ pub fn refused_layout(refusal: u32) -> Layout
     }
 }
 
-// Checks a whole file: its sections in their order, the label's octets after the first, its end, then the arrivals in turn.
+// Checks a whole file: the label's section and its octets, the other two sections, the end of the file, then the arrivals in turn.
 pub fn check(file: &[u8]) -> Layout
     ensures { λ r. ⌜ r ≡ layoutOf (decode (now (file .entry))) ⌝ }
     ensures exact { λ _. ⌜ ExactFile (now (file .entry)) ⌝ }
@@ -118,7 +118,7 @@ pub fn check(file: &[u8]) -> Layout
     }
 }
 
-// The label of a file, as a part of it; with a refusal the empty part at the file's start.
+// Returns the label of a file, as a part of the file; for a refused file, the empty part at its start.
 pub fn label(file: &[u8]) -> &[u8]
     ensures { λ r. ⌜ (now r ≡ sampleOf (decode (now (file .entry))) .label)
         × (r .ptr ≡ (file .entry .ptr .0, labelPlace (decode (now (file .entry))) + file .entry .ptr .1)) ⌝ }
@@ -147,7 +147,7 @@ pub fn arrivals_at(layout: Layout) -> usize
     end_of(sent_at, SIZE_WIDTH, layout.sent as usize) + COUNT_WIDTH
 }
 
-// Whether one of three lists, of these lengths, is too short for a file of this layout.
+// Whether one of the caller's lists, of the lengths `sizes`, `numbers` and `times`, is too short for a file of this layout.
 fn too_short(layout: Layout, sizes: usize, numbers: usize, times: usize) -> bool
     ensures { λ r. ⌜ r ≡ listsShort layout sizes numbers times ⌝ }
 {
@@ -162,7 +162,8 @@ fn too_short(layout: Layout, sizes: usize, numbers: usize, times: usize) -> bool
 
 // Reads a file: fills the lists of sizes, numbers and times from their start. With a refusal they stay as they were.
 pub fn read(file: &[u8], sizes: &mut [u16], numbers: &mut [u32], times: &mut [u64]) -> Layout
-    ensures { λ r. ⌜ ReadFrom (now (file .entry)) (now (sizes .entry)) (now (numbers .entry)) (now (times .entry)) r (now (sizes .exit)) (now (numbers .exit)) (now (times .exit)) ⌝ }
+    ensures { λ r. ⌜ ReadFrom (now (file .entry)) (now (sizes .entry)) (now (numbers .entry)) (now (times .entry))
+        r (now (sizes .exit)) (now (numbers .exit)) (now (times .exit)) ⌝ }
     ensures again { λ _. ⌜ WrittenAgain (now (file .entry)) ⌝ }
 {
     let layout = check(file);
@@ -199,7 +200,8 @@ pub fn write(
     times: &[u64],
     out: &mut [u8],
 ) -> WriteAnswer
-    ensures { λ r. ⌜ WrittenTo (now (label .entry)) (now (sizes .entry)) (now (numbers .entry)) (now (times .entry)) (now (out .entry)) r (now (out .exit)) ⌝ }
+    ensures { λ r. ⌜ WrittenTo (now (label .entry)) (now (sizes .entry)) (now (numbers .entry)) (now (times .entry))
+        (now (out .entry)) r (now (out .exit)) ⌝ }
     ensures again { λ _. ⌜ ReadAgain (now (label .entry)) (now (sizes .entry)) (now (numbers .entry)) (now (times .entry)) ⌝ }
 {
     let refusal = refusal_of_sample(label, sizes, numbers, times);
@@ -233,8 +235,8 @@ pub fn payload_size(file: &[u8], layout: Layout, j: u32) -> u16
     octets::number_at(file, at, SIZE_WIDTH) as u16
 }
 
-// The arrival in twelve octets. It is a function of its own so that the compiler reads the octets of a number at once, wherever it sees
-// a part of that length.
+// Reads an arrival from its twelve octets. This is a function of its own so that the compiler knows the length of the part, and reads
+// each number at once.
 pub fn arrival_of(twelve: &[u8]) -> Arrival
     ensures { λ r. ⌜ r ≡ arrivalIn (now (twelve .entry)) ⌝ }
 {
@@ -243,7 +245,7 @@ pub fn arrival_of(twelve: &[u8]) -> Arrival
     Arrival { number, time }
 }
 
-// The arrival of record i + 1 of an accepted file; zeros where the file ends before its octets.
+// The arrival of record i + 1 of an accepted file; zeros if the file ends before it.
 pub fn arrival(file: &[u8], layout: Layout, i: u32) -> Arrival
     ensures { λ r. ⌜ r ≡ arrivalFound (now (file .entry)) layout i ⌝ }
     ensures sample { λ r. ⌜ ArrivalOfSample (now (file .entry)) layout i r ⌝ }

@@ -1,4 +1,4 @@
-// The sections of a file, read and written: a count, then the items.
+// Reads and writes the sections of a file: a count, then the items.
 ghost use mathlib.Core.Path.{_≡_};
 ghost use Prim.Native.Nat.{_^_, _≤_, _<_};
 ghost use lib.ListN.{length};
@@ -35,7 +35,7 @@ pub(crate) enum Section {
     Refused(u32),
 }
 
-// The count at offset `at`.
+// Reads the count at offset `at`.
 fn count_at(file: &[u8], at: usize) -> Reading
     requires { ⌜ at ≤ length (now file) ⌝ }
     ensures { λ r. ⌜ r ≡ readingTo (itemsAt at) (countAt at (now (file .entry))) (now (file .entry)) ⌝ }
@@ -46,7 +46,7 @@ fn count_at(file: &[u8], at: usize) -> Reading
     Reading::Value(octets::number_at(file, at, COUNT_WIDTH) as usize)
 }
 
-// `place`, unless the file ends before it.
+// `place`, unless the file ends before that offset.
 fn place_in(file: &[u8], place: usize) -> Reading
     ensures { λ r. ⌜ r ≡ readingTo place place (now (file .entry)) ⌝ }
 {
@@ -56,7 +56,7 @@ fn place_in(file: &[u8], place: usize) -> Reading
     Reading::Value(place)
 }
 
-// The section that begins at `at`: its count is read, judged, then its length.
+// Reads the section that begins at `at`: its count, which must be in `least` to `most` (else `refusal`), then its length.
 pub(crate) fn section_at(
     file: &[u8],
     at: usize,
@@ -102,7 +102,8 @@ pub(crate) fn write_label(label: &[u8], out: &mut [u8])
 // Writes the section of sent packets from offset `at` on.
 pub(crate) fn write_sizes(sizes: &[u16], out: &mut [u8], at: usize)
     requires { ⌜ endOf at sizeWidth (length (now sizes)) ≤ length (now out) ⌝ }
-    ensures { λ _. ⌜ now (out .exit) ≡ splice at (section (length (now (sizes .entry))) (itemOctets sizeOctets (now (sizes .entry)))) (now (out .entry)) ⌝ }
+    ensures { λ _. ⌜ now (out .exit)
+        ≡ splice at (section (length (now (sizes .entry))) (itemOctets sizeOctets (now (sizes .entry)))) (now (out .entry)) ⌝ }
 {
     octets::put_number(out, at, COUNT_WIDTH, sizes.len() as u64);
     let mut i = 0;
@@ -118,7 +119,10 @@ pub(crate) fn write_sizes(sizes: &[u16], out: &mut [u8], at: usize)
 // Writes the section of arrivals from offset `at` on.
 pub(crate) fn write_arrivals(numbers: &[u32], times: &[u64], out: &mut [u8], at: usize)
     requires { ⌜ (length (now times) ≡ length (now numbers)) × (endOf at arrivalWidth (length (now numbers)) ≤ length (now out)) ⌝ }
-    ensures { λ _. ⌜ now (out .exit) ≡ splice at (section (length (now (numbers .entry))) (itemOctets arrivalOctets (arrivalsFrom (now (numbers .entry)) (now (times .entry))))) (now (out .entry)) ⌝ }
+    ensures { λ _. ⌜ now (out .exit)
+        ≡ splice at
+        (section (length (now (numbers .entry))) (itemOctets arrivalOctets (arrivalsFrom (now (numbers .entry)) (now (times .entry)))))
+        (now (out .entry)) ⌝ }
 {
     octets::put_number(out, at, COUNT_WIDTH, numbers.len() as u64);
     let mut i = 0;

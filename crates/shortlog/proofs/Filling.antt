@@ -1,9 +1,9 @@
--- A loop that fills two lists with the arrivals of a log, which has been judged: after i lines, which end at the place `at`, the lists
--- hold the values of the first i arrivals; those left are those of the lines from there on, of which none is refused (`Filled`). So no
+-- A loop that fills two lists with the arrivals of a log, which has been judged: after i lines, which end at offset `at`, the lists hold
+-- the values of the first i arrivals; those left are those of the lines from there on, of which none is refused (`Filled`). So no
 -- malformed line stands there (`none-bad`), the number m that is found of a line is at most K (`small-number`), and its values are stored
--- at i (`filled-next`); where the log ends no line is left (`filled-done`).
--- Here r is the range, n, τ and end are the short number, the time and the end of the line that is read; numbers₀ and times₀ are the lists
--- where the loop begins, greatest, numbers and times are as at its head, with ′ after the turn. Assumes nothing.
+-- at i (`filled-next`); where the log ends no line is left (`filled-done`). Here r is the range, n, τ and end are the short number, the
+-- time and the end of the line that is read; numbers₀ and times₀ are the lists where the loop begins, greatest, numbers and times are as
+-- at its head, with ′ after the turn. Assumes nothing.
 use Prim.Native.Nat.{ℕ, _+_, _≤_, _<_, max}
 use native.Mathlib.Omega.{arith}
 use mathlib.Core.Path.{_≡_, sym, ap, _∙_}

@@ -1,8 +1,8 @@
--- What is asked of a tree is a sum. Each place has the shares of the values that were added, modulo 2^32 (`place-shares`, by the
--- additions in turn). Of one value the share of place i and what the numbers up to `rest i` have of it are what those up to i have
--- (`one-part`, by where its number lies), so of all values too (`shares-part`). So the places i, `rest i` and so on have together what
--- the numbers from 1 to i have (`parts-values`, by induction on the fuel).
--- Here a is an addition, its number and its value, and vs are additions. Assumes nothing.
+-- The sum that a tree returns is the sum of the values. Each index holds its shares of the added values, modulo 2^32 (`place-shares`, by
+-- induction on the additions). Of one value, the share of index i and what belongs to the numbers up to `rest i` are together what belongs
+-- to the numbers up to i (`one-part`, by where its number lies); so too of all values (`shares-part`). Hence the indices i, `rest i` and
+-- so on hold together the values at the numbers from 1 to i (`parts-values`, by induction on the fuel). Here a is an addition, a pair of
+-- number and value, and vs are additions. Assumes nothing.
 use mathlib.Core.Path.{_≡_, refl, _∙_}
 use mathlib.Core.Bool.{Bool, true, false, cond, _&&_}
 use mathlib.Core.List.{List, [], _∷_}

@@ -1,8 +1,7 @@
--- `rest i`, a number with its lowest set bit cleared: where the places stand that hold a number. The rest of h * 2 + 1 is h * 2, and
--- that of h * 2 is twice the rest of h, so all goes by induction on halves (`half-ind`). The next place after i is i + (i - rest i). Of
--- an odd i it is i + 1, and none is between. Of an even i a place j between has a rest of at least i, as an odd j has j - 1 and an even j
--- goes by halves (`rest-between`). The next place has a rest of at most that of i, so it holds all that i holds (`rest-next`). Assumes
--- nothing.
+-- Laws of `rest i`, which is i with its lowest set bit cleared. The rest of h * 2 + 1 is h * 2, and the rest of h * 2 is twice the rest of
+-- h, so all goes by induction on halves (`half-ind`). The index after i is i + (i - rest i). For an odd i it is i + 1, and no index is
+-- between. For an even i an index j between has a rest of at least i: an odd j has j - 1, and an even j goes by halves (`rest-between`).
+-- The next index has a rest of at most `rest i`, so it holds all that i holds (`rest-next`). Assumes nothing.
 use mathlib.Core.Path.{_≡_, refl, ap, _∙_}
 use mathlib.Core.Bool.{Bool, true, false}
 use Prim.Native.Nat.{ℕ, _+_, _-_, _*_, _/_, _%_, _≤_, _<_}

@@ -1,7 +1,7 @@
--- What the places of the tree hold while a value is added at a number: those before i have their share of it, those from i on not yet
--- (`Partly`). The next place that holds the number is i + (i - rest i), and between the two no place has a share (`partly-next`, by
--- `rest-between`). It begins at the number itself, below which no place holds it (`partly-none`), and past the last place all have their
--- share (`partly-all`). old and new are the tree before and now, j is a place. Assumes nothing.
+-- The tree while a value is added at a number: the indices before i have their share of it, those from i on not yet (`Partly`). The next
+-- index that holds the number is i + (i - rest i), and no index between has a share (`partly-next`, by `rest-between`). At the start i is
+-- the number itself, below which no index holds it (`partly-none`); past the last index all have their share (`partly-all`). old and new
+-- are the tree before and now, j is an index. Assumes nothing.
 use mathlib.Core.Path.{_≡_, refl, ap, _∙_}
 use mathlib.Core.Bool.{Bool, true, false, cond}
 use mathlib.Core.List.{List}

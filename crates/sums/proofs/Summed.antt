@@ -1,5 +1,5 @@
--- A tree that holds the sums of values, and what is asked of it: f i stands for the sum over the numbers above i, so that the place i
--- holds what f falls by from `rest i` to i, and the places i, `rest i` and so on together what it falls by from 0 to i. Assumes nothing.
+-- A tree that holds the sums of values, where f i is the sum of the values at the numbers above i. Index i holds f (rest i) - f i, so the
+-- indices i, `rest i` and so on hold together f 0 - f i. Assumes nothing.
 use mathlib.Core.Path.{_≡_, refl, ap}
 use mathlib.Core.Bool.{cond}
 use mathlib.Core.List.{List}

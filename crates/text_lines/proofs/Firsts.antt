@@ -1,7 +1,7 @@
 -- The first line of a text o ∷ t: o alone if it is a line feed (`feed`), else o before the first line of t (`other`). It is the start of
 -- the text (`first-taken`). Line n + 1 is line n of what follows it (`next-line`), and starts as far after it (`next-start`). The search
--- for its end stands at an offset `end` before which there is no line feed. As much of the line is left as the text from there begins with
--- (`LeftFrom`). Assumes nothing.
+-- for its end stands at an offset `end` before which there is no line feed. What is left of the line is the first line of the text from
+-- there on (`LeftFrom`). Assumes nothing.
 use Prim.Native.Nat.{ℕ, zero, suc, _+_, _-_, _≤_, _<_}
 use native.Mathlib.Numerals.{add-one}
 use native.Mathlib.Omega.{arith}

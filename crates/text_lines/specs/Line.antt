@@ -5,7 +5,7 @@ use mathlib.Core.Path.{_≡_}
 use lib.ListN.{length, getD, take, drop}
 use Rattle.octets.specs.Text.{lines}
 
--- line n of a text, counted from 0, with the line feed that ends it; nothing if there is none
+-- line n of a text, counted from 0, with the line feed that ends it; empty if there is no line n
 unfoldable pub lineOf : ℕ → List ℕ → List ℕ
 lineOf n text = getD (lines text) n []
 
@@ -13,7 +13,7 @@ lineOf n text = getD (lines text) n []
 unfoldable pub lineStart : ℕ → List ℕ → ℕ
 lineStart n text = length (flatten (take n (lines text)))
 
--- the first line of what a text has from `at` on ends before `end`
+-- the line that begins at offset `at` of a text ends before offset `end`
 pub record FirstLineEnds (text : List ℕ) (at end : ℕ) : Type 0 where
   pub place : end ≡ at + length (lineOf 0 (drop at text))
   pub within : end ≤ length text

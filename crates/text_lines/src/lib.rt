@@ -1,4 +1,4 @@
-// Lines of a text: line n, as a part of the text. The public call is total.
+// Finds line n of a text. The public call is total.
 ghost use mathlib.Core.Path.{_≡_};
 ghost use Prim.Native.Nat.{_+_, _≤_};
 ghost use lib.ListN.{length, drop};
@@ -33,8 +33,8 @@ fn line_start(text: &[u8], n: usize) -> usize
     at
 }
 
-// Line n of a text, counted from 0, with the line feed that ends it, as a part of the text. If there is no line n, the empty part at
-// the end of the text. Cost: O(n + octets).
+// Returns line n of a text, counted from 0, with the line feed that ends it, as a part of the text. If there is no line n, returns the
+// empty part at the end of the text. Cost: O(n + octets).
 pub fn line_of(text: &[u8], n: usize) -> &[u8]
     ensures { λ r. ⌜ (now r ≡ lineOf n (now (text .entry)))
         × (r .ptr ≡ (text .entry .ptr .0, lineStart n (now (text .entry)) + text .entry .ptr .1)) ⌝ }

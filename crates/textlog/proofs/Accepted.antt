@@ -212,7 +212,7 @@ module _ (s : Sample) (fit : FitSample s) where
   same : fileOf (record { label = s .label; sizes = s .sizes; arrivals = arrivalsFrom (numbersOf (s .arrivals)) (timesOf (s .arrivals)) }) ≡ fileOf s
   same = ap (λ (l : List Arrival). fileOf (record { label = s .label; sizes = s .sizes; arrivals = l })) (arrivals-back (s .arrivals))
 
-  -- 8 alone is due
+  -- only 8 applies
   short-alone : (room : ℕ)
       → refusalInto (sampleRefusal (s .label) (s .sizes) (numbersOf (s .arrivals)) (timesOf (s .arrivals)))
       (fileOf (record { label = s .label; sizes = s .sizes; arrivals = arrivalsFrom (numbersOf (s .arrivals)) (timesOf (s .arrivals)) })) room

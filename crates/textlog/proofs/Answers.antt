@@ -1,8 +1,7 @@
--- What an importer answers, by cases of y, what is found of decoded lines: a refusal is the answer, and the lists stay; with none, 8 comes
--- last: a list is too short, or both have a place for each line, since there are as many arrivals as lines (`rooms`), and they are filled.
--- No log that is not refused has more than 4,096 lines, so with as many places 8 is never given (`import-room`).
--- Here ds is what the lines decode to, z says that y has no refusal, r is an answer; numbers′ and times′ are the lists after the call.
--- Assumes nothing.
+-- The result of an import, by cases of y, the judgement of the decoded lines. A refusal is returned, and the lists stay. If there is none,
+-- 8 comes last: a list is too short, or both have room for every line, since there are as many arrivals as lines (`rooms`), and they are
+-- filled. A log that is not refused has at most 4,096 lines, so lists of that length are never too short (`import-room`). Here ds is what
+-- the lines decode to, z says that y has no refusal, r is a result; numbers′ and times′ are the lists after the call. Assumes nothing.
 use Prim.Native.Nat.{ℕ, zero, suc, _≤_}
 use native.Mathlib.Omega.{arith}
 use mathlib.Core.Bool.{Bool, true, false}
@@ -26,7 +25,7 @@ use Rattle.textlog.proofs.Filling.{lines-length}
 
 -- ---- the importer
 
--- with a refusal that is due nothing is filled
+-- with a refusal that applies nothing is filled
 refused-from : (k : ℕ) (ds : List DecodedLine) (numbers times : List ℕ) (x : ℕ) → (x ≡ 0 → ⊥) → importRefusal k (length numbers) (length times) ds ≡ x
     → {r : LogImport} → r ≡ record { refusal = x; arrivals = 0 } → LinesImported k ds numbers times r numbers times
 refused-from k ds numbers times zero z f q = absurd (z refl)

@@ -1,9 +1,9 @@
--- A loop that fills two lists with the arrivals of a log: after i lines, which end at the place `at`, the lists hold the values of the
--- first i arrivals, and the log from there on has the lines that are left (`Filled`). The line that is read at `at` is the first of these,
--- so its arrival is the next (`here`), and its values are stored at i (`filled-next`). No malformed line stands there, since every line
--- decodes (`none-bad`); where the log ends no line is left (`filled-done`).
--- Here ds are decoded lines, n, τ and end the number, the time and the end of the line that is read; numbers₀ and times₀ are the lists
--- where the loop begins, numbers and times at its head, with ′ after the turn. Assumes nothing.
+-- A loop that fills two lists with the arrivals of a log: after i lines, which end at offset `at`, the lists hold the values of the first
+-- i arrivals, and the log from there on has the lines that are left (`Filled`). The line that is read at `at` is the first of these, so
+-- its arrival is the next (`here`), and its values are stored at i (`filled-next`). No malformed line stands there, since every line
+-- decodes (`none-bad`); where the log ends no line is left (`filled-done`). Here ds are decoded lines, n, τ and end the number, the time
+-- and the end of the line that is read; numbers₀ and times₀ are the lists where the loop begins, numbers and times at its head, with ′
+-- after the turn. Assumes nothing.
 use Prim.Native.Nat.{ℕ, _+_, _≤_, _<_}
 use native.Mathlib.Omega.{arith}
 use mathlib.Core.Path.{_≡_, refl, sym, ap, _∙_}

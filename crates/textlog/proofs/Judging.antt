@@ -1,8 +1,8 @@
--- Decoded lines in turn. The first line decides, or the lines after it do (`judge-first`). In a loop the answer of all lines is that of
--- those that are left (inv), of which the first is malformed (`judge-bad`), or is the 4,097th (`judge-many`), or its arrival is refused
--- (`judge-stop`), or those after it decide (`judge-next`); at the end none is left (`judge-done`, `none-left`).
--- Here r is a refusal, y an answer, d what a line decodes to and ds what those after it do, a its arrival; `count` lines
--- come before it, and J is the answer of all lines. Assumes nothing.
+-- Decoded lines in turn. The first line decides, or the lines after it do (`judge-first`). In a loop the judgement of all lines is that of
+-- the lines left (inv), of which the first is malformed (`judge-bad`), or is the 4,097th (`judge-many`), or its arrival is refused
+-- (`judge-stop`), or those after it decide (`judge-next`); at the end none is left (`judge-done`, `none-left`). Here r is a refusal, y a
+-- judgement, d what a line decodes to and ds what those after it do, a its arrival; `count` lines come before it, and J is the judgement
+-- of all lines. Assumes nothing.
 use Prim.Native.Nat.{ℕ, zero, suc, _+_, _≤_, _<_}
 use native.Mathlib.Omega.{arith}
 use mathlib.Core.Path.{_≡_, refl, sym, ap, _∙_}
@@ -18,19 +18,19 @@ use Rattle.rfc4737.proofs.Due.{first-one}
 use Rattle.textlog.specs.Decode.{DecodedLine, malformed, arrived, decodedLines, arrivalOr0, judgeLine, unless, judgeLines}
 use Rattle.textlog.specs.declared.LogJudgement.{LogJudgement}
 
--- ---- an answer, unless a refusal is due
+-- ---- a judgement, unless a refusal comes before it
 
--- none is due
+-- none does
 unless-none : (r line : ℕ) (y : LogJudgement) → r ≡ 0 → unless r line y ≡ y
 unless-none zero line y e = refl
 unless-none (suc r) line y e = absurd (omega arith)
 
--- one is
+-- one does
 unless-due : (r line : ℕ) (y : LogJudgement) → (r ≡ 0 → ⊥) → unless r line y ≡ record { refusal = r; arrivals = 0; line = line }
 unless-due zero line y e = absurd (e refl)
 unless-due (suc r) line y e = refl
 
--- no refusal is answered: none was due before the answer, and the answer is none
+-- nothing is refused: no refusal comes before the judgement, and the judgement has none
 pub unless-split : (r line : ℕ) (y : LogJudgement) → unless r line y .refusal ≡ 0 → (r ≡ 0) × (unless r line y ≡ y) × (y .refusal ≡ 0)
 unless-split zero line y e = (refl, refl, e)
 unless-split (suc r) line y e = absurd (omega arith)

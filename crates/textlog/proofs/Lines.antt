@@ -1,10 +1,9 @@
 -- The lines of a log. A line of the form has a line feed at its end and no other, so it is the first line of a text that begins with it
 -- (`line-first`). A line decodes exactly if it has the form and fits (`exact-line`): `complete` reads what has the form, to its end;
--- `sound` gives the form of what is read, and as it is read to its end nothing is left over. So what is read at a place of a log is the
+-- `sound` gives the form of what is read, and as it is read to its end nothing is left over. So what is read at an offset of a log is the
 -- first line from there on, and the others are those of what follows (`line-read`); and where nothing is read the first line is malformed,
--- since otherwise it would be read (`line-unread`); both are said of what the lines decode to.
--- Here l and text are lines, a is an arrival, n its number, τ its time, u what follows a line; at and end are places in the log. Assumes
--- nothing.
+-- since otherwise it would be read (`line-unread`); both are said of what the lines decode to. Here l and text are lines, a is an arrival,
+-- n its number, τ its time, u what follows a line; at and end are offsets in the log. Assumes nothing.
 use Prim.Native.Nat.{ℕ, suc, _+_, _≤_, _<_}
 use native.Mathlib.Nat.{zero-add}
 use native.Mathlib.Omega.{arith}

@@ -1,9 +1,9 @@
--- What the reading of a line finds at the places of a log: a law for each `return` of `line_at`, `time_at` and `fraction_at`. `number_at`
--- gave digits that begin at `at`. By its contract their end, their number, the octet after them and what follows are those of the text that
--- begins there (`ends` to `place`). So the tests of the code, one after the other, are those of `lineIn`, `timeIn` and `fractionIn`. A
--- number over 64 bits is read as the greatest, and this loses nothing, since both are over every range (`range-least`).
--- Here n or number is the sequence number, v or whole the milliseconds, f the microseconds after them, e where the line ends, t a text, ds
--- the decimals; r is what the code answers; s, h, o, l and m are the tests that were passed. Assumes nothing.
+-- What is read at the offsets of a log: a law for each `return` of `line_at`, `time_at` and `fraction_at`. `number_at` gave digits that
+-- begin at `at`. By its contract their end, their number, the octet after them and what follows are those of the text that begins there
+-- (`ends` to `place`). So the tests of the code, one after the other, are those of `lineIn`, `timeIn` and `fractionIn`. A number over 64
+-- bits is read as the greatest, and this loses nothing, since both are over every range (`range-least`). Here n or number is the sequence
+-- number, v or whole the milliseconds, f the microseconds after them, e where the line ends, t a text, ds the decimals; r is what the code
+-- returns; s, h, o, l and m are the tests that were passed. Assumes nothing.
 use Prim.Native.Nat.{ℕ, _+_, _*_, _-_, _^_, _≤_, _<_, min}
 use native.Mathlib.Omega.{arith}
 use mathlib.Core.Bool.{Bool, true, false}

@@ -2,9 +2,9 @@
 -- arrival (`form-decoded`, `form-arrivals`), and no line is refused where no arrival is (`form-judged`); with Accepted.antt, a log is not
 -- refused exactly if it has the form of arrivals that are not refused (`exact-log`). A written log has the form: digits of a number, by
 -- induction over them, three decimals, a time, a line, then lines in turn (`log-form`). So what is written reads back (`read-again`):
--- without a refusal the log stands at the start, and there is room for its arrivals.
--- Here k is K, l are arrivals and a is one, rest those after it, n a number, t a time, d a digit's value. In `read-again` w and r say what
--- was written and read, out, numbers₀ and times₀ are what was lent, and with ′ what is left. Assumes nothing.
+-- without a refusal the log stands at the start, and there is room for its arrivals. Here k is K, l are arrivals and a is one, rest those
+-- after it, n a number, t a time, d a digit's value. In `read-again` w and r say what was written and read, out, numbers₀ and times₀ are
+-- the caller's buffer and lists before the call, with ′ after it. Assumes nothing.
 use Prim.Native.Nat.{ℕ, _+_, _*_, _/_, _%_, _^_, _≤_, _<_}
 use native.Mathlib.Nat.{add-zero, zero-add}
 use native.Mathlib.Omega.{arith}

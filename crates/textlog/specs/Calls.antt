@@ -27,7 +27,8 @@ importRefusal k numbers times ds =
     firstRefusal (judgeDecoded k ds .refusal ∷ refusalIf (logListsShort (length (arrivalsOfLines ds)) numbers times) outputShort ∷ [])
 
 -- the result of an import of decoded lines, and the two lists after it: the arrivals' values from their start, all else as it was
-pub record LinesImported (k : ℕ) (ds : List DecodedLine) (numbers times : List ℕ) (answer : LogImport) (numbers′ times′ : List ℕ) : Type 0 where
+pub record LinesImported (k : ℕ) (ds : List DecodedLine) (numbers times : List ℕ) (answer : LogImport)
+    (numbers′ times′ : List ℕ) : Type 0 where
   pub refusal : answer .refusal ≡ importRefusal k (length numbers) (length times) ds
   pub arrivals : answer .arrivals ≡ ifNone (answer .refusal) (length (arrivalsOfLines ds)) 0
   pub filledNumbers : numbers′ ≡ ifNone (answer .refusal) (over (numbersOf (arrivalsOfLines ds)) numbers) numbers

@@ -143,7 +143,8 @@ pub fn refused_import(refusal: u32) -> LogImport
 // Imports the log of K sent packets: fills the lists of numbers and times from their start. With a refusal they stay as
 // they were. Cost: O(octets of the log).
 pub fn import(log: &[u8], k: u32, numbers: &mut [u32], times: &mut [u64]) -> LogImport
-    ensures { λ r. ⌜ LogImportedFrom k (now (log .entry)) (now (numbers .entry)) (now (times .entry)) r (now (numbers .exit)) (now (times .exit)) ⌝ }
+    ensures { λ r. ⌜ LogImportedFrom k (now (log .entry)) (now (numbers .entry)) (now (times .entry))
+        r (now (numbers .exit)) (now (times .exit)) ⌝ }
     ensures exact { λ _. ⌜ ExactLine × ExactLog k (now (log .entry)) ⌝ }
     ensures fit { λ _. ⌜ ImportedIsFit k (now (log .entry)) ⌝ }
     ensures cases { λ _. ⌜ LinesReadAsGiven ⌝ }

@@ -60,7 +60,8 @@ fn put_line(out: &mut [u8], at: usize, number: u32, time: u64) -> usize
 
 // Writes the log of two lists from the start of `out`.
 pub(crate) fn put_lines(numbers: &[u32], times: &[u64], out: &mut [u8])
-    requires { ⌜ (length (now times) ≡ length (now numbers)) × (length (logOf (arrivalsFrom (now numbers) (now times))) ≤ length (now out)) ⌝ }
+    requires { ⌜ (length (now times) ≡ length (now numbers))
+        × (length (logOf (arrivalsFrom (now numbers) (now times))) ≤ length (now out)) ⌝ }
     ensures { λ _. ⌜ now (out .exit) ≡ over (logOf (arrivalsFrom (now (numbers .entry)) (now (times .entry)))) (now (out .entry)) ⌝ }
 {
     let mut at = 0;

@@ -1,1 +1,1 @@
-// A text whose parts are written one after the other, and its laws. The crates that write texts cite them; there is no code here.
+// Definitions and laws of writing a text part by part. The crates that write texts cite them; there is no code here.

@@ -1,5 +1,5 @@
--- `decimal::put_decimal` meets its contract: the two tests before `write_decimal` say together that there is room for the digits, which
--- is the test of `put`; where one fails memory stays. w is the place where they are written. Assumes nothing.
+-- `decimal::put_decimal` meets its contract: the two tests before `write_decimal` say together that there is room for the digits, which is
+-- the test of `put`; if one fails, memory stays as it was. w is where they are written. Assumes nothing.
 use mathlib.Core.Path.{sym, _∙_}
 use native.Mathlib.Omega.{arith}
 use borrow.Author.Needs.{needs}

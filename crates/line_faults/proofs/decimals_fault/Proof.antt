@@ -1,5 +1,4 @@
--- `line_faults::decimals_fault` meets its contract: each `return` is a case of `decimalsUpTo`, taken of the digits that were read. Assumes
--- nothing.
+-- `line_faults::decimals_fault` meets its contract: each `return` is a case of `decimalsUpTo`, by where the digits end. Assumes nothing.
 use borrow.Author.Needs.{needs}
 use native.Mathlib.Omega.{arith}
 use mathlib.Core.Path.{_≡_, ap, _∙_}

@@ -1,4 +1,4 @@
--- `line_faults::end_fault` meets its contract: a line feed, or another octet (`stray_at`). Assumes nothing.
+-- `line_faults::end_fault` meets its contract: the octet is a line feed, or `stray_at` decides. Assumes nothing.
 use borrow.Author.Needs.{needs}
 use mathlib.Core.Path.{sym, _∙_}
 use borrow.Author.Tests.{eq-eqb, ne-eqb}

@@ -1,4 +1,4 @@
--- `line_faults::line_fault` meets its contract: each `return` is a case of `numberFault`, taken of the digits that were read. Here j is the
+-- `line_faults::line_fault` meets its contract: each `return` is a case of `numberFault`, by the digits that were read. Here j is the
 -- place after the first test. Assumes nothing.
 use borrow.Author.Needs.{needs}
 use mathlib.Core.Path.{_≡_, ap, _∙_}

@@ -1,4 +1,5 @@
--- `line_faults::start_fault` meets its contract: the mark, or by the first octet. Assumes nothing.
+-- `line_faults::start_fault` meets its contract: each `return` is a case of `startFault`, by the byte order mark and then by the first
+-- octet. Assumes nothing.
 use borrow.Author.Needs.{needs}
 use mathlib.Core.Path.{sym, _∙_}
 use borrow.Author.Tests.{eq-eqb, ne-eqb}

@@ -1,4 +1,4 @@
--- `line_faults::stray_at` meets its contract: past the end, or by the octet. Assumes nothing.
+-- `line_faults::stray_at` meets its contract: each `return` is a case of `strayAt`, past the end or by the octet. Assumes nothing.
 use borrow.Author.Needs.{needs}
 use borrow.Author.Tests.{le-leb, lt-leb, eq-eqb, ne-eqb}
 use Rattle.line_faults.specs.Faults.{strayAt}

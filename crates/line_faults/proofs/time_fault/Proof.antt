@@ -1,4 +1,4 @@
--- `line_faults::time_fault` meets its contract: each `return` is a case of `timeUpTo`, taken of the digits that were read. Assumes nothing.
+-- `line_faults::time_fault` meets its contract: each `return` is a case of `timeUpTo`, by where the digits end. Assumes nothing.
 use borrow.Author.Needs.{needs}
 use mathlib.Core.Path.{_≡_, sym, ap, _∙_}
 use Prim.Native.Nat.{_+_}

@@ -12,7 +12,7 @@ returns c =
     let e2 = c .before .before in
     let e1 = e2 .before .before .before .before in
     let s = e1 .before .before .before .before in
-    two-fields 16 copyWord (number (s .args .f .first)) (s .pre) (e1 .write-word .ensures) (e2 .write-number .ensures)
+    two-fields 16 copyWord (number (s .args .figures .first)) (s .pre) (e1 .write-word .ensures) (e2 .write-number .ensures)
 
 pub write-duplicate-spec : {M : Type 1} → statement M
 write-duplicate-spec =

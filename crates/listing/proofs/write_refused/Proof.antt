@@ -13,7 +13,7 @@ returns c =
     let e2 = c .before .before in
     let e1 = e2 .before .before .before .before in
     let s = e1 .before .before .before .before in
-    two-fields 19 refusedWord (number (s .args .n)) (s .pre) (e1 .write-word .ensures) (e2 .write-number .ensures)
+    two-fields 19 refusedWord (number (s .args .refusal)) (s .pre) (e1 .write-word .ensures) (e2 .write-number .ensures)
 
 pub write-refused-spec : {M : Type 1} → statement M
 write-refused-spec =

@@ -1,5 +1,5 @@
--- `octets::has_room` meets its contract. With n within len, the place is at most what is left beside n exactly if place and n together
--- are at most len. With n over len they never are. Assumes nothing.
+-- `octets::has_room` meets its contract. If n is at most len, then at + n is at most len exactly if `at` is at most len - n. If n is over
+-- len, so is at + n. Assumes nothing.
 use Prim.Native.Nat.{ℕ, _+_, _-_, _≤_}
 use native.Mathlib.Omega.{arith}
 use mathlib.Core.Bool.{Bool, true, false}

@@ -1,5 +1,5 @@
--- `octets::number_at` meets its contract. Past the end no octet stands, and their value is 0. With enough octets left `value_of` reads
--- those of the width. Else it reads those up to the end, and the part of the width is all of these too. Assumes nothing.
+-- `octets::number_at` meets its contract. If `at` is past the end, the part is empty and its value is 0. If the octets of the width are
+-- left, `value_of` reads them. Else it reads the octets up to the end, which are the whole part. Assumes nothing.
 use Prim.Native.Nat.{ℕ, _-_, min}
 use native.Mathlib.Omega.{arith}
 use mathlib.Core.Path.{sym, ap, _∙_}

@@ -1,4 +1,4 @@
--- `octets::octets_of` meets its contract: its test is whether the width is below 8, and each return is then the lesser of both. Assumes
+-- `octets::octets_of` meets its contract: its test is whether the width is below 8, and each return is the lesser of both. Assumes
 -- nothing.
 use native.Mathlib.Omega.{arith}
 use Rattle.octets.proofs.octets_of.Statement.{statement}

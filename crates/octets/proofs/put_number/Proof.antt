@@ -1,5 +1,6 @@
--- `octets::put_number` meets its contract: `has_room` answers the test of `put`, since there are as many octets as the width; where it
--- holds `write_number` splices them in, else memory stays. `read-back` is the theorem that the contract carries. Assumes nothing.
+-- `octets::put_number` meets its contract: `has_room` decides the test of `put`, since a number has as many octets as its width. If it
+-- holds, `write_number` splices them in; else memory stays as it was. `read-back` is the theorem that the contract carries. Assumes
+-- nothing.
 use Prim.Native.Nat.{_+_, _≤_}
 use mathlib.Core.Path.{sym, _∙_}
 use borrow.Author.Needs.{needs}

@@ -1,5 +1,5 @@
--- `octets::put_octets` meets its contract: `has_room` answers the test of `put`; where it holds `write_octets` splices the octets in, else
--- memory stays. Assumes nothing.
+-- `octets::put_octets` meets its contract: `has_room` decides the test of `put`. If it holds, `write_octets` splices the octets in; else
+-- memory stays as it was. Assumes nothing.
 use mathlib.Core.Path.{sym, _∙_}
 use borrow.Author.Needs.{needs}
 use borrow.Author.Tests.{leb-true}

@@ -1,6 +1,6 @@
--- `octets::value_of` meets its contract. The loop's invariant: i is at most n, and v is the value of the first i octets from the place
--- on. n is at most 8, so v is below 256 ^ 7 before each octet, and the product and the sum fit 64 bits; a turn is `value-part-snoc`. The
--- measure is n - i. Assumes nothing.
+-- `octets::value_of` meets its contract. The loop's invariant: i is at most n, and v is the value of the first i octets from `at` on. n is
+-- at most 8, so v is below 256 ^ 7 before each octet, and the product and the sum fit 64 bits; a turn is `value-part-snoc`. The measure is
+-- n - i. Assumes nothing.
 use Prim.Native.Nat.{_+_, _-_, _^_, _≤_, _<_}
 use native.Mathlib.Omega.{arith}
 use mathlib.Core.Path.{_≡_, sym}

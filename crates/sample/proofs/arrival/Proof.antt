@@ -1,6 +1,5 @@
--- `sample::arrival` meets its contract: the test is that of `arrivalFound`, whether the file ends before the twelve octets at the arrival's
--- place; where it has them `arrival_of` reads them. By the file's own layout it is the sample's arrival (`arrival-of-sample`).
--- Assumes nothing.
+-- `sample::arrival` meets its contract: the test is that of `arrivalFound`, whether the file ends before the arrival's twelve octets do;
+-- if it has them, `arrival_of` reads them. By the file's own layout it is the sample's arrival (`arrival-of-sample`). Assumes nothing.
 use borrow.Author.Needs.{needs}
 use Prim.Native.Nat.{ℕ, _+_, _*_, _≤_}
 use native.Mathlib.Omega.{arith}

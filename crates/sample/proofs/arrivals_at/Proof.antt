@@ -1,4 +1,4 @@
--- `sample::arrivals_at` meets its contract: the place computed is `arrivalsAt`, and by a file's own layout its arrivals stand there
+-- `sample::arrivals_at` meets its contract: the offset computed is `arrivalsAt`, and by a file's own layout its arrivals stand there
 -- (`arrivals-from`). Assumes nothing.
 use borrow.Author.Needs.{needs}
 use mathlib.Core.Path.{_≡_}

@@ -1,6 +1,6 @@
--- `sample::label` meets its contract. With a refusal of `check` the file decodes to it, and its label is the empty part at the start.
--- With none the count found is that of the file, so the part from behind the count to where the section ends is the label, and lies
--- within the file. Assumes nothing.
+-- `sample::label` meets its contract. If `check` refuses the file, its label is empty, and so is the part at the start. Else the count in
+-- the layout is the file's, so the part from after the count to the end of the section is the label, and lies within the file. Assumes
+-- nothing.
 use borrow.Author.Needs.{needs}
 use Prim.Native.Nat.{ℕ, _+_, _-_}
 use native.Mathlib.Omega.{arith}

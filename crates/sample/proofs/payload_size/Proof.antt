@@ -1,5 +1,5 @@
--- `sample::payload_size` meets its contract: `number_at` reads the two octets at the size's place, and their value fits 16 bits.
--- By the file's own layout it is the sample's size (`size-of-sample`). Assumes nothing.
+-- `sample::payload_size` meets its contract: `number_at` reads the two octets at the size's offset, and their value fits 16 bits. By the
+-- file's own layout it is the sample's size (`size-of-sample`). Assumes nothing.
 use borrow.Author.Needs.{needs}
 use Prim.Native.Nat.{ℕ, _+_, _*_, _^_, _<_}
 use native.Mathlib.Omega.{arith}

@@ -1,7 +1,7 @@
--- `sample::read` meets its contract. A refusal of `check` is answered, and a list that is too short is 8, both with the lists as they
--- were. Else the values lie within the file and the lists have room for them (`room`), so both calls may fill them (`read-filled`).
--- Beside each answer stands the round trip (`written-again`). a are the arguments, f is the file, y the layout that `check` returns.
--- Assumes nothing.
+-- `sample::read` meets its contract. A refusal of `check` is returned, and 8 for a list that is too short, both with the lists as they
+-- were. Else the values lie within the file and the lists have room for them (`room`), so both calls fill them (`read-filled`). Each
+-- return also carries the round trip (`written-again`). a are the arguments, f is the file, y the layout that `check` returns. Assumes
+-- nothing.
 use borrow.Author.Needs.{needs}
 use Prim.Native.Nat.{ℕ}
 use native.Mathlib.Omega.{arith}

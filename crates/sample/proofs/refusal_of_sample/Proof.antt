@@ -1,5 +1,5 @@
 -- `sample::refusal_of_sample` meets its contract. The tests are those of `sampleRefusal` in its order, so each return is the refusal of
--- the first that holds. Where neither does it is that of K and the lists. Assumes nothing.
+-- the first that holds. If neither does, it is the refusal of K and the lists. Assumes nothing.
 use borrow.Author.Needs.{needs}
 use mathlib.Core.Path.{sym, _∙_}
 use Rattle.rfc4737.proofs.Due.{first-one}

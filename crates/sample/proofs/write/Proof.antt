@@ -1,6 +1,6 @@
--- `sample::write` meets its contract. Where `refusal_of_sample` finds one it is answered. Where it finds none the label and lists keep
--- their limits (`limited`), so the places that are computed fit and are those of the layout (`places`). With too few lent octets the
--- answer is 8; else the three calls splice the sections one behind the other (`write-filled`). Beside each answer stands the round trip
+-- `sample::write` meets its contract. A refusal of `refusal_of_sample` is returned. If there is none, label and lists keep their limits
+-- (`limited`), so the offsets that are computed fit 64 bits and are those of the layout (`places`). If the buffer is too short, 8 is
+-- returned; else the three calls splice the sections one after the other (`write-filled`). Each return also carries the round trip
 -- (`again`). Assumes nothing.
 use borrow.Author.Needs.{needs}
 use Prim.Native.Nat.{_≤_}

@@ -1,6 +1,6 @@
--- `shortlog::import` meets its contract, as textlog's does: a refusal of `judge_log` is the answer; with none, a list too short is 8; else
--- no line is refused and each has its places, and `fill_arrivals` fills both lists. The laws are textlog's, over the lines with the
--- numbers found. j, n and f are places: after `judge_log`, where it refuses nothing, and where both lists have room. Assumes nothing.
+-- `shortlog::import` meets its contract, as textlog's does: a refusal of `judge_log` is returned; else 8 if a list is too short; else no
+-- line is refused, the lists have room, and `fill_arrivals` fills both lists. The laws are textlog's, over the lines with the numbers
+-- found. j, n and f are places: after `judge_log`, where it refuses nothing, and where both lists have room. Assumes nothing.
 use mathlib.Core.Bool.{false}
 use mathlib.Core.Path.{_≡_, sym, ap, _∙_}
 use mathlib.Core.List.{List}

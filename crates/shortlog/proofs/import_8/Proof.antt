@@ -1,5 +1,5 @@
--- `shortlog::import_8` meets its contract: it is the import over its range; what holds of every width and the table are laws.
--- Assumes nothing.
+-- `shortlog::import_8` meets its contract: it is the import for its range. What the contract carries, the statement for every width and
+-- the table, are laws. Assumes nothing.
 use borrow.Author.Needs.{needs}
 use Rattle.shortlog.proofs.TrueNumbers.{every-log}
 use Rattle.shortlog.proofs.Cases.{as-given}

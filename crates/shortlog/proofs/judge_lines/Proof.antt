@@ -1,8 +1,8 @@
 -- `shortlog::judge_lines` meets its contract. The loop's invariant: at most 4,096 lines are passed, the greatest number is at most 4,096,
--- and the answer of all lines is that of those left, with `count` lines before them, the reference that these leave and the numbers found
--- from the greatest (`foundFrom`). Each return is a law of textlog's Judging.antt for the line that is read at `at`, which with its number
--- is the first of those left (`found`), or that none is. A number that is not refused is at most K (`small`). The measure is what is left
--- of the log: a line has at least an octet. Assumes nothing.
+-- and the judgement of all lines is that of the lines left, with `count` lines before them, the reference that these leave and the numbers
+-- found from the greatest (`foundFrom`). Each return is a law of textlog's Judging.antt for the line that is read at `at`, which with its
+-- number is the first of those left (`found`), or that none is. A number that is not refused is at most K (`small`). The measure is what
+-- is left of the log: a line has at least an octet. Assumes nothing.
 use Prim.Native.Nat.{ℕ, _+_, _-_, _≤_, max}
 use native.Mathlib.Omega.{arith}
 use mathlib.Core.Path.{_≡_, refl, sym, ap, _∙_}

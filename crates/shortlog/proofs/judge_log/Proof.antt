@@ -1,5 +1,5 @@
--- `shortlog::judge_log` meets its contract: `outside` answers the test of K, whose refusal comes before any line; else K is at most 4,096,
--- and the lines decide. Assumes nothing.
+-- `shortlog::judge_log` meets its contract: `outside` decides the test of K, whose refusal comes before that of any line; else K is at
+-- most 4,096, and the lines decide. Assumes nothing.
 use native.Mathlib.Omega.{arith}
 use mathlib.Core.Bool.{Bool}
 use mathlib.Core.Path.{sym, ap, _∙_}

@@ -1,4 +1,4 @@
--- `shortlog::refused_line_10` meets its contract: it is the line of what `judge_log` finds over its range. Assumes nothing.
+-- `shortlog::refused_line_10` meets its contract: it returns the line of `judge_log`'s judgement for its range. Assumes nothing.
 use mathlib.Core.Path.{ap}
 use borrow.Author.Needs.{needs}
 use Rattle.textlog.specs.declared.LogJudgement.{LogJudgement}

@@ -1,6 +1,6 @@
--- `sums::add` meets its contract. The loop's invariant: the place i holds the number, and the value stands at the places before it
--- (`Partly`). A turn adds the value at i and goes to the next place that holds the number (`partly-next`, `rest-next`). The measure is
--- what is left of the places. Assumes nothing.
+-- `sums::add` meets its contract. The loop's invariant: index i holds the number, and the value has been added at the indices before it
+-- (`Partly`). A turn adds the value at i and goes to the next index that holds the number (`partly-next`, `rest-next`). The measure is the
+-- number of indices left. Assumes nothing.
 use Prim.Native.Nat.{_-_, _≤_, _<_}
 use native.Mathlib.Omega.{arith}
 use borrow.Author.Needs.{needs}

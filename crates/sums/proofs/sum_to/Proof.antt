@@ -1,6 +1,5 @@
--- `sums::sum_to` meets its contract. The loop's invariant: the sum, with what stands at the place i and those after it, wraps to what is
--- asked for. A turn takes the place i into the sum, and those after it are those of `rest i` (`parts-first`). The measure is i.
--- Assumes nothing.
+-- `sums::sum_to` meets its contract. The loop's invariant: the sum, plus what index i and the indices after it hold, is the result modulo
+-- 2^32. A turn adds what index i holds; the indices after it are those of `rest i` (`parts-first`). The measure is i. Assumes nothing.
 use mathlib.Core.Path.{_≡_}
 use mathlib.Core.List.{List}
 use Prim.Native.Nat.{ℕ, _+_, _%_, _^_, _<_}

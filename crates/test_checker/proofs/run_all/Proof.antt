@@ -1,4 +1,4 @@
--- `test_checker::run_all` is safe and ends. Invariant: none. Measure: the lines that are left.
+-- `test_checker::run_all` is safe and ends. The loop needs no invariant. Measure: the number of lines left.
 use borrow.Author.Needs.{needs}
 use Prim.Native.Nat.{_-_}
 use Rattle.test_checker.proofs.run_all.Statement.{statement}

@@ -1,4 +1,4 @@
--- `test_worse::main` is safe and ends. Invariant: none. Measure: the lines that are left.
+-- `test_worse::main` is safe and ends. The loop needs no invariant. Measure: the number of lines left.
 use borrow.Author.Needs.{needs}
 use Prim.Native.Nat.{_-_}
 use Rattle.test_worse.proofs.main.Statement.{statement}

@@ -1,4 +1,4 @@
--- `text_lines::line_end` meets its contract. Invariant: `LeftFrom`. Measure: the octets that are left. Assumes nothing.
+-- `text_lines::line_end` meets its contract. Invariant: `LeftFrom`. Measure: the number of octets left. Assumes nothing.
 use Prim.Native.Nat.{_-_}
 use mathlib.Core.Path.{refl}
 use lib.ListN.{length}

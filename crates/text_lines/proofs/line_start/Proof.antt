@@ -1,5 +1,5 @@
--- `text_lines::line_start` meets its contract. Invariant: line n of the text is line `left` of what it has from `at` on (`line-after`), and
--- starts where that does (`start-after`). Measure: the lines that are left. Assumes nothing.
+-- `text_lines::line_start` meets its contract. Invariant: line n of the text is line `left` of the text from `at` on (`line-after`), and
+-- starts where that does (`start-after`). Measure: the number of lines left. Assumes nothing.
 use Prim.Native.Nat.{ℕ, _+_, _≤_}
 use native.Mathlib.Omega.{arith}
 use native.Mathlib.Nat.{zero-add}

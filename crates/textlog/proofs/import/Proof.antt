@@ -1,7 +1,6 @@
--- `textlog::import` meets its contract: a refusal of `judge_log` is the answer; with none, a list too short is 8; else every line decodes
--- and has its places (`accepted-decoded`, `rooms`), and `fill_arrivals` fills both. Beside each answer stand the theorems that the
--- contract carries (`carried`). j, n and f are places: after `judge_log`, where it refuses nothing, and where both lists have room.
--- Assumes nothing.
+-- `textlog::import` meets its contract: a refusal of `judge_log` is returned; else 8 if a list is too short; else every line decodes and
+-- the lists have room (`accepted-decoded`, `rooms`), and `fill_arrivals` fills both. Each return also carries the theorems of the contract
+-- (`carried`). j, n and f are places: after `judge_log`, where it refuses nothing, and where both lists have room. Assumes nothing.
 use Prim.Native.Nat.{ℕ}
 use mathlib.Core.Bool.{false}
 use mathlib.Core.Path.{_≡_, sym, ap, _∙_}

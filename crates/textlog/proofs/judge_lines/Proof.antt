@@ -1,7 +1,7 @@
--- `textlog::judge_lines` meets its contract. The loop's invariant: at most 4,096 lines are passed, and the answer of all lines is that of
--- those left, with `count` lines before them and the reference that these leave. Each return is a law of Judging.antt for the line that is
--- read at `at`, which is the first of those left (`first`), or that none is. The measure is what is left of the log: a line has at least
--- an octet. Assumes nothing.
+-- `textlog::judge_lines` meets its contract. The loop's invariant: at most 4,096 lines are passed, and the judgement of all lines is that
+-- of the lines left, with `count` lines before them and the reference that these leave. Each return is a law of Judging.antt for the line
+-- that is read at `at`, which is the first of those left (`first`), or that none is. The measure is what is left of the log: a line has at
+-- least an octet. Assumes nothing.
 use Prim.Native.Nat.{ℕ, _-_, _≤_}
 use native.Mathlib.Omega.{arith}
 use mathlib.Core.Path.{_≡_, refl, sym, _∙_}

@@ -1,5 +1,5 @@
--- `textlog::judge_log` meets its contract: `outside` answers the test of K, whose refusal comes before any line; else the lines decide.
--- Assumes nothing.
+-- `textlog::judge_log` meets its contract: `outside` decides the test of K, whose refusal comes before that of any line; else the lines
+-- decide. Assumes nothing.
 use mathlib.Core.Path.{sym, _∙_}
 use borrow.Author.Needs.{needs}
 use Rattle.textlog.specs.Decode.{judgeDecoded}

@@ -1,4 +1,4 @@
--- `textlog::refused_line` meets its contract: it is the line of what `judge_log` finds. Assumes nothing.
+-- `textlog::refused_line` meets its contract: it returns the line of `judge_log`'s judgement. Assumes nothing.
 use mathlib.Core.Path.{ap}
 use borrow.Author.Needs.{needs}
 use Rattle.textlog.specs.declared.LogJudgement.{LogJudgement}

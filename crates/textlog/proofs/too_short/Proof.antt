@@ -1,5 +1,5 @@
--- `textlog::too_short` meets its contract: the test of the numbers is the first half of `logListsShort`; where it fails, that of the times,
--- the second, is returned. Assumes nothing.
+-- `textlog::too_short` meets its contract: the test of the numbers is the first half of `logListsShort`; if it fails, the test of the
+-- times, the second half, is returned. Assumes nothing.
 use borrow.Author.Tests.{lt-ltb, le-ltb}
 use Rattle.textlog.specs.Calls.{logListsShort}
 use Rattle.textlog.proofs.too_short.Statement.{statement}

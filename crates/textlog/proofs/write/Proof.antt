@@ -1,6 +1,6 @@
--- `textlog::write` meets its contract: a refusal of the lists is answered. With none they are equally long and at most 4,096, which
--- `log_length` asks for. With fewer lent octets than it counts the answer is 8. Else `put_lines` writes the log. Beside each answer stand
--- the theorems that the contract carries (`carried`). Assumes nothing.
+-- `textlog::write` meets its contract: a refusal of the lists is returned. If there is none, they are equally long and have at most 4,096
+-- elements, as `log_length` requires. If the buffer is shorter than the log, 8 is returned; else `put_lines` writes the log. Each return
+-- also carries the theorems of the contract (`carried`). Assumes nothing.
 use native.Mathlib.Omega.{arith}
 use mathlib.Core.Path.{sym, _∙_}
 use borrow.Author.Needs.{needs}

@@ -1,5 +1,5 @@
--- `cases::series::put_series` is safe and ends. Invariant: the offset is at most the greatest first one and a greatest distance for each
--- number put, so no sum wraps. The list keeps its length. Measure: the numbers that are left.
+-- `cases::series::put_series` is safe and ends. Invariant: the offset is below 2^32 plus 2^16 for each number put, so no sum wraps. The
+-- list keeps its length. Measure: the number of numbers left.
 use borrow.Author.Needs.{needs}
 use Prim.Native.Nat.{_+_, _*_, _-_, _≤_}
 use mathlib.Core.Path.{_≡_}

@@ -1,6 +1,6 @@
 -- `decimal::reading::number_at` meets its contract. The loop's invariant is `Passed`: the octets from `at` to `end` are digits, and
 -- `value` is their number, or the greatest of 64 bits. An octet that is no digit, or the end of the octets, ends them (`passed-all`); a
--- digit is one more (`passed-more`), and `is_digit` gives the bounds that `with_digit` asks for. `back` is the theorem that the contract
+-- digit is passed (`passed-more`), and `is_digit` gives the bounds that `with_digit` requires. `back` is the theorem that the contract
 -- carries. The measure is what is left of the octets. Assumes nothing.
 use Prim.Native.Nat.{_-_}
 use borrow.Author.Needs.{needs}

@@ -1,5 +1,5 @@
--- `rfc4737::judge::judge_next` meets its contract. A number that is not outside 1 to k is not refused with 6, nor with 7 a time of at least
--- the reference, which is the next reference then (`accepted`). Else the answer is what the two leaves ensure. Assumes nothing.
+-- `rfc4737::judge::judge_next` meets its contract. A number in 1 to k is not refused with 6, and a time of at least the reference not with
+-- 7; that time is then the next reference (`accepted`). Else the result is made of those of the two functions called. Assumes nothing.
 use borrow.Author.Needs.{needs}
 use Prim.Native.Nat.{ℕ, _-_, _≤_}
 use native.Mathlib.Omega.{arith}

@@ -1,4 +1,4 @@
--- `rfc4737::time::too_early` meets its contract: where the time is not before the reference, the difference is 0. Assumes nothing.
+-- `rfc4737::time::too_early` meets its contract: if the time is not before the reference, the difference is 0. Assumes nothing.
 use Prim.Native.Nat.{_-_}
 use mathlib.Core.Path.{refl, sym}
 use native.Mathlib.Omega.{arith}

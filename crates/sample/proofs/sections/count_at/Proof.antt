@@ -1,5 +1,5 @@
--- `sample::sections::count_at` meets its contract: the test is that of `readingTo`, whether the file ends before the count; where it does
--- not `number_at` reads it. Assumes nothing.
+-- `sample::sections::count_at` meets its contract: the test is that of `readingTo`, whether the file ends before the count; if it does
+-- not, `number_at` reads it. Assumes nothing.
 use mathlib.Core.Path.{ap}
 use borrow.Author.Tests.{lt-ltb, le-ltb}
 use Rattle.sample.specs.Decode.{countAt}

@@ -1,5 +1,5 @@
--- `test_checker::changes::changes` is safe and ends. Invariant: the end is the length of the listing, which stays. Measure: the places that
--- are left.
+-- `test_checker::changes::changes` is safe and ends. Invariant: the end is the length of the listing, which stays. Measure: the number of
+-- elements left.
 use borrow.Author.Needs.{needs}
 use Prim.Native.Nat.{_-_}
 use mathlib.Core.Path.{_≡_}

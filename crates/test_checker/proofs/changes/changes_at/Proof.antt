@@ -1,5 +1,5 @@
 -- `test_checker::changes::changes_at` is safe and ends. Invariant: the octet is at most 256, and the listing keeps its length. Measure:
--- the octets that are left.
+-- the number of octets left.
 use borrow.Author.Needs.{needs}
 use Prim.Native.Nat.{_-_, _≤_}
 use mathlib.Core.Path.{_≡_}

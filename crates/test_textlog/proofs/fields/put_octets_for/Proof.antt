@@ -1,5 +1,5 @@
--- `test_textlog::fields::put_octets_for` is safe and ends. Invariant: field and lent octets have n places, and the latter are as many as before.
--- Measure: the octets that are left.
+-- `test_textlog::fields::put_octets_for` is safe and ends. Invariant: `field` and `out` have at least n elements, and `out` keeps its
+-- length. Measure: the number of octets left.
 use borrow.Author.Needs.{needs}
 use Prim.Native.Nat.{_-_, _≤_}
 use mathlib.Core.Path.{_≡_}

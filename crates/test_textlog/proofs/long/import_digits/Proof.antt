@@ -1,4 +1,4 @@
--- `test_textlog::long::import_digits` is safe: the octets are as many as they were made. Assumes nothing.
+-- `test_textlog::long::import_digits` is safe: the log has the length that it was made with. Assumes nothing.
 use Prim.Native.Nat.{ℕ}
 use mathlib.Core.Path.{sym}
 use borrow.Author.Needs.{needs}

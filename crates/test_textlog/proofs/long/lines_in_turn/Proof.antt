@@ -1,5 +1,5 @@
--- `test_textlog::long::lines_in_turn` is safe and ends. Invariant: i is at most 4,097, and the log has its length. Measure: the lines that
--- are left.
+-- `test_textlog::long::lines_in_turn` is safe and ends. Invariant: i is at most 4,097, and the log has its length. Measure: the number of
+-- lines left.
 use borrow.Author.Needs.{needs}
 use Prim.Native.Nat.{_+_, _-_, _≤_}
 use mathlib.Core.Path.{_≡_}

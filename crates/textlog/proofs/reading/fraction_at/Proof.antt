@@ -1,5 +1,5 @@
 -- `textlog::reading::fraction_at` meets its contract: each `return` is a case of `fractionIn`, by its law of LinesAtPlaces.antt. At most
--- three digits are below 1,000 (`small`), as `thousandths` asks. The line feed stands in the log, so one more than its place does not wrap
+-- three digits are below 1,000 (`small`), as `thousandths` requires. The line feed stands in the log, so the offset after it does not wrap
 -- (`within-log`). Assumes nothing.
 use native.Mathlib.Omega.{arith}
 use mathlib.Core.Path.{sym, _∙_}

@@ -1,5 +1,5 @@
--- `textlog::reading::is_decimal_mark` meets its contract: a comma is the first half of `isDecimalMark`, and where it is none the test for a
--- point, the second, is returned. Assumes nothing.
+-- `textlog::reading::is_decimal_mark` meets its contract: a comma is the first half of `isDecimalMark`, and if it is none, the test for a
+-- point, the second half, is returned. Assumes nothing.
 use borrow.Author.Tests.{eq-eqb, ne-eqb}
 use Rattle.textlog.specs.Decode.{isDecimalMark}
 use Rattle.textlog.proofs.reading.is_decimal_mark.Statement.{statement}

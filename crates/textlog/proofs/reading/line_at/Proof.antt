@@ -1,5 +1,5 @@
 -- `textlog::reading::line_at` meets its contract: each `return` is a case of `lineIn`, by its law of LinesAtPlaces.antt. The semicolon
--- stands in the log, so one more than its place does not wrap (`within-log`). Assumes nothing.
+-- stands in the log, so the offset after it does not wrap (`within-log`). Assumes nothing.
 use native.Mathlib.Omega.{arith}
 use mathlib.Core.Path.{sym, _∙_}
 use borrow.Author.Needs.{needs}

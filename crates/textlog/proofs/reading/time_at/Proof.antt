@@ -1,5 +1,5 @@
 -- `textlog::reading::time_at` meets its contract: each `return` is a case of `timeIn`, by its law of LinesAtPlaces.antt. The line feed or
--- the mark stands in the log, so one more than its place does not wrap (`within-log`, `mark-present`). Assumes nothing.
+-- the mark stands in the log, so the offset after it does not wrap (`within-log`, `mark-present`). Assumes nothing.
 use native.Mathlib.Omega.{arith}
 use mathlib.Core.Path.{sym, _∙_}
 use borrow.Author.Needs.{needs}
