@@ -33,7 +33,8 @@ all-lowest = by-tens (λ (n : ℕ). lowest (length (decimalOf n)) n ≡ decimalO
     one : (n : ℕ) → n < 10 → lowest (length (decimalOf n)) n ≡ decimalOf n
     one n h = let e : n % 10 ≡ n = omega arith in rw (one-digit n h, e)
 
-    more : (n : ℕ) → 10 ≤ n → lowest (length (decimalOf (n / 10))) (n / 10) ≡ decimalOf (n / 10) → lowest (length (decimalOf n)) n ≡ decimalOf n
+    more : (n : ℕ) → 10 ≤ n → lowest (length (decimalOf (n / 10))) (n / 10) ≡ decimalOf (n / 10)
+        → lowest (length (decimalOf n)) n ≡ decimalOf n
     more n h so = rw (one-more n h, add-one, more-digits n h, so)
 
 -- no digit written
@@ -58,7 +59,8 @@ write-two at i n old p h =
     let k : ℕ = i - 2 in
     let a : n % 100 % 10 ≡ n % 10 = omega arith in
     let low : n % 10 < 10 = omega arith in
-    let b : n % 100 / 10 % 10 ≡ n / 10 % 10 = rw (mod-mul n {m = 10} {c = 10} (omega arith) (omega arith), digits-div (n / 10 % 10) low, mod-mod) in
+    let b : n % 100 / 10 % 10 ≡ n / 10 % 10 =
+    rw (mod-mul n {m = 10} {c = 10} (omega arith) (omega arith), digits-div (n / 10 % 10) low, mod-mod) in
     let d : n / 100 ≡ n / 10 / 10 = omega arith in
     let e : at + k + 1 ≡ at + suc k = omega arith in
     let f : suc (suc k) ≡ i = omega arith in

@@ -39,7 +39,8 @@ same-places (suc f) (suc g) (suc t) o hf hg =
 -- one digit taken off
 one-place : (n t o : ℕ) → suc t ≤ n → digitsOf (suc n) (suc t) o ≡ digitsOf (suc (suc t)) (suc t / 10) (suc t % 10) ++ ((48 + o) ∷ [])
 unfolding digitsOf
-one-place n t o h = ap (λ (l : List ℕ). l ++ ((48 + o) ∷ [])) (same-places n (suc (suc t)) (suc t / 10) (suc t % 10) (omega arith) (omega arith))
+one-place n t o h =
+    ap (λ (l : List ℕ). l ++ ((48 + o) ∷ [])) (same-places n (suc (suc t)) (suc t / 10) (suc t % 10) (omega arith) (omega arith))
 
 -- a number below ten is its one digit
 pub one-digit : (n : ℕ) → n < 10 → decimalOf n ≡ (48 + n) ∷ []

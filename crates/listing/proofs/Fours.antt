@@ -27,7 +27,8 @@ pub three-digits : (n : ℕ) → 100 ≤ n → n < 1000 → decimalOf n ≡ ((48
 three-digits n low high = more-pairs n low ∙ ap (λ (l : List ℕ). l ++ pair (n % 100)) (one-digit (n / 100) (omega arith))
 
 pub four-digits : (n : ℕ) → 1000 ≤ n → n < 10000 → decimalOf n ≡ four n
-four-digits n low high = more-pairs n (omega arith) ∙ ap (λ (l : List ℕ). l ++ pair (n % 100)) (two-digits (n / 100) (omega arith) (omega arith))
+four-digits n low high =
+    more-pairs n (omega arith) ∙ ap (λ (l : List ℕ). l ++ pair (n % 100)) (two-digits (n / 100) (omega arith) (omega arith))
 
 -- the last four
 pub more-fours : (n : ℕ) → 10000 ≤ n → decimalOf n ≡ decimalOf (n / 10000) ++ four (n % 10000)
@@ -43,5 +44,6 @@ more-fours n h =
 pub more-eights : (n : ℕ) → 100000000 ≤ n → decimalOf n ≡ (decimalOf (n / 100000000) ++ four (n / 10000 % 10000)) ++ four (n % 10000)
 more-eights n h =
     let a : n / 10000 / 10000 ≡ n / 100000000 = omega arith in
-    let b : decimalOf (n / 10000) ≡ decimalOf (n / 100000000) ++ four (n / 10000 % 10000) = rw (← a) (more-fours (n / 10000) (omega arith)) in
+    let b : decimalOf (n / 10000) ≡ decimalOf (n / 100000000) ++ four (n / 10000 % 10000) =
+    rw (← a) (more-fours (n / 10000) (omega arith)) in
     more-fours n (omega arith) ∙ ap (λ (l : List ℕ). l ++ four (n % 10000)) b

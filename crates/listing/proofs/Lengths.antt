@@ -51,16 +51,31 @@ record-octets r n (InOrder f) hr hn h =
     simp length-append (omega (arith, small r hr, small n hn, small (f .position) (h .0), small (f .jump) (h .1)))
 record-octets r n (Reordered f) hr hn h =
     simp length-append
-    (omega
-    (arith, small r hr, small n hn, small (f .position) (h .position), small (f .extent) (h .extent), time-octets (f .late) (h .late), at-most 9 (f .offset) (omega arith) (omega (arith, h .offset)), small (f .largest) (h .largest)))
+    (omega (
+      arith,
+      small r hr,
+      small n hn,
+      small (f .position) (h .position),
+      small (f .extent) (h .extent),
+      time-octets (f .late) (h .late),
+      at-most 9 (f .offset) (omega arith) (omega (arith, h .offset)),
+      small (f .largest) (h .largest),
+    ))
 
 -- the last line
 pub end-octets : (c : Counts) → CountsWithin c → length (endLine c) ≤ 38
 unfolding endLine
 end-octets c h =
     simp length-append
-    (omega
-    (arith, small (c .arrived) (h .arrived), small (c .reordered) (h .reordered), small (c .duplicates) (h .duplicates), small (c .runs .closed) (h .closed), at-most 8 (c .runs .squares) (omega arith) (omega (arith, h .squares)), small (c .runs .current) (h .current)))
+    (omega (
+      arith,
+      small (c .arrived) (h .arrived),
+      small (c .reordered) (h .reordered),
+      small (c .duplicates) (h .duplicates),
+      small (c .runs .closed) (h .closed),
+      at-most 8 (c .runs .squares) (omega arith) (omega (arith, h .squares)),
+      small (c .runs .current) (h .current),
+    ))
 
 -- the line of a refused input, whatever the number
 pub refused-octets : (n : ℕ) → n < 2 ^ 32 → length (refusedLine n) ≤ 19

@@ -44,7 +44,8 @@ with-after at xs x old h =
     }
 
 -- a part of at most `most` octets is one of at most `more`
-pub weaken : {at most next : ℕ} {xs old new : List ℕ} (more : ℕ) → most ≤ more → PartWritten at most next xs old new → PartWritten at more next xs old new
+pub weaken : {at most next : ℕ} {xs old new : List ℕ} (more : ℕ) → most ≤ more → PartWritten at most next xs old new
+    → PartWritten at more next xs old new
 weaken more h w = record { place = w .place; within = omega arith; memory = w .memory }
 
 -- a part of octets that are equal to others is one of those
@@ -53,7 +54,8 @@ pub named : {at most next : ℕ} {xs ys old new : List ℕ} (more : ℕ) → xs 
 named more e h w = record { place = rw e at (w .place); within = h; memory = rw e at (w .memory) }
 
 -- a part, and one at the place after it, are one part
-pub then : {at a mid b next : ℕ} {xs ys old new newer : List ℕ} → at ≤ length old → PartWritten at a mid xs old new → PartWritten mid b next ys new newer
+pub then : {at a mid b next : ℕ} {xs ys old new newer : List ℕ} → at ≤ length old → PartWritten at a mid xs old new
+    → PartWritten mid b next ys new newer
     → PartWritten at (a + b) next (xs ++ ys) old newer
 then {at} {a} {mid} {b} {next} {xs} {ys} {old} {new} {newer} h w v =
     record {

@@ -65,7 +65,8 @@ pub value-part : (w at n : ℕ) (l : List ℕ) → Octets l → n ≤ w → beVa
 value-part w at n l h p = value-fits w (part at n l) (below-part 256 at n l h) (le-trans (part-most at n l) p)
 
 -- of a part under one octet more
-pub value-part-snoc : (at n : ℕ) (l : List ℕ) → at + n < length l → beValue (part at (n + 1) l) ≡ beValue (part at n l) * 256 + getD l (at + n) 0
+pub value-part-snoc : (at n : ℕ) (l : List ℕ) → at + n < length l
+    → beValue (part at (n + 1) l) ≡ beValue (part at n l) * 256 + getD l (at + n) 0
 value-part-snoc at n l h = ap beValue (part-snoc at n l 0 h) ∙ value-snoc (part at n l) (getD l (at + n) 0)
 
 -- ---- the octets
@@ -73,7 +74,8 @@ value-part-snoc at n l h = ap beValue (part-snoc at n l 0 h) ∙ value-snoc (par
 pub octets-length : (w v : ℕ) → length (beOctets w v) ≡ w
 unfolding beOctets
 octets-length zero v = refl
-octets-length (suc w) v = length-append (beOctets w (v / 256)) (v % 256 ∷ []) ∙ ap (λ (k : ℕ). k + 1) (octets-length w (v / 256)) ∙ add-one w
+octets-length (suc w) v =
+    length-append (beOctets w (v / 256)) (v % 256 ∷ []) ∙ ap (λ (k : ℕ). k + 1) (octets-length w (v / 256)) ∙ add-one w
 
 octets-below : (w v : ℕ) → Octets (beOctets w v)
 unfolding beOctets
@@ -111,7 +113,8 @@ pub value-octets : (w v : ℕ) → v < 256 ^ w → beValue (beOctets w v) ≡ v
 value-octets w v h = value-octets-mod w v ∙ mod-eq-of-lt h
 
 -- one octet more, where those before it are themselves
-octets-value-snoc : (w : ℕ) (os : List ℕ) (o : ℕ) → o < 256 → beOctets w (beValue os) ≡ os → beOctets (suc w) (beValue (os ++ (o ∷ []))) ≡ os ++ (o ∷ [])
+octets-value-snoc : (w : ℕ) (os : List ℕ) (o : ℕ) → o < 256 → beOctets w (beValue os) ≡ os
+    → beOctets (suc w) (beValue (os ++ (o ∷ []))) ≡ os ++ (o ∷ [])
 unfolding beOctets
 octets-value-snoc w os o h e =
     rw (value-snoc, digits-div (beValue os) h, digits-mod (beValue os) h) (ap (λ (l : List ℕ). l ++ (o ∷ [])) e)
@@ -125,7 +128,8 @@ octets-value-at (suc w) os e h =
     let n : w < length os = omega arith in
     let s : take w os ++ (getD os w 0 ∷ []) ≡ os = sym (take-suc os w 0 n) ∙ ap (λ (k : ℕ). take k os) (sym e) ∙ take-length os in
     subst (λ (l : List ℕ). beOctets (suc w) (beValue l) ≡ l) s
-    (octets-value-snoc w (take w os) (getD os w 0) (h w) (octets-value-at w (take w os) (length-take-le w os (omega arith)) (below-take 256 w os h)))
+    (octets-value-snoc w (take w os) (getD os w 0) (h w) (octets-value-at w (take w os) (length-take-le w os (omega arith))
+    (below-take 256 w os h)))
 
 -- the same at their length
 pub octets-value : (os : List ℕ) → Octets os → beOctets (length os) (beValue os) ≡ os

@@ -110,7 +110,8 @@ module _ {ℓ} {A : Type ℓ} where
   splice-drop at xs old n h k =
       let end : ℕ = at + length xs in
       let e : end + (n - end) ≡ n = omega arith in
-      let q : drop end (splice at xs old) ≡ drop end old = rw (← append-assoc) (drop-at (take at old ++ xs) (drop end old) end (head-length at xs old k)) in
+      let q : drop end (splice at xs old) ≡ drop end old =
+      rw (← append-assoc) (drop-at (take at old ++ xs) (drop end old) end (head-length at xs old k)) in
       subst (λ (m : ℕ). drop m (splice at xs old) ≡ drop m old) e
       (sym (drop-drop (n - end) end (splice at xs old)) ∙ ap (λ (l : List A). drop (n - end) l) q ∙ drop-drop (n - end) end old)
 
@@ -242,7 +243,8 @@ module _ {ℓ} {A : Type ℓ} where
   pub copy-start : (at : ℕ) (xs old : List A) → old ≡ splice at (take 0 xs) old
   copy-start at xs old = sym (splice-nil at old)
 
-  pub copy-length : (at : ℕ) (xs old : List A) (i : ℕ) → i ≤ length xs → at + i ≤ length old → length (splice at (take i xs) old) ≡ length old
+  pub copy-length : (at : ℕ) (xs old : List A) (i : ℕ) → i ≤ length xs → at + i ≤ length old
+      → length (splice at (take i xs) old) ≡ length old
   copy-length at xs old i h k =
       let p : at + length (take i xs) ≤ length old = simp length-take (omega arith) in
       splice-length at (take i xs) old p

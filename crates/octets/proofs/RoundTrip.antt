@@ -24,6 +24,8 @@ read-back =
     record {
       number = value-octets;
       octets = octets-value;
-      inPlace = λ at width v old h b room. ap (λ (n : ℕ). beValue (part at n (put at (beOctets n v) old))) (uncut width h) ∙ put-value at width v old b room;
+      inPlace =
+          λ at width v old h b room. ap (λ (n : ℕ). beValue (part at n (put at (beOctets n v) old))) (uncut width h)
+          ∙ put-value at width v old b room;
       cases = written;
     }

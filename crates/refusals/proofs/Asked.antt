@@ -71,6 +71,9 @@ beyond n h = go (leb 1 n) refl (leb n 18) refl
     go false e t f = rw e refl
 
 -- and is refused
-pub no-refusal : (n : ℕ) (out : List ℕ) → (1 ≤ n → n ≤ 18 → ⊥) → Output (askedRefusal n) (wordsOf n) out (record { refusal = askedOutside; length = 0 }) out
+pub no-refusal : (n : ℕ) (out : List ℕ) → (1 ≤ n → n ≤ 18 → ⊥)
+    → Output (askedRefusal n) (wordsOf n) out (record { refusal = askedOutside; length = 0 }) out
 unfolding askedRefusal
-no-refusal n out h = output-refused (askedRefusal n) (wordsOf n) out askedOutside (sym (ap (λ (b : Bool). refusalIf b askedOutside) (beyond n h))) (λ e. omega arith)
+no-refusal n out h =
+    output-refused (askedRefusal n) (wordsOf n) out askedOutside (sym (ap (λ (b : Bool). refusalIf b askedOutside) (beyond n h)))
+    (λ e. omega arith)

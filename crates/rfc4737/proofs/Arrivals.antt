@@ -45,7 +45,8 @@ module _ {ℓ κ} {A : Type ℓ} {B : Type κ} (f : List A → A → B) where
   length-each l = snoc-ind (λ (l : List A). length (each f l) ≡ length l) more refl l
     where
       more : (l : List A) (a : A) → length (each f l) ≡ length l → length (each f (l ++ (a ∷ []))) ≡ length (l ++ (a ∷ []))
-      more l a e = ap length (each-more f l a) ∙ length-append (each f l) (f l a ∷ []) ∙ ap (λ (n : ℕ). n + 1) e ∙ sym (length-append l (a ∷ []))
+      more l a e =
+          ap length (each-more f l a) ∙ length-append (each f l) (f l a ∷ []) ∙ ap (λ (n : ℕ). n + 1) e ∙ sym (length-append l (a ∷ []))
 
   -- `each` over the first i + 1 elements
   pub each-take : (d : A) (l : List A) (i : ℕ) → i < length l
@@ -149,7 +150,8 @@ record-append r s (b ∷ l) a = go (record-append (r + 1) s l a) (eqb (b .number
   where
     go : recordFrom (r + 1) s (l ++ a ∷ []) ≡ cond (has s l) (recordFrom (r + 1) s l) (cond (eqb (a .number) s) (r + 1 + length l) 0)
         → (t : Bool)
-        → cond t r (recordFrom (r + 1) s (l ++ a ∷ [])) ≡ cond (t || has s l) (cond t r (recordFrom (r + 1) s l)) (cond (eqb (a .number) s) (r + suc (length l)) 0)
+        → cond t r (recordFrom (r + 1) s (l ++ a ∷ []))
+        ≡ cond (t || has s l) (cond t r (recordFrom (r + 1) s l)) (cond (eqb (a .number) s) (r + suc (length l)) 0)
     go e true = refl
     go e false =
         e

@@ -73,7 +73,8 @@ largest-le fs s = snoc-ind (λ (fs : List Arrival). largestN fs s ≤ length fs)
     more fs a h = rw (largest-more fs s a, length-append fs (a ∷ [])) (go (largestN fs s) (length fs) h (ltb s (a .number)))
 
 -- the byte offset is at most the greatest size for each first arrival before
-pub offset-le : (size : ℕ → ℕ) (most : ℕ) → ((s : ℕ) → size s ≤ most) → (fs : List Arrival) (s : ℕ) → byteOffset size fs s ≤ most * length fs
+pub offset-le : (size : ℕ → ℕ) (most : ℕ) → ((s : ℕ) → size s ≤ most) → (fs : List Arrival) (s : ℕ)
+    → byteOffset size fs s ≤ most * length fs
 unfolding byteOffset
 offset-le size most bound fs s = snoc-ind (λ (fs : List Arrival). byteOffset size fs s ≤ most * length fs) more (omega arith) fs
   where
@@ -113,7 +114,8 @@ pub first-reordered : (size : ℕ → ℕ) (fs : List Arrival) (a : Arrival) →
 unfolding firstAnswer isInOrder
 first-reordered size fs a h = simp (lt-leb _ _ h)
 
-pub answers-more : (size : ℕ → ℕ) (l : List Arrival) (a : Arrival) → answers size (l ++ (a ∷ [])) ≡ answers size l ++ (answerTo size l a ∷ [])
+pub answers-more : (size : ℕ → ℕ) (l : List Arrival) (a : Arrival)
+    → answers size (l ++ (a ∷ [])) ≡ answers size l ++ (answerTo size l a ∷ [])
 unfolding answers
 answers-more size l a = each-more (answerTo size) l a
 
@@ -207,10 +209,16 @@ unfolding arrived count answers each eachAfter firsts
 arrived-answers size l = snoc-ind (λ (l : List Arrival). arrived (answers size l) ≡ length (firsts l)) more refl l
   where
     go : (l : List Arrival) (a : Arrival) → arrived (answers size l) ≡ length (firsts l) → (t : Bool) → has (a .number) l ≡ t
-        → cond (not (isDuplicate (answerTo size l a))) (arrived (answers size l) + 1) (arrived (answers size l)) ≡ length (withArrival (firsts l) a)
+        → cond (not (isDuplicate (answerTo size l a))) (arrived (answers size l) + 1) (arrived (answers size l))
+        ≡ length (withArrival (firsts l) a)
     go l a e true q = rw (answer-duplicate size l a q, with-duplicate (firsts l) a (has-firsts (a .number) l ∙ q)) e
     go l a e false q =
-        rw (answer-first size l a q, not-duplicate size (firsts l) a, with-first (firsts l) a (has-firsts (a .number) l ∙ q), length-append (firsts l) (a ∷ []))
+        rw (
+          answer-first size l a q,
+          not-duplicate size (firsts l) a,
+          with-first (firsts l) a (has-firsts (a .number) l ∙ q),
+          length-append (firsts l) (a ∷ []),
+        )
         (ap (λ (n : ℕ). n + 1) e)
 
     more : (l : List Arrival) (a : Arrival) → arrived (answers size l) ≡ length (firsts l)
@@ -231,7 +239,8 @@ closed-reordered l = snoc-ind (λ (l : List Answer). runs l .closed ≡ count is
     go r n (InOrder d) e = e
     go r n (Reordered d) e = ap (λ (n : ℕ). n + 1) e
 
-    more : (l : List Answer) (a : Answer) → runs l .closed ≡ count isReordered l → runs (l ++ (a ∷ [])) .closed ≡ count isReordered (l ++ (a ∷ []))
+    more : (l : List Answer) (a : Answer) → runs l .closed ≡ count isReordered l
+        → runs (l ++ (a ∷ [])) .closed ≡ count isReordered (l ++ (a ∷ []))
     more l a e = rw (runs-more l a, count-more isReordered l a) (go (runs l) (count isReordered l) a e)
 
 -- the open run is of in-order packets
@@ -244,7 +253,8 @@ current-le l = snoc-ind (λ (l : List Answer). runs l .current ≤ count isInOrd
     go r n (InOrder d) h = omega arith
     go r n (Reordered d) h = omega arith
 
-    more : (l : List Answer) (a : Answer) → runs l .current ≤ count isInOrderAnswer l → runs (l ++ (a ∷ [])) .current ≤ count isInOrderAnswer (l ++ (a ∷ []))
+    more : (l : List Answer) (a : Answer) → runs l .current ≤ count isInOrderAnswer l
+        → runs (l ++ (a ∷ [])) .current ≤ count isInOrderAnswer (l ++ (a ∷ []))
     more l a h = rw (runs-more l a, count-more isInOrderAnswer l a) (go (runs l) (count isInOrderAnswer l) a h)
 
 -- where no run is longer than m, the squares of the runs are at most m for each of their packets

@@ -38,7 +38,8 @@ module _ (k : ℕ) (l : List Arrival) (reference i : ℕ) (z a : Arrival) (h : i
   -- it is refused
   pub judge-stop : (r : ℕ) → r ≡ judgeOne k reference a → (r ≡ 0 → ⊥) → r ≡ judge k 0 l
   unfolding judge
-  judge-stop r e n = e ∙ first-stop (judgeOne k reference a) (judge k (nextReference reference (a .time)) (drop (suc i) l) ∷ []) left (λ q. n (e ∙ q))
+  judge-stop r e n =
+      e ∙ first-stop (judgeOne k reference a) (judge k (nextReference reference (a .time)) (drop (suc i) l) ∷ []) left (λ q. n (e ∙ q))
 
   -- it is not refused
   pub judge-next : (r : ℕ) → r ≡ judgeOne k reference a → r ≡ 0 → judge k 0 l ≡ judge k (nextReference reference (a .time)) (drop (i + 1) l)
@@ -96,7 +97,8 @@ judged-reference : (k reference : ℕ) (l : List Arrival) → judge k reference 
 unfolding tooEarly
 judged-reference k reference [] e i z h = absurd (omega arith)
 judged-reference k reference (a ∷ l) e zero z h =
-    let q : reference - a .time ≤ backMost = ltb-false backMost (reference - a .time) (one-split k reference a (judge-split k reference a l e .0) .1) in
+    let q : reference - a .time ≤ backMost =
+    ltb-false backMost (reference - a .time) (one-split k reference a (judge-split k reference a l e .0) .1) in
     omega arith
 judged-reference k reference (a ∷ l) e (suc i) z h =
     let r : nextReference reference (a .time) ≤ getD l i z .time + backMost =
@@ -136,7 +138,9 @@ lists-fit k numbers times e =
     let r = each-none (judgeSent k ∷ judgeArrivals (length numbers) ∷ d ∷ j ∷ []) e in
     let b = limit-none 1 sentMost k sentOutside (omega arith) (r 0) in
     let c = limit-none 0 arrivalsMost (length numbers) manyArrivals (omega arith) (r 1) in
-    let s = sym (eqb-true (length numbers) (length times) (not-false _ (case-none (not (eqb (length numbers) (length times))) listsDiffer (omega arith) (r 2)))) in
+    let s =
+    sym (eqb-true (length numbers) (length times) (not-false _ (case-none (not (eqb (length numbers) (length times))) listsDiffer
+    (omega arith) (r 2)))) in
     let u = r 3 in
     let n = arrivals-length numbers times s in
     record {
@@ -149,11 +153,13 @@ lists-fit k numbers times e =
       numbered = λ i h. numbered n s u i h;
     }
   where
-    numbered : length (arrivalsFrom numbers times) ≡ length numbers → length times ≡ length numbers → judge k 0 (arrivalsFrom numbers times) ≡ 0
+    numbered : length (arrivalsFrom numbers times) ≡ length numbers → length times ≡ length numbers
+        → judge k 0 (arrivalsFrom numbers times) ≡ 0
         → (i : ℕ) → i < length numbers → (1 ≤ getD numbers i 0) × (getD numbers i 0 ≤ k)
     numbered n s u i h =
         let z : Arrival = record { number = 0; time = 0 } in
-        let m : getD numbers i 0 ≡ getD (arrivalsFrom numbers times) i z .number = ap (λ (a : Arrival). a .number) (arrivals-getD numbers times i z s h) in
+        let m : getD numbers i 0 ≡ getD (arrivalsFrom numbers times) i z .number =
+        ap (λ (a : Arrival). a .number) (arrivals-getD numbers times i z s h) in
         let w = judged-number k 0 (arrivalsFrom numbers times) u i z (omega arith) in
         (omega arith, omega arith)
 
@@ -162,7 +168,12 @@ pub fit-lists : (k : ℕ) (numbers times : List ℕ) → 1 ≤ k → k ≤ sentM
     → judge k 0 (arrivalsFrom numbers times) ≡ 0 → refusalOfLists k numbers times ≡ 0
 unfolding refusalOfLists
 fit-lists k numbers times a b c s j =
-    rw (not-outside 1 sentMost k a b, not-outside 0 arrivalsMost (length numbers) (omega arith) c, eq-eqb (length numbers) (length times) (sym s), j)
+    rw (
+      not-outside 1 sentMost k a b,
+      not-outside 0 arrivalsMost (length numbers) (omega arith) c,
+      eq-eqb (length numbers) (length times) (sym s),
+      j,
+    )
 
 -- every arrival is of one of the packets 1 to k
 pub judged-packets : (k reference : ℕ) (l : List Arrival) → judge k reference l ≡ 0 → All (OfPackets k) l

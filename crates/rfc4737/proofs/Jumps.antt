@@ -174,7 +174,8 @@ pub search-agrees : (s : ℕ) → 1 ≤ s → (fs : List Arrival) → has s fs �
 unfolding discontinuity placed jumps firstAbove nextExp flatten each eachAfter
 search-agrees s h = snoc-ind (λ (fs : List Arrival). has s fs ≡ false → SearchAgrees s fs) more (λ n. record { same = refl; next = λ e. h })
   where
-    more : (fs : List Arrival) (a : Arrival) → (has s fs ≡ false → SearchAgrees s fs) → has s (fs ++ (a ∷ [])) ≡ false → SearchAgrees s (fs ++ (a ∷ []))
+    more : (fs : List Arrival) (a : Arrival) → (has s fs ≡ false → SearchAgrees s fs) → has s (fs ++ (a ∷ [])) ≡ false
+        → SearchAgrees s (fs ++ (a ∷ []))
     more fs a k e = let n = has-more-false s fs a e in search-agrees-more s fs a (k (n .0)) (n .1)
 
 -- the discontinuity of a reordered packet s, which has not arrived: it exists, is a jump, the first of a greater number
@@ -200,7 +201,8 @@ reordered-discontinuity s h fs new late = go (firstAbove s (jumps fs)) refl
         record { at = p; is = k .same ∙ e; first = e; jump = m .0; above = m .1 }
 
 -- what holds of an arrival wherever it is a jump holds of the jump that it is, if it is one
-all-jumpAfter : (P : FirstArrival → Type 0) (fs : List Arrival) (a : Arrival) → (isJump fs (a .number) ≡ true → P (placeAfter fs a)) → All P (jumpAfter fs a)
+all-jumpAfter : (P : FirstArrival → Type 0) (fs : List Arrival) (a : Arrival) → (isJump fs (a .number) ≡ true → P (placeAfter fs a))
+    → All P (jumpAfter fs a)
 unfolding jumpAfter
 all-jumpAfter P fs a h = go (isJump fs (a .number)) h
   where
@@ -262,7 +264,9 @@ jumps-rise = snoc-ind (λ (fs : List Arrival). Ordered Rises (jumps fs)) more tt
 -- jumps among arrivals up to a time are up to that time
 pub jumps-until : (t : ℕ) (fs : List Arrival) → All (λ (a : Arrival). a .time ≤ t) fs → All (λ (p : FirstArrival). p .time ≤ t) (jumps fs)
 unfolding jumps each eachAfter flatten
-jumps-until t = snoc-ind (λ (fs : List Arrival). All (λ (a : Arrival). a .time ≤ t) fs → All (λ (p : FirstArrival). p .time ≤ t) (jumps fs)) more (λ n. tt)
+jumps-until t =
+    snoc-ind (λ (fs : List Arrival). All (λ (a : Arrival). a .time ≤ t) fs → All (λ (p : FirstArrival). p .time ≤ t) (jumps fs)) more
+    (λ n. tt)
   where
     more : (fs : List Arrival) (a : Arrival)
         → (All (λ (a : Arrival). a .time ≤ t) fs → All (λ (p : FirstArrival). p .time ≤ t) (jumps fs))
@@ -278,7 +282,9 @@ jumps-until t = snoc-ind (λ (fs : List Arrival). All (λ (a : Arrival). a .time
 -- first arrivals up to a time are up to that time at their positions
 placed-until : (t : ℕ) (fs : List Arrival) → All (λ (a : Arrival). a .time ≤ t) fs → All (λ (p : FirstArrival). p .time ≤ t) (placed fs)
 unfolding placed each eachAfter
-placed-until t = snoc-ind (λ (fs : List Arrival). All (λ (a : Arrival). a .time ≤ t) fs → All (λ (p : FirstArrival). p .time ≤ t) (placed fs)) more (λ n. tt)
+placed-until t =
+    snoc-ind (λ (fs : List Arrival). All (λ (a : Arrival). a .time ≤ t) fs → All (λ (p : FirstArrival). p .time ≤ t) (placed fs)) more
+    (λ n. tt)
   where
     more : (fs : List Arrival) (a : Arrival)
         → (All (λ (a : Arrival). a .time ≤ t) fs → All (λ (p : FirstArrival). p .time ≤ t) (placed fs))

@@ -110,7 +110,13 @@ module _ (c : ℕ) where
   unfolding judge judgeOne
   judge-moved k [] = refl
   judge-moved k (a ∷ l) =
-      rw (early-first (a .time + c), early-first (a .time), reference-first (a .time + c), reference-first (a .time), judge-after k (a .time) l)
+      rw (
+        early-first (a .time + c),
+        early-first (a .time),
+        reference-first (a .time + c),
+        reference-first (a .time),
+        judge-after k (a .time) l,
+      )
 
   -- ---- first arrivals
 
@@ -198,7 +204,9 @@ module _ (c : ℕ) where
   above-moved s [] = refl
   above-moved s (p ∷ ps) = rw (above-moved s ps) (go (ltb s (p .number)))
     where
-      go : (b : Bool) → cond b (some (movedPlace p)) (Option·map movedPlace (firstAbove s ps)) ≡ Option·map movedPlace (cond b (some p) (firstAbove s ps))
+      go : (b : Bool)
+          → cond b (some (movedPlace p)) (Option·map movedPlace (firstAbove s ps))
+          ≡ Option·map movedPlace (cond b (some p) (firstAbove s ps))
       go true = refl
       go false = refl
 
@@ -224,12 +232,21 @@ module _ (c : ℕ) where
     unfolding firstAnswer inOrderAnswer reorderedAnswer isInOrder jumpSize
     first-moved fs a =
         let d = discontinuity fs (a .number) in
-        rw (next-moved fs, length-map fs (movedOne c), discontinuity-moved fs (a .number), extent-moved (length fs + 1) d, late-moved (a .time) d, offset-moved size fs (a .number), largest-moved fs (a .number))
+        rw (
+          next-moved fs,
+          length-map fs (movedOne c),
+          discontinuity-moved fs (a .number),
+          extent-moved (length fs + 1) d,
+          late-moved (a .time) d,
+          offset-moved size fs (a .number),
+          largest-moved fs (a .number),
+        )
 
     -- of any arrival
     pub answer-moved : (earlier : List Arrival) (a : Arrival) → answerTo size (moved c earlier) (movedOne c a) ≡ answerTo size earlier a
     unfolding answerTo firstRecord
-    answer-moved earlier a = rw (has-moved (a .number) earlier, record-moved 1 (a .number) earlier, firsts-moved earlier, first-moved (firsts earlier) a)
+    answer-moved earlier a =
+        rw (has-moved (a .number) earlier, record-moved 1 (a .number) earlier, firsts-moved earlier, first-moved (firsts earlier) a)
 
     -- of every record of a sample
     pub answers-moved : (l : List Arrival) → answers size (moved c l) ≡ answers size l

@@ -79,12 +79,14 @@ unfolding greatestNeed
 need-more m l a = ap greatest (map-append (neededFor m) l (a ∷ [])) ∙ greatest-more (map (neededFor m) l) (neededFor m a)
 
 -- it is at least the need of each record
-pub need-least : (m : Measure) (l : List Answer) (a : Answer) → (greatestNeed m l ≤ greatestNeed m (l ++ (a ∷ []))) × (neededFor m a ≤ greatestNeed m (l ++ (a ∷ [])))
+pub need-least : (m : Measure) (l : List Answer) (a : Answer)
+    → (greatestNeed m l ≤ greatestNeed m (l ++ (a ∷ []))) × (neededFor m a ≤ greatestNeed m (l ++ (a ∷ [])))
 unfolding greatestNeed
 need-least m l a = rw (map-append (neededFor m) l (a ∷ [])) (greatest-least (map (neededFor m) l) (neededFor m a))
 
 -- and at most what all are
-pub need-most : (m : Measure) (l : List Answer) (a : Answer) (n : ℕ) → greatestNeed m l ≤ n → neededFor m a ≤ n → greatestNeed m (l ++ (a ∷ [])) ≤ n
+pub need-most : (m : Measure) (l : List Answer) (a : Answer) (n : ℕ) → greatestNeed m l ≤ n → neededFor m a ≤ n
+    → greatestNeed m (l ++ (a ∷ [])) ≤ n
 unfolding greatestNeed
 need-most m l a n h g = rw (map-append (neededFor m) l (a ∷ [])) (greatest-most (map (neededFor m) l) (neededFor m a) n h g)
 
@@ -117,7 +119,8 @@ all-in m size l = snoc-ind (λ (l : List Answer). greatestNeed m l ≤ size → 
     go g n true e h = (omega (arith, ltb-true g n e, h), h)
     go g n false e h = (h, omega (arith, ltb-false g n e, h))
 
-    step : (n k : ℕ) (a : Answer) → neededFor m a ≤ size → n ≡ k → cond (accommodates m size a) (n + 1) n ≡ cond (not (isDuplicate a)) (k + 1) k
+    step : (n k : ℕ) (a : Answer) → neededFor m a ≤ size → n ≡ k
+        → cond (accommodates m size a) (n + 1) n ≡ cond (not (isDuplicate a)) (k + 1) k
     step n k a h e = rw (le-leb (neededFor m a) size h, e) (same (not (isDuplicate a)))
       where
         same : (t : Bool) → cond (t && true) (k + 1) k ≡ cond t (k + 1) k
@@ -133,7 +136,8 @@ all-in m size l = snoc-ind (λ (l : List Answer). greatestNeed m l ≤ size → 
 -- it never accommodates more than there are
 pub few-in : (m : Measure) (size : ℕ) (l : List Answer) → accommodated m size l ≤ arrived l
 unfolding accommodated arrived
-few-in m size l = count-grows (accommodates m size) (λ (a : Answer). not (isDuplicate a)) (λ a q. go (not (isDuplicate a)) (leb (neededFor m a) size) q) l
+few-in m size l =
+    count-grows (accommodates m size) (λ (a : Answer). not (isDuplicate a)) (λ a q. go (not (isDuplicate a)) (leb (neededFor m a) size) q) l
   where
     go : (t s : Bool) → (t && s) ≡ true → t ≡ true
     go true s q = refl
@@ -142,10 +146,12 @@ few-in m size l = count-grows (accommodates m size) (λ (a : Answer). not (isDup
 -- a smaller one misses the packet that needs most
 pub some-out : (m : Measure) (size : ℕ) (l : List Answer) → size < greatestNeed m l → accommodated m size l < arrived l
 unfolding greatestNeed greatest
-some-out m size l = snoc-ind (λ (l : List Answer). size < greatestNeed m l → accommodated m size l < arrived l) more (λ h. absurd (omega arith)) l
+some-out m size l =
+    snoc-ind (λ (l : List Answer). size < greatestNeed m l → accommodated m size l < arrived l) more (λ h. absurd (omega arith)) l
   where
     -- the next one needs more than the size
-    missed : (n k : ℕ) (a : Answer) → size < neededFor m a → n ≤ k → cond (accommodates m size a) (n + 1) n < cond (not (isDuplicate a)) (k + 1) k
+    missed : (n k : ℕ) (a : Answer) → size < neededFor m a → n ≤ k
+        → cond (accommodates m size a) (n + 1) n < cond (not (isDuplicate a)) (k + 1) k
     missed n k (Answer.Duplicate d) h e = absurd (omega arith)
     missed n k (Answer.InOrder d) h e = absurd (omega arith)
     missed n k (Answer.Reordered f) h e = rw (lt-leb (neededFor m (Answer.Reordered f)) size h) (omega arith)
@@ -158,7 +164,8 @@ some-out m size l = snoc-ind (λ (l : List Answer). size < greatestNeed m l → 
 
     go : (l : List Answer) (a : Answer) → (size < greatestNeed m l → accommodated m size l < arrived l) → (t : Bool)
         → ltb (greatestNeed m l) (neededFor m a) ≡ t → size < cond t (neededFor m a) (greatestNeed m l)
-        → cond (accommodates m size a) (accommodated m size l + 1) (accommodated m size l) < cond (not (isDuplicate a)) (arrived l + 1) (arrived l)
+        → cond (accommodates m size a) (accommodated m size l + 1) (accommodated m size l) < cond (not (isDuplicate a)) (arrived l + 1)
+        (arrived l)
     go l a e true q h = missed (accommodated m size l) (arrived l) a h (few-in m size l)
     go l a e false q h = kept (accommodated m size l) (arrived l) (not (isDuplicate a)) (leb (neededFor m a) size) (e h)
 

@@ -55,15 +55,18 @@ offset-none z s (b ∷ l) h = offset-front z s b l ∙ rw (le-ltb s (b .number) 
 
 pub offset-in-order : (z : ℕ → ℕ) (s : ℕ) (fs : List Arrival) → nextExp fs ≤ s → byteOffset z fs s ≡ 0
 offset-in-order z s fs h =
-    offset-none z s fs (all-weaken {P = λ (b : Arrival). b .number < nextExp fs} {Q = λ (b : Arrival). b .number ≤ s} (λ b q. omega (arith, q, h)) fs (below-next fs))
+    offset-none z s fs (all-weaken {P = λ (b : Arrival). b .number < nextExp fs} {Q = λ (b : Arrival). b .number ≤ s}
+    (λ b q. omega (arith, q, h)) fs (below-next fs))
 
 -- the extent counts every position from the discontinuity on
-extent-after : (s : ℕ) (before l : List Arrival) → byteOffset (λ _. 1) l s ≤ extentFrom (length before + length l + 1) (firstAbove s (eachAfter placeAfter before l))
+extent-after : (s : ℕ) (before l : List Arrival)
+    → byteOffset (λ _. 1) l s ≤ extentFrom (length before + length l + 1) (firstAbove s (eachAfter placeAfter before l))
 unfolding byteOffset firstAbove eachAfter extentFrom
 extent-after s before [] = omega arith
 extent-after s before (b ∷ l) =
     rw (offset-front (λ _. 1) s b l)
-    (go (subst (λ (n : ℕ). byteOffset (λ _. 1) l s ≤ extentFrom n (firstAbove s (eachAfter placeAfter (before ++ (b ∷ [])) l))) same-place (extent-after s (before ++ (b ∷ [])) l)) (ltb s (b .number)))
+    (go (subst (λ (n : ℕ). byteOffset (λ _. 1) l s ≤ extentFrom n (firstAbove s (eachAfter placeAfter (before ++ (b ∷ [])) l))) same-place
+    (extent-after s (before ++ (b ∷ [])) l)) (ltb s (b .number)))
   where
     same-place : length (before ++ (b ∷ [])) + length l + 1 ≡ length before + suc (length l) + 1
     same-place = rw (length-append before (b ∷ [])) (omega arith)
@@ -71,8 +74,11 @@ extent-after s before (b ∷ l) =
     few : byteOffset (λ _. 1) l s ≤ 1 * length l
     few = offset-le (λ _. 1) 1 (λ _. omega arith) l s
 
-    go : byteOffset (λ _. 1) l s ≤ extentFrom (length before + suc (length l) + 1) (firstAbove s (eachAfter placeAfter (before ++ (b ∷ [])) l)) → (c : Bool)
-        → cond c 1 0 + byteOffset (λ _. 1) l s ≤ extentFrom (length before + suc (length l) + 1) (cond c (some (placeAfter before b)) (firstAbove s (eachAfter placeAfter (before ++ (b ∷ [])) l)))
+    go : byteOffset (λ _. 1) l s
+        ≤ extentFrom (length before + suc (length l) + 1) (firstAbove s (eachAfter placeAfter (before ++ (b ∷ [])) l)) → (c : Bool)
+        → cond c 1 0 + byteOffset (λ _. 1) l s
+        ≤ extentFrom (length before + suc (length l) + 1) (cond c (some (placeAfter before b))
+        (firstAbove s (eachAfter placeAfter (before ++ (b ∷ [])) l)))
     go k true = omega (arith, few)
     go k false = omega (arith, k)
 

@@ -50,11 +50,13 @@ pub ordered-firsts : (R : Arrival → Arrival → Type 0) (l : List Arrival) →
 unfolding firsts
 ordered-firsts R = snoc-ind (λ (l : List Arrival). Ordered R l → Ordered R (firsts l)) more (λ o. tt)
   where
-    more : (l : List Arrival) (a : Arrival) → (Ordered R l → Ordered R (firsts l)) → Ordered R (l ++ (a ∷ [])) → Ordered R (firsts (l ++ (a ∷ [])))
+    more : (l : List Arrival) (a : Arrival) → (Ordered R l → Ordered R (firsts l)) → Ordered R (l ++ (a ∷ []))
+        → Ordered R (firsts (l ++ (a ∷ [])))
     more l a k o =
         let h = k (ordered-left R l (a ∷ []) o) in
         rw firsts-more (with-cases (Ordered R) (firsts l) a h (λ n. ordered-more R (firsts l) a h
-        (all-firsts (λ (b : Arrival). R b a) l (all-weaken {P = λ (b : Arrival). All (R b) (a ∷ [])} {Q = λ (b : Arrival). R b a} (λ b q. q .0) l (ordered-across R l (a ∷ []) o)))))
+        (all-firsts (λ (b : Arrival). R b a) l (all-weaken {P = λ (b : Arrival). All (R b) (a ∷ [])} {Q = λ (b : Arrival). R b a}
+        (λ b q. q .0) l (ordered-across R l (a ∷ []) o)))))
 
 -- NextExp is at most K + 1
 pub next-high : (k : ℕ) (fs : List Arrival) → All (OfPackets k) fs → nextExp fs ≤ k + 1
@@ -65,10 +67,12 @@ next-high k = snoc-ind (λ (fs : List Arrival). All (OfPackets k) fs → nextExp
     go next s h g true = omega arith
     go next s h g false = h
 
-    more : (fs : List Arrival) (a : Arrival) → (All (OfPackets k) fs → nextExp fs ≤ k + 1) → All (OfPackets k) (fs ++ (a ∷ [])) → nextExp (fs ++ (a ∷ [])) ≤ k + 1
+    more : (fs : List Arrival) (a : Arrival) → (All (OfPackets k) fs → nextExp fs ≤ k + 1) → All (OfPackets k) (fs ++ (a ∷ []))
+        → nextExp (fs ++ (a ∷ [])) ≤ k + 1
     more fs a h g =
         rw next-more
-        (go (nextExp fs) (a .number) (h (all-left (OfPackets k) fs (a ∷ []) g)) (all-right (OfPackets k) fs (a ∷ []) g .0 .high) (leb (nextExp fs) (a .number)))
+        (go (nextExp fs) (a .number) (h (all-left (OfPackets k) fs (a ∷ []) g)) (all-right (OfPackets k) fs (a ∷ []) g .0 .high)
+        (leb (nextExp fs) (a .number)))
 
 -- how many of the packets 1 to n pass a test
 packetsWith : (ℕ → Bool) → ℕ → ℕ
@@ -107,11 +111,13 @@ module _ (f g : ℕ → Bool) (s : ℕ) (more : (r : ℕ) → g r ≡ (f r || eq
           let d : f (suc n) ≡ false = rw q at new in
           rw (e, d, packets-below n (omega arith))
 
-      step : (t : Bool) → g (suc n) ≡ t → f (suc n) ≡ t → packetsWith g n ≡ packetsWith f n + 1 → packetsWith g (suc n) ≡ packetsWith f (suc n) + 1
+      step : (t : Bool) → g (suc n) ≡ t → f (suc n) ≡ t → packetsWith g n ≡ packetsWith f n + 1
+          → packetsWith g (suc n) ≡ packetsWith f (suc n) + 1
       step true eg ef k = rw (eg, ef, k)
       step false eg ef k = rw (eg, ef, k)
 
-      go : (t : Bool) → eqb s (suc n) ≡ t → (s ≤ n → packetsWith g n ≡ packetsWith f n + 1) → packetsWith g (suc n) ≡ packetsWith f (suc n) + 1
+      go : (t : Bool) → eqb s (suc n) ≡ t → (s ≤ n → packetsWith g n ≡ packetsWith f n + 1)
+          → packetsWith g (suc n) ≡ packetsWith f (suc n) + 1
       go true e k = last (eqb-true s (suc n) e)
       go false e k =
           let ne : s ≡ suc n → ⊥ = eqb-false s (suc n) e in
@@ -140,7 +146,8 @@ packets-firsts k = snoc-ind Counted more none
         rw firsts-more
         (with-cases (λ (fs : List Arrival). packetsWith (λ (s : ℕ). has s fs) k ≡ length fs) (firsts l) a c
         (λ new.
-        packets-from (λ (s : ℕ). has s (firsts l)) (λ (s : ℕ). has s (firsts l ++ (a ∷ []))) (a .number) (λ s. has-more s (firsts l) a) new k (n .low) (n .high)
+        packets-from (λ (s : ℕ). has s (firsts l)) (λ (s : ℕ). has s (firsts l ++ (a ∷ []))) (a .number)
+        (λ s. has-more s (firsts l) a) new k (n .low) (n .high)
         ∙ ap (λ (m : ℕ). m + 1) c ∙ sym (length-append (firsts l) (a ∷ []))))
 
 -- L is at most K

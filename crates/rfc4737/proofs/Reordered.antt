@@ -74,14 +74,17 @@ module _ (size : ℕ → ℕ) (earlier : List Arrival) (a : Arrival) where
 
 pub reordered-found : ReorderedHaveDiscontinuity
 unfolding answerTo firstAnswer
-reordered-found size earlier a f low e = found size earlier a low f (has (a .number) earlier) (isInOrder (firsts earlier) (a .number)) refl refl e
+reordered-found size earlier a f low e =
+    found size earlier a low f (has (a .number) earlier) (isInOrder (firsts earlier) (a .number)) refl refl e
 
 pub offsets-bounded : OffsetsBounded
 unfolding answerTo firstAnswer
-offsets-bounded size small earlier a f few e = bounded size earlier a small few f (has (a .number) earlier) (isInOrder (firsts earlier) (a .number)) e
+offsets-bounded size small earlier a f few e =
+    bounded size earlier a small few f (has (a .number) earlier) (isInOrder (firsts earlier) (a .number)) e
 
 -- so the answer for any arrival of a packet is bounded
-pub figures-bounded : (size : ℕ → ℕ) → ((s : ℕ) → size s ≤ sizeMost) → (earlier : List Arrival) (a : Arrival) → length earlier < arrivalsMost
+pub figures-bounded : (size : ℕ → ℕ) → ((s : ℕ) → size s ≤ sizeMost) → (earlier : List Arrival) (a : Arrival)
+    → length earlier < arrivalsMost
     → 1 ≤ a .number → FiguresBounded (answerTo size earlier a)
 figures-bounded size small earlier a few low = go (answerTo size earlier a) refl
   where

@@ -41,7 +41,8 @@ skipped-more s fs a d k =
     }
 
 -- of a packet that has not arrived, the discontinuity is the jump that skipped it
-pub discontinuity-skipped : (s : ℕ) → 1 ≤ s → (fs : List Arrival) → has s fs ≡ false → (d : FirstArrival) → discontinuity fs s ≡ some d → SkippedAt s fs d
+pub discontinuity-skipped : (s : ℕ) → 1 ≤ s → (fs : List Arrival) → has s fs ≡ false → (d : FirstArrival) → discontinuity fs s ≡ some d
+    → SkippedAt s fs d
 unfolding discontinuity firstAbove placed each eachAfter
 discontinuity-skipped s h =
     snoc-ind (λ (fs : List Arrival). has s fs ≡ false → (d : FirstArrival) → discontinuity fs s ≡ some d → SkippedAt s fs d) more

@@ -28,7 +28,8 @@ use Rattle.sample.proofs.Answers.{found-accepted}
 -- ---- from the layout that the check answers
 
 -- no refusal: the file is accepted
-pub found-sample : (file : List ℕ) (y : Layout) → y ≡ layoutOf (decode file) → y .refusal ≡ 0 → decode file ≡ accepted (sampleOf (decode file))
+pub found-sample : (file : List ℕ) (y : Layout) → y ≡ layoutOf (decode file) → y .refusal ≡ 0
+    → decode file ≡ accepted (sampleOf (decode file))
 found-sample file y e z =
     let d = found-accepted file y e z in
     d ∙ sym (ap (λ x. accepted (sampleOf x)) d)
@@ -100,11 +101,13 @@ module _ (file : List ℕ) (s : Sample) (e : decode file ≡ accepted s) where
 
     module _ (z : Arrival) where
       -- every sequence number lies in 1 to K
-      pub number-within : (i : ℕ) → i < length (s .arrivals) → (1 ≤ getD (s .arrivals) i z .number) × (getD (s .arrivals) i z .number ≤ length (s .sizes))
+      pub number-within : (i : ℕ) → i < length (s .arrivals)
+          → (1 ≤ getD (s .arrivals) i z .number) × (getD (s .arrivals) i z .number ≤ length (s .sizes))
       number-within i h = judged-number (length (s .sizes)) 0 (s .arrivals) (accepted-limits .judged) i z h
 
       -- no arrival time is over 1,000 below an earlier one
-      pub times-within : (i j : ℕ) → i ≤ j → j < length (s .arrivals) → getD (s .arrivals) i z .time ≤ getD (s .arrivals) j z .time + backMost
+      pub times-within : (i j : ℕ) → i ≤ j → j < length (s .arrivals)
+          → getD (s .arrivals) i z .time ≤ getD (s .arrivals) j z .time + backMost
       times-within i j p h = judged-times (length (s .sizes)) 0 (s .arrivals) (accepted-limits .judged) i j z p h
 
     -- every arrival time fits eight octets

@@ -79,12 +79,14 @@ module _ (file sizes numbers times : List ℕ) where
   into-refused n e = rw e
 
   -- none, and lists that are too short or not
-  into-short : decode file ≡ accepted (sampleIn file) → listsShort (layoutOf (decode file)) (length sizes) (length numbers) (length times) ≡ true
+  into-short : decode file ≡ accepted (sampleIn file)
+      → listsShort (layoutOf (decode file)) (length sizes) (length numbers) (length times) ≡ true
       → decodeInto (length sizes) (length numbers) (length times) file ≡ refused outputShort
   unfolding decodeInto unlessShort
   into-short d s = ap₂ unlessShort s d
 
-  into-filled : decode file ≡ accepted (sampleIn file) → listsShort (layoutOf (decode file)) (length sizes) (length numbers) (length times) ≡ false
+  into-filled : decode file ≡ accepted (sampleIn file)
+      → listsShort (layoutOf (decode file)) (length sizes) (length numbers) (length times) ≡ false
       → decodeInto (length sizes) (length numbers) (length times) file ≡ accepted (sampleIn file)
   unfolding decodeInto unlessShort
   into-filled d s = ap₂ unlessShort s d
@@ -143,16 +145,23 @@ module _ (file sizes numbers times : List ℕ) where
           let v : arrivalsAt y ≡ itemsAt (arrivedAt file) = omega arith in
           record {
             layout = e ∙ ap layoutOf (found-accepted file y e z ∙ sym d);
-            filledSizes = p ∙ (λ i. over (itemsIn sizeWidth beValue (k i) (drop (u i) file)) sizes) ∙ sym (ap (λ (x : Decoded). over (sampleOf x .sizes) sizes) d);
-            filledNumbers = q ∙ (λ i. over (numbersOf (itemsIn arrivalWidth arrivalIn (a i) (drop (v i) file))) numbers) ∙ sym (ap (λ (x : Decoded). over (numbersOf (sampleOf x .arrivals)) numbers) d);
-            filledTimes = r ∙ (λ i. over (timesOf (itemsIn arrivalWidth arrivalIn (a i) (drop (v i) file))) times) ∙ sym (ap (λ (x : Decoded). over (timesOf (sampleOf x .arrivals)) times) d);
+            filledSizes =
+                p ∙ (λ i. over (itemsIn sizeWidth beValue (k i) (drop (u i) file)) sizes)
+                ∙ sym (ap (λ (x : Decoded). over (sampleOf x .sizes) sizes) d);
+            filledNumbers =
+                q ∙ (λ i. over (numbersOf (itemsIn arrivalWidth arrivalIn (a i) (drop (v i) file))) numbers)
+                ∙ sym (ap (λ (x : Decoded). over (numbersOf (sampleOf x .arrivals)) numbers) d);
+            filledTimes =
+                r ∙ (λ i. over (timesOf (itemsIn arrivalWidth arrivalIn (a i) (drop (v i) file))) times)
+                ∙ sym (ap (λ (x : Decoded). over (timesOf (sampleOf x .arrivals)) times) d);
           }
 
 -- ---- the writer
 
 module _ (label sizes numbers times out : List ℕ) where
   -- the label or a list is refused
-  pub write-refused : (n : ℕ) → (n ≡ 0 → ⊥) → n ≡ sampleRefusal label sizes numbers times → WrittenTo label sizes numbers times out (record { refusal = n; length = 0 }) out
+  pub write-refused : (n : ℕ) → (n ≡ 0 → ⊥) → n ≡ sampleRefusal label sizes numbers times
+      → WrittenTo label sizes numbers times out (record { refusal = n; length = 0 }) out
   write-refused n h e = output-refused (sampleRefusal label sizes numbers times) (fileOf (sampleFrom label sizes numbers times)) out n e h
 
   module _ (e : 0 ≡ sampleRefusal label sizes numbers times) (same : length times ≡ length numbers)
@@ -171,7 +180,8 @@ module _ (label sizes numbers times out : List ℕ) where
         output-short (sampleRefusal label sizes numbers times) (fileOf (sampleFrom label sizes numbers times)) out (sym e) (omega arith)
 
     -- the file is written
-    pub write-filled : (sent arrived : ℕ) → sent ≡ sentStart (length label) → arrived ≡ arrivedStart (length label) (length sizes) → (out′ : List ℕ) → end ≤ length out
+    pub write-filled : (sent arrived : ℕ) → sent ≡ sentStart (length label) → arrived ≡ arrivedStart (length label) (length sizes)
+        → (out′ : List ℕ) → end ≤ length out
         → out′ ≡ splice arrived (section (length numbers) (itemOctets arrivalOctets (arrivalsFrom numbers times)))
         (splice sent (section (length sizes) (itemOctets sizeOctets sizes)) (splice 0 (section (length label) label) out))
         → WrittenTo label sizes numbers times out (record { refusal = 0; length = end }) out′
@@ -187,8 +197,10 @@ module _ (label sizes numbers times out : List ℕ) where
         let s = octets-many sizeOctets sizeWidth size-long sizes in
         let p : 0 + length a ≡ sent = omega arith in
         let q : 0 + length (a ++ b) ≡ arrived = simp length-append (omega arith) in
-        output-written (sampleRefusal label sizes numbers times) (fileOf (sampleFrom label sizes numbers times)) out (sym e) (omega arith) (sym l)
+        output-written (sampleRefusal label sizes numbers times) (fileOf (sampleFrom label sizes numbers times)) out (sym e) (omega arith)
+        (sym l)
         (w ∙ ap (splice arrived c) (splice-next 0 sent a b out p zero-le)
         ∙ splice-next 0 arrived (a ++ b) c out q zero-le
-        ∙ ap (λ (os : List ℕ). splice 0 os out) (append-assoc a b c ∙ ap (λ (j : ℕ). a ++ (b ++ section j (itemOctets arrivalOctets (arrivalsFrom numbers times)))) (sym n))
+        ∙ ap (λ (os : List ℕ). splice 0 os out) (append-assoc a b c
+        ∙ ap (λ (j : ℕ). a ++ (b ++ section j (itemOctets arrivalOctets (arrivalsFrom numbers times)))) (sym n))
         ∙ sym (over-splice (fileOf (sampleFrom label sizes numbers times)) out))

@@ -32,18 +32,23 @@ below-none m n r h e = ltb-false m n (case-none (ltb m n) r h e)
 -- what its stage judges
 abbrev sectionStages : ℕ → ℕ → (ℕ → ℕ) → List ℕ → List ℕ
 sectionStages at width judged file =
-    refusalIf (ltb (length file) (itemsAt at)) endsEarly ∷ judged (countAt at file) ∷ refusalIf (ltb (length file) (endOf at width (countAt at file))) endsEarly ∷ []
+    refusalIf (ltb (length file) (itemsAt at)) endsEarly ∷ judged (countAt at file)
+    ∷ refusalIf (ltb (length file) (endOf at width (countAt at file))) endsEarly ∷ []
 
 -- nothing of it is refused: its count is there, is not refused, and its items are all there
 pub stage-none : (at width : ℕ) (judged : ℕ → ℕ) (file : List ℕ) → sectionStage at width judged file ≡ 0
     → (itemsAt at ≤ length file) × (judged (countAt at file) ≡ 0) × (endOf at width (countAt at file) ≤ length file)
 unfolding sectionStage
 stage-none at width judged file e =
-    let s = each-none (sectionStages at width judged file) e in
-    (below-none (length file) (itemsAt at) endsEarly (omega arith) (s 0), s 1, below-none (length file) (endOf at width (countAt at file)) endsEarly (omega arith) (s 2))
+    let s = each-none (sectionStages at width judged file) e in (
+      below-none (length file) (itemsAt at) endsEarly (omega arith) (s 0),
+      s 1,
+      below-none (length file) (endOf at width (countAt at file)) endsEarly (omega arith) (s 2),
+    )
 
 -- and when that is so
-pub none-stage : (at width : ℕ) (judged : ℕ → ℕ) (file : List ℕ) → judged (countAt at file) ≡ 0 → endOf at width (countAt at file) ≤ length file
+pub none-stage : (at width : ℕ) (judged : ℕ → ℕ) (file : List ℕ) → judged (countAt at file) ≡ 0
+    → endOf at width (countAt at file) ≤ length file
     → sectionStage at width judged file ≡ 0
 unfolding sectionStage
 none-stage at width judged file e h =
@@ -86,7 +91,9 @@ pub record WholeFile (file : List ℕ) : Type 0 where
 pub refused-none : (file : List ℕ) → fileRefusal file ≡ 0 → WholeFile file
 unfolding fileRefusal
 refused-none file e =
-    let s = each-none (labelStage file ∷ judgeOctets (sampleIn file .label) ∷ sentStage file ∷ arrivedStage file ∷ endStage file ∷ arrivalsStage file ∷ []) e in
+    let s =
+    each-none (labelStage file ∷ judgeOctets (sampleIn file .label) ∷ sentStage file ∷ arrivedStage file ∷ endStage file
+    ∷ arrivalsStage file ∷ []) e in
     let l = stage-none 0 octetWidth judgeLabel file (s 0) in
     let k = stage-none (sentAt file) sizeWidth judgeSent file (s 2) in
     let a = stage-none (arrivedAt file) arrivalWidth judgeArrivals file (s 3) in
@@ -110,9 +117,15 @@ pub none-refused : (file : List ℕ) → WholeFile file → fileRefusal file ≡
 unfolding fileRefusal
 none-refused file w =
     let e = w .ends in
-    let p : labelStage file ≡ 0 = none-stage 0 octetWidth judgeLabel file (simp (not-outside 0 labelMost (labelCount file) (omega arith) (w .labelFits))) (omega arith) in
-    let q : sentStage file ≡ 0 = none-stage (sentAt file) sizeWidth judgeSent file (simp (not-outside 1 sentMost (sentCount file) (w .sentSome) (w .sentFits))) (omega arith) in
-    let r : arrivedStage file ≡ 0 = none-stage (arrivedAt file) arrivalWidth judgeArrivals file (simp (not-outside 0 arrivalsMost (arrivalCount file) (omega arith) (w .arrivalsFit))) (omega arith) in
+    let p : labelStage file ≡ 0 =
+    none-stage 0 octetWidth judgeLabel file (simp (not-outside 0 labelMost (labelCount file) (omega arith) (w .labelFits)))
+    (omega arith) in
+    let q : sentStage file ≡ 0 =
+    none-stage (sentAt file) sizeWidth judgeSent file (simp (not-outside 1 sentMost (sentCount file) (w .sentSome) (w .sentFits)))
+    (omega arith) in
+    let r : arrivedStage file ≡ 0 =
+    none-stage (arrivedAt file) arrivalWidth judgeArrivals file (simp
+    (not-outside 0 arrivalsMost (arrivalCount file) (omega arith) (w .arrivalsFit))) (omega arith) in
     let f : ltb (fileEnd file) (length file) ≡ false = le-ltb (fileEnd file) (length file) (omega arith) in
     simp (p, w .shown, q, r, f, w .judged)
 
@@ -204,4 +217,6 @@ module _ (file : List ℕ) (p : labelStage file ≡ 0) where
 -- the section of the label is refused
 pub refused-label : (file : List ℕ) (n : ℕ) → 0 < n → labelStage file ≡ n → fileRefusal file ≡ n
 unfolding fileRefusal
-refused-label file n h e = simp e (first-due n (judgeOctets (sampleIn file .label) ∷ sentStage file ∷ arrivedStage file ∷ endStage file ∷ arrivalsStage file ∷ []) h)
+refused-label file n h e =
+    simp e (first-due n (judgeOctets (sampleIn file .label) ∷ sentStage file ∷ arrivedStage file ∷ endStage file ∷ arrivalsStage file
+    ∷ []) h)

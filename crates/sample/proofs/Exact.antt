@@ -51,8 +51,11 @@ pub label-fit : (label sizes numbers times : List ℕ) → sampleRefusal label s
     → (length label ≤ labelMost) × (someUnshown label ≡ false) × ListsFit (length sizes) numbers times
 unfolding sampleRefusal
 label-fit label sizes numbers times e =
-    let n = each-none (judgeLabel (length label) ∷ judgeOctets label ∷ refusalOfLists (length sizes) numbers times ∷ []) e in
-    (limit-none 0 labelMost (length label) longLabel (omega arith) (n 0) .1, case-none (someUnshown label) octetOutside (omega arith) (n 1), lists-fit (length sizes) numbers times (n 2))
+    let n = each-none (judgeLabel (length label) ∷ judgeOctets label ∷ refusalOfLists (length sizes) numbers times ∷ []) e in (
+      limit-none 0 labelMost (length label) longLabel (omega arith) (n 0) .1,
+      case-none (someUnshown label) octetOutside (omega arith) (n 1),
+      lists-fit (length sizes) numbers times (n 2),
+    )
 
 -- nothing of their sample's is refused
 pub from-none : (label sizes numbers times : List ℕ) → sampleRefusal label sizes numbers times ≡ 0
@@ -76,8 +79,14 @@ within-limits s l =
     let n = length-map (s .arrivals) (λ (a : Arrival). a .number) in
     let t = length-map (s .arrivals) (λ (a : Arrival). a .time) in
     let p = not-outside 0 labelMost (length (s .label)) (omega arith) (l .labelFits) in
-    let j : judge (length (s .sizes)) 0 (arrivalsFrom (numbersOf (s .arrivals)) (timesOf (s .arrivals))) ≡ 0 = rw (arrivals-back (s .arrivals)) (l .judged) in
-    simp (p, l .shown, fit-lists (length (s .sizes)) (numbersOf (s .arrivals)) (timesOf (s .arrivals)) (l .sentSome) (l .sentFits) (rw n (l .arrivalsFit)) (t ∙ sym n) j)
+    let j : judge (length (s .sizes)) 0 (arrivalsFrom (numbersOf (s .arrivals)) (timesOf (s .arrivals))) ≡ 0 =
+    rw (arrivals-back (s .arrivals)) (l .judged) in
+    simp (
+      p,
+      l .shown,
+      fit-lists (length (s .sizes)) (numbersOf (s .arrivals)) (timesOf (s .arrivals)) (l .sentSome) (l .sentFits) (rw n (l .arrivalsFit))
+          (t ∙ sym n) j,
+    )
 
 -- ---- an accepted file is the file of its sample
 
@@ -89,16 +98,20 @@ items-below n width item value z e p count at file h i = go (ltb i count) refl w
   go : (t : Bool) → ltb i count ≡ t → value (getD (itemsIn width item count (drop at file)) i z) < n
   go true q = rw (items-stand width item count at file i z (ltb-true i count q)) (h i)
   go false q =
-      let k : length (itemsIn width item count (drop at file)) ≤ i = rw (items-length width item count (drop at file)) (ltb-false i count q) in
+      let k : length (itemsIn width item count (drop at file)) ≤ i =
+      rw (items-length width item count (drop at file)) (ltb-false i count q) in
       rw (List·getD-eq-default (itemsIn width item count (drop at file)) z k, e) p
 
 -- the count of a section, written back
-count-back : (at : ℕ) (file : List ℕ) → Octets file → itemsAt at ≤ length file → beOctets countWidth (countAt at file) ≡ part at countWidth file
+count-back : (at : ℕ) (file : List ℕ) → Octets file → itemsAt at ≤ length file
+    → beOctets countWidth (countAt at file) ≡ part at countWidth file
 unfolding countAt
-count-back at file o h = value-back countWidth (part at countWidth file) (below-part 256 at countWidth file o) (part-length at countWidth file h)
+count-back at file o h =
+    value-back countWidth (part at countWidth file) (below-part 256 at countWidth file o) (part-length at countWidth file h)
 
 -- a section whose items' octets are those of the file is that part of the file
-section-back : (at width : ℕ) (os file : List ℕ) → Octets file → endOf at width (countAt at file) ≤ length file → os ≡ part (itemsAt at) (width * countAt at file) file
+section-back : (at width : ℕ) (os file : List ℕ) → Octets file → endOf at width (countAt at file) ≤ length file
+    → os ≡ part (itemsAt at) (width * countAt at file) file
     → section (countAt at file) os ≡ part at (countWidth + width * countAt at file) file
 unfolding section
 section-back at width os file o h e =
@@ -119,25 +132,32 @@ module _ (file : List ℕ) (o : Octets file) (w : WholeFile file) where
   unfolding sampleIn
   label-back =
       ap (λ (n : ℕ). section n (sampleIn file .label)) (label-length file w)
-      ∙ section-back 0 octetWidth (sampleIn file .label) file o sent-within (let e : labelCount file ≡ octetWidth * labelCount file = omega arith in ap (λ (n : ℕ). part (itemsAt 0) n file) e)
+      ∙ section-back 0 octetWidth (sampleIn file .label) file o sent-within
+      (let e : labelCount file ≡ octetWidth * labelCount file = omega arith in ap (λ (n : ℕ). part (itemsAt 0) n file) e)
 
   -- the sent packets, written back
-  sizes-back : section (length (sampleIn file .sizes)) (itemOctets sizeOctets (sampleIn file .sizes)) ≡ part (sentAt file) (countWidth + sizeWidth * sentCount file) file
+  sizes-back : section (length (sampleIn file .sizes)) (itemOctets sizeOctets (sampleIn file .sizes))
+      ≡ part (sentAt file) (countWidth + sizeWidth * sentCount file) file
   unfolding sampleIn
   sizes-back =
       let h : sizeWidth * sentCount file ≤ length (drop (itemsAt (sentAt file)) file) = simp length-drop (let e = w .ends in omega arith) in
       ap (λ (n : ℕ). section n (itemOctets sizeOctets (sampleIn file .sizes))) (sizes-length file)
       ∙ section-back (sentAt file) sizeWidth (itemOctets sizeOctets (sampleIn file .sizes)) file o arrived-within
-      (written-read sizeOctets sizeWidth size-long beValue (value-back sizeWidth) (sentCount file) (drop (itemsAt (sentAt file)) file) (below-drop 256 (itemsAt (sentAt file)) file o) h)
+      (written-read sizeOctets sizeWidth size-long beValue (value-back sizeWidth) (sentCount file) (drop (itemsAt (sentAt file)) file)
+      (below-drop 256 (itemsAt (sentAt file)) file o) h)
 
   -- the arrivals, written back
-  arrivals-part : section (length (sampleIn file .arrivals)) (itemOctets arrivalOctets (sampleIn file .arrivals)) ≡ part (arrivedAt file) (countWidth + arrivalWidth * arrivalCount file) file
+  arrivals-part : section (length (sampleIn file .arrivals)) (itemOctets arrivalOctets (sampleIn file .arrivals))
+      ≡ part (arrivedAt file) (countWidth + arrivalWidth * arrivalCount file) file
   unfolding sampleIn
   arrivals-part =
-      let h : arrivalWidth * arrivalCount file ≤ length (drop (itemsAt (arrivedAt file)) file) = simp length-drop (let e = w .ends in omega arith) in
+      let h : arrivalWidth * arrivalCount file ≤ length (drop (itemsAt (arrivedAt file)) file) =
+      simp length-drop (let e = w .ends in omega arith) in
       ap (λ (n : ℕ). section n (itemOctets arrivalOctets (sampleIn file .arrivals))) (arrivals-number file)
-      ∙ section-back (arrivedAt file) arrivalWidth (itemOctets arrivalOctets (sampleIn file .arrivals)) file o (let e = w .ends in omega arith)
-      (written-read arrivalOctets arrivalWidth arrival-long arrivalIn arrival-back (arrivalCount file) (drop (itemsAt (arrivedAt file)) file) (below-drop 256 (itemsAt (arrivedAt file)) file o) h)
+      ∙ section-back (arrivedAt file) arrivalWidth (itemOctets arrivalOctets (sampleIn file .arrivals)) file o
+      (let e = w .ends in omega arith)
+      (written-read arrivalOctets arrivalWidth arrival-long arrivalIn arrival-back (arrivalCount file)
+      (drop (itemsAt (arrivedAt file)) file) (below-drop 256 (itemsAt (arrivedAt file)) file o) h)
 
   -- the three sections make up the file
   pub file-back : file ≡ fileOf (sampleIn file)
@@ -172,10 +192,14 @@ module _ (file : List ℕ) (o : Octets file) (w : WholeFile file) where
           arrivalsFit = rw a (w .arrivalsFit);
           judged = rw k (w .judged);
         });
-        sizes = items-below (2 ^ 16) sizeWidth beValue (λ (n : ℕ). n) 0 refl (omega arith) (sentCount file) (itemsAt (sentAt file)) file (λ i. part-fits sizeWidth (itemsAt (sentAt file) + sizeWidth * i) file o);
+        sizes =
+            items-below (2 ^ 16) sizeWidth beValue (λ (n : ℕ). n) 0 refl (omega arith) (sentCount file) (itemsAt (sentAt file)) file
+            (λ i. part-fits sizeWidth (itemsAt (sentAt file) + sizeWidth * i) file o);
         times = λ i. rw (List·getD-map (λ (x : Arrival). x .time) (sampleIn file .arrivals) i noArrival)
-            (items-below (2 ^ 64) arrivalWidth arrivalIn (λ (x : Arrival). x .time) noArrival refl (omega arith) (arrivalCount file) (itemsAt (arrivedAt file)) file
-            (λ j. rw (time-stands (itemsAt (arrivedAt file) + arrivalWidth * j) file) (part-fits timeWidth (itemsAt (arrivedAt file) + arrivalWidth * j + numberWidth) file o)) i);
+            (items-below (2 ^ 64) arrivalWidth arrivalIn (λ (x : Arrival). x .time) noArrival refl (omega arith) (arrivalCount file)
+            (itemsAt (arrivedAt file)) file
+            (λ j. rw (time-stands (itemsAt (arrivedAt file) + arrivalWidth * j) file)
+            (part-fits timeWidth (itemsAt (arrivedAt file) + arrivalWidth * j + numberWidth) file o)) i);
       }
 
 -- ---- the file of a fit sample decodes to it
@@ -185,7 +209,8 @@ section-count : (p os rest : List ℕ) (n at : ℕ) → length p ≡ at → n < 
 unfolding countAt section
 section-count p os rest n at e h =
     let c = beOctets countWidth n in
-    rw (drop-at p ((c ++ os) ++ rest) at e, append-assoc c os rest, take-at c (os ++ rest) countWidth (octets-length countWidth n)) (value-octets countWidth n h)
+    rw (drop-at p ((c ++ os) ++ rest) at e, append-assoc c os rest, take-at c (os ++ rest) countWidth (octets-length countWidth n))
+    (value-octets countWidth n h)
 
 -- and its items
 section-items : (p os rest : List ℕ) (n at : ℕ) → length p ≡ at → drop (itemsAt at) (p ++ (section n os ++ rest)) ≡ os ++ rest
@@ -235,8 +260,10 @@ file-length s =
     let c = section-length (length (s .arrivals)) (arrivalsPart s) in
     let d = octets-many sizeOctets sizeWidth size-long (s .sizes) in
     let e = octets-many arrivalOctets arrivalWidth arrival-long (s .arrivals) in
-    length-append (labelSection s) (sentSection s ++ arrivedSection s) ∙ ap (λ (n : ℕ). length (labelSection s) + n) (length-append (sentSection s) (arrivedSection s))
-    ∙ (let g : length (labelSection s) + (length (sentSection s) + length (arrivedSection s)) ≡ lastEnd (length (s .label)) (length (s .sizes)) (length (s .arrivals)) = omega arith in g)
+    length-append (labelSection s) (sentSection s ++ arrivedSection s)
+    ∙ ap (λ (n : ℕ). length (labelSection s) + n) (length-append (sentSection s) (arrivedSection s))
+    ∙ (let g : length (labelSection s) + (length (sentSection s) + length (arrivedSection s))
+    ≡ lastEnd (length (s .label)) (length (s .sizes)) (length (s .arrivals)) = omega arith in g)
 
 module _ (s : Sample) (f : FitSample s) where
   label-count : labelCount (fileOf s) ≡ length (s .label)
@@ -266,14 +293,16 @@ module _ (s : Sample) (f : FitSample s) where
       let b = section-length (length (s .sizes)) (sizesPart s) in
       let c = octets-many sizeOctets sizeWidth size-long (s .sizes) in
       let d = sent-count in
-      length-append (labelSection s) (sentSection s) ∙ (let g : length (labelSection s) + length (sentSection s) ≡ arrivedAt (fileOf s) = omega arith in g)
+      length-append (labelSection s) (sentSection s)
+      ∙ (let g : length (labelSection s) + length (sentSection s) ≡ arrivedAt (fileOf s) = omega arith in g)
 
   -- A
   arrival-count : arrivalCount (fileOf s) ≡ length (s .arrivals)
   arrival-count =
       let l = limits s (f .judged) in
       ap (countAt (arrivedAt (fileOf s))) (sections s)
-      ∙ section-count (labelSection s ++ sentSection s) (arrivalsPart s) [] (length (s .arrivals)) (arrivedAt (fileOf s)) arrived-begins (omega arith)
+      ∙ section-count (labelSection s ++ sentSection s) (arrivalsPart s) [] (length (s .arrivals)) (arrivedAt (fileOf s)) arrived-begins
+      (omega arith)
 
   label-found : sampleIn (fileOf s) .label ≡ s .label
   unfolding fileOf sampleIn
@@ -285,8 +314,10 @@ module _ (s : Sample) (f : FitSample s) where
   sizes-found : sampleIn (fileOf s) .sizes ≡ s .sizes
   unfolding fileOf sampleIn
   sizes-found =
-      ap₂ (itemsIn sizeWidth beValue) sent-count (section-items (labelSection s) (sizesPart s) (arrivedSection s) (length (s .sizes)) (sentAt (fileOf s)) sent-begins)
-      ∙ read-written sizeOctets sizeWidth size-long beValue (s .sizes) 0 (arrivedSection s) (λ i h. value-octets sizeWidth (getD (s .sizes) i 0) (f .sizes i))
+      ap₂ (itemsIn sizeWidth beValue) sent-count (section-items (labelSection s) (sizesPart s) (arrivedSection s) (length (s .sizes))
+      (sentAt (fileOf s)) sent-begins)
+      ∙ read-written sizeOctets sizeWidth size-long beValue (s .sizes) 0 (arrivedSection s)
+      (λ i h. value-octets sizeWidth (getD (s .sizes) i 0) (f .sizes i))
 
   arrivals-found : sampleIn (fileOf s) .arrivals ≡ s .arrivals
   unfolding sampleIn
@@ -298,7 +329,8 @@ module _ (s : Sample) (f : FitSample s) where
       ∙ read-written arrivalOctets arrivalWidth arrival-long arrivalIn (s .arrivals) noArrival [] (λ i h.
       let p = judged-number (length (s .sizes)) 0 (s .arrivals) (l .judged) i noArrival h in
       let q : getD (s .arrivals) i noArrival .number < 2 ^ 32 = omega arith in
-      arrival-read (getD (s .arrivals) i noArrival) q (subst (λ (n : ℕ). n < 2 ^ 64) (List·getD-map (λ (x : Arrival). x .time) (s .arrivals) i noArrival) (f .times i)))
+      arrival-read (getD (s .arrivals) i noArrival) q (subst (λ (n : ℕ). n < 2 ^ 64)
+      (List·getD-map (λ (x : Arrival). x .time) (s .arrivals) i noArrival) (f .times i)))
 
   sample-found : sampleIn (fileOf s) ≡ s
   unfolding sampleIn

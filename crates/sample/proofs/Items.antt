@@ -28,11 +28,14 @@ pub part-fits : (width at : ℕ) (file : List ℕ) → Octets file → beValue (
 part-fits width at file o = value-fits width (part at width file) (below-part 256 at width file o) (part-most at width file)
 
 -- so does the value of n octets of an item that is taken from a file
-pub taken-fits : (start width from n : ℕ) (file : List ℕ) {v : ℕ} → Octets file → v ≡ beValue (part from n (taken start width file)) → v < 256 ^ n
-taken-fits start width from n file o e = rw e (part-fits n from (taken start width file) (below-part 256 start (start + width - start) file o))
+pub taken-fits : (start width from n : ℕ) (file : List ℕ) {v : ℕ} → Octets file → v ≡ beValue (part from n (taken start width file))
+    → v < 256 ^ n
+taken-fits start width from n file o e =
+    rw e (part-fits n from (taken start width file) (below-part 256 start (start + width - start) file o))
 
 -- the same value, where it stands in the file
-taken-stands : (start width from n at : ℕ) (file : List ℕ) {v : ℕ} → from + n ≤ width → start + from ≡ at → v ≡ beValue (part from n (taken start width file))
+taken-stands : (start width from n at : ℕ) (file : List ℕ) {v : ℕ} → from + n ≤ width → start + from ≡ at
+    → v ≡ beValue (part from n (taken start width file))
     → v ≡ beValue (part at n file)
 taken-stands start width from n at file h p e = e ∙ ap beValue (taken-part start width from n file h ∙ ap (λ (k : ℕ). part k n file) p)
 
@@ -53,10 +56,12 @@ module _ {ℓ} {A : Type ℓ} (width : ℕ) (item : List ℕ → A) where
   items-getD (suc n) os zero z h = rw mul-zero
   items-getD (suc n) os (suc i) z h =
       items-getD n (drop width os) i z (omega arith)
-      ∙ ap (λ (l : List ℕ). item (take width l)) (drop-drop (width * i) width os ∙ ap (λ (k : ℕ). drop k os) (let e : width + width * i ≡ width * suc i = rw mul-suc (omega arith) in e))
+      ∙ ap (λ (l : List ℕ). item (take width l)) (drop-drop (width * i) width os
+      ∙ ap (λ (k : ℕ). drop k os) (let e : width + width * i ≡ width * suc i = rw mul-suc (omega arith) in e))
 
   -- where each stands in a file, from a place on
-  pub items-stand : (n at : ℕ) (file : List ℕ) (i : ℕ) (z : A) → i < n → getD (itemsIn width item n (drop at file)) i z ≡ item (part (at + width * i) width file)
+  pub items-stand : (n at : ℕ) (file : List ℕ) (i : ℕ) (z : A) → i < n
+      → getD (itemsIn width item n (drop at file)) i z ≡ item (part (at + width * i) width file)
   items-stand n at file i z h =
       items-getD n (drop at file) i z h ∙ ap (λ (l : List ℕ). item (take width l)) (drop-drop (width * i) at file)
 
@@ -67,7 +72,8 @@ module _ {ℓ} {A : Type ℓ} (octets : A → List ℕ) where
   octets-append (x ∷ xs) ys = rw (octets-append xs ys, append-assoc)
 
   -- under one item more
-  pub octets-snoc : (xs : List A) (i : ℕ) (z : A) → i < length xs → itemOctets octets (take (i + 1) xs) ≡ itemOctets octets (take i xs) ++ octets (getD xs i z)
+  pub octets-snoc : (xs : List A) (i : ℕ) (z : A) → i < length xs
+      → itemOctets octets (take (i + 1) xs) ≡ itemOctets octets (take i xs) ++ octets (getD xs i z)
   unfolding itemOctets
   octets-snoc xs i z h =
       ap (itemOctets octets) (take-snoc xs i z h) ∙ octets-append (take i xs) (getD xs i z ∷ [])
@@ -89,8 +95,15 @@ module _ {ℓ} {A : Type ℓ} (octets : A → List ℕ) where
       unfolding itemOctets itemsIn
       read-written [] z rest h = refl
       read-written (x ∷ xs) z rest h =
-          let e : (octets x ++ itemOctets octets xs) ++ rest ≡ octets x ++ (itemOctets octets xs ++ rest) = append-assoc (octets x) (itemOctets octets xs) rest in
-          rw (e, take-at (octets x) (itemOctets octets xs ++ rest) width (long x), drop-at (octets x) (itemOctets octets xs ++ rest) width (long x), h 0 (omega arith), read-written xs z rest (λ i p. h (suc i) (omega arith)))
+          let e : (octets x ++ itemOctets octets xs) ++ rest ≡ octets x ++ (itemOctets octets xs ++ rest) =
+          append-assoc (octets x) (itemOctets octets xs) rest in
+          rw (
+            e,
+            take-at (octets x) (itemOctets octets xs ++ rest) width (long x),
+            drop-at (octets x) (itemOctets octets xs ++ rest) width (long x),
+            h 0 (omega arith),
+            read-written xs z rest (λ i p. h (suc i) (omega arith)),
+          )
 
       -- octets of which each item's are written back as themselves are so one after the other
       pub written-read : ((os : List ℕ) → Octets os → length os ≡ width → octets (item os) ≡ os)
@@ -101,7 +114,12 @@ module _ {ℓ} {A : Type ℓ} (octets : A → List ℕ) where
           let m : width * suc n ≡ width + width * n = rw mul-suc (omega arith) in
           let p : width ≤ length os = omega arith in
           let q : width * n ≤ length (drop width os) = simp length-drop (omega arith) in
-          rw (m, take-add width (width * n) os, back (take width os) (below-take 256 width os o) (length-take-le width os p), written-read back n (drop width os) (below-drop 256 width os o) q)
+          rw (
+            m,
+            take-add width (width * n) os,
+            back (take width os) (below-take 256 width os o) (length-take-le width os p),
+            written-read back n (drop width os) (below-drop 256 width os o) q,
+          )
 
 -- ---- an arrival
 
@@ -128,7 +146,8 @@ arrival-back os o h =
     let p : length n ≡ numberWidth = simp length-take (omega arith) in
     let q : length t ≡ timeWidth = simp length-drop (omega arith) in
     let g : take timeWidth t ≡ t = take-all timeWidth t (omega arith) in
-    rw (g, value-back numberWidth n (below-take 256 numberWidth os o) p, value-back timeWidth t (below-drop 256 numberWidth os o) q) (take-append-drop numberWidth os)
+    rw (g, value-back numberWidth n (below-take 256 numberWidth os o) p, value-back timeWidth t (below-drop 256 numberWidth os o) q)
+    (take-append-drop numberWidth os)
 
 -- its time, where it stands
 pub time-stands : (at : ℕ) (file : List ℕ) → arrivalIn (part at arrivalWidth file) .time ≡ beValue (part (at + numberWidth) timeWidth file)
@@ -136,7 +155,8 @@ unfolding arrivalIn
 time-stands at file = ap beValue (part-part at arrivalWidth numberWidth timeWidth file (omega arith))
 
 -- the arrival in its octets as they are taken
-pub arrival-taken : (start : ℕ) (file : List ℕ) {a : Arrival} → a ≡ arrivalIn (taken start arrivalWidth file) → a ≡ arrivalIn (part start arrivalWidth file)
+pub arrival-taken : (start : ℕ) (file : List ℕ) {a : Arrival} → a ≡ arrivalIn (taken start arrivalWidth file)
+    → a ≡ arrivalIn (part start arrivalWidth file)
 arrival-taken start file e =
     let w : start + arrivalWidth - start ≡ arrivalWidth = omega arith in
     e ∙ ap (λ (n : ℕ). arrivalIn (part start n file)) w
@@ -147,10 +167,12 @@ module _ (value : Arrival → ℕ) (count at : ℕ) (file : List ℕ) where
   valuesFrom = map value (itemsIn arrivalWidth arrivalIn count (drop at file))
 
   pub values-many : length valuesFrom ≡ count
-  values-many = length-map (itemsIn arrivalWidth arrivalIn count (drop at file)) value ∙ items-length arrivalWidth arrivalIn count (drop at file)
+  values-many =
+      length-map (itemsIn arrivalWidth arrivalIn count (drop at file)) value ∙ items-length arrivalWidth arrivalIn count (drop at file)
 
   -- that of the arrival that is read at i
-  pub value-found : (i : ℕ) {a : Arrival} → i < count → a ≡ arrivalIn (part (at + arrivalWidth * i) arrivalWidth file) → value a ≡ getD valuesFrom i (value noArrival)
+  pub value-found : (i : ℕ) {a : Arrival} → i < count → a ≡ arrivalIn (part (at + arrivalWidth * i) arrivalWidth file)
+      → value a ≡ getD valuesFrom i (value noArrival)
   value-found i h e =
       ap value (e ∙ sym (items-stand arrivalWidth arrivalIn count at file i noArrival h))
       ∙ sym (List·getD-map value (itemsIn arrivalWidth arrivalIn count (drop at file)) i noArrival)
@@ -158,10 +180,12 @@ module _ (value : Arrival → ℕ) (count at : ℕ) (file : List ℕ) where
 -- ---- a size
 
 -- a size in its octets as they are taken, as one of the sizes
-pub size-taken : (count at : ℕ) (file : List ℕ) (i n : ℕ) → i < count → n ≡ beValue (part 0 sizeWidth (taken (at + sizeWidth * i) sizeWidth file))
+pub size-taken : (count at : ℕ) (file : List ℕ) (i n : ℕ) → i < count
+    → n ≡ beValue (part 0 sizeWidth (taken (at + sizeWidth * i) sizeWidth file))
     → n ≡ getD (itemsIn sizeWidth beValue count (drop at file)) i 0
 size-taken count at file i n h e =
-    taken-stands (at + sizeWidth * i) sizeWidth 0 sizeWidth (at + sizeWidth * i) file (omega arith) (omega arith) e ∙ sym (items-stand sizeWidth beValue count at file i 0 h)
+    taken-stands (at + sizeWidth * i) sizeWidth 0 sizeWidth (at + sizeWidth * i) file (omega arith) (omega arith) e
+    ∙ sym (items-stand sizeWidth beValue count at file i 0 h)
 
 pub size-long : (size : ℕ) → length (sizeOctets size) ≡ sizeWidth
 size-long size = octets-length sizeWidth size

@@ -34,13 +34,18 @@ use Rattle.sample.proofs.Shown.{spaces-shown}
 use Rattle.sample.proofs.Accepted.{accepted-most}
 
 -- a count that is refused
-stage-judged : (at width : ℕ) (judged : ℕ → ℕ) (file : List ℕ) (r : ℕ) → itemsAt at ≤ length file → 0 < r → judged (countAt at file) ≡ r → sectionStage at width judged file ≡ r
+stage-judged : (at width : ℕ) (judged : ℕ → ℕ) (file : List ℕ) (r : ℕ) → itemsAt at ≤ length file → 0 < r → judged (countAt at file) ≡ r
+    → sectionStage at width judged file ≡ r
 unfolding sectionStage
 stage-judged at width judged file r h p e =
-    simp (le-ltb (length file) (itemsAt at) h, e) (first-due r (refusalIf (ltb (length file) (endOf at width (countAt at file))) endsEarly ∷ []) p)
+    simp (
+      le-ltb (length file) (itemsAt at) h,
+      e,
+    ) (first-due r (refusalIf (ltb (length file) (endOf at width (countAt at file))) endsEarly ∷ []) p)
 
 -- a count that is not refused, of a section that the file has
-stage-passed : (at width least most r : ℕ) (file : List ℕ) → outside least most (countAt at file) ≡ false → endOf at width (countAt at file) ≤ length file
+stage-passed : (at width least most r : ℕ) (file : List ℕ) → outside least most (countAt at file) ≡ false
+    → endOf at width (countAt at file) ≤ length file
     → sectionStage at width (λ (n : ℕ). refusalIf (outside least most n) r) file ≡ 0
 stage-passed at width least most r file e h =
     none-stage at width (λ (n : ℕ). refusalIf (outside least most n) r) file (ap (λ (t : Bool). refusalIf t r) e) h
@@ -50,7 +55,9 @@ stage-passed at width least most r file e h =
 module _ (f : List ℕ) (h : longest < length f) where
   -- a long label
   three : outside 0 labelMost (labelCount f) ≡ true → fileRefusal f ≡ longLabel
-  three t = refused-label f longLabel (omega arith) (stage-judged 0 octetWidth judgeLabel f longLabel (omega arith) (omega arith) (ap (λ (b : Bool). refusalIf b longLabel) t))
+  three t =
+      refused-label f longLabel (omega arith) (stage-judged 0 octetWidth judgeLabel f longLabel (omega arith) (omega arith)
+      (ap (λ (b : Bool). refusalIf b longLabel) t))
 
   module _ (a : outside 0 labelMost (labelCount f) ≡ false) where
     -- the label is there
@@ -69,7 +76,8 @@ module _ (f : List ℕ) (h : longest < length f) where
       four t =
           let p = label-passed in
           refused-sent f (p .1) o sentOutside (omega arith)
-          (stage-judged (sentAt f) sizeWidth judgeSent f sentOutside (omega arith) (omega arith) (ap (λ (b : Bool). refusalIf b sentOutside) t))
+          (stage-judged (sentAt f) sizeWidth judgeSent f sentOutside (omega arith) (omega arith)
+          (ap (λ (b : Bool). refusalIf b sentOutside) t))
 
       module _ (b : outside 1 sentMost (sentCount f) ≡ false) where
         -- the sizes are there
@@ -85,7 +93,8 @@ module _ (f : List ℕ) (h : longest < length f) where
             let p = label-passed in
             let q = sent-passed in
             refused-arrived f (p .1) o (q .1) manyArrivals (omega arith)
-            (stage-judged (arrivedAt f) arrivalWidth judgeArrivals f manyArrivals (omega arith) (omega arith) (ap (λ (c : Bool). refusalIf c manyArrivals) t))
+            (stage-judged (arrivedAt f) arrivalWidth judgeArrivals f manyArrivals (omega arith) (omega arith)
+            (ap (λ (c : Bool). refusalIf c manyArrivals) t))
 
         -- octets that follow
         two : outside 0 arrivalsMost (arrivalCount f) ≡ false → fileRefusal f ≡ octetsFollow
@@ -93,7 +102,8 @@ module _ (f : List ℕ) (h : longest < length f) where
             let p = label-passed in
             let q = sent-passed in
             let r = between 0 arrivalsMost (arrivalCount f) t in
-            refused-end f (p .1) o (q .1) (stage-passed (arrivedAt f) arrivalWidth 0 arrivalsMost manyArrivals f t (omega arith)) octetsFollow (omega arith)
+            refused-end f (p .1) o (q .1) (stage-passed (arrivedAt f) arrivalWidth 0 arrivalsMost manyArrivals f t
+            (omega arith)) octetsFollow (omega arith)
             (ap (λ (c : Bool). refusalIf c octetsFollow) (lt-ltb (fileEnd f) (length f) (omega arith)))
 
 -- ---- its first octets
@@ -140,16 +150,37 @@ longer-refused f h = first (outside 0 labelMost (labelCount f)) refl where
       → sampleIn (begin f) .label ≡ sampleIn f .label → sentCount (begin f) ≡ sentCount f → arrivalCount (begin f) ≡ arrivalCount f
       → Refused f
   fourth true e a o b n s r =
-      record { with = manyArrivals; due = omega arith; one = refl; whole = five f h a o b e; start = five (begin f) k (ap (outside 0 labelMost) l ∙ a) (ap someUnshown n ∙ o) (ap (outside 1 sentMost) s ∙ b) (ap (outside 0 arrivalsMost) r ∙ e) }
+      record {
+        with = manyArrivals;
+        due = omega arith;
+        one = refl;
+        whole = five f h a o b e;
+        start = five (begin f) k (ap (outside 0 labelMost) l ∙ a) (ap someUnshown n ∙ o) (ap (outside 1 sentMost) s ∙ b)
+            (ap (outside 0 arrivalsMost) r ∙ e);
+      }
   fourth false e a o b n s r =
-      record { with = octetsFollow; due = omega arith; one = refl; whole = two f h a o b e; start = two (begin f) k (ap (outside 0 labelMost) l ∙ a) (ap someUnshown n ∙ o) (ap (outside 1 sentMost) s ∙ b) (ap (outside 0 arrivalsMost) r ∙ e) }
+      record {
+        with = octetsFollow;
+        due = omega arith;
+        one = refl;
+        whole = two f h a o b e;
+        start = two (begin f) k (ap (outside 0 labelMost) l ∙ a) (ap someUnshown n ∙ o) (ap (outside 1 sentMost) s ∙ b)
+            (ap (outside 0 arrivalsMost) r ∙ e);
+      }
 
   -- by the count of sent packets
-  third : (t : Bool) → outside 1 sentMost (sentCount f) ≡ t → outside 0 labelMost (labelCount f) ≡ false → someUnshown (sampleIn f .label) ≡ false
+  third : (t : Bool) → outside 1 sentMost (sentCount f) ≡ t → outside 0 labelMost (labelCount f) ≡ false
+      → someUnshown (sampleIn f .label) ≡ false
       → sampleIn (begin f) .label ≡ sampleIn f .label → sentCount (begin f) ≡ sentCount f
       → Refused f
   third true e a o n s =
-      record { with = sentOutside; due = omega arith; one = refl; whole = four f h a o e; start = four (begin f) k (ap (outside 0 labelMost) l ∙ a) (ap someUnshown n ∙ o) (ap (outside 1 sentMost) s ∙ e) }
+      record {
+        with = sentOutside;
+        due = omega arith;
+        one = refl;
+        whole = four f h a o e;
+        start = four (begin f) k (ap (outside 0 labelMost) l ∙ a) (ap someUnshown n ∙ o) (ap (outside 1 sentMost) s ∙ e);
+      }
   third false e a o n s =
       let p = between 0 labelMost (labelCount f) a in
       let q = between 1 sentMost (sentCount f) e in
@@ -158,9 +189,16 @@ longer-refused f h = first (outside 0 labelMost (labelCount f)) refl where
       (ap (λ (n : ℕ). countAt n (begin f)) u ∙ count-within (arrivedAt f) (longest + 1) f (omega arith))
 
   -- by the octets of the label
-  second : (t : Bool) → someUnshown (sampleIn f .label) ≡ t → outside 0 labelMost (labelCount f) ≡ false → sampleIn (begin f) .label ≡ sampleIn f .label → Refused f
+  second : (t : Bool) → someUnshown (sampleIn f .label) ≡ t → outside 0 labelMost (labelCount f) ≡ false
+      → sampleIn (begin f) .label ≡ sampleIn f .label → Refused f
   second true e a n =
-      record { with = octetOutside; due = omega arith; one = refl; whole = thirteen f h a e; start = thirteen (begin f) k (ap (outside 0 labelMost) l ∙ a) (ap someUnshown n ∙ e) }
+      record {
+        with = octetOutside;
+        due = omega arith;
+        one = refl;
+        whole = thirteen f h a e;
+        start = thirteen (begin f) k (ap (outside 0 labelMost) l ∙ a) (ap someUnshown n ∙ e);
+      }
   second false e a n =
       let p = between 0 labelMost (labelCount f) a in
       let u : sentAt (begin f) ≡ sentAt f = omega (arith, l) in
@@ -169,7 +207,14 @@ longer-refused f h = first (outside 0 labelMost (labelCount f)) refl where
 
   -- by the count of the label
   first : (t : Bool) → outside 0 labelMost (labelCount f) ≡ t → Refused f
-  first true e = record { with = longLabel; due = omega arith; one = refl; whole = three f h e; start = three (begin f) k (ap (outside 0 labelMost) l ∙ e) }
+  first true e =
+      record {
+        with = longLabel;
+        due = omega arith;
+        one = refl;
+        whole = three f h e;
+        start = three (begin f) k (ap (outside 0 labelMost) l ∙ e);
+      }
   first false e =
       let p = between 0 labelMost (labelCount f) e in
       second (someUnshown (sampleIn f .label)) refl e
@@ -197,7 +242,8 @@ again-judged k zero h = refl
 again-judged k (suc n) h = rw (not-outside 1 k 1 (omega arith) h, again-judged k n h)
 
 -- up to the limits it is fit
-filled-fit : (label sent arrivals : ℕ) → label ≤ labelMost → 1 ≤ sent → sent ≤ sentMost → arrivals ≤ arrivalsMost → FitSample (filled label sent arrivals)
+filled-fit : (label sent arrivals : ℕ) → label ≤ labelMost → 1 ≤ sent → sent ≤ sentMost → arrivals ≤ arrivalsMost
+    → FitSample (filled label sent arrivals)
 unfolding filled
 filled-fit label sent arrivals l p s a =
     let n = length-replicate {A = ℕ} label shownLeast in
@@ -222,7 +268,9 @@ pub lengths : (file : List ℕ) → Octets file → Lengths file
 lengths file o =
     record {
       most = λ s e. accepted-most file s e o;
-      reached = decode-file (filled labelMost sentMost arrivalsMost) (filled-fit labelMost sentMost arrivalsMost (omega arith) (omega arith) (omega arith) (omega arith));
+      reached =
+          decode-file (filled labelMost sentMost arrivalsMost) (filled-fit labelMost sentMost arrivalsMost (omega arith) (omega arith)
+          (omega arith) (omega arith));
       reachedBy = filled-length labelMost sentMost arrivalsMost;
       longer = λ h. one-of (longer-refused file h);
       begun = λ h. same (longer-refused file h);

@@ -41,7 +41,8 @@ module _ (file : List ℕ) (y : Layout) where
       go (refused r) f = absurd (omega (arith, ap (λ (x : Layout). x .arrivals) (e ∙ ap layoutOf f)))
       go (accepted s) f = octets-inside file s f y e i h
 
-  octets-found : (i : ℕ) → y ≡ layoutOf (decode file) → i < y .arrivals → arrivalIn (part (arrivalsAt y + arrivalWidth * i) arrivalWidth file) ≡ arrivalFound file y i
+  octets-found : (i : ℕ) → y ≡ layoutOf (decode file) → i < y .arrivals
+      → arrivalIn (part (arrivalsAt y + arrivalWidth * i) arrivalWidth file) ≡ arrivalFound file y i
   unfolding arrivalFound
   octets-found i e h = sym (rw (le-ltb (length file) (arrivalsAt y + arrivalWidth * i + arrivalWidth) (arrival-inside i e h)))
 

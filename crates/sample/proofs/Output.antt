@@ -46,12 +46,14 @@ module _ (own : ℕ) (os : List ℕ) (room : ℕ) where
 
 module _ (own : ℕ) (os out : List ℕ) where
   -- any refusal: nothing is written
-  pub nothing-written : (r : ℕ) → r ≡ refusalInto own os (length out) → (r ≡ 0 → ⊥) → Output own os out (record { refusal = r; length = 0 }) out
+  pub nothing-written : (r : ℕ) → r ≡ refusalInto own os (length out) → (r ≡ 0 → ⊥)
+      → Output own os out (record { refusal = r; length = 0 }) out
   nothing-written zero e z = absurd (z refl)
   nothing-written (suc r) e z = record { refusal = e; octets = refl; filled = refl }
 
   -- no refusal: all are written
-  pub whole-written : (r : ℕ) {n : ℕ} {out′ : List ℕ} → r ≡ refusalInto own os (length out) → r ≡ 0 → n ≡ length os → (n ≤ length out → out′ ≡ over os out)
+  pub whole-written : (r : ℕ) {n : ℕ} {out′ : List ℕ} → r ≡ refusalInto own os (length out) → r ≡ 0 → n ≡ length os
+      → (n ≤ length out → out′ ≡ over os out)
       → Output own os out (record { refusal = r; length = n }) out′
   whole-written zero e z m f =
       let h = none-refused own os (length out) (sym e) .1 in
@@ -79,7 +81,8 @@ module _ (own : ℕ) (os out : List ℕ) where
     -- and the octets stand at the start
     pub output-read : answer .refusal ≡ 0 → take (answer .length) out′ ≡ os
     output-read z =
-        ap₂ take (w .octets ∙ ap (λ (r : ℕ). ifNone r (length os) 0) z) (w .filled ∙ ap (λ (r : ℕ). ifNone r (over os out) out) z) ∙ over-read os out
+        ap₂ take (w .octets ∙ ap (λ (r : ℕ). ifNone r (length os) 0) z) (w .filled ∙ ap (λ (r : ℕ). ifNone r (over os out) out) z)
+        ∙ over-read os out
 
     -- where nothing of its own is refused and there is room, they are written
     pub output-whole : own ≡ 0 → length os ≤ length out → (answer ≡ record { refusal = 0; length = length os }) × (out′ ≡ over os out)

@@ -65,7 +65,8 @@ module _ (at width least most refusal : ℕ) (file : List ℕ) where
 
   module _ (e : ltb (length file) (itemsAt at) ≡ false) where
     -- its count is refused
-    pub section-judged : 0 < refusal → outside least most (countAt at file) ≡ true → Refused refusal ≡ sectionReading at width least most refusal file
+    pub section-judged : 0 < refusal → outside least most (countAt at file) ≡ true
+        → Refused refusal ≡ sectionReading at width least most refusal file
     unfolding sectionReading sectionStage
     section-judged p f = simp (e, f) (due refusal p) where
       due : (r : ℕ) → 0 < r
@@ -77,7 +78,8 @@ module _ (at width least most refusal : ℕ) (file : List ℕ) where
 
     module _ (f : outside least most (countAt at file) ≡ false) where
       -- its items are not all there
-      pub section-short : ltb (length file) (endOf at width (countAt at file)) ≡ true → Refused endsEarly ≡ sectionReading at width least most refusal file
+      pub section-short : ltb (length file) (endOf at width (countAt at file)) ≡ true
+          → Refused endsEarly ≡ sectionReading at width least most refusal file
       unfolding sectionReading sectionStage
       section-short g = simp (e, f, g)
 
@@ -89,7 +91,8 @@ module _ (at width least most refusal : ℕ) (file : List ℕ) where
 
   -- it is whole: nothing of it is refused, and it is that count and that end
   pub whole-section : {n e : ℕ} → sectionReading at width least most refusal file ≡ Whole n e
-      → (sectionStage at width (λ (k : ℕ). refusalIf (outside least most k) refusal) file ≡ 0) × (n ≡ countAt at file) × (e ≡ endOf at width (countAt at file))
+      → (sectionStage at width (λ (k : ℕ). refusalIf (outside least most k) refusal) file ≡ 0) × (n ≡ countAt at file)
+      × (e ≡ endOf at width (countAt at file))
   unfolding sectionReading
   whole-section {n} {e} p = go (sectionStage at width (λ (k : ℕ). refusalIf (outside least most k) refusal) file) refl p where
     go : (r : ℕ) → sectionStage at width (λ (k : ℕ). refusalIf (outside least most k) refusal) file ≡ r
@@ -99,7 +102,8 @@ module _ (at width least most refusal : ℕ) (file : List ℕ) where
     go (suc r) q p = absurd (let z : _≡_ {A = ℕ} 0 1 = cc in omega arith)
 
   -- its refusal is the one that applies
-  pub refusal-section : refusalOfSection (sectionReading at width least most refusal file) ≡ sectionStage at width (λ (k : ℕ). refusalIf (outside least most k) refusal) file
+  pub refusal-section : refusalOfSection (sectionReading at width least most refusal file)
+      ≡ sectionStage at width (λ (k : ℕ). refusalIf (outside least most k) refusal) file
   unfolding sectionReading
   refusal-section = go (sectionStage at width (λ (k : ℕ). refusalIf (outside least most k) refusal) file) where
     go : (r : ℕ) → refusalOfSection (sectionOutcome r (Whole (countAt at file) (endOf at width (countAt at file)))) ≡ r

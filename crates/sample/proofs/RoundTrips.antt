@@ -31,11 +31,13 @@ use Rattle.sample.proofs.Exact.{sample-fit, file-back, decode-file, lab
 -- ---- the reader
 
 -- nothing is refused where lists are filled: nothing of the file is
-into-none : (a b c : ℕ) (file : List ℕ) → decodedRefusal (decodeInto a b c file) ≡ 0 → (fileRefusal file ≡ 0) × (decodeInto a b c file ≡ accepted (sampleIn file))
+into-none : (a b c : ℕ) (file : List ℕ) → decodedRefusal (decodeInto a b c file) ≡ 0
+    → (fileRefusal file ≡ 0) × (decodeInto a b c file ≡ accepted (sampleIn file))
 unfolding decodeInto unlessShort
 into-none a b c file e = go (fileRefusal file) refl (listsShort (layoutOf (decode file)) a b c) refl
   where
-    go : (r : ℕ) → fileRefusal file ≡ r → (t : Bool) → listsShort (layoutOf (decode file)) a b c ≡ t → (fileRefusal file ≡ 0) × (decodeInto a b c file ≡ accepted (sampleIn file))
+    go : (r : ℕ) → fileRefusal file ≡ r → (t : Bool) → listsShort (layoutOf (decode file)) a b c ≡ t
+        → (fileRefusal file ≡ 0) × (decodeInto a b c file ≡ accepted (sampleIn file))
     go zero q true p = absurd (omega (arith, e, ap decodedRefusal (ap₂ unlessShort p (decode-accepted file q))))
     go zero q false p = (q, ap₂ unlessShort p (decode-accepted file q))
     go (suc r) q t p = absurd (omega (arith, e, ap decodedRefusal (ap₂ unlessShort p (decode-refused file (suc r) (omega arith) q))))
@@ -45,15 +47,18 @@ pub arrivals-room : arrivalsMost ≤ length (replicate {A = ℕ} arrivalsMost 0)
 arrivals-room = omega (arith, length-replicate {A = ℕ} arrivalsMost 0)
 
 -- the lists are long enough for a sample
-pub into-room : (a b c : ℕ) (file : List ℕ) (s : Sample) → decode file ≡ accepted s → length (s .sizes) ≤ a → length (s .arrivals) ≤ b → length (s .arrivals) ≤ c
+pub into-room : (a b c : ℕ) (file : List ℕ) (s : Sample) → decode file ≡ accepted s → length (s .sizes) ≤ a → length (s .arrivals) ≤ b
+    → length (s .arrivals) ≤ c
     → decodeInto a b c file ≡ accepted s
 unfolding decodeInto unlessShort listsShort
-into-room a b c file s e p q r = rw (e, le-ltb a (length (s .sizes)) p, le-ltb b (length (s .arrivals)) q, le-ltb c (length (s .arrivals)) r)
+into-room a b c file s e p q r =
+    rw (e, le-ltb a (length (s .sizes)) p, le-ltb b (length (s .arrivals)) q, le-ltb c (length (s .arrivals)) r)
 
 -- ---- the writer
 
 -- the octets of a sample, from its lists, where there is room
-written-sample : (s : Sample) → sampleRefusal (s .label) (s .sizes) (numbersOf (s .arrivals)) (timesOf (s .arrivals)) ≡ 0 → (out out′ : List ℕ) (written : WriteAnswer) → length (fileOf s) ≤ length out
+written-sample : (s : Sample) → sampleRefusal (s .label) (s .sizes) (numbersOf (s .arrivals)) (timesOf (s .arrivals)) ≡ 0
+    → (out out′ : List ℕ) (written : WriteAnswer) → length (fileOf s) ≤ length out
     → WrittenTo (s .label) (s .sizes) (numbersOf (s .arrivals)) (timesOf (s .arrivals)) out written out′
     → (written ≡ record { refusal = 0; length = length (fileOf s) }) × (out′ ≡ over (fileOf s) out)
 written-sample s e out out′ written room w =
@@ -76,12 +81,17 @@ written-again file o sizes numbers times sizes′ numbers′ times′ out out′
     let t = length-map (s .arrivals) (λ (a : Arrival). a .time) in
     let ls = ap (λ d. sampleOf d .label) (decode-accepted file (i .0)) in
     let ss : take (read .sent) sizes′ ≡ s .sizes =
-    ap₂ take (ap (λ (l : Layout). l .sent) y) (h .filledSizes ∙ ap (λ d. over (sampleOf d .sizes) sizes) (i .1)) ∙ over-read (s .sizes) sizes in
+    ap₂ take (ap (λ (l : Layout). l .sent) y) (h .filledSizes ∙ ap (λ d. over (sampleOf d .sizes) sizes) (i .1))
+    ∙ over-read (s .sizes) sizes in
     let ns : take (read .arrivals) numbers′ ≡ numbersOf (s .arrivals) =
-    ap₂ take (ap (λ (l : Layout). l .arrivals) y ∙ sym n) (h .filledNumbers ∙ ap (λ d. over (numbersOf (sampleOf d .arrivals)) numbers) (i .1)) ∙ over-read (numbersOf (s .arrivals)) numbers in
+    ap₂ take (ap (λ (l : Layout). l .arrivals) y ∙ sym n) (h .filledNumbers
+    ∙ ap (λ d. over (numbersOf (sampleOf d .arrivals)) numbers) (i .1)) ∙ over-read (numbersOf (s .arrivals)) numbers in
     let ts : take (read .arrivals) times′ ≡ timesOf (s .arrivals) =
-    ap₂ take (ap (λ (l : Layout). l .arrivals) y ∙ sym t) (h .filledTimes ∙ ap (λ d. over (timesOf (sampleOf d .arrivals)) times) (i .1)) ∙ over-read (timesOf (s .arrivals)) times in
-    let w′ = subst (λ (p : List ℕ × List ℕ × List ℕ × List ℕ). WrittenTo (p .0) (p .1) (p .2) (p .3) out written out′) (λ j. (ls j, ss j, ns j, ts j)) w in
+    ap₂ take (ap (λ (l : Layout). l .arrivals) y ∙ sym t) (h .filledTimes ∙ ap (λ d. over (timesOf (sampleOf d .arrivals)) times) (i .1))
+    ∙ over-read (timesOf (s .arrivals)) times in
+    let w′ =
+    subst (λ (p : List ℕ × List ℕ × List ℕ × List ℕ). WrittenTo (p .0) (p .1) (p .2) (p .3) out written out′)
+    (λ j. (ls j, ss j, ns j, ts j)) w in
     rw b (written-sample s (sample-fit file o k .judged) out out′ written (rw b at room) w′)
 
 -- ---- written, then read
@@ -94,13 +104,19 @@ read-again label sizes numbers times fs ft out out′ sizes₀ numbers₀ times�
     let q = label-fit label sizes numbers times e .2 .same in
     let n = arrivals-length numbers times q in
     let file = output-read (sampleRefusal label sizes numbers times) (fileOf s) out w z in
-    let fit : FitSample s = record { judged = from-none label sizes numbers times e; sizes = fs; times = rw (times-back numbers times q) ft } in
+    let fit : FitSample s =
+    record { judged = from-none label sizes numbers times e; sizes = fs; times = rw (times-back numbers times q) ft } in
     let d : decode (take (written .length) out′) ≡ accepted s = ap decode file ∙ decode-file s fit in
     let i = into-room (length sizes₀) (length numbers₀) (length times₀) (take (written .length) out′) s d ps (omega arith) (omega arith) in
     record {
-      layout = h .layout ∙ ap layoutOf i ∙ ap (λ (k : ℕ). record { refusal = 0; label = length label; sent = length sizes; arrivals = k }) n;
+      layout =
+          h .layout ∙ ap layoutOf i ∙ ap (λ (k : ℕ). record { refusal = 0; label = length label; sent = length sizes; arrivals = k }) n;
       sameLabel = ap (λ x. sampleOf x .label) d;
       sameSizes = h .filledSizes ∙ ap (λ x. over (sampleOf x .sizes) sizes₀) i;
-      sameNumbers = h .filledNumbers ∙ ap (λ x. over (numbersOf (sampleOf x .arrivals)) numbers₀) i ∙ ap (λ (l : List ℕ). over l numbers₀) (numbers-back numbers times q);
-      sameTimes = h .filledTimes ∙ ap (λ x. over (timesOf (sampleOf x .arrivals)) times₀) i ∙ ap (λ (l : List ℕ). over l times₀) (times-back numbers times q);
+      sameNumbers =
+          h .filledNumbers ∙ ap (λ x. over (numbersOf (sampleOf x .arrivals)) numbers₀) i
+          ∙ ap (λ (l : List ℕ). over l numbers₀) (numbers-back numbers times q);
+      sameTimes =
+          h .filledTimes ∙ ap (λ x. over (timesOf (sampleOf x .arrivals)) times₀) i
+          ∙ ap (λ (l : List ℕ). over l times₀) (times-back numbers times q);
     }

@@ -21,7 +21,8 @@ use Rattle.sample.specs.Format.{countWidth, numberWidth, timeWidth, arri
 use Rattle.rfc4737.proofs.Pairs.{arrivals-getD}
 use Rattle.sample.proofs.Items.{octets-snoc, octets-many}
 
-module _ {ℓ} {A : Type ℓ} (octets : A → List ℕ) (width : ℕ) (long : (x : A) → length (octets x) ≡ width) (xs : List A) (at : ℕ) (old : List ℕ)
+module _ {ℓ} {A : Type ℓ} (octets : A → List ℕ) (width : ℕ) (long : (x : A) → length (octets x) ≡ width) (xs : List A) (at : ℕ)
+    (old : List ℕ)
     (room : at + width * length xs ≤ length old) where
   -- at the start
   pub write-start : old ≡ splice at (itemOctets octets (take 0 xs)) old
@@ -31,7 +32,9 @@ module _ {ℓ} {A : Type ℓ} (octets : A → List ℕ) (width : ℕ) (long : (x
   module _ (i : ℕ) {d : List ℕ} (inv : d ≡ splice at (itemOctets octets (take i xs)) old) where
     -- the octets of the first i
     first : i ≤ length xs → length (itemOctets octets (take i xs)) ≡ width * i
-    first h = octets-many octets width long (take i xs) ∙ ap (λ (n : ℕ). width * n) (let e : length (take i xs) ≡ i = simp length-take (omega arith) in e)
+    first h =
+        octets-many octets width long (take i xs)
+        ∙ ap (λ (n : ℕ). width * n) (let e : length (take i xs) ≡ i = simp length-take (omega arith) in e)
 
     -- there is room for them
     within : i ≤ length xs → at + length (itemOctets octets (take i xs)) ≤ length old
@@ -66,7 +69,8 @@ module _ {ℓ} {A : Type ℓ} (octets : A → List ℕ) (width : ℕ) (long : (x
     write-done h = inv ∙ ap (λ (l : List A). splice at (itemOctets octets l) old) (take-all i xs h)
 
 -- a section: its count, and its items' octets after it
-pub section-done : (at n : ℕ) (os old : List ℕ) {old′ d : List ℕ} → itemsAt at + length os ≤ length old → old′ ≡ put at (beOctets countWidth n) old
+pub section-done : (at n : ℕ) (os old : List ℕ) {old′ d : List ℕ} → itemsAt at + length os ≤ length old
+    → old′ ≡ put at (beOctets countWidth n) old
     → d ≡ splice (itemsAt at) os old′ → d ≡ splice at (section n os) old
 unfolding section
 section-done at n os old room e f =
@@ -76,7 +80,8 @@ section-done at n os old room e f =
     f ∙ ap (splice (itemsAt at) os) (e ∙ put-room at c old (omega arith)) ∙ splice-next at (itemsAt at) c os old q (omega arith)
 
 -- an arrival, of a list of numbers and a list of times, put into its octets: its number, then its time
-pub arrival-put : (ns ts : List ℕ) (i : ℕ) (z : Arrival) (old : List ℕ) {d d′ : List ℕ} → length ts ≡ length ns → i < length ns → arrivalWidth ≤ length old
+pub arrival-put : (ns ts : List ℕ) (i : ℕ) (z : Arrival) (old : List ℕ) {d d′ : List ℕ} → length ts ≡ length ns → i < length ns
+    → arrivalWidth ≤ length old
     → d ≡ put 0 (beOctets numberWidth (getD ns i 0)) old → d′ ≡ put numberWidth (beOctets timeWidth (getD ts i 0)) d
     → d′ ≡ put 0 (arrivalOctets (getD (arrivalsFrom ns ts) i z)) old
 unfolding arrivalOctets
@@ -87,4 +92,5 @@ arrival-put ns ts i z old l h room e f =
     let n : length time ≡ timeWidth = octets-length timeWidth (getD ts i 0) in
     let p : 0 + length number ≡ numberWidth = omega arith in
     let q : numberWidth + length time ≤ length old = omega arith in
-    f ∙ ap (put numberWidth time) e ∙ put-next 0 numberWidth number time old p q ∙ ap (λ (x : Arrival). put 0 (arrivalOctets x) old) (arrivals-getD ns ts i z l h)
+    f ∙ ap (put numberWidth time) e ∙ put-next 0 numberWidth number time old p q
+    ∙ ap (λ (x : Arrival). put 0 (arrivalOctets x) old) (arrivals-getD ns ts i z l h)

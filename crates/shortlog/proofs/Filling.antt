@@ -65,7 +65,8 @@ module _ (r : ℕ) (log numbers₀ times₀ : List ℕ) (room : Fillable r log n
     pub none-bad : at < length log → lineIn at (drop at log) ≡ Malformed → ⊥
     none-bad h e =
         let b = found-bad r greatest (line-unread log at h e .lead) in
-        none-malformed (f .k) i (f .reference) _ (ap (λ (ds : List DecodedLine). judgeLines (f .k) i (f .reference) ds .refusal) (sym b) ∙ f .accepted)
+        none-malformed (f .k) i (f .reference) _ (ap (λ (ds : List DecodedLine). judgeLines (f .k) i (f .reference) ds .refusal) (sym b)
+        ∙ f .accepted)
 
     -- no line is left
     pub filled-done : length log ≤ at
@@ -82,15 +83,19 @@ module _ (r : ℕ) (log numbers₀ times₀ : List ℕ) (room : Fillable r log n
       -- its arrival is the next
       here : drop i (foundArrivals r log)
           ≡ record { number = m; time = τ } ∷ arrivalsOfLines (foundFrom r (max greatest m) (decodedLines (drop end log)))
-      here = f .rest ∙ ap arrivalsOfLines left ∙ lines-first (arrived (record { number = m; time = τ })) (foundFrom r (max greatest m) (decodedLines (drop end log)))
+      here =
+          f .rest ∙ ap arrivalsOfLines left
+          ∙ lines-first (arrived (record { number = m; time = τ })) (foundFrom r (max greatest m) (decodedLines (drop end log)))
 
       pub within-lines : i < length (linesFound r log)
       within-lines = omega (arith, many, rest-begins (foundArrivals r log) i (record { number = 0; time = 0 }) _ _ here .0)
 
       -- it is not refused
-      passed : FirstAccepted (f .k) i (f .reference) (record { number = m; time = τ }) (foundFrom r (max greatest m) (decodedLines (drop end log)))
+      passed : FirstAccepted (f .k) i (f .reference) (record { number = m; time = τ })
+          (foundFrom r (max greatest m) (decodedLines (drop end log)))
       passed =
-          first-accepted (f .k) i (f .reference) (record { number = m; time = τ }) (foundFrom r (max greatest m) (decodedLines (drop end log)))
+          first-accepted (f .k) i (f .reference) (record { number = m; time = τ })
+          (foundFrom r (max greatest m) (decodedLines (drop end log)))
           (ap (λ (ds : List DecodedLine). judgeLines (f .k) i (f .reference) ds .refusal) (sym left) ∙ f .accepted)
 
       -- so its number is small
@@ -101,8 +106,10 @@ module _ (r : ℕ) (log numbers₀ times₀ : List ℕ) (room : Fillable r log n
 
       -- its values are filled in
       pub filled-next : (greatest′ : ℕ) → greatest′ ≡ max greatest m → {numbers′ times′ : List ℕ}
-          → ((xs : List ℕ) → m ≡ getD xs i 0 → i < length xs → numbers ≡ take i xs ++ drop i numbers₀ → numbers′ ≡ take (i + 1) xs ++ drop (i + 1) numbers₀)
-          → ((xs : List ℕ) → τ ≡ getD xs i 0 → i < length xs → times ≡ take i xs ++ drop i times₀ → times′ ≡ take (i + 1) xs ++ drop (i + 1) times₀)
+          → ((xs : List ℕ) → m ≡ getD xs i 0 → i < length xs → numbers ≡ take i xs ++ drop i numbers₀ → numbers′ ≡ take (i + 1) xs
+          ++ drop (i + 1) numbers₀)
+          → ((xs : List ℕ) → τ ≡ getD xs i 0 → i < length xs → times ≡ take i xs ++ drop i times₀ → times′ ≡ take (i + 1) xs
+          ++ drop (i + 1) times₀)
           → Filled r log numbers₀ times₀ greatest′ end (i + 1) numbers′ times′
       filled-next greatest′ g fn ft =
           record {
@@ -112,7 +119,8 @@ module _ (r : ℕ) (log numbers₀ times₀ : List ℕ) (room : Fillable r log n
             small = omega (arith, g, small-number, f .small);
             some = omega (arith, within-lines);
             accepted =
-                ap (λ (x : ℕ). judgeLines (f .k) (i + 1) (nextReference (f .reference) τ) (foundFrom r x (decodedLines (drop end log))) .refusal) g
+                ap (λ (x : ℕ). judgeLines (f .k) (i + 1) (nextReference (f .reference) τ)
+                (foundFrom r x (decodedLines (drop end log))) .refusal) g
                 ∙ passed .rest;
             rest =
                 rest-begins (foundArrivals r log) i (record { number = 0; time = 0 }) _ _ here .2

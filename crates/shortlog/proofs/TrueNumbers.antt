@@ -24,8 +24,10 @@ turn-arrived r before [] = refl
 turn-arrived r before (a ∷ l) =
     let b : Arrival = withFound r (greatestNumber before) a in
     let g : greatestOfLines (map arrived before) ≡ greatestNumber before = ap greatestNumber (arrived-back before) in
-    ap (λ (x : ℕ). arrived (withFound r x a) ∷ inTurn greatestOfLines (lineFound r) (map arrived before ++ (arrived (withFound r x a) ∷ [])) (map arrived l)) g
-    ∙ ap (λ (x : List DecodedLine). arrived b ∷ inTurn greatestOfLines (lineFound r) x (map arrived l)) (sym (map-append arrived before (b ∷ [])))
+    ap (λ (x : ℕ). arrived (withFound r x a)
+    ∷ inTurn greatestOfLines (lineFound r) (map arrived before ++ (arrived (withFound r x a) ∷ [])) (map arrived l)) g
+    ∙ ap (λ (x : List DecodedLine). arrived b ∷ inTurn greatestOfLines (lineFound r) x (map arrived l))
+    (sym (map-append arrived before (b ∷ [])))
     ∙ ap (λ (x : List DecodedLine). arrived b ∷ x) (turn-arrived r (before ++ (b ∷ [])) l)
 
 true-in-logs : (r : ℕ) → Even r → TrueInLogs r

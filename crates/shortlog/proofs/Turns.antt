@@ -25,7 +25,8 @@ greatest-after x [] d = refl
 greatest-after x (e ∷ ds) d = greatest-after (max x (arrivalOr0 e .number)) ds d
 
 -- the greatest number of a line more
-greatest-snoc : (ds : List DecodedLine) (d : DecodedLine) → greatestOfLines (ds ++ (d ∷ [])) ≡ max (greatestOfLines ds) (arrivalOr0 d .number)
+greatest-snoc : (ds : List DecodedLine) (d : DecodedLine)
+    → greatestOfLines (ds ++ (d ∷ [])) ≡ max (greatestOfLines ds) (arrivalOr0 d .number)
 unfolding greatestOf arrivalsOfLines
 greatest-snoc ds d = greatest-after 0 ds d
 

@@ -33,7 +33,8 @@ one-part : (number value i : ℕ) → 1 ≤ i
 unfolding share
 one-part number value i low = go (ltb (rest i) number) refl (leb 1 number) refl (leb number i) refl (leb number (rest i)) refl
   where
-    go : (t : Bool) → ltb (rest i) number ≡ t → (u : Bool) → leb 1 number ≡ u → (v : Bool) → leb number i ≡ v → (w : Bool) → leb number (rest i) ≡ w
+    go : (t : Bool) → ltb (rest i) number ≡ t → (u : Bool) → leb 1 number ≡ u → (v : Bool) → leb number i ≡ v → (w : Bool)
+        → leb number (rest i) ≡ w
         → cond t (cond v value 0) 0 + cond (u && w) value 0 ≡ cond (u && v) value 0
     go true e true f true g true h = absurd (omega (arith, ltb-true (rest i) number e, leb-true number (rest i) h))
     go true e true f true g false h = omega arith

@@ -30,7 +30,8 @@ pub parts-first : (tree : List ℕ) (i : ℕ) → 1 ≤ i → partsTo i tree i �
 unfolding partsTo
 parts-first tree zero h = absurd (omega arith)
 parts-first tree (suc i) h =
-    ap (λ (n : ℕ). getD tree (suc i) 0 + n) (parts-enough i (rest (suc i)) tree (rest (suc i)) (omega (arith, rest-low (suc i))) (omega arith))
+    ap (λ (n : ℕ). getD tree (suc i) 0 + n) (parts-enough i (rest (suc i)) tree (rest (suc i)) (omega (arith, rest-low (suc i)))
+    (omega arith))
 
 -- there is none after place 0
 pub parts-none : (tree : List ℕ) → partsTo 0 tree 0 ≡ 0
@@ -50,7 +51,11 @@ module _ (f : ℕ → ℕ) where
     parts-sum zero i a b = let z : i ≡ 0 = omega arith in rw z (omega arith)
     parts-sum (suc fuel) zero a b = omega arith
     parts-sum (suc fuel) (suc i) a b =
-        omega (arith, parts-sum fuel (rest (suc i)) (omega (arith, rest-low (suc i))) (omega (arith, rest-low (suc i))), s .at (suc i) (omega arith) b)
+        omega (
+          arith,
+          parts-sum fuel (rest (suc i)) (omega (arith, rest-low (suc i))) (omega (arith, rest-low (suc i))),
+          s .at (suc i) (omega arith) b,
+        )
 
     -- what is asked for, where all values together fit
     pub sum-summed : (number : ℕ) → number < length tree → f 0 < 2 ^ 32 → sumTo tree number + f number ≡ f 0

@@ -1,4 +1,4 @@
-// Lists: what they are filled with before an import, and what is written of them after it.
+// The lists of an import: what fills them before it, and what is printed of them after it.
 use cases::print::write_32;
 use cases::print::write_64;
 use cases::print::write_answer;
@@ -16,8 +16,13 @@ pub(crate) const TIME: u64 = 99;
 
 // Imports records into two lists, and prints the answer.
 fn import(name: &[u8], k: u32, records: &[u8], numbers: &mut [u32], times: &mut [u64]) {
-    let got = owamp::import(records, k, numbers, times);
-    write_answer(name, got.refusal, b": arrivals ", got.arrivals as u64);
+    let imported = owamp::import(records, k, numbers, times);
+    write_answer(
+        name,
+        imported.refusal,
+        b": arrivals ",
+        imported.arrivals as u64,
+    );
 }
 
 // Imports records into two lists, and prints the answer and both lists.

@@ -18,8 +18,8 @@ use cases::text::count;
 use cases::text::input;
 use cases::text::part;
 
-// What the other octets of a record hold: all but the first four and the eight from offset 16 on, sequence number and receive time
-// (RFC 4656, section 3.9).
+// What the octets of a record hold that are not read: all but the four of the sequence number, at offset 0, and the eight of the receive
+// time, at offset 16 (RFC 4656, section 3.9).
 pub(crate) const OTHER: u8 = 9;
 
 // Runs the case of a line.

@@ -25,7 +25,7 @@ use cases::totals::sum_8;
 // What octets are filled with.
 const OCTET: u8 = 46;
 
-// The length of the output for a few records, at most.
+// The greatest length of the output for a few records.
 const ROOM: usize = 75;
 
 // The step of numbers that fall by 1, modulo 2^32.

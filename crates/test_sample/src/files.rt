@@ -95,8 +95,8 @@ fn read_all(name: &[u8], file: &[u8]) {
     write_word(b"\n");
 }
 
-// Changes a number in a file: the numbers n to n + 2 of `changes` are its offset, its octets and its value. One that is not given has no
-// octets.
+// Changes a number in a file: the numbers n to n + 2 of `changes` are its offset, its width and its value. If they are not given, the width
+// is 0, and nothing changes.
 fn change_number(file: &mut [u8], changes: &[u8], n: u16) {
     let at = number(changes, n as usize) % 65_536;
     let width = number(changes, n as usize + 1) % 65_536;

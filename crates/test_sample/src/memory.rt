@@ -1,6 +1,6 @@
-// The caller's lists: how many octets there are, and what each list is filled with before a call.
+// The caller's lists: the length of the longest file, and what each list is filled with before a call.
 
-// The octets of a file that has one more of everything than a sample may have, and one octet over.
+// The length of a file that has one more of everything than a sample may have, and one octet after it.
 pub(crate) const ROOM: usize = 57_430;
 
 // What octets are filled with.

@@ -20,7 +20,7 @@ use cases::same::kept_8;
 use cases::series::series_32;
 use cases::series::series_64;
 
-// The length of the output for a small file, at most.
+// The greatest length of the output for a small file.
 const SMALL: usize = 80;
 
 // Writes a file into `out`, and prints the refusal or its length, and whether the octets after it are untouched. Returns

@@ -1,4 +1,4 @@
-// Lists: what they are filled with before a call, and what is written of them after it.
+// The lists of an import: what fills them before it, and what is printed of them after it.
 use cases::lists::first_32;
 use cases::lists::first_64;
 use cases::print::write_32;
@@ -19,7 +19,7 @@ pub(crate) const TIME: u64 = 99;
 // What octets are filled with.
 pub(crate) const OCTET: u8 = b'.';
 
-// Imports a log whose numbers have 8 or 10 bits, or, for any other `bits`, are whole.
+// Imports a log of numbers of 8 or 10 bits or, for any other `bits`, of full numbers.
 fn import(bits: u64, k: u32, log: &[u8], numbers: &mut [u32], times: &mut [u64]) -> LogImport {
     if bits == 8 {
         return shortlog::import_8(log, k, numbers, times);
@@ -50,9 +50,14 @@ fn write_import(
     numbers: &mut [u32],
     times: &mut [u64],
 ) {
-    let got = import(bits, k, log, numbers, times);
+    let imported = import(bits, k, log, numbers, times);
     let line = refused_line(bits, k, log);
-    write_answer(name, got.refusal, b": arrivals ", got.arrivals as u64);
+    write_answer(
+        name,
+        imported.refusal,
+        b": arrivals ",
+        imported.arrivals as u64,
+    );
     if line != 0 {
         write_number(b" at line ", line as u64);
     }
@@ -73,7 +78,7 @@ pub(crate) fn import_into(
     write_word(b"\n");
 }
 
-// Writes the first number of a list, the last, and the sum of all.
+// Prints the first and the last number of a list, and the sum of all.
 fn sum_up_numbers(s: &[u32]) {
     let n = s.len();
     let all = sum_32(s);
@@ -84,7 +89,7 @@ fn sum_up_numbers(s: &[u32]) {
     write_number(b" ", all.sum);
 }
 
-// Writes the first time of a list, the last, and the sum of all.
+// Prints the first and the last time of a list, and the sum of all.
 fn sum_up_times(s: &[u64]) {
     let n = s.len();
     let all = sum_64(s);
@@ -95,7 +100,7 @@ fn sum_up_times(s: &[u64]) {
     write_number(b" ", all.sum);
 }
 
-// Imports a log into two long lists, and prints the answer and what the lists add up to.
+// Imports a log into two long lists, and prints the answer and, of each list, the first and the last element and the sum.
 pub(crate) fn import_and_sum(
     name: &[u8],
     k: u32,

@@ -15,12 +15,13 @@ use cases::lists::least;
 // The length of each line: line n is n in four digits, and `;2`.
 const LINE: usize = 7;
 
-// The number of lines, and their octets.
+// The number of lines.
 const LINES: usize = TOO_MANY;
 
+// The length of the log.
 const OCTETS: usize = LINES * LINE;
 
-// The greatest length of a list that they are imported into.
+// The greatest length of a list that the lines are imported into.
 pub(crate) const LONG_LENGTH: usize = TOO_MANY + 1;
 
 // The last digit of a number.
@@ -89,7 +90,7 @@ fn import_first(name: &[u8], log: &mut [u8], first: &[u8], at: usize, last: &[u8
     );
 }
 
-// The same of a log of over a million octets `digit`.
+// Does the same with a log of over a million octets `digit`.
 fn import_digits(name: &[u8], digit: u8, first: &[u8], at: usize, last: &[u8], end: usize) {
     let mut log = [digit; 1_000_010];
     import_first(name, &mut log, first, at, last, end);

@@ -16,7 +16,7 @@ use cases::lists::least;
 use cases::print::write_answer;
 use cases::print::write_word;
 
-// The length of the output for a short log, at most.
+// The greatest length of the output for a short log.
 const ROOM: usize = 32;
 
 // Writes a log into `out`, and prints the answer; returns the length of the log.

@@ -83,11 +83,13 @@ unfolding lineStart flatten
 start-first t = refl
 
 -- the line after the first of what a text has from `at` on
-pub line-after : (text : List ℕ) (at end n : ℕ) → 0 < n → FirstLineEnds text at end → lineOf n (drop at text) ≡ lineOf (n - 1) (drop end text)
+pub line-after : (text : List ℕ) (at end n : ℕ) → 0 < n → FirstLineEnds text at end
+    → lineOf n (drop at text) ≡ lineOf (n - 1) (drop end text)
 line-after text at end zero h f = absurd (omega arith)
 line-after text at end (suc n) h f =
     let e : suc n - 1 ≡ n = omega arith in
-    rw e (next-line n (drop at text) ∙ ap (lineOf n) (drop-drop (length (lineOf 0 (drop at text))) at text ∙ ap (λ (k : ℕ). drop k text) (sym (f .place))))
+    rw e (next-line n (drop at text)
+    ∙ ap (lineOf n) (drop-drop (length (lineOf 0 (drop at text))) at text ∙ ap (λ (k : ℕ). drop k text) (sym (f .place))))
 
 -- and its start
 pub start-after : (text : List ℕ) (at end n : ℕ) → 0 < n → FirstLineEnds text at end

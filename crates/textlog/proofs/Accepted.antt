@@ -49,11 +49,14 @@ pub record FirstAccepted (k count reference : ℕ) (a : Arrival) (ds : List Deco
   pub others : judgeLines k count reference (arrived a ∷ ds) ≡ judgeLines k (count + 1) (nextReference reference (a .time)) ds
   pub rest : judgeLines k (count + 1) (nextReference reference (a .time)) ds .refusal ≡ 0
 
-pub first-accepted : (k count reference : ℕ) (a : Arrival) (ds : List DecodedLine) → judgeLines k count reference (arrived a ∷ ds) .refusal ≡ 0
+pub first-accepted : (k count reference : ℕ) (a : Arrival) (ds : List DecodedLine)
+    → judgeLines k count reference (arrived a ∷ ds) .refusal ≡ 0
     → FirstAccepted k count reference a ds
 first-accepted k count reference a ds e =
     let y = judge-first k count reference ds (arrived a) in
-    let s = unless-split (judgeLine k count reference (arrived a)) (count + 1) (judgeLines k (count + 1) (nextReference reference (a .time)) ds) (ap (λ (y : LogJudgement). y .refusal) (sym y) ∙ e) in
+    let s =
+    unless-split (judgeLine k count reference (arrived a)) (count + 1)
+    (judgeLines k (count + 1) (nextReference reference (a .time)) ds) (ap (λ (y : LogJudgement). y .refusal) (sym y) ∙ e) in
     let p = first-none (refusalIf (leb arrivalsMost count) manyArrivals) (judgeOne k reference a ∷ []) (s .0) in
     record {
       few = leb-false arrivalsMost count (case-none (leb arrivalsMost count) manyArrivals (omega arith) (p .0));
@@ -98,7 +101,9 @@ one-line k count reference a ds j y r =
     record {
       answer = y ∙ r .answer ∙ ap (λ (n : ℕ). record { refusal = 0; arrivals = n; line = 0 }) n;
       decodes = first;
-      judged = first-next (judgeOne k reference a) (judge k (nextReference reference (a .time)) (arrivalsOfLines ds) ∷ []) j ∙ first-one _ ∙ r .judged;
+      judged =
+          first-next (judgeOne k reference a) (judge k (nextReference reference (a .time)) (arrivalsOfLines ds) ∷ []) j ∙ first-one _
+          ∙ r .judged;
       few = omega (arith, r .few);
     }
   where
@@ -113,7 +118,8 @@ accepted-lines k count reference [] h e = no-lines k count reference h
 accepted-lines k count reference (malformed ∷ ds) h e = absurd (none-malformed k count reference ds e)
 accepted-lines k count reference (arrived a ∷ ds) h e =
     let s = first-accepted k count reference a ds e in
-    one-line k count reference a ds (s .one) (s .others) (accepted-lines k (count + 1) (nextReference reference (a .time)) ds (omega (arith, s .few)) (s .rest))
+    one-line k count reference a ds (s .one) (s .others) (accepted-lines k (count + 1) (nextReference reference (a .time)) ds
+    (omega (arith, s .few)) (s .rest))
 
 -- ---- a log by its decoded lines
 
@@ -146,7 +152,8 @@ accepted-lists k ds e =
     let a = accepted-decoded k ds e in
     let n : length (numbersOf (arrivalsOfLines ds)) ≡ length (arrivalsOfLines ds) = length-map (arrivalsOfLines ds) _ in
     let t : length (timesOf (arrivalsOfLines ds)) ≡ length (arrivalsOfLines ds) = length-map (arrivalsOfLines ds) _ in
-    fit-lists k (numbersOf (arrivalsOfLines ds)) (timesOf (arrivalsOfLines ds)) (a .least) (a .most) (omega (arith, lines-length ds, a .inTurn .few)) (t ∙ sym n)
+    fit-lists k (numbersOf (arrivalsOfLines ds)) (timesOf (arrivalsOfLines ds)) (a .least) (a .most)
+    (omega (arith, lines-length ds, a .inTurn .few)) (t ∙ sym n)
     (ap (judge k 0) (arrivals-back (arrivalsOfLines ds)) ∙ a .inTurn .judged)
 
 -- ---- a log by its octets
@@ -173,7 +180,8 @@ one-formed l ls a d r =
       times = subst (λ (x : List Arrival). Below (2 ^ 64) (timesOf x)) (sym same) fits;
     }
 
-formed-lines : (ls : List (List ℕ)) → ((j : ℕ) → j < length (map decodeLine ls) → getD (map decodeLine ls) j malformed ≡ malformed → ⊥) → FormedLines ls
+formed-lines : (ls : List (List ℕ)) → ((j : ℕ) → j < length (map decodeLine ls) → getD (map decodeLine ls) j malformed ≡ malformed → ⊥)
+    → FormedLines ls
 formed-lines [] d = no-formed
 formed-lines (l ∷ ls) d = go (decodeLine l) refl (formed-lines ls (λ j b m. d (suc j) (omega arith) m))
   where
@@ -209,13 +217,19 @@ module _ (k : ℕ) (log : List ℕ) (e : judgeLog k log .refusal ≡ 0) where
 
 module _ (s : Sample) (fit : FitSample s) where
   -- from its lists, it is the sample
-  same : fileOf (record { label = s .label; sizes = s .sizes; arrivals = arrivalsFrom (numbersOf (s .arrivals)) (timesOf (s .arrivals)) }) ≡ fileOf s
+  same : fileOf (record { label = s .label; sizes = s .sizes; arrivals = arrivalsFrom (numbersOf (s .arrivals)) (timesOf (s .arrivals)) })
+      ≡ fileOf s
   same = ap (λ (l : List Arrival). fileOf (record { label = s .label; sizes = s .sizes; arrivals = l })) (arrivals-back (s .arrivals))
 
   -- only 8 applies
   short-alone : (room : ℕ)
       → refusalInto (sampleRefusal (s .label) (s .sizes) (numbersOf (s .arrivals)) (timesOf (s .arrivals)))
-      (fileOf (record { label = s .label; sizes = s .sizes; arrivals = arrivalsFrom (numbersOf (s .arrivals)) (timesOf (s .arrivals)) })) room
+      (fileOf (record {
+        label = s .label;
+        sizes = s .sizes;
+        arrivals = arrivalsFrom (numbersOf (s .arrivals))
+            (timesOf (s .arrivals));
+      })) room
       ≡ refusalIf (ltb room (length (fileOf s))) outputShort
   short-alone room = rw (fit .judged, same) (first-one _)
 
@@ -226,7 +240,8 @@ module _ (s : Sample) (fit : FitSample s) where
           → WrittenTo (s .label) (s .sizes) (numbersOf (s .arrivals)) (timesOf (s .arrivals)) out written out′
           → written .refusal ≡ 0 → decode (take (written .length) out′) ≡ accepted s
       written-decodes out out′ written w z =
-          ap decode (output-read (sampleRefusal (s .label) (s .sizes) (numbersOf (s .arrivals)) (timesOf (s .arrivals))) _ out w z ∙ same) ∙ decode-file s fit
+          ap decode (output-read (sampleRefusal (s .label) (s .sizes) (numbersOf (s .arrivals)) (timesOf (s .arrivals))) _ out w z ∙ same)
+          ∙ decode-file s fit
 
 -- the arrivals of a log that is not refused are such a sample
 pub fit-log : (k : ℕ) (log : List ℕ) → ImportedIsFit k log

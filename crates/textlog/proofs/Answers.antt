@@ -26,7 +26,8 @@ use Rattle.textlog.proofs.Filling.{lines-length}
 -- ---- the importer
 
 -- with a refusal that applies nothing is filled
-refused-from : (k : ℕ) (ds : List DecodedLine) (numbers times : List ℕ) (x : ℕ) → (x ≡ 0 → ⊥) → importRefusal k (length numbers) (length times) ds ≡ x
+refused-from : (k : ℕ) (ds : List DecodedLine) (numbers times : List ℕ) (x : ℕ) → (x ≡ 0 → ⊥)
+    → importRefusal k (length numbers) (length times) ds ≡ x
     → {r : LogImport} → r ≡ record { refusal = x; arrivals = 0 } → LinesImported k ds numbers times r numbers times
 refused-from k ds numbers times zero z f q = absurd (z refl)
 refused-from k ds numbers times (suc x) z f {r} q =
@@ -64,7 +65,8 @@ module _ (k : ℕ) (ds : List DecodedLine) (numbers times : List ℕ) (y : LogJu
         → importRefusal k (length numbers) (length times) ds ≡ firstRefusal (refusalIf b outputShort ∷ [])
     unfolding importRefusal
     last b h =
-        first-next (judgeDecoded k ds .refusal) (refusalIf (logListsShort (length (arrivalsOfLines ds)) (length numbers) (length times)) outputShort ∷ []) none
+        first-next (judgeDecoded k ds .refusal) (refusalIf (logListsShort (length (arrivalsOfLines ds)) (length numbers)
+        (length times)) outputShort ∷ []) none
         ∙ ap (λ (n : ℕ). firstRefusal (refusalIf (logListsShort n (length numbers) (length times)) outputShort ∷ [])) counted
         ∙ ap (λ (x : Bool). firstRefusal (refusalIf x outputShort ∷ [])) h
 

@@ -65,7 +65,8 @@ module _ (log numbers₀ times₀ : List ℕ) (room : Fillable log numbers₀ ti
       room .decodes i (s .0) (sym (s .1))
 
   -- no line is left
-  pub filled-done : length log ≤ at → (numbers ≡ over (numbersOf (logArrivals log)) numbers₀) × (times ≡ over (timesOf (logArrivals log)) times₀)
+  pub filled-done : length log ≤ at
+      → (numbers ≡ over (numbersOf (logArrivals log)) numbers₀) × (times ≡ over (timesOf (logArrivals log)) times₀)
   unfolding arrivalsOfLines
   filled-done h =
       part-done _ _ _ _ _ _ (f .part)
@@ -78,15 +79,19 @@ module _ (log numbers₀ times₀ : List ℕ) (room : Fillable log numbers₀ ti
 
     -- and its arrival is the next
     here : drop i (logArrivals log) ≡ record { number = n; time = τ } ∷ arrivalsOfLines (decodedLines (drop end log))
-    here = lines-drop i (decodedLines log) ∙ ap arrivalsOfLines left ∙ lines-first (arrived (record { number = n; time = τ })) (decodedLines (drop end log))
+    here =
+        lines-drop i (decodedLines log) ∙ ap arrivalsOfLines left
+        ∙ lines-first (arrived (record { number = n; time = τ })) (decodedLines (drop end log))
 
     pub within-lines : i < length (decodedLines log)
     within-lines = rest-begins (decodedLines log) i malformed _ _ left .0
 
     -- its values are filled in
     pub filled-next : {numbers′ times′ : List ℕ}
-        → ((xs : List ℕ) → n ≡ getD xs i 0 → i < length xs → numbers ≡ take i xs ++ drop i numbers₀ → numbers′ ≡ take (i + 1) xs ++ drop (i + 1) numbers₀)
-        → ((xs : List ℕ) → τ ≡ getD xs i 0 → i < length xs → times ≡ take i xs ++ drop i times₀ → times′ ≡ take (i + 1) xs ++ drop (i + 1) times₀)
+        → ((xs : List ℕ) → n ≡ getD xs i 0 → i < length xs → numbers ≡ take i xs ++ drop i numbers₀ → numbers′ ≡ take (i + 1) xs
+        ++ drop (i + 1) numbers₀)
+        → ((xs : List ℕ) → τ ≡ getD xs i 0 → i < length xs → times ≡ take i xs ++ drop i times₀ → times′ ≡ take (i + 1) xs
+        ++ drop (i + 1) times₀)
         → Filled log numbers₀ times₀ end (i + 1) numbers′ times′
     filled-next fn ft =
         record {

@@ -40,7 +40,17 @@ time-complete n at u (parted {ms} {ds} {o} d k f few) fits =
     let m = begins-with d o (ds ++ (lineFeed ∷ u)) (p .noDigit) in
     let s = some-digits d in
     let l : at + length ms + 1 + length ds + 1 ≡ at + length (ms ++ (o ∷ ds)) + 1 = omega (arith, length-append ms (o ∷ ds)) in
-    rw (append-assoc ms (o ∷ ds) (lineFeed ∷ u), m .digits, m .octet, m .rest, m .count, ne-eqb (length ms) 0 (λ e. omega arith), p .noFeed, p .passes, ← l)
+    rw (
+      append-assoc ms (o ∷ ds) (lineFeed ∷ u),
+      m .digits,
+      m .octet,
+      m .rest,
+      m .count,
+      ne-eqb (length ms) 0 (λ e. omega arith),
+      p .noFeed,
+      p .passes,
+      ← l,
+    )
     (fraction-complete n (decimalValue ms) (at + length ms + 1) u f few fits)
 
 pub complete : (at : ℕ) {text : List ℕ} {n τ : ℕ} (u : List ℕ) → Line text n τ → n ≤ numberMost → τ ≤ timeMost
@@ -51,5 +61,15 @@ complete at u (line {ns} {ts} {time} d t) h k =
     let s = some-digits d in
     let l : at + length ns + 1 + length ts + 1 ≡ at + length (ns ++ (semicolon ∷ (ts ++ (lineFeed ∷ [])))) =
     omega (arith, length-append ns (semicolon ∷ (ts ++ (lineFeed ∷ []))), length-append ts (lineFeed ∷ [])) in
-    rw (append-assoc ns (semicolon ∷ (ts ++ (lineFeed ∷ []))) u, append-assoc ts (lineFeed ∷ []) u, m .digits, m .octet, m .rest, m .count, ne-eqb (length ns) 0 (λ e. omega arith), le-ltb numberMost (decimalValue ns) h, ← l)
+    rw (
+      append-assoc ns (semicolon ∷ (ts ++ (lineFeed ∷ []))) u,
+      append-assoc ts (lineFeed ∷ []) u,
+      m .digits,
+      m .octet,
+      m .rest,
+      m .count,
+      ne-eqb (length ns) 0 (λ e. omega arith),
+      le-ltb numberMost (decimalValue ns) h,
+      ← l,
+    )
     (time-complete (decimalValue ns) (at + length ns + 1) u t k)

@@ -47,7 +47,8 @@ module _ (k count reference : ℕ) (ds : List DecodedLine) where
 
   module _ (a : Arrival) where
     -- it is line 4,097
-    pub judge-over : arrivalsMost ≤ count → judgeLines k count reference (arrived a ∷ ds) ≡ record { refusal = manyArrivals; arrivals = 0; line = count + 1 }
+    pub judge-over : arrivalsMost ≤ count
+        → judgeLines k count reference (arrived a ∷ ds) ≡ record { refusal = manyArrivals; arrivals = 0; line = count + 1 }
     judge-over h = judge-first (arrived a) ∙ rw (le-leb arrivalsMost count h)
 
     -- an arrival among the first 4,096: its own refusal is that of its line
@@ -95,7 +96,8 @@ module _ (k : ℕ) (J : LogJudgement) (count reference : ℕ) (left : List Decod
           ∙ sym (next ∙ judge-refused k count reference ds a few (λ q. z (j ∙ q)))
 
       -- it is not
-      pub judge-next : r ≡ 0 → {reference′ : ℕ} → reference′ ≡ nextReference reference (a .time) → J ≡ judgeLines k (count + 1) reference′ ds
+      pub judge-next : r ≡ 0 → {reference′ : ℕ} → reference′ ≡ nextReference reference (a .time)
+          → J ≡ judgeLines k (count + 1) reference′ ds
       judge-next z f =
           next ∙ judge-passed k count reference ds a few (sym j ∙ z) ∙ ap (λ (x : ℕ). judgeLines k (count + 1) x ds) (sym f)
 

@@ -108,7 +108,8 @@ line-read log at {n} {τ} {end} h =
     ∙ drop-at (s .text) (s .rest) (length (s .text)) refl in
     record {
       lead =
-          decoded-first (drop at log) (ap lines (s .whole) ∙ line-first (s .form) (s .rest) ∙ ap (λ (x : List ℕ). s .text ∷ lines x) (sym d))
+          decoded-first (drop at log) (ap lines (s .whole) ∙ line-first (s .form) (s .rest)
+          ∙ ap (λ (x : List ℕ). s .text ∷ lines x) (sym d))
           (decodes (s .text) (record { number = n; time = τ }) (record { form = s .form; number = s .number; time = s .time }));
       onward = omega (arith, s .ends, long (s .form));
       number = s .number;

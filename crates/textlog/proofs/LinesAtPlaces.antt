@@ -117,7 +117,12 @@ module _ (log : List ℕ) (at : ℕ) (digits : Number) (e : digits ≡ numberAt 
       pub line-other : (getD log (digits .end) 0 ≡ semicolon → ⊥) → Malformed ≡ lineIn at (drop at log)
       unfolding lineIn
       line-other o =
-          rw (ne-eqb (digitCount (drop at log)) 0 some, le-ltb numberMost (leadingValue (drop at log)) under, here, ne-eqb (getD log (digits .end) 0) semicolon o)
+          rw (
+            ne-eqb (digitCount (drop at log)) 0 some,
+            le-ltb numberMost (leadingValue (drop at log)) under,
+            here,
+            ne-eqb (getD log (digits .end) 0) semicolon o,
+          )
 
       -- the time decides
       pub line-time : getD log (digits .end) 0 ≡ semicolon → {r : Reading}
@@ -125,7 +130,15 @@ module _ (log : List ℕ) (at : ℕ) (digits : Number) (e : digits ≡ numberAt 
       unfolding lineIn
       line-time o q =
           let w : leadingValue (drop at log) ≡ digits .value = omega (arith, value) in
-          q ∙ sym (rw (ne-eqb (digitCount (drop at log)) 0 some, le-ltb numberMost (leadingValue (drop at log)) under, here, eq-eqb (getD log (digits .end) 0) semicolon o, place, follows, w))
+          q ∙ sym (rw (
+            ne-eqb (digitCount (drop at log)) 0 some,
+            le-ltb numberMost (leadingValue (drop at log)) under,
+            here,
+            eq-eqb (getD log (digits .end) 0) semicolon o,
+            place,
+            follows,
+            w,
+          ))
 
   -- ---- the time
 

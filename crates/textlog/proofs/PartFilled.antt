@@ -20,7 +20,8 @@ use Rattle.rfc4737.specs.Judge.{numbersOf, timesOf}
 
 module _ {ℓ} {A : Type ℓ} where
   -- what is left of a list from a place on: that place, its element, and what is left after it
-  pub rest-begins : (l : List A) (i : ℕ) (z x : A) (xs : List A) → drop i l ≡ x ∷ xs → (i < length l) × (x ≡ getD l i z) × (drop (i + 1) l ≡ xs)
+  pub rest-begins : (l : List A) (i : ℕ) (z x : A) (xs : List A) → drop i l ≡ x ∷ xs
+      → (i < length l) × (x ≡ getD l i z) × (drop (i + 1) l ≡ xs)
   rest-begins l i z x xs e = (
     omega (arith, length-drop i l, ap length e),
     sym (ap (λ (k : ℕ). getD l k z) (sym (add-zero i)) ∙ sym (getD-drop i l 0 z) ∙ ap (λ (y : List A). getD y 0 z) e),
@@ -42,9 +43,11 @@ pub record PartFilled (l : List Arrival) (numbers₀ times₀ : List ℕ) (i : �
 pub part-none : (l : List Arrival) (numbers₀ times₀ : List ℕ) → PartFilled l numbers₀ times₀ 0 numbers₀ times₀
 part-none l numbers₀ times₀ = record { some = omega arith; inNumbers = refl; inTimes = refl }
 
-module _ (l : List Arrival) (numbers₀ times₀ : List ℕ) (i : ℕ) (numbers times : List ℕ) (f : PartFilled l numbers₀ times₀ i numbers times) where
+module _ (l : List Arrival) (numbers₀ times₀ : List ℕ) (i : ℕ) (numbers times : List ℕ)
+    (f : PartFilled l numbers₀ times₀ i numbers times) where
   -- a list keeps its length
-  kept : (value : Arrival → ℕ) (old : List ℕ) {new : List ℕ} → new ≡ take i (map value l) ++ drop i old → length l ≤ length old → length new ≡ length old
+  kept : (value : Arrival → ℕ) (old : List ℕ) {new : List ℕ} → new ≡ take i (map value l) ++ drop i old → length l ≤ length old
+      → length new ≡ length old
   kept value old e r =
       let p : length (map value l) ≡ length l = length-map l value in
       let s = f .some in
@@ -66,11 +69,17 @@ module _ (l : List Arrival) (numbers₀ times₀ : List ℕ) (i : ℕ) (numbers 
 
   -- the values of the next are stored
   pub part-next : (a : Arrival) (rest : List Arrival) → drop i l ≡ a ∷ rest → {numbers′ times′ : List ℕ}
-      → ((xs : List ℕ) → a .number ≡ getD xs i 0 → i < length xs → numbers ≡ take i xs ++ drop i numbers₀ → numbers′ ≡ take (i + 1) xs ++ drop (i + 1) numbers₀)
-      → ((xs : List ℕ) → a .time ≡ getD xs i 0 → i < length xs → times ≡ take i xs ++ drop i times₀ → times′ ≡ take (i + 1) xs ++ drop (i + 1) times₀)
+      → ((xs : List ℕ) → a .number ≡ getD xs i 0 → i < length xs → numbers ≡ take i xs ++ drop i numbers₀ → numbers′ ≡ take (i + 1) xs
+      ++ drop (i + 1) numbers₀)
+      → ((xs : List ℕ) → a .time ≡ getD xs i 0 → i < length xs → times ≡ take i xs ++ drop i times₀ → times′ ≡ take (i + 1) xs
+      ++ drop (i + 1) times₀)
       → PartFilled l numbers₀ times₀ (i + 1) numbers′ times′
   part-next a rest e fn ft =
       let b = rest-begins l i a a rest e in
       let p = rest-begins (numbersOf l) i 0 (a .number) (numbersOf rest) (drop-map (λ (a : Arrival). a .number) i l ∙ ap numbersOf e) in
       let q = rest-begins (timesOf l) i 0 (a .time) (timesOf rest) (drop-map (λ (a : Arrival). a .time) i l ∙ ap timesOf e) in
-      record { some = omega (arith, b .0); inNumbers = fn (numbersOf l) (p .1) (p .0) (f .inNumbers); inTimes = ft (timesOf l) (q .1) (q .0) (f .inTimes) }
+      record {
+        some = omega (arith, b .0);
+        inNumbers = fn (numbersOf l) (p .1) (p .0) (f .inNumbers);
+        inTimes = ft (timesOf l) (q .1) (q .0) (f .inTimes);
+      }

@@ -124,17 +124,23 @@ three-digits n h =
 time-form : (t : ℕ) → Time (decimalOf (t / 1000) ++ (comma ∷ threeDigits (t % 1000))) t
 time-form t =
     let d = three-digits (t % 1000) (omega arith) in
-    let v : 1000 * decimalValue (decimalOf (t / 1000)) + thousandths (threeDigits (t % 1000)) ≡ t = omega (arith, reads-back (t / 1000), d .1) in
-    subst (λ (x : ℕ). Time (decimalOf (t / 1000) ++ (comma ∷ threeDigits (t % 1000))) x) v (parted (digits-of (t / 1000)) byComma (d .0) (omega arith))
+    let v : 1000 * decimalValue (decimalOf (t / 1000)) + thousandths (threeDigits (t % 1000)) ≡ t =
+    omega (arith, reads-back (t / 1000), d .1) in
+    subst (λ (x : ℕ). Time (decimalOf (t / 1000) ++ (comma ∷ threeDigits (t % 1000))) x) v
+    (parted (digits-of (t / 1000)) byComma (d .0) (omega arith))
 
 -- a written line
 line-form : (a : Arrival) → Line (arrivalLine a) (a .number) (a .time)
 unfolding arrivalLine
 line-form a =
-    let e : (decimalOf (a .time / 1000) ++ (comma ∷ threeDigits (a .time % 1000))) ++ (lineFeed ∷ []) ≡ decimalOf (a .time / 1000) ++ (comma ∷ (threeDigits (a .time % 1000) ++ (lineFeed ∷ []))) =
+    let e : (decimalOf (a .time / 1000) ++ (comma ∷ threeDigits (a .time % 1000))) ++ (lineFeed ∷ [])
+    ≡ decimalOf (a .time / 1000) ++ (comma ∷ (threeDigits (a .time % 1000) ++ (lineFeed ∷ []))) =
     append-assoc (decimalOf (a .time / 1000)) (comma ∷ threeDigits (a .time % 1000)) (lineFeed ∷ []) in
     subst (λ (x : List ℕ). Line (decimalOf (a .number) ++ (semicolon ∷ x)) (a .number) (a .time)) e
-    (subst (λ (x : ℕ). Line (decimalOf (a .number) ++ (semicolon ∷ ((decimalOf (a .time / 1000) ++ (comma ∷ threeDigits (a .time % 1000))) ++ (lineFeed ∷ [])))) x (a .time)) (reads-back (a .number)) (line (digits-of (a .number)) (time-form (a .time))))
+    (subst (λ (x : ℕ). Line (decimalOf (a .number)
+    ++ (semicolon
+    ∷ ((decimalOf (a .time / 1000) ++ (comma ∷ threeDigits (a .time % 1000)))
+    ++ (lineFeed ∷ [])))) x (a .time)) (reads-back (a .number)) (line (digits-of (a .number)) (time-form (a .time))))
 
 -- a written log, of arrivals that are not refused
 log-form : (k reference : ℕ) (l : List Arrival) → k ≤ numberMost → judge k reference l ≡ 0 → Below (2 ^ 64) (timesOf l) → Log (logOf l) l
@@ -153,19 +159,22 @@ read-again k numbers times b out out′ numbers₀ times₀ numbers′ times′ 
     let f = lists-fit k numbers times (own-none (refusalOfLists k numbers times) (logOf (arrivalsFrom numbers times)) out w z) in
     let t = output-read (refusalOfLists k numbers times) (logOf (arrivalsFrom numbers times)) out w z in
     let g = log-form k 0 (arrivalsFrom numbers times) (omega (arith, f .most)) (f .judged) (rw (times-back numbers times (f .same)) b) in
-    let fn : ListsFit k (numbersOf (arrivalsFrom numbers times)) (timesOf (arrivalsFrom numbers times)) = rw (numbers-back numbers times (f .same), times-back numbers times (f .same)) f in
+    let fn : ListsFit k (numbersOf (arrivalsFrom numbers times)) (timesOf (arrivalsFrom numbers times)) =
+    rw (numbers-back numbers times (f .same), times-back numbers times (f .same)) f in
     let l = arrivals-length numbers times (f .same) in
     let j = form-read k g (f .judged) fn in
     let m : length (logArrivals (logOf (arrivalsFrom numbers times))) ≡ length numbers = ap length (form-arrivals g) ∙ l in
     let y : read .refusal ≡ 0 =
     r .refusal
     ∙ ap (λ (x : List ℕ). importRefusal k (length numbers₀) (length times₀) (decodedLines x)) t
-    ∙ import-fits k (length numbers₀) (length times₀) (decodedLines (logOf (arrivalsFrom numbers times))) (ap (λ (x : LogJudgement). x .refusal) j) (omega arith) (omega (arith, f .same)) in
+    ∙ import-fits k (length numbers₀) (length times₀) (decodedLines (logOf (arrivalsFrom numbers times)))
+    (ap (λ (x : LogJudgement). x .refusal) j) (omega arith) (omega (arith, f .same)) in
     let a : logArrivals (take (written .length) out′) ≡ arrivalsFrom numbers times = ap logArrivals t ∙ form-arrivals g in
     let n = r .arrivals ∙ ap (λ (x : ℕ). ifNone x (length (logArrivals (take (written .length) out′))) 0) y ∙ ap length a ∙ l in (
       (λ i. record { refusal = y i; arrivals = n i }),
       r .filledNumbers ∙ ap (λ (x : ℕ). ifNone x (over (numbersOf (logArrivals (take (written .length) out′))) numbers₀) numbers₀) y
-          ∙ ap (λ (x : List Arrival). over (numbersOf x) numbers₀) a ∙ ap (λ (x : List ℕ). over x numbers₀) (numbers-back numbers times (f .same)),
+          ∙ ap (λ (x : List Arrival). over (numbersOf x) numbers₀) a
+          ∙ ap (λ (x : List ℕ). over x numbers₀) (numbers-back numbers times (f .same)),
       r .filledTimes ∙ ap (λ (x : ℕ). ifNone x (over (timesOf (logArrivals (take (written .length) out′))) times₀) times₀) y
           ∙ ap (λ (x : List Arrival). over (timesOf x) times₀) a ∙ ap (λ (x : List ℕ). over x times₀) (times-back numbers times (f .same)),
     )

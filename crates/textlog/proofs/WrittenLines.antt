@@ -24,12 +24,17 @@ pub line-long : (a : Arrival) → length (arrivalLine a) ≡ length (decimalOf (
 unfolding arrivalLine
 line-long a =
     let t : List ℕ = comma ∷ (threeDigits (a .time % 1000) ++ (lineFeed ∷ [])) in
-    omega (arith, length-append (decimalOf (a .number)) (semicolon ∷ (decimalOf (a .time / 1000) ++ t)), length-append (decimalOf (a .time / 1000)) t)
+    omega (
+      arith,
+      length-append (decimalOf (a .number)) (semicolon ∷ (decimalOf (a .time / 1000) ++ t)),
+      length-append (decimalOf (a .time / 1000)) t,
+    )
 
 -- a line put in four parts
 pub put-parts : (at first third : ℕ) (x y z old : List ℕ) {o₁ o₂ o₃ o₄ : List ℕ} → at + length (x ++ (semicolon ∷ (y ++ z))) ≤ length old
     → first ≡ at + length x → third ≡ first + 1 + length y
-    → o₁ ≡ put at x old → o₂ ≡ put first (semicolon ∷ []) o₁ → o₃ ≡ put (first + 1) y o₂ → o₄ ≡ put third z o₃ → o₄ ≡ put at (x ++ (semicolon ∷ (y ++ z))) old
+    → o₁ ≡ put at x old → o₂ ≡ put first (semicolon ∷ []) o₁ → o₃ ≡ put (first + 1) y o₂ → o₄ ≡ put third z o₃
+    → o₄ ≡ put at (x ++ (semicolon ∷ (y ++ z))) old
 put-parts at first third x y z old {o₁} {o₂} {o₃} room f t p q r s =
     let n = length-append x (semicolon ∷ (y ++ z)) in
     let m = length-append y z in
@@ -49,21 +54,30 @@ module _ (numbers times : List ℕ) (same : length times ≡ length numbers) (i 
   pub log-part : length (logOf (take i (arrivalsFrom numbers times))) ≤ length (logOf (arrivalsFrom numbers times))
   log-part =
       let l = arrivalsFrom numbers times in
-      let e : logOf (arrivalsFrom numbers times) ≡ logOf (take i (arrivalsFrom numbers times)) ++ logOf (drop i (arrivalsFrom numbers times)) =
-      ap logOf (sym (take-append-drop i (arrivalsFrom numbers times))) ∙ octets-append arrivalLine (take i (arrivalsFrom numbers times)) (drop i (arrivalsFrom numbers times)) in
+      let e : logOf (arrivalsFrom numbers times)
+      ≡ logOf (take i (arrivalsFrom numbers times)) ++ logOf (drop i (arrivalsFrom numbers times)) =
+      ap logOf (sym (take-append-drop i (arrivalsFrom numbers times)))
+      ∙ octets-append arrivalLine (take i (arrivalsFrom numbers times)) (drop i (arrivalsFrom numbers times)) in
       omega (arith, ap length e, length-append (logOf (take i (arrivalsFrom numbers times))) (logOf (drop i (arrivalsFrom numbers times))))
 
   -- one line more
   pub log-next : i < length numbers
-      → logOf (take (i + 1) (arrivalsFrom numbers times)) ≡ logOf (take i (arrivalsFrom numbers times)) ++ arrivalLine (record { number = getD numbers i 0; time = getD times i 0 })
+      → logOf (take (i + 1) (arrivalsFrom numbers times))
+      ≡ logOf (take i (arrivalsFrom numbers times)) ++ arrivalLine (record { number = getD numbers i 0; time = getD times i 0 })
   log-next h =
       octets-snoc arrivalLine (arrivalsFrom numbers times) i noArrival (omega (arith, arrivals-length numbers times same))
-      ∙ ap (λ (a : Arrival). logOf (take i (arrivalsFrom numbers times)) ++ arrivalLine a) (sym (arrivals-getD numbers times i noArrival same h))
+      ∙ ap (λ (a : Arrival). logOf (take i (arrivalsFrom numbers times)) ++ arrivalLine a)
+      (sym (arrivals-getD numbers times i noArrival same h))
 
   -- its length
   pub long-next : i < length numbers
-      → length (logOf (take (i + 1) (arrivalsFrom numbers times))) ≡ length (logOf (take i (arrivalsFrom numbers times))) + length (arrivalLine (record { number = getD numbers i 0; time = getD times i 0 }))
-  long-next h = ap length (log-next h) ∙ length-append (logOf (take i (arrivalsFrom numbers times))) (arrivalLine (record { number = getD numbers i 0; time = getD times i 0 }))
+      → length (logOf (take (i + 1) (arrivalsFrom numbers times)))
+      ≡ length (logOf (take i (arrivalsFrom numbers times))) + length
+      (arrivalLine (record { number = getD numbers i 0; time = getD times i 0 }))
+  long-next h =
+      ap length (log-next h)
+      ∙ length-append (logOf (take i (arrivalsFrom numbers times)))
+      (arrivalLine (record { number = getD numbers i 0; time = getD times i 0 }))
 
   -- at the end
   pub log-all : length numbers ≤ i → logOf (take i (arrivalsFrom numbers times)) ≡ logOf (arrivalsFrom numbers times)

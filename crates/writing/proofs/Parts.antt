@@ -22,11 +22,17 @@ part-put at xs old h =
     record {
       place = refl;
       memory =
-          rw (put-room at xs old h, take-add at (length xs) (splice at xs old), splice-take at xs old at (omega arith) (omega arith), splice-part at xs old (omega arith));
+          rw (
+            put-room at xs old h,
+            take-add at (length xs) (splice at xs old),
+            splice-take at xs old at (omega arith) (omega arith),
+            splice-part at xs old (omega arith),
+          );
     }
 
 -- a part, and one at the offset after it, are one part
-pub then : {at mid next : ℕ} {xs ys old new newer : List ℕ} → Written at mid xs old new → Written mid next ys new newer → Written at next (xs ++ ys) old newer
+pub then : {at mid next : ℕ} {xs ys old new newer : List ℕ} → Written at mid xs old new → Written mid next ys new newer
+    → Written at next (xs ++ ys) old newer
 then {at} {mid} {next} {xs} {ys} {old} w v =
     record {
       place = simp length-append (omega (arith, w .place, v .place));
@@ -34,7 +40,8 @@ then {at} {mid} {next} {xs} {ys} {old} w v =
     }
 
 -- the first n octets of a word, put where there is room
-pub first-put : (at n : ℕ) (word old : List ℕ) → n ≤ length word → at + n ≤ length old → Written at (at + n) (take n word) old (put at (take n word) old)
+pub first-put : (at n : ℕ) (word old : List ℕ) → n ≤ length word → at + n ≤ length old
+    → Written at (at + n) (take n word) old (put at (take n word) old)
 first-put at n word old h room =
     let e : length (take n word) ≡ n = length-take-le n word h in
     let r : at + length (take n word) ≤ length old = rw e room in

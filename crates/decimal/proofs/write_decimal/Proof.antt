@@ -29,8 +29,12 @@ slice-write-out-2 c = simp length-set (omega arith)
 loop-again : tie.Need-loop-again Inv-loop μ-loop
 loop-again c =
     let l = c .before .before .before .loop in
-    let a = c .before .before .before .before .before .args in
-    (omega arith, simp length-set (l .inv .1), rw (c .before .last-digit .ensures, c .last-digit2 .ensures) (write-two (a .at) (l .i) (l .rest) (l .out) (omega arith) (omega arith) ∙ l .inv .2))
+    let a = c .before .before .before .before .before .args in (
+      omega arith,
+      simp length-set (l .inv .1),
+      rw (c .before .last-digit .ensures, c .last-digit2 .ensures)
+          (write-two (a .at) (l .i) (l .rest) (l .out) (omega arith) (omega arith) ∙ l .inv .2),
+    )
 
 returns : tie.Need-returns Inv-loop μ-loop
 returns c =

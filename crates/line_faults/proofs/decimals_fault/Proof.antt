@@ -45,4 +45,5 @@ returns-3 c =
     c .end-fault .ensures ∙ e ∙ ap (λ (n : Number). decimalsUpTo (now (a .line)) (a .at) (n .end)) (r .ensures .0)
 
 pub decimals-fault-spec : {M : Type 1} → statement M
-decimals-fault-spec = tie.close (tie.spec (λ c κs. search needs) sub-count (λ c κs. search needs) returns returns-2 (λ c κs. search needs) returns-3)
+decimals-fault-spec =
+    tie.close (tie.spec (λ c κs. search needs) sub-count (λ c κs. search needs) returns returns-2 (λ c κs. search needs) returns-3)

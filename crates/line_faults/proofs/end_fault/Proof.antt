@@ -17,7 +17,10 @@ returns-2 : tie.Need-returns-2
 unfolding endFault
 returns-2 c =
     let a = c .before .before .before .before .args in
-    simp (ne-eqb (getD (now (a .line)) (a .at) 0) lineFeed (λ e. c .before .if1 .left (c .before .before .octet-at .ensures ∙ e)), c .stray-at .ensures)
+    simp (
+      ne-eqb (getD (now (a .line)) (a .at) 0) lineFeed (λ e. c .before .if1 .left (c .before .before .octet-at .ensures ∙ e)),
+      c .stray-at .ensures,
+    )
 
 pub end-fault-spec : {M : Type 1} → statement M
 end-fault-spec = tie.close (tie.spec (λ c κs. search needs) returns (λ c κs. search needs) returns-2)

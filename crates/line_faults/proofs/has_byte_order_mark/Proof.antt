@@ -37,4 +37,5 @@ returns-3 c =
     ap (λ (o : ℕ). eqb o 191) (c .octet-at3 .ensures) ∙ e
 
 pub has-byte-order-mark-spec : {M : Type 1} → statement M
-has-byte-order-mark-spec = tie.close (tie.spec (λ c κs. search needs) returns (λ c κs. search needs) returns-2 (λ c κs. search needs) returns-3)
+has-byte-order-mark-spec =
+    tie.close (tie.spec (λ c κs. search needs) returns (λ c κs. search needs) returns-2 (λ c κs. search needs) returns-3)

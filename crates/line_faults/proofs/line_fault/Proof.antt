@@ -37,7 +37,11 @@ returns-3 c =
     let l = now (j .before .before .before .args .line) in
     let r = j .before .number-at in
     let e : NoLineFeed ≡ numberFault l (r .result) =
-    simp (ne-eqb (r .result .end) 0 (j .if1 .left), le-ltb numberMost (r .result .value) (c .before .if2 .left), le-leb (length l) (r .result .end) (c .if3 .taken)) in
+    simp (
+      ne-eqb (r .result .end) 0 (j .if1 .left),
+      le-ltb numberMost (r .result .value) (c .before .if2 .left),
+      le-leb (length l) (r .result .end) (c .if3 .taken),
+    ) in
     (e ∙ ap (numberFault l) (r .ensures .0), faults-as-given)
 
 returns-4 : tie.Need-returns-4

@@ -16,7 +16,8 @@ returns-2 c =
 
 returns-3 : tie.Need-returns-3
 returns-3 c =
-    rw (c .before .before .before .before .before .answer3 .given .1) (weaken 71 (omega arith) (c .before .before .write-reordered .ensures))
+    rw (c .before .before .before .before .before .answer3 .given .1)
+    (weaken 71 (omega arith) (c .before .before .write-reordered .ensures))
 
 pub write-answer-spec : {M : Type 1} → statement M
 write-answer-spec =

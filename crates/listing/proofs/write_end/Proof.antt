@@ -22,7 +22,9 @@ returns c =
     let e1 = e2 .before .before .before .before in
     let s = e1 .before .before .before .before .before in
     let h : s .args .at ≤ length (s .args .out .now) = omega arith in
-    simp append-assoc (simp append-assoc at (then h (then h (then h (then h (then h (then h (e1 .write-word .ensures) (e2 .write-number .ensures)) (e3 .write-number2 .ensures)) (e4 .write-number3 .ensures)) (e5 .write-number4 .ensures)) (e6 .write-number5 .ensures)) (e7 .write-number6 .ensures)))
+    simp append-assoc (simp append-assoc at (then h (then h (then h
+    (then h (then h (then h (e1 .write-word .ensures) (e2 .write-number .ensures)) (e3 .write-number2 .ensures))
+    (e4 .write-number3 .ensures)) (e5 .write-number4 .ensures)) (e6 .write-number5 .ensures)) (e7 .write-number6 .ensures)))
 
 pub write-end-spec : {M : Type 1} → statement M
 write-end-spec =

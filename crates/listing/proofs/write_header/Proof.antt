@@ -19,7 +19,8 @@ returns c =
     let e1 = e2 .before .before .before .before in
     let s = e1 .before .before .before .before in
     let h : s .args .at ≤ length (s .args .out .now) = omega arith in
-    simp append-assoc (simp append-assoc at (then h (then h (then h (e1 .write-word .ensures) (e2 .write-number .ensures)) (e3 .write-word2 .ensures)) (e4 .write-number2 .ensures)))
+    simp append-assoc (simp append-assoc at (then h (then h (then h (e1 .write-word .ensures) (e2 .write-number .ensures))
+    (e3 .write-word2 .ensures)) (e4 .write-number2 .ensures)))
 
 pub write-header-spec : {M : Type 1} → statement M
 write-header-spec =

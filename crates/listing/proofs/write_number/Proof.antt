@@ -12,7 +12,8 @@ returns : tie.Need-returns
 returns c =
     let s = c .before .before .before .before .before in
     let h : s .args .at ≤ length (s .args .out .now) = omega arith in
-    then h (c .before .before .write-up-to-ten .ensures) (one (c .before .before .write-up-to-ten .result) (s .args .after) (c .before .before .write-up-to-ten .last .0) (search needs))
+    then h (c .before .before .write-up-to-ten .ensures) (one (c .before .before .write-up-to-ten .result) (s .args .after)
+    (c .before .before .write-up-to-ten .last .0) (search needs))
 
 pub write-number-spec : {M : Type 1} → statement M
 write-number-spec =

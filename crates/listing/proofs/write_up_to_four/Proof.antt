@@ -15,7 +15,8 @@ returns : tie.Need-returns
 returns c =
     let s = c .before .before .before .before .before .before in
     let v = s .args .v in
-    named 4 (sym (one-digit v (c .before .before .before .before .if1 .taken))) (at-most 4 v (omega arith) (omega (arith, s .pre .1))) (c .before .before .write-digit .ensures)
+    named 4 (sym (one-digit v (c .before .before .before .before .if1 .taken))) (at-most 4 v (omega arith) (omega (arith, s .pre .1)))
+    (c .before .before .write-digit .ensures)
 
 returns-2 : tie.Need-returns-2
 returns-2 c =

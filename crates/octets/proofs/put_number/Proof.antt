@@ -23,8 +23,11 @@ returns c =
     let at-octets-of = at-if .before .before in
     let args = at-octets-of .before .before .args in
     let xs = beOctets (at-octets-of .octets-of .result) (args .v) in
-    let h : args .at + length xs ≤ length (args .out .now) = rw octets-length (leb-true _ _ (sym (at-if .before .has-room .ensures) ∙ at-if .if1 .taken)) in
-    (rw (← at-octets-of .octets-of .ensures) (c .before .before .write-number .ensures ∙ sym (put-room (args .at) xs (args .out .now) h)), read-back)
+    let h : args .at + length xs ≤ length (args .out .now) =
+    rw octets-length (leb-true _ _ (sym (at-if .before .has-room .ensures) ∙ at-if .if1 .taken)) in (
+      rw (← at-octets-of .octets-of .ensures) (c .before .before .write-number .ensures ∙ sym (put-room (args .at) xs (args .out .now) h)),
+      read-back,
+    )
 
 returns-2 : tie.Need-returns-2
 unfolding put

@@ -24,7 +24,8 @@ loop-holds : tie.Need-loop-holds Inv-loop μ-loop
 loop-holds c = (omega arith, sym value-nil)
 
 -- the octet that is read is below 256
-octet : (c : tie.After-shared-slice-known Inv-loop μ-loop) → getD (c .before .before .before .args .s .now) (c .before .before .before .args .at + c .before .before .loop .i) 0 < 256
+octet : (c : tie.After-shared-slice-known Inv-loop μ-loop)
+    → getD (c .before .before .before .args .s .now) (c .before .before .before .args .at + c .before .before .loop .i) 0 < 256
 octet c = c .shared-slice-known .given (c .before .before .before .args .at + c .before .before .loop .i) .fits
 
 -- at most seven octets were read before it

@@ -23,8 +23,11 @@ loop-holds c = (omega arith, refl, copy-start (c .args .at) (c .args .s .now) (c
 loop-again : tie.Need-loop-again Inv-loop μ-loop
 loop-again c =
     let at-loop = c .before .before in
-    let args = at-loop .before .args in
-    (omega arith, simp length-set (omega arith), copy-next (args .at) (args .s .now) (args .out .now) (at-loop .loop .i) 0 (omega arith) (omega arith) (at-loop .loop .inv .2) refl)
+    let args = at-loop .before .args in (
+      omega arith,
+      simp length-set (omega arith),
+      copy-next (args .at) (args .s .now) (args .out .now) (at-loop .loop .i) 0 (omega arith) (omega arith) (at-loop .loop .inv .2) refl,
+    )
 
 returns : tie.Need-returns Inv-loop μ-loop
 returns c =

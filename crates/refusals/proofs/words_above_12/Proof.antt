@@ -9,7 +9,8 @@ use Rattle.refusals.proofs.words_above_12.Tie as tie
 returns-7 : tie.Need-returns-7
 returns-7 c =
     let s = c .before .before in
-    no-refusal (s .args .refusal) _ (λ low high. let h = above 12 6 (s .args .refusal) (c .match .rest) (s .pre low) in omega (arith, h, high))
+    no-refusal (s .args .refusal) _ (λ low high. let h = above 12 6 (s .args .refusal) (c .match .rest) (s .pre low) in omega
+    (arith, h, high))
 
 pub words-above-12-spec : {M : Type 1} → statement M
 words-above-12-spec =

@@ -16,7 +16,8 @@ returns-2 c =
     let left = c .before .before .before .before in
     let a = left .before .before .before .args in
     output-written _ _ _ refl (left .if1 .left) refl
-    (c .before .before .put-octets .ensures ∙ put-room 0 (now (a .octets)) (now (a .out)) (omega (arith, left .if1 .left)) ∙ sym (over-splice (now (a .octets)) (now (a .out))))
+    (c .before .before .put-octets .ensures ∙ put-room 0 (now (a .octets)) (now (a .out)) (omega (arith, left .if1 .left))
+    ∙ sym (over-splice (now (a .octets)) (now (a .out))))
 
 pub write-whole-spec : {M : Type 1} → statement M
 write-whole-spec = tie.close (tie.spec returns (λ c κs. search needs) (λ c. search needs) (λ c. search needs) returns-2)

@@ -58,7 +58,8 @@ abbrev file-b : tie.After-known-told3 → List ℕ
 file-b b = file-k (sent-at b)
 
 -- the answer with a refusal that applies
-answer : (f : List ℕ) (n : ℕ) → 0 < n → fileRefusal f ≡ n → {r : ℕ} {y : Layout} → y ≡ layoutOf (refused r) → r ≡ n → y ≡ layoutOf (decode f)
+answer : (f : List ℕ) (n : ℕ) → 0 < n → fileRefusal f ≡ n → {r : ℕ} {y : Layout} → y ≡ layoutOf (refused r) → r ≡ n
+    → y ≡ layoutOf (decode f)
 answer f n h e p q = p ∙ ap (λ (k : ℕ). layoutOf (refused k)) q ∙ ap layoutOf (sym (decode-refused f n h e))
 
 -- what is promised beside it, at each `return`
@@ -97,7 +98,8 @@ counted c =
     let l = label-at (octets-at c) in
     let f = file l in
     whole-section (sentAt f) sizeWidth 1 sentMost sentOutside f
-    (sym (c .before .before .before .section-at2 .ensures ∙ ap (λ (n : ℕ). sectionReading n sizeWidth 1 sentMost sentOutside f) (labelled l .2)) ∙ c .before .sent .given .1)
+    (sym (c .before .before .before .section-at2 .ensures
+    ∙ ap (λ (n : ℕ). sectionReading n sizeWidth 1 sentMost sentOutside f) (labelled l .2)) ∙ c .before .sent .given .1)
 
 -- after the arrivals
 arrived : (c : tie.After-known-told3)
@@ -108,7 +110,8 @@ arrived c =
     let k = c .before .before .before .before in
     let f = file-k k in
     whole-section (arrivedAt f) arrivalWidth 0 arrivalsMost manyArrivals f
-    (sym (c .before .before .before .section-at3 .ensures ∙ ap (λ (n : ℕ). sectionReading n arrivalWidth 0 arrivalsMost manyArrivals f) (counted k .2)) ∙ c .before .arrived .given .1)
+    (sym (c .before .before .before .section-at3 .ensures
+    ∙ ap (λ (n : ℕ). sectionReading n arrivalWidth 0 arrivalsMost manyArrivals f) (counted k .2)) ∙ c .before .arrived .given .1)
 
 -- the arrivals lie within the file
 sections-within : (c : tie.After-known-told3)
@@ -204,8 +207,11 @@ returns-3 c =
     let l = o .before .before .before in
     let f = file l in
     let w = labelled l in
-    let s = c .before .before .before .before .section-at2 .ensures ∙ ap (λ (n : ℕ). sectionReading n sizeWidth 1 sentMost sentOutside f) (w .2) in
-    let r = c .before .refusal-of-section2 .ensures ∙ ap refusalOfSection s ∙ refusal-section (sentAt f) sizeWidth 1 sentMost sentOutside f in
+    let s =
+    c .before .before .before .before .section-at2 .ensures
+    ∙ ap (λ (n : ℕ). sectionReading n sizeWidth 1 sentMost sentOutside f) (w .2) in
+    let r =
+    c .before .refusal-of-section2 .ensures ∙ ap refusalOfSection s ∙ refusal-section (sentAt f) sizeWidth 1 sentMost sentOutside f in
     let p = refused-section (sentAt f) sizeWidth 1 sentMost sentOutside f (sym s ∙ c .before .before .enum-told2 .given .1) in (
       answer f (sentStage f) p (refused-sent f (w .0) (shown o) (sentStage f) p refl) (c .refused-layout3 .ensures) r,
       promised f (below-fits w8 f (l .before .before .before .before .shared-slice-known .given)),
@@ -225,10 +231,15 @@ returns-4 c =
     let l = o .before .before .before in
     let f = file l in
     let v = counted b in
-    let s = c .before .before .before .before .section-at3 .ensures ∙ ap (λ (n : ℕ). sectionReading n arrivalWidth 0 arrivalsMost manyArrivals f) (v .2) in
-    let r = c .before .refusal-of-section3 .ensures ∙ ap refusalOfSection s ∙ refusal-section (arrivedAt f) arrivalWidth 0 arrivalsMost manyArrivals f in
+    let s =
+    c .before .before .before .before .section-at3 .ensures
+    ∙ ap (λ (n : ℕ). sectionReading n arrivalWidth 0 arrivalsMost manyArrivals f) (v .2) in
+    let r =
+    c .before .refusal-of-section3 .ensures ∙ ap refusalOfSection s
+    ∙ refusal-section (arrivedAt f) arrivalWidth 0 arrivalsMost manyArrivals f in
     let p = refused-section (arrivedAt f) arrivalWidth 0 arrivalsMost manyArrivals f (sym s ∙ c .before .before .enum-told3 .given .1) in (
-      answer f (arrivedStage f) p (refused-arrived f (labelled l .0) (shown o) (v .0) (arrivedStage f) p refl) (c .refused-layout4 .ensures) r,
+      answer f (arrivedStage f) p (refused-arrived f (labelled l .0) (shown o) (v .0) (arrivedStage f) p refl)
+          (c .refused-layout4 .ensures) r,
       promised f (below-fits w8 f (l .before .before .before .before .shared-slice-known .given)),
     )
 
@@ -241,7 +252,8 @@ returns-5 c =
     let f = file l in
     let u = arrived b in
     let e : endStage f ≡ octetsFollow = ap (λ t. refusalIf t octetsFollow) (lt-ltb (fileEnd f) (length f) (omega arith)) in (
-      answer f octetsFollow (omega arith) (refused-end f (labelled l .0) (shown o) (counted k .0) (u .0) octetsFollow (omega arith) e) (c .refused-layout5 .ensures) refl,
+      answer f octetsFollow (omega arith) (refused-end f (labelled l .0) (shown o) (counted k .0) (u .0) octetsFollow (omega arith) e)
+          (c .refused-layout5 .ensures) refl,
       promised f (below-fits w8 f (l .before .before .before .before .shared-slice-known .given)),
     )
 

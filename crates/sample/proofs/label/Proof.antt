@@ -20,7 +20,9 @@ returns : tie.Need-returns
 returns c =
     let f = now (c .before .before .before .before .before .args .file) in
     let o = c .before .before .before .before .before .args .file .ptr in
-    let d = found-refused f (c .before .before .before .check .result) (c .before .before .before .check .ensures .0) (omega (arith, c .before .if1 .taken)) in
+    let d =
+    found-refused f (c .before .before .before .check .result) (c .before .before .before .check .ensures .0)
+    (omega (arith, c .before .if1 .taken)) in
     (sym (ap (λ (x : Decoded). sampleOf x .label) d), ap (λ (x : Decoded). (o .0, labelPlace x + o .1)) (sym d))
 
 part-result-end-2 : tie.Need-part-result-end-2
@@ -40,8 +42,10 @@ returns-2 c =
     let y = c .before .before .before .before .before .check in
     let d = found-accepted f (y .result) (y .ensures .0) (c .before .before .before .if1 .left) in
     let n = ap (λ (x : Layout). x .label) (found-counts f (y .result) (y .ensures .0) (c .before .before .before .if1 .left)) in
-    let k : c .before .end-of .result - countWidth ≡ labelCount f = omega arith in
-    (ap (λ (m : ℕ). part (itemsAt 0) m f) k ∙ sym (ap (λ (x : Decoded). sampleOf x .label) d), ap (λ (x : Decoded). (o .0, labelPlace x + o .1)) (sym d))
+    let k : c .before .end-of .result - countWidth ≡ labelCount f = omega arith in (
+      ap (λ (m : ℕ). part (itemsAt 0) m f) k ∙ sym (ap (λ (x : Decoded). sampleOf x .label) d),
+      ap (λ (x : Decoded). (o .0, labelPlace x + o .1)) (sym d),
+    )
 
 pub label-spec : {M : Type 1} → statement M
 label-spec =

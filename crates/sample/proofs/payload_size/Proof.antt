@@ -20,14 +20,17 @@ cast-result : tie.Need-cast-result
 cast-result c =
     let a = c .before .before .before .args in
     let o = below-fits w8 (now (a .file)) (c .before .before .shared-slice-known .given) in
-    let b : c .number-at .result < 2 ^ 16 = rw (c .number-at .ensures) (part-fits sizeWidth (c .before .sizes-at .result + sizeWidth * a .j) (now (a .file)) o) in
+    let b : c .number-at .result < 2 ^ 16 =
+    rw (c .number-at .ensures) (part-fits sizeWidth (c .before .sizes-at .result + sizeWidth * a .j) (now (a .file)) o) in
     omega arith
 
 returns : tie.Need-returns
 unfolding sizeFound
 returns c =
     let a = c .before .before .before .args in
-    let e = c .number-at .ensures ∙ ap (λ (n : ℕ). beValue (part (n + sizeWidth * a .j) sizeWidth (now (a .file)))) (c .before .sizes-at .ensures) in
+    let e =
+    c .number-at .ensures
+    ∙ ap (λ (n : ℕ). beValue (part (n + sizeWidth * a .j) sizeWidth (now (a .file)))) (c .before .sizes-at .ensures) in
     (e, size-of-sample (now (a .file)) (a .layout) (a .j) e)
 
 pub payload-size-spec : {M : Type 1} → statement M

@@ -63,8 +63,10 @@ returns-2 c =
     let q = c .before .before .before .before .before in
     let a = start q .args in
     let f = now (a .file) in (
-      subst (λ (y : Layout). ReadFrom f (now (a .sizes)) (now (a .numbers)) (now (a .times)) y (now (a .sizes)) (now (a .numbers)) (now (a .times))) (sym (c .refused-layout .ensures))
-          (read-short f (now (a .sizes)) (now (a .numbers)) (now (a .times)) (q .check .result) (q .check .ensures .0) (c .before .before .before .if1 .left)
+      subst (λ (y : Layout). ReadFrom f (now (a .sizes)) (now (a .numbers)) (now (a .times)) y (now (a .sizes)) (now (a .numbers))
+          (now (a .times))) (sym (c .refused-layout .ensures))
+          (read-short f (now (a .sizes)) (now (a .numbers)) (now (a .times)) (q .check .result) (q .check .ensures .0)
+          (c .before .before .before .if1 .left)
           (sym (c .before .before .too-short .ensures) ∙ c .before .if2 .taken)),
       written-again f (below-fits w8 f (q .before .before .before .before .shared-slice-known .given)),
     )
@@ -96,8 +98,10 @@ returns-3 c =
           (s .fill-sizes .last .1 .1 .1 .0) (t .fill-arrivals .last .1 .1 .1 .0) (t .fill-arrivals .last .1 .1 .1 .1 .0)
           (sym (k .before .too-short .ensures) ∙ k .if2 .left)
           (s .fill-sizes .ensures ∙ ap (λ (p : ℕ). over (itemsIn sizeWidth beValue (y .sent) (drop p f)) (now (a .sizes))) m)
-          (t .fill-arrivals .ensures .0 ∙ ap (λ (p : ℕ). over (numbersOf (itemsIn arrivalWidth arrivalIn (y .arrivals) (drop p f))) (now (a .numbers))) n)
-          (t .fill-arrivals .ensures .1 ∙ ap (λ (p : ℕ). over (timesOf (itemsIn arrivalWidth arrivalIn (y .arrivals) (drop p f))) (now (a .times))) n),
+          (t .fill-arrivals .ensures .0
+          ∙ ap (λ (p : ℕ). over (numbersOf (itemsIn arrivalWidth arrivalIn (y .arrivals) (drop p f))) (now (a .numbers))) n)
+          (t .fill-arrivals .ensures .1
+          ∙ ap (λ (p : ℕ). over (timesOf (itemsIn arrivalWidth arrivalIn (y .arrivals) (drop p f))) (now (a .times))) n),
       written-again f (below-fits w8 f (q .before .before .before .before .shared-slice-known .given)),
     )
 

@@ -57,13 +57,15 @@ limited : (c : tie.Else1)
     (now (start (untested c) .args .times))
 limited c =
     let a = start (untested c) .args in
-    label-fit (now (a .label)) (now (a .sizes)) (now (a .numbers)) (now (a .times)) (sym (c .before .refusal-of-sample .ensures) ∙ c .if1 .left)
+    label-fit (now (a .label)) (now (a .sizes)) (now (a .numbers)) (now (a .times))
+    (sym (c .before .refusal-of-sample .ensures) ∙ c .if1 .left)
 
 returns : tie.Need-returns
 returns c =
     let k = c .before .before in
     let a = start k .args in (
-      write-refused (now (a .label)) (now (a .sizes)) (now (a .numbers)) (now (a .times)) (now (a .out)) (c .before .refusal-of-sample .result) (c .if1 .taken) (c .before .refusal-of-sample .ensures),
+      write-refused (now (a .label)) (now (a .sizes)) (now (a .numbers)) (now (a .times)) (now (a .out))
+          (c .before .refusal-of-sample .result) (c .if1 .taken) (c .before .refusal-of-sample .ensures),
       again k,
     )
 
@@ -84,7 +86,8 @@ begun c = start (untested (unrefused c))
 places : (c : tie.After-end-of3)
     → (c .before .before .end-of .result ≡ sentStart (length (now (begun c .args .label))))
     × (c .before .end-of2 .result ≡ arrivedStart (length (now (begun c .args .label))) (length (now (begun c .args .sizes))))
-    × (c .end-of3 .result ≡ lastEnd (length (now (begun c .args .label))) (length (now (begun c .args .sizes))) (length (now (begun c .args .numbers))))
+    × (c .end-of3 .result
+    ≡ lastEnd (length (now (begun c .args .label))) (length (now (begun c .args .sizes))) (length (now (begun c .args .numbers))))
 places c =
     (omega arith, omega arith, omega arith)
 
@@ -128,7 +131,8 @@ returns-3 c =
           (e .end-of3 .result) (p .2) (e .before .before .end-of .result) (e .before .end-of2 .result) (p .0) (p .1)
           (c .before .before .write-arrivals .last .1 .1 .0) (w .before .before .if2 .left)
           (c .before .before .write-arrivals .ensures
-          ∙ ap (splice (e .before .end-of2 .result) (section (length (now (a .numbers))) (itemOctets arrivalOctets (arrivalsFrom (now (a .numbers)) (now (a .times))))))
+          ∙ ap (splice (e .before .end-of2 .result) (section (length (now (a .numbers)))
+          (itemOctets arrivalOctets (arrivalsFrom (now (a .numbers)) (now (a .times))))))
           (s .write-sizes .ensures
           ∙ ap (splice (e .before .before .end-of .result) (section (length (now (a .sizes))) (itemOctets sizeOctets (now (a .sizes)))))
           (w .write-label .ensures))),

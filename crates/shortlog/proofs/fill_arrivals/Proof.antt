@@ -20,7 +20,8 @@ use Rattle.shortlog.proofs.fill_arrivals.Tie as tie
 
 -- numbers₀, times₀, greatest₀, at₀ and i₀ are the values where the loop begins, numbers, times, greatest, at and i those at its head
 abbrev Inv-loop : tie.InvT-loop
-Inv-loop range log numbers₀ times₀ greatest₀ at₀ i₀ numbers times greatest at i = Filled range log numbers₀ times₀ greatest at i numbers times
+Inv-loop range log numbers₀ times₀ greatest₀ at₀ i₀ numbers times greatest at i =
+    Filled range log numbers₀ times₀ greatest at i numbers times
 
 abbrev μ-loop : tie.MeasureT-loop
 μ-loop range log numbers₀ times₀ greatest₀ at₀ i₀ numbers times greatest at i = length log - at
@@ -42,9 +43,11 @@ read : (n : tie.After-number-found Inv-loop μ-loop) → let given = n .before .
 read n = sym (n .before .before .before .before .line-at .ensures) ∙ n .before .before .short .given .1
 
 -- it is one of the log's
-within : (n : tie.After-number-found Inv-loop μ-loop) → head n .loop .i < length (linesFound (start (head n) .args .range) (log-at (head n)))
+within : (n : tie.After-number-found Inv-loop μ-loop)
+    → head n .loop .i < length (linesFound (start (head n) .args .range) (log-at (head n)))
 within n =
-    within-lines _ _ _ _ (start (head n) .pre) _ _ _ _ _ (head n .loop .inv) _ _ _ (read n) (n .number-found .result) (n .number-found .ensures)
+    within-lines _ _ _ _ (start (head n) .pre) _ _ _ _ _ (head n .loop .inv) _ _ _ (read n) (n .number-found .result)
+    (n .number-found .ensures)
 
 loop-holds : tie.Need-loop-holds Inv-loop μ-loop
 loop-holds c = filled-none _ _ _ _ (c .before .before .before .pre)
@@ -81,13 +84,15 @@ slice-write-times c =
 
 next-greatest-requires : tie.Need-next-greatest-requires Inv-loop μ-loop
 next-greatest-requires c κs =
-    small-number _ _ _ _ (start (head c) .pre) _ _ _ _ _ (head c .loop .inv) _ _ _ (read c) (c .number-found .result) (c .number-found .ensures)
+    small-number _ _ _ _ (start (head c) .pre) _ _ _ _ _ (head c .loop .inv) _ _ _ (read c) (c .number-found .result)
+    (c .number-found .ensures)
 
 add-i : tie.Need-add-i Inv-loop μ-loop
 add-i c = omega (arith, within (c .before), start (head (c .before)) .pre .timesRoom)
 
 loop-less : tie.Need-loop-less Inv-loop μ-loop
-loop-less c = let n = c .before in omega (arith, line-read _ _ (read n) .onward, n .before .before .before .before .before .loop-test .taken)
+loop-less c =
+    let n = c .before in omega (arith, line-read _ _ (read n) .onward, n .before .before .before .before .before .loop-test .taken)
 
 loop-again : tie.Need-loop-again Inv-loop μ-loop
 loop-again c =
@@ -98,7 +103,8 @@ loop-again c =
     let w = within n in
     let h : l .loop .i < length (now (a .numbers)) = omega (arith, p .numbersRoom) in
     let k : l .loop .i < length (now (a .times)) = omega (arith, p .timesRoom) in
-    filled-next _ _ _ _ p _ _ _ _ _ (l .loop .inv) _ _ _ (read n) (n .number-found .result) (n .number-found .ensures) (c .next-greatest .result) (c .next-greatest .ensures)
+    filled-next _ _ _ _ p _ _ _ _ _ (l .loop .inv) _ _ _ (read n) (n .number-found .result) (n .number-found .ensures)
+    (c .next-greatest .result) (c .next-greatest .ensures)
     (λ xs e b d. fill-next xs (now (a .numbers)) (l .loop .i) 0 b h d e) (λ xs e b d. fill-next xs (now (a .times)) (l .loop .i) 0 b k d e)
 
 same-length-3 : tie.Need-same-length-3 Inv-loop μ-loop

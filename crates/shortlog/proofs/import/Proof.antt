@@ -33,7 +33,8 @@ lines j = linesFound (start j .args .range) (now (start j .args .log))
 
 -- the lists are long enough
 room : (f : tie.Else2)
-    → logListsShort (judged (accepted f) .judge-log .result .arrivals) (length (now (start (judged (accepted f)) .args .numbers))) (length (now (start (judged (accepted f)) .args .times)))
+    → logListsShort (judged (accepted f) .judge-log .result .arrivals) (length (now (start (judged (accepted f)) .args .numbers)))
+    (length (now (start (judged (accepted f)) .args .times)))
     ≡ false
 room f = sym (f .before .too-short .ensures) ∙ f .if2 .left
 
@@ -43,7 +44,8 @@ returns : tie.Need-returns
 returns c =
     let j = c .before .before .before in
     let a = start j .args in
-    import-refused (a .k) (lines j) (now (a .numbers)) (now (a .times)) (j .judge-log .result) (j .judge-log .ensures) (c .before .if1 .taken) (c .refused-import .ensures)
+    import-refused (a .k) (lines j) (now (a .numbers)) (now (a .times)) (j .judge-log .result) (j .judge-log .ensures)
+    (c .before .if1 .taken) (c .refused-import .ensures)
 
 returns-2 : tie.Need-returns-2
 returns-2 c =
@@ -51,7 +53,8 @@ returns-2 c =
     let j = judged n in
     let a = start j .args in
     let short = sym (c .before .before .too-short .ensures) ∙ c .before .if2 .taken in
-    import-short (a .k) (lines j) (now (a .numbers)) (now (a .times)) (j .judge-log .result) (j .judge-log .ensures) (n .if1 .left) short (c .refused-import2 .ensures)
+    import-short (a .k) (lines j) (now (a .numbers)) (now (a .times)) (j .judge-log .result) (j .judge-log .ensures) (n .if1 .left) short
+    (c .refused-import2 .ensures)
 
 fill-arrivals-requires : tie.Need-fill-arrivals-requires
 fill-arrivals-requires c κs =
@@ -59,7 +62,9 @@ fill-arrivals-requires c κs =
     let j = judged (accepted f) in
     let a = start j .args in
     let none = ap (λ (x : LogJudgement). x .refusal) (sym (j .judge-log .ensures)) ∙ accepted f .if1 .left in
-    let r = rooms (a .k) (lines j) (now (a .numbers)) (now (a .times)) (j .judge-log .result) (j .judge-log .ensures) (accepted f .if1 .left) (room f) in
+    let r =
+    rooms (a .k) (lines j) (now (a .numbers)) (now (a .times)) (j .judge-log .result) (j .judge-log .ensures) (accepted f .if1 .left)
+    (room f) in
     let d = accepted-decoded (a .k) (lines j) none in
     record { k = a .k; most = d .most; accepted = d .lines; numbersRoom = r .0; timesRoom = r .1 }
 
@@ -70,7 +75,8 @@ returns-3 c =
     let j = judged (accepted f) in
     let a = start j .args in
     let e = filled .fill-arrivals .ensures in
-    import-filled (a .k) (lines j) (now (a .numbers)) (now (a .times)) (j .judge-log .result) (j .judge-log .ensures) (accepted f .if1 .left) (room f) (e .0) (e .1)
+    import-filled (a .k) (lines j) (now (a .numbers)) (now (a .times)) (j .judge-log .result) (j .judge-log .ensures)
+    (accepted f .if1 .left) (room f) (e .0) (e .1)
 
 pub import-spec : {M : Type 1} → statement M
 import-spec =

@@ -49,7 +49,8 @@ found-at f = f .before .before
 
 -- the line that is read
 read : (r : tie.After-known-told Inv-loop μ-loop)
-    → lineIn (head r .loop .at) (drop (head r .loop .at) (log-at (head r))) ≡ Read (r .before .short .given .0 .0) (r .before .short .given .0 .1 .0) (r .before .short .given .0 .1 .1 .0)
+    → lineIn (head r .loop .at) (drop (head r .loop .at) (log-at (head r)))
+    ≡ Read (r .before .short .given .0 .0) (r .before .short .given .0 .1 .0) (r .before .short .given .0 .1 .1 .0)
 read r = sym (r .before .before .before .line-at .ensures) ∙ r .before .short .given .1
 
 -- it is the first of those left
@@ -84,15 +85,19 @@ enum-told c = search needs
 returns : tie.Need-returns Inv-loop μ-loop
 returns c =
     let l = c .before .before .before .before .before in
-    let u = line-unread (log-at l) (l .loop .at) (c .before .before .before .before .loop-test .taken) (sym (c .before .before .before .line-at .ensures) ∙ c .before .enum-told .given .1) in
-    c .refused-at .ensures ∙ judge-bad (start l .args .k) _ (l .loop .count) (l .loop .reference) _ (l .loop .inv .2) (found-bad _ _ (u .lead))
+    let u =
+    line-unread (log-at l) (l .loop .at) (c .before .before .before .before .loop-test .taken)
+    (sym (c .before .before .before .line-at .ensures) ∙ c .before .enum-told .given .1) in
+    c .refused-at .ensures
+    ∙ judge-bad (start l .args .k) _ (l .loop .count) (l .loop .reference) _ (l .loop .inv .2) (found-bad _ _ (u .lead))
 
 returns-2 : tie.Need-returns-2 Inv-loop μ-loop
 returns-2 c =
     let r = c .before .before in
     let l = head r in
     c .refused-at2 .ensures
-    ∙ judge-many (start l .args .k) _ (l .loop .count) (l .loop .reference) _ (l .loop .inv .2) _ _ (found-next _ _ _ _ (first r) refl) (c .before .if1 .taken)
+    ∙ judge-many (start l .args .k) _ (l .loop .count) (l .loop .reference) _ (l .loop .inv .2) _ _ (found-next _ _ _ _ (first r) refl)
+    (c .before .if1 .taken)
 
 returns-3 : tie.Need-returns-3 Inv-loop μ-loop
 returns-3 c =
@@ -100,7 +105,8 @@ returns-3 c =
     let n = c .before .before .before in
     let l = head (read-at n) in
     c .refused-at3 .ensures
-    ∙ judge-stop (start l .args .k) _ (l .loop .count) (l .loop .reference) _ (l .loop .inv .2) _ _ (found n) (n .before .if1 .left) (j .result) (j .ensures) (c .before .if2 .taken)
+    ∙ judge-stop (start l .args .k) _ (l .loop .count) (l .loop .reference) _ (l .loop .inv .2) _ _ (found n) (n .before .if1 .left)
+    (j .result) (j .ensures) (c .before .if2 .taken)
 
 next-greatest-requires : tie.Need-next-greatest-requires Inv-loop μ-loop
 next-greatest-requires c κs = small c
@@ -120,15 +126,18 @@ loop-again c =
     let g = c .before .next-greatest in (
       omega (arith, g .ensures, small f, l .loop .inv .0),
       omega (arith, n .before .if1 .left),
-      judge-next (a .k) _ (l .loop .count) (l .loop .reference) _ (l .loop .inv .2) _ _ (found n) (n .before .if1 .left) (j .result) (j .ensures) (f .if2 .left) (c .next-reference .ensures)
-          ∙ ap (λ (x : ℕ). judgeLines (a .k) (l .loop .count + 1) (c .next-reference .result) (foundFrom (a .range) x (decodedLines (drop (read-at n .before .short .given .0 .1 .1 .0) (log-at l)))))
+      judge-next (a .k) _ (l .loop .count) (l .loop .reference) _ (l .loop .inv .2) _ _ (found n) (n .before .if1 .left) (j .result)
+          (j .ensures) (f .if2 .left) (c .next-reference .ensures)
+          ∙ ap (λ (x : ℕ). judgeLines (a .k) (l .loop .count + 1) (c .next-reference .result)
+          (foundFrom (a .range) x (decodedLines (drop (read-at n .before .short .given .0 .1 .1 .0) (log-at l)))))
           (sym (g .ensures)),
     )
 
 returns-4 : tie.Need-returns-4 Inv-loop μ-loop
 returns-4 c =
     let l = c .before in
-    judge-done (start l .args .k) _ (l .loop .count) (l .loop .reference) _ (l .loop .inv .2) (found-none _ _ (none-left (log-at l) (l .loop .at) (c .loop-test .left)))
+    judge-done (start l .args .k) _ (l .loop .count) (l .loop .reference) _ (l .loop .inv .2)
+    (found-none _ _ (none-left (log-at l) (l .loop .at) (c .loop-test .left)))
 
 pub judge-lines-spec : {M : Type 1} → statement M
 judge-lines-spec =

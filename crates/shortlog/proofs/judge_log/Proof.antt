@@ -17,7 +17,8 @@ returns c = c .refused-at .ensures ∙ sym (simp (sym (c .before .before .outsid
 
 judge-lines-requires : tie.Need-judge-lines-requires
 judge-lines-requires c κs =
-    limit-none 1 sentMost _ sentOutside (omega arith) (ap (λ (b : Bool). refusalIf b sentOutside) (sym (c .before .outside .ensures) ∙ c .if1 .left)) .1
+    limit-none 1 sentMost _ sentOutside (omega arith) (ap (λ (b : Bool). refusalIf b sentOutside)
+    (sym (c .before .outside .ensures) ∙ c .if1 .left)) .1
 
 returns-2 : tie.Need-returns-2
 unfolding judgeDecoded

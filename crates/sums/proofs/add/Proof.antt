@@ -22,13 +22,20 @@ returns : tie.Need-returns Inv-loop μ-loop
 returns c = added-nowhere _ _ _ (λ j. c .before .slice-known .given j .fits) (c .if1 .taken)
 
 loop-holds : tie.Need-loop-holds Inv-loop μ-loop
-loop-holds c = (omega arith, omega (arith, rest-low (c .before .before .args .number)), partly-none _ _ _ (λ j. c .before .slice-known .given j .fits))
+loop-holds c =
+    (omega arith, omega (arith, rest-low (c .before .before .args .number)), partly-none _ _ _ (λ j. c .before .slice-known .given j .fits))
 
 sub-i : tie.Need-sub-i Inv-loop μ-loop
 sub-i c = omega (arith, c .rest .ensures, rest-low (c .before .before .before .before .loop .i))
 
 loop-less : tie.Need-loop-less Inv-loop μ-loop
-loop-less c = omega (arith, c .rest .ensures, rest-low (c .before .before .before .before .loop .i), c .before .before .before .before .loop .inv .2 .places)
+loop-less c =
+    omega (
+      arith,
+      c .rest .ensures,
+      rest-low (c .before .before .before .before .loop .i),
+      c .before .before .before .before .loop .inv .2 .places,
+    )
 
 loop-again : tie.Need-loop-again Inv-loop μ-loop
 loop-again c =
@@ -37,14 +44,16 @@ loop-again c =
     rw (c .rest .ensures) (
       omega (arith, rest-low i),
       omega (arith, rest-next i),
-      partly-next _ _ _ (λ j. c .before .before .before .before .before .before .slice-known .given j .fits) i _ _ (h .0) (h .1) (omega arith) (c .before .wrapping-add-u32 .ensures) (h .2),
+      partly-next _ _ _ (λ j. c .before .before .before .before .before .before .slice-known .given j .fits) i _ _ (h .0) (h .1)
+          (omega arith) (c .before .wrapping-add-u32 .ensures) (h .2),
     )
 
 same-length : tie.Need-same-length Inv-loop μ-loop
 same-length c = c .before .loop .inv .2 .places
 
 returns-2 : tie.Need-returns-2 Inv-loop μ-loop
-returns-2 c = partly-all _ _ _ (λ j. c .before .before .before .slice-known .given j .fits) _ _ (c .loop-test .left) (c .before .loop .inv .2)
+returns-2 c =
+    partly-all _ _ _ (λ j. c .before .before .before .slice-known .given j .fits) _ _ (c .loop-test .left) (c .before .loop .inv .2)
 
 pub add-spec : {M : Type 1} → statement M
 add-spec =

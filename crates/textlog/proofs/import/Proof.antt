@@ -38,7 +38,8 @@ accepted f = f .before .before
 
 -- the lists are long enough
 room : (f : tie.Else2)
-    → logListsShort (judged (accepted f) .judge-log .result .arrivals) (length (now (start (judged (accepted f)) .args .numbers))) (length (now (start (judged (accepted f)) .args .times)))
+    → logListsShort (judged (accepted f) .judge-log .result .arrivals) (length (now (start (judged (accepted f)) .args .numbers)))
+    (length (now (start (judged (accepted f)) .args .times)))
     ≡ false
 room f = sym (f .before .too-short .ensures) ∙ f .if2 .left
 
@@ -48,7 +49,8 @@ returns : tie.Need-returns
 returns c =
     let j = c .before .before .before in
     let a = start j .args in (
-      import-refused (a .k) (decodedLines (now (a .log))) (now (a .numbers)) (now (a .times)) (j .judge-log .result) (j .judge-log .ensures) (c .before .if1 .taken) (c .refused-import .ensures),
+      import-refused (a .k) (decodedLines (now (a .log))) (now (a .numbers)) (now (a .times)) (j .judge-log .result)
+          (j .judge-log .ensures) (c .before .if1 .taken) (c .refused-import .ensures),
       carried (a .k) (now (a .log)),
     )
 
@@ -58,7 +60,8 @@ returns-2 c =
     let j = judged n in
     let a = start j .args in
     let short = sym (c .before .before .too-short .ensures) ∙ c .before .if2 .taken in (
-      import-short (a .k) (decodedLines (now (a .log))) (now (a .numbers)) (now (a .times)) (j .judge-log .result) (j .judge-log .ensures) (n .if1 .left) short (c .refused-import2 .ensures),
+      import-short (a .k) (decodedLines (now (a .log))) (now (a .numbers)) (now (a .times)) (j .judge-log .result) (j .judge-log .ensures)
+          (n .if1 .left) short (c .refused-import2 .ensures),
       carried (a .k) (now (a .log)),
     )
 
@@ -80,7 +83,8 @@ returns-3 c =
     let j = judged (accepted f) in
     let a = start j .args in
     let e = filled .fill-arrivals .ensures in (
-      import-filled (a .k) (decodedLines (now (a .log))) (now (a .numbers)) (now (a .times)) (j .judge-log .result) (j .judge-log .ensures) (accepted f .if1 .left) (room f) (e .0) (e .1),
+      import-filled (a .k) (decodedLines (now (a .log))) (now (a .numbers)) (now (a .times)) (j .judge-log .result) (j .judge-log .ensures)
+          (accepted f .if1 .left) (room f) (e .0) (e .1),
       carried (a .k) (now (a .log)),
     )
 

@@ -38,7 +38,8 @@ head r = r .before .before .before .before .before
 
 -- the line that is read
 read : (r : tie.After-known-told Inv-loop μ-loop)
-    → lineIn (head r .loop .at) (drop (head r .loop .at) (log-at (head r))) ≡ Read (r .before .number .given .0 .0) (r .before .number .given .0 .1 .0) (r .before .number .given .0 .1 .1 .0)
+    → lineIn (head r .loop .at) (drop (head r .loop .at) (log-at (head r)))
+    ≡ Read (r .before .number .given .0 .0) (r .before .number .given .0 .1 .0) (r .before .number .given .0 .1 .1 .0)
 read r = sym (r .before .before .before .line-at .ensures) ∙ r .before .number .given .1
 
 -- it is the first of those left
@@ -60,7 +61,8 @@ returns c =
     let l = c .before .before .before .before .before in
     c .refused-at .ensures
     ∙ judge-bad (start l .args .k) _ (l .loop .count) (l .loop .reference) _ (l .loop .inv .1)
-    (line-unread (log-at l) (l .loop .at) (c .before .before .before .before .loop-test .taken) (sym (c .before .before .before .line-at .ensures) ∙ c .before .enum-told .given .1) .lead)
+    (line-unread (log-at l) (l .loop .at) (c .before .before .before .before .loop-test .taken)
+    (sym (c .before .before .before .line-at .ensures) ∙ c .before .enum-told .given .1) .lead)
 
 returns-2 : tie.Need-returns-2 Inv-loop μ-loop
 returns-2 c =
@@ -96,7 +98,8 @@ loop-again c =
 returns-4 : tie.Need-returns-4 Inv-loop μ-loop
 returns-4 c =
     let l = c .before in
-    judge-done (start l .args .k) _ (l .loop .count) (l .loop .reference) _ (l .loop .inv .1) (none-left (log-at l) (l .loop .at) (c .loop-test .left))
+    judge-done (start l .args .k) _ (l .loop .count) (l .loop .reference) _ (l .loop .inv .1)
+    (none-left (log-at l) (l .loop .at) (c .loop-test .left))
 
 pub judge-lines-spec : {M : Type 1} → statement M
 judge-lines-spec =

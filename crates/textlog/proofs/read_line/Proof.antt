@@ -21,7 +21,8 @@ line-malformed : (l : List ℕ) → lineIn 0 l ≡ Malformed → refused ≡ log
 unfolding decodeLine
 line-malformed l e = rw e refl
 
-line-followed : (l : List ℕ) (number time end : ℕ) → lineIn 0 l ≡ Read number time end → (end ≡ length l → ⊥) → refused ≡ logLine (decodeLine l)
+line-followed : (l : List ℕ) (number time end : ℕ) → lineIn 0 l ≡ Read number time end → (end ≡ length l → ⊥)
+    → refused ≡ logLine (decodeLine l)
 unfolding decodeLine
 line-followed l number time end e h = rw (e, ne-eqb end (length l) h) refl
 
@@ -34,7 +35,8 @@ enum-told : tie.Need-enum-told
 enum-told c = search needs
 
 returns : tie.Need-returns
-returns c = c .malformed-line .ensures ∙ line-malformed _ (sym (c .before .before .before .line-at .ensures) ∙ c .before .enum-told .given .1)
+returns c =
+    c .malformed-line .ensures ∙ line-malformed _ (sym (c .before .before .before .line-at .ensures) ∙ c .before .enum-told .given .1)
 
 returns-2 : tie.Need-returns-2
 returns-2 c =

@@ -28,7 +28,8 @@ entry c = c .before .before .before
 
 -- the theorems that the contract carries
 carried : (c : tie.After-slice-known)
-    → LogReadAgain (c .before .before .before .args .k) (now (c .before .before .before .args .numbers)) (now (c .before .before .before .args .times))
+    → LogReadAgain (c .before .before .before .args .k) (now (c .before .before .before .args .numbers))
+    (now (c .before .before .before .args .times))
     × LinesWrittenAsGiven
 carried c =
     let a = c .before .before .before .args in

@@ -11,7 +11,8 @@ pub put-series-spec : {M : Type 1} → statement M
 put-series-spec =
     tie.close
     (tie.spec
-    (λ out₀ _ _ _ count _ _ _ _ _ out place _ counter. (counter ≤ count) × (place ≤ 4294967295 + 65535 * counter) × (length out ≡ length out₀))
+    (λ out₀ _ _ _ count _ _ _ _ _ out place _ counter. (counter ≤ count) × (place ≤ 4294967295 + 65535 * counter)
+    × (length out ≡ length out₀))
     (λ _ _ _ _ count _ _ _ _ _ _ _ _ counter. count - counter)
     (search needs) (search needs) (search needs) (search needs) (search needs) (search needs) (search needs)
     (search needs) (search needs))

@@ -17,7 +17,8 @@ pub count-spec : {M : Type 1} → statement M
 count-spec =
     tie.close
     (tie.spec
-    (λ text separator _ _ n at. (n ≤ at) × (at ≤ length text) × (length (cutAt separator text) ≡ n + length (cutAt separator (drop at text))))
+    (λ text separator _ _ n at. (n ≤ at) × (at ≤ length text)
+    × (length (cutAt separator text) ≡ n + length (cutAt separator (drop at text))))
     (λ text _ _ _ _ at. length text - at)
     (λ c. (search needs, search needs, sym (zero-add _)))
     (search needs) (search needs)

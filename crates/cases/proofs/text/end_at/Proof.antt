@@ -18,7 +18,13 @@ end-at-spec =
     (λ text _ _ _ end. length text - end)
     (λ c. (counted-none _ _ _, search needs))
     (search needs)
-    (λ c. (no-separator-here _ (c .before .before .before .loop .inv .0) (c .before .before .loop-test .taken) (eq-eqb _ _ (c .if1 .taken)), search needs))
+    (λ c. (
+      no-separator-here _ (c .before .before .before .loop .inv .0) (c .before .before .loop-test .taken) (eq-eqb _ _ (c .if1 .taken)),
+      search needs,
+    ))
     (search needs) (search needs)
-    (λ c. (no-separator-more _ (c .before .before .before .loop .inv .0) (c .before .before .loop-test .taken) (ne-eqb _ _ (c .if1 .left)), search needs))
+    (λ c. (
+      no-separator-more _ (c .before .before .before .loop .inv .0) (c .before .before .loop-test .taken) (ne-eqb _ _ (c .if1 .left)),
+      search needs,
+    ))
     (λ c. (no-separator-past _ (c .before .loop .inv .0) (c .loop-test .left), search needs)))

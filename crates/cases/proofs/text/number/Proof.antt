@@ -16,4 +16,5 @@ number-spec =
     (search needs) (search needs)
     (λ c.
     let a = c .before .before .before .args in
-    ap (λ (x : Number). x .value) (c .number-at .ensures .0) ∙ ap partNumber (c .before .part .ensures) ∙ number-found (now (a .text)) (a .n)))
+    ap (λ (x : Number). x .value) (c .number-at .ensures .0) ∙ ap partNumber (c .before .part .ensures)
+    ∙ number-found (now (a .text)) (a .n)))

@@ -23,7 +23,10 @@ loop-holds : tie.Need-loop-holds Inv-loop μ-loop
 loop-holds c = passed-none _ _
 
 returns : tie.Need-returns Inv-loop μ-loop
-returns c = (passed-all _ _ _ _ (c .before .before .before .before .loop .inv) (sym (c .before .is-digit .ensures) ∙ not-true _ (c .if1 .taken)), back)
+returns c = (
+  passed-all _ _ _ _ (c .before .before .before .before .loop .inv) (sym (c .before .is-digit .ensures) ∙ not-true _ (c .if1 .taken)),
+  back,
+)
 
 with-digit-requires : tie.Need-with-digit-requires Inv-loop μ-loop
 with-digit-requires c κs = digit-bounds _ (sym (c .before .is-digit .ensures) ∙ not-false _ (c .if1 .left))

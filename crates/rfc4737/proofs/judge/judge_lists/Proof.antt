@@ -28,7 +28,9 @@ abbrev μ-loop : tie.MeasureT-loop
     length numbers - i
 
 -- in a turn there is an arrival at i
-turn : (c : tie.In-loop Inv-loop μ-loop) → c .before .loop .i < length (arrivalsFrom (now (c .before .before .before .before .args .numbers)) (now (c .before .before .before .before .args .times)))
+turn : (c : tie.In-loop Inv-loop μ-loop)
+    → c .before .loop .i < length (arrivalsFrom (now (c .before .before .before .before .args .numbers))
+    (now (c .before .before .before .before .args .times)))
 turn c =
     let a = c .before .before .before .before .args in
     let e = arrivals-length (now (a .numbers)) (now (a .times)) (search needs) in
@@ -60,7 +62,8 @@ loop-again c =
       search needs,
       judged-next (a .k) (arrivalsFrom (now (a .numbers)) (now (a .times))) (l .loop .reference) (l .loop .i) none
           (record { number = getD (now (a .numbers)) (l .loop .i) 0; time = getD (now (a .times)) (l .loop .i) 0 })
-          (turn t) (arrivals-getD (now (a .numbers)) (now (a .times)) (l .loop .i) none (search needs) (t .loop-test .taken)) (l .loop .inv .1)
+          (turn t) (arrivals-getD (now (a .numbers)) (now (a .times)) (l .loop .i) none (search needs) (t .loop-test .taken))
+          (l .loop .inv .1)
           (c .before .before .judge-next .result) (c .before .before .judge-next .ensures) (c .if1 .left),
     )
 
@@ -68,7 +71,8 @@ returns-2 : tie.Need-returns-2 Inv-loop μ-loop
 returns-2 c =
     let a = c .before .before .before .before .args in
     let e = arrivals-length (now (a .numbers)) (now (a .times)) (search needs) in
-    judge-done (a .k) (arrivalsFrom (now (a .numbers)) (now (a .times))) (c .before .loop .reference) (c .before .loop .i) (omega arith) (c .before .loop .inv .1)
+    judge-done (a .k) (arrivalsFrom (now (a .numbers)) (now (a .times))) (c .before .loop .reference) (c .before .loop .i) (omega arith)
+    (c .before .loop .inv .1)
 
 pub judge-lists-spec : {M : Type 1} → statement M
 judge-lists-spec =

@@ -33,7 +33,8 @@ accepted k reference number time h e = simp (e, le-ltb backMost (reference - tim
 returns : tie.Need-returns
 returns c =
     let a = c .before .before .before .args in
-    accepted (a .k) (a .reference) (a .number) (a .time) (c .before .before .if1 .taken) (sym (c .before .outside .ensures) ∙ not-true _ (c .if2 .taken))
+    accepted (a .k) (a .reference) (a .number) (a .time) (c .before .before .if1 .taken)
+    (sym (c .before .outside .ensures) ∙ not-true _ (c .if2 .taken))
 
 returns-2 : tie.Need-returns-2
 returns-2 c = simp (c .before .judge-one .ensures, c .next-reference .ensures)

@@ -14,12 +14,18 @@ returns c =
 returns-2 : tie.Need-returns-2
 unfolding judgeOne
 returns-2 c =
-    simp (sym (c .before .before .before .outside .ensures) ∙ c .before .if1 .left, sym (c .before .before .too-early .ensures) ∙ c .if2 .taken)
+    simp (
+      sym (c .before .before .before .outside .ensures) ∙ c .before .if1 .left,
+      sym (c .before .before .too-early .ensures) ∙ c .if2 .taken,
+    )
 
 returns-3 : tie.Need-returns-3
 unfolding judgeOne
 returns-3 c =
-    simp (sym (c .before .before .before .outside .ensures) ∙ c .before .if1 .left, sym (c .before .before .too-early .ensures) ∙ c .if2 .left)
+    simp (
+      sym (c .before .before .before .outside .ensures) ∙ c .before .if1 .left,
+      sym (c .before .before .too-early .ensures) ∙ c .if2 .left,
+    )
 
 pub judge-one-spec : {M : Type 1} → statement M
 judge-one-spec =

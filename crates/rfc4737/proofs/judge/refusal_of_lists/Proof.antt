@@ -15,17 +15,29 @@ returns c = simp (sym (c .before .outside .ensures) ∙ c .if1 .taken)
 returns-2 : tie.Need-returns-2
 unfolding refusalOfLists
 returns-2 c =
-    simp (sym (c .before .before .before .outside .ensures) ∙ c .before .before .if1 .left, sym (c .before .outside2 .ensures) ∙ c .if2 .taken)
+    simp (
+      sym (c .before .before .before .outside .ensures) ∙ c .before .before .if1 .left,
+      sym (c .before .outside2 .ensures) ∙ c .if2 .taken,
+    )
 
 returns-3 : tie.Need-returns-3
 unfolding refusalOfLists
 returns-3 c =
-    simp (sym (c .before .before .before .before .outside .ensures) ∙ c .before .before .before .if1 .left, sym (c .before .before .outside2 .ensures) ∙ c .before .if2 .left, ne-eqb _ _ (c .if3 .taken))
+    simp (
+      sym (c .before .before .before .before .outside .ensures) ∙ c .before .before .before .if1 .left,
+      sym (c .before .before .outside2 .ensures) ∙ c .before .if2 .left,
+      ne-eqb _ _ (c .if3 .taken),
+    )
 
 returns-4 : tie.Need-returns-4
 unfolding refusalOfLists
 returns-4 c =
-    simp (sym (c .before .before .before .before .before .outside .ensures) ∙ c .before .before .before .before .if1 .left, sym (c .before .before .before .outside2 .ensures) ∙ c .before .before .if2 .left, eq-eqb _ _ (c .before .if3 .left), sym (c .judge-lists .ensures))
+    simp (
+      sym (c .before .before .before .before .before .outside .ensures) ∙ c .before .before .before .before .if1 .left,
+      sym (c .before .before .before .outside2 .ensures) ∙ c .before .before .if2 .left,
+      eq-eqb _ _ (c .before .if3 .left),
+      sym (c .judge-lists .ensures),
+    )
     (sym (first-one (c .judge-lists .result)))
 
 pub refusal-of-lists-spec : {M : Type 1} → statement M

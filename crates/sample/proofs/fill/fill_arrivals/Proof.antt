@@ -26,25 +26,29 @@ time a = a .time
 -- numbers₀, times₀ and i₀ are the values where the loop begins, numbers, times and i those at its head
 abbrev Inv-loop : tie.InvT-loop
 Inv-loop file at count numbers₀ times₀ i₀ numbers times i =
-    (i ≤ count) × (numbers ≡ take i (valuesFrom number count at file) ++ drop i numbers₀) × (times ≡ take i (valuesFrom time count at file) ++ drop i times₀)
+    (i ≤ count) × (numbers ≡ take i (valuesFrom number count at file) ++ drop i numbers₀)
+    × (times ≡ take i (valuesFrom time count at file) ++ drop i times₀)
 
 abbrev μ-loop : tie.MeasureT-loop
 μ-loop file at count numbers₀ times₀ i₀ numbers times i =
     count - i
 
 -- the list of numbers keeps its length
-kept-numbers : (c : tie.At-loop Inv-loop μ-loop) → length (c .loop .numbers) ≡ length (now (c .before .before .before .before .args .numbers))
+kept-numbers : (c : tie.At-loop Inv-loop μ-loop)
+    → length (c .loop .numbers) ≡ length (now (c .before .before .before .before .args .numbers))
 kept-numbers c =
     let a = c .before .before .before .before .args in
     let e = values-many number (a .count) (a .at) (now (a .file)) in
-    ap length (c .loop .inv .1) ∙ fill-length (valuesFrom number (a .count) (a .at) (now (a .file))) (now (a .numbers)) (c .loop .i) (omega arith) (omega arith)
+    ap length (c .loop .inv .1)
+    ∙ fill-length (valuesFrom number (a .count) (a .at) (now (a .file))) (now (a .numbers)) (c .loop .i) (omega arith) (omega arith)
 
 -- the list of times keeps its length
 kept-times : (c : tie.At-loop Inv-loop μ-loop) → length (c .loop .times) ≡ length (now (c .before .before .before .before .args .times))
 kept-times c =
     let a = c .before .before .before .before .args in
     let e = values-many time (a .count) (a .at) (now (a .file)) in
-    ap length (c .loop .inv .2) ∙ fill-length (valuesFrom time (a .count) (a .at) (now (a .file))) (now (a .times)) (c .loop .i) (omega arith) (omega arith)
+    ap length (c .loop .inv .2)
+    ∙ fill-length (valuesFrom time (a .count) (a .at) (now (a .file))) (now (a .times)) (c .loop .i) (omega arith) (omega arith)
 
 loop-holds : tie.Need-loop-holds Inv-loop μ-loop
 loop-holds c =
@@ -69,9 +73,11 @@ loop-again c =
     let n = values-many time (a .count) (a .at) f in (
       search needs,
       fill-next (valuesFrom number (a .count) (a .at) f) (now (a .numbers)) (l .loop .i) 0 (omega arith) (omega arith) (l .loop .inv .1)
-          (value-found number (a .count) (a .at) f (l .loop .i) (c .before .before .loop-test .taken) (arrival-taken (a .at + arrivalWidth * l .loop .i) f (c .arrival-of .ensures))),
+          (value-found number (a .count) (a .at) f (l .loop .i) (c .before .before .loop-test .taken)
+          (arrival-taken (a .at + arrivalWidth * l .loop .i) f (c .arrival-of .ensures))),
       fill-next (valuesFrom time (a .count) (a .at) f) (now (a .times)) (l .loop .i) 0 (omega arith) (omega arith) (l .loop .inv .2)
-          (value-found time (a .count) (a .at) f (l .loop .i) (c .before .before .loop-test .taken) (arrival-taken (a .at + arrivalWidth * l .loop .i) f (c .arrival-of .ensures))),
+          (value-found time (a .count) (a .at) f (l .loop .i) (c .before .before .loop-test .taken)
+          (arrival-taken (a .at + arrivalWidth * l .loop .i) f (c .arrival-of .ensures))),
     )
 
 same-length : tie.Need-same-length Inv-loop μ-loop

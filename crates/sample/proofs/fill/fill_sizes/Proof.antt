@@ -52,7 +52,8 @@ kept : (c : tie.At-loop Inv-loop μ-loop) → length (c .loop .sizes) ≡ length
 kept c =
     let a = c .before .before .before .args in
     let e = items-length sizeWidth beValue (a .count) (drop (a .at) (now (a .file))) in
-    ap length (c .loop .inv .1) ∙ long (sizesFrom (now (a .file)) (a .at) (a .count)) (now (a .sizes)) (c .loop .i) (omega arith) (omega arith)
+    ap length (c .loop .inv .1)
+    ∙ long (sizesFrom (now (a .file)) (a .at) (a .count)) (now (a .sizes)) (c .loop .i) (omega arith) (omega arith)
 
 loop-holds : tie.Need-loop-holds Inv-loop μ-loop
 loop-holds c =
@@ -68,7 +69,9 @@ cast-sizes : tie.Need-cast-sizes Inv-loop μ-loop
 cast-sizes c =
     let a = c .before .before .before .before .before .before .args in
     let o = below-fits w8 (now (a .file)) (c .before .before .before .before .before .shared-slice-known .given) in
-    let b : c .number-at .result < 2 ^ 16 = taken-fits (a .at + sizeWidth * (c .before .before .before .loop .i - 1)) sizeWidth 0 sizeWidth (now (a .file)) o (c .number-at .ensures) in
+    let b : c .number-at .result < 2 ^ 16 =
+    taken-fits (a .at + sizeWidth * (c .before .before .before .loop .i - 1)) sizeWidth 0 sizeWidth (now (a .file)) o
+    (c .number-at .ensures) in
     omega arith
 
 slice-write-sizes : tie.Need-slice-write-sizes Inv-loop μ-loop
@@ -84,7 +87,8 @@ loop-again c =
     let j = l .loop .i - 1 in
     let p : j < a .count = omega arith in (
       search needs,
-      down (sizesFrom (now (a .file)) (a .at) (a .count)) (now (a .sizes)) (l .loop .i) j (omega arith) (omega arith) (omega arith) (l .loop .inv .1)
+      down (sizesFrom (now (a .file)) (a .at) (a .count)) (now (a .sizes)) (l .loop .i) j (omega arith) (omega arith) (omega arith)
+          (l .loop .inv .1)
           (size-taken (a .count) (a .at) (now (a .file)) j (c .number-at .result) p (c .number-at .ensures)),
     )
 

@@ -33,7 +33,9 @@ abbrev μ-loop : tie.MeasureT-loop
     count - i
 
 -- in a turn there is an arrival at i
-turn : (c : tie.In-loop Inv-loop μ-loop) → c .before .loop .i < length (standing (now (c .before .before .before .args .file)) (c .before .before .before .args .at) (c .before .before .before .args .count))
+turn : (c : tie.In-loop Inv-loop μ-loop)
+    → c .before .loop .i < length (standing (now (c .before .before .before .args .file)) (c .before .before .before .args .at)
+    (c .before .before .before .args .count))
 turn c =
     let a = c .before .before .before .args in
     let e = items-length arrivalWidth arrivalIn (a .count) (drop (a .at) (now (a .file))) in
@@ -42,10 +44,13 @@ turn c =
 -- it is the one that was read
 arrival-there : (c : tie.After-arrival-of Inv-loop μ-loop)
     → c .arrival-of .result
-    ≡ getD (standing (now (c .before .before .before .before .before .args .file)) (c .before .before .before .before .before .args .at) (c .before .before .before .before .before .args .count)) (c .before .before .before .loop .i) noArrival
+    ≡ getD (standing (now (c .before .before .before .before .before .args .file)) (c .before .before .before .before .before .args .at)
+    (c .before .before .before .before .before .args .count)) (c .before .before .before .loop .i) noArrival
 arrival-there c =
     let a = c .before .before .before .before .before .args in
-    arrival-taken (a .at + arrivalWidth * c .before .before .before .loop .i) (now (a .file)) (c .arrival-of .ensures) ∙ sym (items-stand arrivalWidth arrivalIn (a .count) (a .at) (now (a .file)) (c .before .before .before .loop .i) noArrival (c .before .before .loop-test .taken))
+    arrival-taken (a .at + arrivalWidth * c .before .before .before .loop .i) (now (a .file)) (c .arrival-of .ensures)
+    ∙ sym (items-stand arrivalWidth arrivalIn (a .count) (a .at) (now (a .file)) (c .before .before .before .loop .i) noArrival
+    (c .before .before .loop-test .taken))
 
 loop-holds : tie.Need-loop-holds Inv-loop μ-loop
 loop-holds c =
@@ -77,7 +82,8 @@ returns-2 : tie.Need-returns-2 Inv-loop μ-loop
 returns-2 c =
     let a = c .before .before .before .args in
     let e = items-length arrivalWidth arrivalIn (a .count) (drop (a .at) (now (a .file))) in
-    judge-done (a .sent) (standing (now (a .file)) (a .at) (a .count)) (c .before .loop .reference) (c .before .loop .i) (omega arith) (c .before .loop .inv .1)
+    judge-done (a .sent) (standing (now (a .file)) (a .at) (a .count)) (c .before .loop .reference) (c .before .loop .i) (omega arith)
+    (c .before .loop .inv .1)
 
 pub judge-file-spec : {M : Type 1} → statement M
 judge-file-spec =

@@ -70,8 +70,10 @@ returns-3 c =
     let k = counted r in
     let e = c .before .before .before .end-of .ensures ∙ ap (endOf (a .at) (a .width)) (k .1) in
     section-short (a .at) (a .width) (a .least) (a .most) (a .refusal) (now (a .file)) (k .0)
-    (sym (ap (outside (a .least) (a .most)) (k .1)) ∙ sym (c .before .before .before .before .before .outside .ensures) ∙ c .before .before .before .before .if1 .left)
-    (sym (ap (ltb (length (now (a .file)))) e) ∙ read-ended _ _ (now (a .file)) (sym (c .before .before .place-in .ensures) ∙ c .enum-told2 .given .1))
+    (sym (ap (outside (a .least) (a .most)) (k .1)) ∙ sym (c .before .before .before .before .before .outside .ensures)
+    ∙ c .before .before .before .before .if1 .left)
+    (sym (ap (ltb (length (now (a .file)))) e)
+    ∙ read-ended _ _ (now (a .file)) (sym (c .before .before .place-in .ensures) ∙ c .enum-told2 .given .1))
 
 returns-4 : tie.Need-returns-4
 returns-4 c =
@@ -82,7 +84,8 @@ returns-4 c =
     let p = read-valued _ _ (now (a .file)) (sym (c .before .before .before .place-in .ensures) ∙ c .before .end .given .1) in
     ap₂ (λ (m n : ℕ). Whole m n) (k .1) (p .1 ∙ e)
     ∙ section-whole (a .at) (a .width) (a .least) (a .most) (a .refusal) (now (a .file)) (k .0)
-    (sym (ap (outside (a .least) (a .most)) (k .1)) ∙ sym (c .before .before .before .before .before .before .outside .ensures) ∙ c .before .before .before .before .before .if1 .left)
+    (sym (ap (outside (a .least) (a .most)) (k .1)) ∙ sym (c .before .before .before .before .before .before .outside .ensures)
+    ∙ c .before .before .before .before .before .if1 .left)
     (sym (ap (ltb (length (now (a .file)))) e) ∙ p .0)
 
 pub section-at-spec : {M : Type 1} → statement M

@@ -110,7 +110,8 @@ returns c =
     let n = octets-many arrivalOctets arrivalWidth arrival-long (written p) in
     section-done (a .at) (length (now (a .numbers))) (itemOctets arrivalOctets (written p)) (now (a .out)) (omega arith)
     (p .put-number .ensures .0)
-    (write-done arrivalOctets arrivalWidth arrival-long (written p) (itemsAt (a .at)) (p .put-number .last .0) (room l) (l .loop .i) (l .loop .inv .1) (omega arith))
+    (write-done arrivalOctets arrivalWidth arrival-long (written p) (itemsAt (a .at)) (p .put-number .last .0) (room l) (l .loop .i)
+    (l .loop .inv .1) (omega arith))
 
 pub write-arrivals-spec : {M : Type 1} → statement M
 write-arrivals-spec =

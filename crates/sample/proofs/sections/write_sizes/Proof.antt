@@ -25,7 +25,9 @@ abbrev μ-loop : tie.MeasureT-loop
 
 -- there is room for all sizes
 room : (c : tie.At-loop Inv-loop μ-loop)
-    → itemsAt (c .before .before .before .before .before .before .before .args .at) + sizeWidth * length (now (c .before .before .before .before .before .before .before .args .sizes)) ≤ length (c .before .before .before .put-number .last .0)
+    → itemsAt (c .before .before .before .before .before .before .before .args .at) + sizeWidth * length
+    (now (c .before .before .before .before .before .before .before .args .sizes))
+    ≤ length (c .before .before .before .put-number .last .0)
 room c =
     let k = c .before .before .before .put-number .kept .0 in
     omega (arith, c .before .before .before .before .before .before .before .pre)
@@ -34,13 +36,16 @@ room c =
 kept : (c : tie.At-loop Inv-loop μ-loop) → length (c .loop .out) ≡ length (c .before .before .before .put-number .last .0)
 kept c =
     let a = c .before .before .before .before .before .before .before .args in
-    write-length sizeOctets sizeWidth size-long (now (a .sizes)) (itemsAt (a .at)) (c .before .before .before .put-number .last .0) (room c) (c .loop .i) (c .loop .inv .1) (c .loop .inv .0)
+    write-length sizeOctets sizeWidth size-long (now (a .sizes)) (itemsAt (a .at)) (c .before .before .before .put-number .last .0)
+    (room c) (c .loop .i) (c .loop .inv .1) (c .loop .inv .0)
 
 loop-holds : tie.Need-loop-holds Inv-loop μ-loop
 loop-holds c =
     let a = c .before .before .before .before .before .before .args in
-    let k = c .before .before .put-number .kept .0 in
-    (search needs, write-start sizeOctets sizeWidth size-long (now (a .sizes)) (itemsAt (a .at)) (c .before .before .put-number .last .0) (omega arith))
+    let k = c .before .before .put-number .kept .0 in (
+      search needs,
+      write-start sizeOctets sizeWidth size-long (now (a .sizes)) (itemsAt (a .at)) (c .before .before .put-number .last .0) (omega arith),
+    )
 
 part-size-end : tie.Need-part-size-end Inv-loop μ-loop
 part-size-end c =
@@ -57,7 +62,8 @@ loop-again c =
     let l = c .before .before .before .before .before .before in
     let a = l .before .before .before .before .before .before .before .args in (
       search needs,
-      write-next sizeOctets sizeWidth size-long (now (a .sizes)) (itemsAt (a .at)) (l .before .before .before .put-number .last .0) (room l) (l .loop .i) (l .loop .inv .1) 0
+      write-next sizeOctets sizeWidth size-long (now (a .sizes)) (itemsAt (a .at)) (l .before .before .before .put-number .last .0)
+          (room l) (l .loop .i) (l .loop .inv .1) 0
           (c .before .before .before .before .before .loop-test .taken) (c .before .before .put-number2 .ensures .0),
     )
 
@@ -70,8 +76,10 @@ returns c =
     let l = c .before in
     let a = l .before .before .before .before .before .before .before .args in
     let n = octets-many sizeOctets sizeWidth size-long (now (a .sizes)) in
-    section-done (a .at) (length (now (a .sizes))) (itemOctets sizeOctets (now (a .sizes))) (now (a .out)) (omega arith) (l .before .before .before .put-number .ensures .0)
-    (write-done sizeOctets sizeWidth size-long (now (a .sizes)) (itemsAt (a .at)) (l .before .before .before .put-number .last .0) (room l) (l .loop .i) (l .loop .inv .1) (c .loop-test .left))
+    section-done (a .at) (length (now (a .sizes))) (itemOctets sizeOctets (now (a .sizes))) (now (a .out)) (omega arith)
+    (l .before .before .before .put-number .ensures .0)
+    (write-done sizeOctets sizeWidth size-long (now (a .sizes)) (itemsAt (a .at)) (l .before .before .before .put-number .last .0) (room l)
+    (l .loop .i) (l .loop .inv .1) (c .loop-test .left))
 
 pub write-sizes-spec : {M : Type 1} → statement M
 write-sizes-spec =

@@ -48,14 +48,17 @@ thousandths-requires c κs =
     let some = c .before .before .before .if1 .left in
     let few = c .before .before .if2 .left in
     let s =
-    small (now (a .log)) (a .at) (r .result) (r .ensures .0) (a .number) (a .whole) some few (sym (c .before .octet-at .ensures) ∙ c .if3 .left) in
+    small (now (a .log)) (a .at) (r .result) (r .ensures .0) (a .number) (a .whole) some few
+    (sym (c .before .octet-at .ensures) ∙ c .if3 .left) in
     omega (arith, some, few)
 
 add-in-range : tie.Need-add-in-range
 add-in-range c =
     let a = entry (digits-at (c .before .before)) .args in
     let r = digits-at (c .before .before) .number-at in
-    let b = within-log (now (a .log)) (a .at) (r .result) (r .ensures .0) lineFeed (sym (c .before .before .octet-at .ensures) ∙ c .before .if3 .left) (omega arith) in
+    let b =
+    within-log (now (a .log)) (a .at) (r .result) (r .ensures .0) lineFeed
+    (sym (c .before .before .octet-at .ensures) ∙ c .before .if3 .left) (omega arith) in
     omega arith
 
 returns-4 : tie.Need-returns-4

@@ -32,7 +32,9 @@ add-time-at : tie.Need-add-time-at
 add-time-at c =
     let a = c .before .before .before .before .before .before .args in
     let r = c .before .before .before .before .number-at in
-    let b = within-log (now (a .log)) (a .at) (r .result) (r .ensures .0) semicolon (sym (c .before .octet-at .ensures) ∙ c .if3 .left) (omega arith) in
+    let b =
+    within-log (now (a .log)) (a .at) (r .result) (r .ensures .0) semicolon (sym (c .before .octet-at .ensures) ∙ c .if3 .left)
+    (omega arith) in
     omega arith
 
 returns-4 : tie.Need-returns-4

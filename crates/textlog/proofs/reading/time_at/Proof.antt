@@ -28,7 +28,9 @@ add-in-range : tie.Need-add-in-range
 add-in-range c =
     let a = entry (digits-at (c .before)) .args in
     let r = c .before .before .before .number-at in
-    let b = within-log (now (a .log)) (a .at) (r .result) (r .ensures .0) lineFeed (sym (c .before .octet-at .ensures) ∙ c .if2 .taken) (omega arith) in
+    let b =
+    within-log (now (a .log)) (a .at) (r .result) (r .ensures .0) lineFeed (sym (c .before .octet-at .ensures) ∙ c .if2 .taken)
+    (omega arith) in
     omega arith
 
 returns-2 : tie.Need-returns-2
@@ -51,7 +53,8 @@ add-fraction-at c =
     let a = entry (digits-at (c .before .before .before)) .args in
     let r = digits-at (c .before .before .before) .number-at in
     let o = c .before .before .before .octet-at .ensures in
-    let b = mark-present (now (a .log)) (r .result .end) (rw (← o) (sym (c .before .is-decimal-mark .ensures) ∙ not-false _ (c .if3 .left))) in
+    let b =
+    mark-present (now (a .log)) (r .result .end) (rw (← o) (sym (c .before .is-decimal-mark .ensures) ∙ not-false _ (c .if3 .left))) in
     omega arith
 
 returns-4 : tie.Need-returns-4

@@ -24,8 +24,10 @@ add-result-2 c = omega (arith, few c)
 
 returns : tie.Need-returns
 returns c =
-    let a = c .before .before .args in
-    (omega (arith, line-long (record { number = a .number; time = a .time }), c .before .count .ensures, c .count2 .ensures), omega (arith, few c))
+    let a = c .before .before .args in (
+      omega (arith, line-long (record { number = a .number; time = a .time }), c .before .count .ensures, c .count2 .ensures),
+      omega (arith, few c),
+    )
 
 pub line-length-spec : {M : Type 1} → statement M
 line-length-spec = tie.close (tie.spec (λ c κs. search needs) (λ c κs. search needs) add-result add-result-2 returns)

@@ -27,13 +27,20 @@ loop-holds c = (search needs, refl, search needs)
 
 add-total : tie.Need-add-total Inv-loop μ-loop
 add-total c =
-    omega (arith, c .before .before .before .before .loop .inv .2, c .before .before .before .before .before .before .before .pre .1, c .line-length .ensures .1)
+    omega (
+      arith,
+      c .before .before .before .before .loop .inv .2,
+      c .before .before .before .before .before .before .before .pre .1,
+      c .line-length .ensures .1,
+    )
 
 loop-again : tie.Need-loop-again Inv-loop μ-loop
 loop-again c =
     let a = c .before .before .before .before .before .before .before .args in
     let l = c .before .before .before .before .loop in
-    let n = long-next (now (a .numbers)) (now (a .times)) (c .before .before .before .before .before .before .before .pre .0) (l .i) (c .before .before .before .loop-test .taken) in
+    let n =
+    long-next (now (a .numbers)) (now (a .times)) (c .before .before .before .before .before .before .before .pre .0) (l .i)
+    (c .before .before .before .loop-test .taken) in
     (search needs, omega (arith, l .inv .1, c .line-length .ensures .0), omega (arith, l .inv .2, c .line-length .ensures .1))
 
 returns : tie.Need-returns Inv-loop μ-loop

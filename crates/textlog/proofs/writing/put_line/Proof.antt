@@ -27,7 +27,8 @@ number-at c = c .before .before .before .before
 
 -- there is room for the digits of the number and six octets and the digits of the milliseconds after them
 room : (c : tie.After-put-decimal)
-    → c .before .before .before .args .at + c .put-decimal .result + 6 + length (decimalOf (c .before .before .before .args .time / 1000)) ≤ length (now (c .before .before .before .args .out))
+    → c .before .before .before .args .at + c .put-decimal .result + 6 + length (decimalOf (c .before .before .before .args .time / 1000))
+    ≤ length (now (c .before .before .before .args .out))
 room c =
     let a = c .before .before .before .args in
     omega (arith, line-long (record { number = a .number; time = a .time }), c .before .before .before .pre, c .put-decimal .ensures .0)
@@ -62,7 +63,11 @@ returns c =
     let third = a .at + number .result + 1 + whole .result in
     let z : List ℕ = comma ∷ (threeDigits (a .time % 1000) ++ (lineFeed ∷ [])) in
     let d : rest .last .0 ≡ put third z (whole .last .0) =
-    rw (← c .before .before .before .before .before .before .before .digit-of .ensures, ← c .before .before .before .before .before .before .digit-of2 .ensures, ← c .before .before .before .before .before .digit-of3 .ensures) (rest .ensures) in (
+    rw (
+      ← c .before .before .before .before .before .before .before .digit-of .ensures,
+      ← c .before .before .before .before .before .before .digit-of2 .ensures,
+      ← c .before .before .before .before .before .digit-of3 .ensures,
+    ) (rest .ensures) in (
       omega (arith, number .ensures .0, whole .ensures .0),
       put-parts (a .at) first third (decimalOf (a .number)) (decimalOf (a .time / 1000)) z (now (a .out)) p
           (ap (λ (k : ℕ). a .at + k) (number .ensures .0))

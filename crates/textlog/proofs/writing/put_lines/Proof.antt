@@ -53,7 +53,8 @@ kept c =
     let a = entry c .args in
     let p = entry c .pre in
     let m = log-part (now (a .numbers)) (now (a .times)) (p .0) (c .loop .i) in
-    ap length (c .loop .inv .2) ∙ over-length (logOf (take (c .loop .i) (arrivalsFrom (now (a .numbers)) (now (a .times))))) (now (a .out)) (omega (arith, p .1))
+    ap length (c .loop .inv .2)
+    ∙ over-length (logOf (take (c .loop .i) (arrivalsFrom (now (a .numbers)) (now (a .times))))) (now (a .out)) (omega (arith, p .1))
 
 loop-holds : tie.Need-loop-holds Inv-loop μ-loop
 unfolding itemOctets
