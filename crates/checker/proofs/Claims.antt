@@ -1,8 +1,7 @@
--- Yes is said exactly of the listing that the sample must give, and the start of a listing decides. By the longest common prefix
--- (`by-prefix`) the verdict is yes exactly if the two texts are the same octet by octet, and then they are equal (`same-text`, by
--- induction over both). With a refusal it is never yes. Of a listing no more is looked at than one octet more than the sample's text has
--- (`verdict-start`), and no sample's text has more than `listingOctets`.
--- Here e is the text that must be given, t another, and d the decoded sample. Assumes nothing.
+-- The verdict is `Agrees` exactly for the report, and the start of a listing decides. By the longest common prefix (`by-prefix`) the verdict is
+-- `Agrees` exactly if both texts have the same octets, and then they are equal (`same-text`, by induction over both). For a refused sample it
+-- is never `Agrees`. The verdict reads at most one octet more of the listing than the report has (`verdict-start`), and no report has more than
+-- `listingOctets`. e is the report, t another text, and d the decoded sample. Assumes nothing.
 use Prim.Native.Nat.{ℕ, zero, suc, _≤_}
 use mathlib.Core.Path.{_≡_, refl, sym, ap, ap₂, _∙_}
 use mathlib.Core.Bool.{Bool, true, false, cond, _&&_, true≢false}

@@ -1,5 +1,5 @@
--- The line feeds of a text l: an octet x more at its end adds one if it is a line feed, so the loop over the first i octets counts them.
--- There are at most as many as octets. Assumes nothing.
+-- The line feeds of a text l: appending an octet x adds one if x is a line feed, so the loop over the first i octets counts them. There are at
+-- most as many as octets. Assumes nothing.
 use Prim.Native.Nat.{ℕ, suc, _+_, _≤_, _<_}
 use mathlib.Core.Path.{_≡_, refl}
 use mathlib.Core.Bool.{Bool, true, false, cond}

@@ -1,9 +1,8 @@
--- The verdict by lines is that by the longest common prefix: the wrong line is 1 more than its line feeds (`by-prefix`). Both are shown
--- to be the verdict octet by octet, by induction over both texts: an octet more in front of the first lines of both changes nothing,
--- unless it is a line feed, since no line is empty (`judged-lines`). Each octet that agrees is one more of the prefix, and one line more
--- if it is a line feed (`stepped-prefix`). Octet by octet, no more of the listing is looked at than one octet more than the text has
--- (`stepped-start`). Here e is the text that must be given, t the listing, x and y their next octets, n or m the number of the line.
--- Assumes nothing.
+-- The verdict by lines equals the verdict by the longest common prefix: the wrong line is the number of its line feeds, plus 1 (`by-prefix`).
+-- Both equal the verdict octet by octet, by induction over both texts. A common octet before both texts does not change the verdict by lines,
+-- unless it is a line feed, since no line is empty (`judged-lines`). It lengthens the prefix by 1, and adds a line if it is a line feed
+-- (`stepped-prefix`). Octet by octet, at most one octet more of the listing is read than the report has (`stepped-start`).
+-- e is the report, t the listing, x and y are their next octets, n or m is the number of the line. Assumes nothing.
 use Prim.Native.Nat.{ℕ, zero, suc, _+_, _<_}
 use mathlib.Core.Path.{_≡_, refl, sym, ap, _∙_}
 use mathlib.Core.Bool.{Bool, true, false, cond, _&&_}

@@ -1,4 +1,4 @@
--- Verdicts on listings of the scope's example, worked out by hand. Assumes nothing.
+-- Verdicts on listings of the scope's example, found by hand. Assumes nothing.
 use Prim.Native.String as text
 use mathlib.Core.Path.{_≡_}
 use mathlib.Core.List.{List, [], _∷_, map, flatten}
@@ -12,7 +12,7 @@ pub record ListingCase : Type 0 where
   pub given : List text.String
   pub verdict : Verdict
 
--- the example's lines from the second to the one before the last
+-- the lines of the example without the first and the last
 abbrev middle : text.String
 middle = "1 1 in 1 0\n2 2 in 2 0\n3 4 in 3 1\n4 5 in 4 0\n5 3 late 5 2 30 200 2\n"
 
@@ -37,6 +37,6 @@ listingCases =
     ∷ record { given = []; verdict = Verdict.WrongLine 1 }
     ∷ []
 
--- the verdicts on them by the definition
+-- the definition gives these verdicts
 abbrev pub ListingCasesHold : Type 0
 ListingCasesHold = map (λ (c : ListingCase). verdictOn exampleText (flatten (map ascii (c .given)))) listingCases ≡ map (λ (c : ListingCase). c .verdict) listingCases

@@ -1,4 +1,4 @@
--- The verdict on a listing: its lines against those of the sample's listing. Assumes nothing.
+-- The verdict on a listing: its lines compared with those of the report. Assumes nothing.
 use Prim.Native.Nat.{ℕ, _+_}
 use mathlib.Core.Bool.{cond}
 use mathlib.Core.List.{List, [], _∷_}
@@ -10,18 +10,18 @@ use Rattle.metrics.specs.Agreement.{sameText}
 use Rattle.checker.specs.declared.Verdict.{Verdict}
 use Rattle.checker.specs.declared.SampleVerdict.{SampleVerdict}
 
--- the first wrong line of `given` against `expected`, where lines are counted from n. A wrong line differs, is missing or is extra
+-- the first line of `given` that differs from `expected`, is missing or is extra; lines count from n
 unfoldable pub verdictOnLines : (n : ℕ) (expected given : List (List ℕ)) → Verdict
 verdictOnLines n [] [] = Verdict.Agrees
 verdictOnLines n [] (l ∷ ls) = Verdict.WrongLine n
 verdictOnLines n (e ∷ es) [] = Verdict.WrongLine n
 verdictOnLines n (e ∷ es) (l ∷ ls) = cond (sameText e l) (verdictOnLines (n + 1) es ls) (Verdict.WrongLine n)
 
--- a listing against the expected text
+-- the verdict on a listing against the expected text
 unfoldable pub verdictOn : (expected listing : List ℕ) → Verdict
 verdictOn expected listing = verdictOnLines 1 (lines expected) (lines listing)
 
--- the checker's answer: the sample's refusal, and the verdict. With a refusal the listing is not read, and the line is 0
+-- the checker's answer: the sample's refusal, and the verdict. If the sample is refused, the listing is not read, and the line is 0
 unfoldable pub sampleVerdict : Decoded → List ℕ → SampleVerdict
 sampleVerdict d listing =
     record {

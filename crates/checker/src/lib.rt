@@ -1,4 +1,4 @@
-// The checker of a supplier's listing: yes, or the number of its first wrong line.
+// Checks a supplier's listing: it agrees with the report of the sample, or the number of its first wrong line.
 ghost use mathlib.Core.Path.{_≡_};
 ghost use mathlib.Core.Bool.{cond};
 ghost use Prim.Native.Nat.{_≤_};
@@ -19,13 +19,13 @@ pub enum Verdict {
     WrongLine(u32),
 }
 
-// The verdict, and the refusal of the sample (0 for none). With a refusal the listing is not read, and the line is 0.
+// The verdict, and the refusal of the sample (0 for none). If the sample is refused, the listing is not read, and the line is 0.
 pub struct SampleVerdict {
     pub refusal: u32,
     pub verdict: Verdict,
 }
 
-// 1 for a line feed, else 0.
+// Returns 1 for a line feed, else 0.
 fn one_if_line_feed(x: u8) -> usize
     ensures { λ r. ⌜ r ≡ cond (eqb x lineFeed) 1 0 ⌝ }
 {
@@ -35,7 +35,7 @@ fn one_if_line_feed(x: u8) -> usize
     0
 }
 
-// The number of line feeds of a text.
+// Counts the line feeds in a text.
 fn line_feeds_in(text: &[u8]) -> usize
     ensures { λ r. ⌜ r ≡ feeds (now (text .entry)) ⌝ }
 {
@@ -48,7 +48,7 @@ fn line_feeds_in(text: &[u8]) -> usize
     count
 }
 
-// The wrong line after the first `octets` octets, which agree: 1 more than their line feeds.
+// Returns the first wrong line if the first `octets` octets agree: their number of line feeds, plus 1.
 fn wrong_line(listing: &[u8], octets: usize) -> Verdict
     requires { ⌜ (octets ≤ length (now listing)) × (octets ≤ listingOctets) ⌝ }
     ensures { λ r. ⌜ r ≡ wrongAfter octets (now (listing .entry)) ⌝ }
@@ -56,7 +56,7 @@ fn wrong_line(listing: &[u8], octets: usize) -> Verdict
     Verdict::WrongLine((1 + line_feeds_in(&listing[..octets])) as u32)
 }
 
-// Checks a listing against a sample: `Agrees` exactly if it is the listing of the sample, else the number of its first wrong line.
+// Checks a listing against a sample: `Agrees` exactly if it is the report of the sample, else the number of its first wrong line.
 // Cost: that of `metrics::agreement`, and a second pass over the octets that agree.
 pub fn check(file: &[u8], listing: &[u8]) -> SampleVerdict
     ensures { λ r. ⌜ r ≡ sampleVerdict (decode (now (file .entry))) (now (listing .entry)) ⌝ }

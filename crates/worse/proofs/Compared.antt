@@ -1,8 +1,8 @@
--- What is compared of two decoded files a and b. The refusal of both is the first file's, or the second's where the first has none
--- (`first-refused`, `second-refusal`). With a refusal no link is found, else the test of both ratios gives it (`compared-refused`,
--- `compared`). Label, start and place are chosen by the link of the comparison (`linked`).
--- Here r is the refusal, z that there is none, x a comparison and l its link, p and q are where the first and the second file stand, t is
--- the outcome of the test. Assumes nothing.
+-- The comparison of two decoded files a and b. The refusal of both is the first file's, or the second's if the first has none
+-- (`first-refused`, `second-refusal`). If there is a refusal, the link is `Refused`; else the test of both ratios gives it
+-- (`compared-refused`, `compared`). The link of the comparison chooses label, start and place (`linked`).
+-- r is the refusal, z says that there is none, x is a comparison and l its link, p and q are the places of the two files, t is the result of
+-- the test. Assumes nothing.
 use Prim.Native.Nat.{ℕ, zero, suc, _<_}
 use native.Mathlib.Omega.{arith}
 use mathlib.Core.Bool.{Bool, cond}

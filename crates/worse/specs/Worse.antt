@@ -17,11 +17,11 @@ use Rattle.worse.specs.declared.Link.the-variants.{Refused, First, Secon
 
 -- ---- the ratios
 
--- the reordered ratio by a sample's counts: the reordered packets over L. If L = 0 it is undefined, and counts as 0 over 1
+-- the reordered ratio from the counts of a sample: the reordered packets over L. If L = 0 it is undefined, and counts as 0 over 1
 unfoldable pub reorderedRatio : Counts → Fraction
 reorderedRatio c = cond (eqb (c .arrived) 0) (record { part = 0; whole = 1 }) (record { part = c .reordered; whole = c .arrived })
 
--- whether f is greater than g: over the product of both wholes its part is the greater
+-- whether f is greater than g, compared over their common denominator
 unfoldable pub greater : Fraction → Fraction → Bool
 greater f g = ltb (g .part * f .whole) (f .part * g .whole)
 
@@ -35,7 +35,7 @@ ratioIn d = reorderedRatio (sampleCounts d .counts)
 unfoldable pub refusalOfBoth : Decoded → Decoded → ℕ
 refusalOfBoth a b = firstRefusal (decodedRefusal a ∷ decodedRefusal b ∷ [])
 
--- the sample with the greater reordered ratio, none with a refusal; equal ratios give the first
+-- the sample with the greater reordered ratio, the first if they are equal; none if a sample is refused
 unfoldable pub worseOf : Decoded → Decoded → Link
 worseOf a b = ifNone (refusalOfBoth a b) (cond (greater (ratioIn b) (ratioIn a)) Second First) Refused
 
@@ -46,24 +46,24 @@ comparisonOf a b = record { refusal = refusalOfBoth a b; link = worseOf a b }
 -- ---- its label
 
 module _ {ℓ} {A : Type ℓ} where
-  -- what a link chooses: `none` with a refusal, else what belongs to the first sample or to the second
+  -- the value that a link chooses: the first sample's, the second's, or `none` if a sample is refused
   abbrev pub chosen : A → A → A → Link → A
   chosen none first second Refused = none
   chosen none first second First = first
   chosen none first second Second = second
 
--- the label of the worse sample; empty with a refusal
+-- the label of the worse sample; empty if a sample is refused
 unfoldable pub worseLabel : Decoded → Decoded → List ℕ
 worseLabel a b = chosen [] (sampleOf a .label) (sampleOf b .label) (worseOf a b)
 
--- the offset of the label in the worse sample; 0 with a refusal
+-- the offset of the label in the worse sample; 0 if a sample is refused
 unfoldable pub worseStart : Decoded → Decoded → ℕ
 worseStart a b = chosen 0 (labelPlace a) (labelPlace b) (worseOf a b)
 
--- a place in memory is a lent slice and an offset into it. This is the place n octets after the place p
+-- a place in memory is a slice of the caller's and an offset into it. This is the place n octets after the place p
 abbrev pub placeIn : ℕ × ℕ → ℕ → ℕ × ℕ
 placeIn p n = (p .0, n + p .1)
 
--- the place of the label, where the samples stand at p and q: in the worse one after the label's count; with a refusal p
+-- the place of the label of the worse sample, for samples at the places p and q; p if a sample is refused
 unfoldable pub worsePlace : Decoded → Decoded → ℕ × ℕ → ℕ × ℕ → ℕ × ℕ
 worsePlace a b p q = chosen p (placeIn p (labelPlace a)) (placeIn q (labelPlace b)) (worseOf a b)

@@ -1,5 +1,5 @@
-// Which of two samples has the greater reordered ratio, and its label as a part of that sample. Ratios are compared exactly, as
-// fractions of whole numbers.
+// Finds which of two samples has the greater reordered ratio, and its label as a part of that sample. Ratios are compared exactly, as fractions
+// of whole numbers.
 
 ghost use mathlib.Core.Path.{_≡_};
 ghost use denote.Ref.{now};
@@ -9,14 +9,14 @@ use metrics::counts;
 use rfc4737::Counts;
 use sample::label;
 
-// One of two samples, or none if one of them is refused.
+// One of two samples, or `Refused` if one of them is refused.
 pub enum Link {
     Refused,
     First,
     Second,
 }
 
-// The comparison of two samples: the refusal (0 for none), and the worse one, none with a refusal.
+// The comparison of two samples: the refusal (0 for none), and the worse sample.
 pub struct Comparison {
     pub refusal: u32,
     pub link: Link,
@@ -28,7 +28,7 @@ pub struct Fraction {
     pub whole: u32,
 }
 
-// The reordered ratio of a sample, by its counts; 0 of 1 if it is undefined.
+// Returns the reordered ratio of a sample from its counts; 0 over 1 if it is undefined.
 pub fn reordered_ratio(counts: Counts) -> Fraction
     ensures { λ r. ⌜ r ≡ reorderedRatio counts ⌝ }
 {
@@ -41,7 +41,7 @@ pub fn reordered_ratio(counts: Counts) -> Fraction
     }
 }
 
-// Whether f is greater than g. A product of two numbers of 32 bits fits 64.
+// Returns whether f is greater than g. A product of two 32-bit numbers fits in 64 bits.
 pub fn greater(f: Fraction, g: Fraction) -> bool
     ensures { λ r. ⌜ r ≡ greater f g ⌝ }
 {
@@ -50,14 +50,14 @@ pub fn greater(f: Fraction, g: Fraction) -> bool
     theirs < ours
 }
 
-// A comparison with this refusal and this link.
+// Returns the comparison with a refusal and a link.
 fn comparison_with(refusal: u32, link: Link) -> Comparison
     ensures { λ r. ⌜ r ≡ record { refusal = refusal; link = link } ⌝ }
 {
     Comparison { refusal, link }
 }
 
-// Which of two samples has the greater reordered ratio; equal ratios give the first. Cost: one pass over each.
+// Finds which of two samples has the greater reordered ratio; the first if they are equal. Cost: one pass over each.
 pub fn compare(first: &[u8], second: &[u8]) -> Comparison
     ensures { λ r. ⌜ r ≡ comparisonOf (decode (now (first .entry))) (decode (now (second .entry))) ⌝ }
 {
@@ -75,7 +75,7 @@ pub fn compare(first: &[u8], second: &[u8]) -> Comparison
     comparison_with(0, Link::First)
 }
 
-// The label of the worse of two samples, as a part of it; with a refusal the empty part at the first sample's start.
+// Returns the label of the worse of two samples, as a part of it. If a sample is refused, returns the empty part at the start of `first`.
 pub fn worse<'a>(first: &'a [u8], second: &'a [u8]) -> &'a [u8]
     ensures { λ r. ⌜ (now r ≡ worseLabel (decode (now (first .entry))) (decode (now (second .entry))))
         × (r .ptr ≡ worsePlace (decode (now (first .entry))) (decode (now (second .entry))) (first .entry .ptr) (second .entry .ptr)) ⌝ }

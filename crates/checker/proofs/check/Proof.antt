@@ -1,6 +1,6 @@
--- `checker::check` meets its contract. With a refusal the listing is not looked at (`checked-refused`). Else it is yes where `same` says
--- so (`checked-same`), and where not the octets that agree give the wrong line (`checked-wrong`). What it carries are laws. Assumes
--- nothing.
+-- `checker::check` meets its contract. If the sample is refused, the listing is not read (`checked-refused`). Else the verdict is `Agrees` if
+-- `same` says so (`checked-same`); if not, the octets that agree give the wrong line (`checked-wrong`). The claims that the contract carries
+-- are laws. Assumes nothing.
 use borrow.Author.Needs.{needs}
 use denote.Ref.{now}
 use Rattle.sample.specs.Decode.{decode}

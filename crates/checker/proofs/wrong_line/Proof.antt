@@ -1,5 +1,5 @@
--- `checker::wrong_line` meets its contract: `line_feeds_in` counts the line feeds of the octets that agree; there are at most as many as
--- octets, so that the line's number fits. Assumes nothing.
+-- `checker::wrong_line` meets its contract: `line_feeds_in` counts the line feeds among the octets that agree. There are at most as many as
+-- octets, so the number of the line fits. Assumes nothing.
 use borrow.Author.Needs.{needs}
 use Prim.Native.Nat.{ℕ, _+_, _≤_}
 use native.Mathlib.Omega.{arith}

@@ -1,6 +1,6 @@
--- `worse::compare` meets its contract. A sample's counts have its file's refusal (`counted`), the first's before the second's. With none,
--- `greater` of the two ratios is the test that the definition makes (`tested`). f is the first file, a and b are both, decoded. Assumes
--- nothing.
+-- `worse::compare` meets its contract. The counts of a sample have its file's refusal (`counted`), and the first file's comes before the
+-- second's. If there is none, `greater` of the two ratios is the test of the definition (`tested`). f is the first file, a and b are the
+-- decoded files. Assumes nothing.
 use borrow.Author.Needs.{needs}
 use native.Mathlib.Omega.{arith}
 use Prim.Native.Nat.{ℕ, _<_}

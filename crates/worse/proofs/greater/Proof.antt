@@ -1,5 +1,5 @@
--- `worse::greater` meets its contract: it compares the products that the definition has, and a product of two numbers of 32 bits fits 64.
--- Assumes nothing.
+-- `worse::greater` meets its contract: it compares the products of the definition, and a product of two 32-bit numbers fits in 64 bits. Assumes
+-- nothing.
 use borrow.Author.Needs.{needs}
 use Prim.Native.Nat.{ℕ, _*_, _^_, _≤_, _<_}
 use native.Mathlib.Omega.{arith}

@@ -1,4 +1,4 @@
--- `worse::reordered_ratio` meets its contract: the test of the definition says whether the ratio is defined. Assumes nothing.
+-- `worse::reordered_ratio` meets its contract: its test is that of the definition, whether the ratio is defined. Assumes nothing.
 use borrow.Author.Tests.{eq-eqb, ne-eqb}
 use Rattle.worse.specs.Worse.{reorderedRatio}
 use Rattle.worse.proofs.reordered_ratio.Statement.{statement}
