@@ -1,5 +1,5 @@
--- What is asked in a measure by its number, n, of a decoded file d. Where the number is a measure's, m, it is what is asked of the file; where it
--- is none, of a refused file, which has no answers. Here r is the refusal where it is none, and x what the call returns. Assumes nothing.
+-- A call in the measure with number n, for a decoded file d. If n is the number of a measure m, the call is made for the file; else for a refused
+-- file, which has no answers. r is the refusal for a number that is no measure, x is the answer of the call. Assumes nothing.
 use Prim.Native.Nat.{ℕ, zero, suc, _<_}
 use native.Mathlib.Omega.{arith}
 use mathlib.Core.Bool.{true, false}

@@ -1,4 +1,4 @@
--- What C is given of waiting time and buffer, where a measure is asked for by its number. Assumes nothing.
+-- Waiting time and buffer for C, which names a measure by its number. Assumes nothing.
 use Prim.Native.Nat.{ℕ, zero, suc}
 use mathlib.Core.Bool.{cond}
 use mathlib.Core.List.{List, [], _∷_}
@@ -7,13 +7,13 @@ use Rattle.rfc4737.specs.Refusals.{outside, firstRefusal, askedOutside}
 use Rattle.sample.specs.Decode.{Decoded, refused, decodedRefusal}
 use Rattle.metrics.specs.declared.SampleNeeds.{SampleNeeds}
 
--- the measure of a number: 0 packets, 1 octets, 2 time. A number above 2 is none, and refused; what stands here for it is not looked at
+-- the measure with a number: 0 packets, 1 octets, 2 time. A number above 2 is refused (`withMeasure`), so its value here does not matter
 unfoldable pub measureOf : ℕ → Measure
 measureOf zero = Measure.Packets
 measureOf (suc zero) = Measure.Octets
 measureOf (suc (suc n)) = Measure.Time
 
--- a decoded file of which something is asked in the measure of a number: where that is none, it is refused, by the file's own refusal, then 9
+-- the decoded file for a call with measure n: refused if n is no measure, with the file's own refusal, else with 9
 unfoldable pub withMeasure : ℕ → Decoded → Decoded
 withMeasure n d = cond (outside 0 2 n) (refused (firstRefusal (decodedRefusal d ∷ askedOutside ∷ []))) d
 

@@ -1,4 +1,4 @@
--- What C is given for each answer. Assumes nothing.
+-- The answers of the calls as C sees them: figures in arrays of u64. Assumes nothing.
 pub mod Sample
 pub mod Imports
 pub mod Figures

@@ -1,5 +1,5 @@
--- What C is given of a step of a receiver or of a meter: the number of the case of what is noted, jump size, extent, and the late time's amount; 0
--- where the case has none. Assumes nothing.
+-- What a receiver or a meter notes of an arrival, for C: the number of the case, jump size, extent, and amount of the late time. Figures that a
+-- case lacks are 0. Assumes nothing.
 use Prim.Native.Nat.{ℕ}
 use mathlib.Core.List.{List, [], _∷_}
 use Rattle.receiver.specs.declared.Lateness.{Lateness}
@@ -8,7 +8,7 @@ use Rattle.receiver.specs.declared.ReceiverAnswer.the-variants.{Duplicate, InOr
 use Rattle.rfc4737.specs.Numbering.{amountOf}
 use Rattle.receiver.specs.Numbering.{notedNumber}
 
--- a reordered packet by the number of its case, which has the late time's direction
+-- a reordered packet whose case has number n; the case tells the direction of the late time
 abbrev pub lateFigures : ℕ → Lateness → List ℕ
 lateFigures n l = n ∷ 0 ∷ l .extent ∷ amountOf (l .late) ∷ []
 

@@ -15,10 +15,10 @@ const PACKETS: u32 = 0;
 
 const OCTETS: u32 = 1;
 
-// The greatest number of a measure, which is that of time.
+// The number of time, which is the greatest number of a measure.
 const TIME: u64 = 2;
 
-// Returns the measure of a number; a number that is none is taken as time.
+// Returns the measure with this number. Any number above 2 gives time.
 fn measure_of(measure: u32) -> Measure
     ensures { λ r. ⌜ r ≡ measureOf measure ⌝ }
 {
@@ -31,7 +31,7 @@ fn measure_of(measure: u32) -> Measure
     Measure::Time
 }
 
-// Returns the refusal where the measure is none: the file's own, then 9.
+// Returns the refusal for a number that is no measure: the file's own, else 9.
 fn no_measure(file: &[u8]) -> u64
     ensures { λ r. ⌜ r ≡ firstRefusal (decodedRefusal (decode (now (file .entry))) ∷ askedOutside ∷ []) ⌝ }
 {
@@ -42,7 +42,7 @@ fn no_measure(file: &[u8]) -> u64
     ASKED_OUTSIDE as u64
 }
 
-// The greatest needs of a sample.
+// Finds the greatest needs of a sample.
 #[no_mangle]
 pub extern "C" fn krakobran_greatest_needs(file: &[u8], needs: &mut [u64; 3]) -> u64
     ensures { λ r. ⌜ (r ≡ sampleNeeds (decode (now (file .entry))) .refusal)
@@ -53,7 +53,7 @@ pub extern "C" fn krakobran_greatest_needs(file: &[u8], needs: &mut [u64; 3]) ->
     found.refusal as u64
 }
 
-// How many first arrivals a buffer of a size accommodates, and L.
+// Counts the first arrivals that a buffer of `size` accommodates, and L.
 #[no_mangle]
 pub extern "C" fn krakobran_accommodated(
     file: &[u8],
@@ -74,7 +74,7 @@ pub extern "C" fn krakobran_accommodated(
     found.refusal as u64
 }
 
-// The least size of a buffer that accommodates at least part in whole of the first arrivals.
+// Finds the least size of a buffer that accommodates at least `part` in `whole` of the first arrivals.
 #[no_mangle]
 pub extern "C" fn krakobran_least_size(
     file: &[u8],

@@ -1,4 +1,4 @@
-// A report checked against a sample, for C.
+// Checks a listing against a sample, for C.
 
 use checker::Verdict;
 use checker::check;
@@ -7,7 +7,7 @@ ghost use Rattle.checker.specs.Verdict.{sampleVerdict};
 ghost use Rattle.sample.specs.Decode.{decode};
 ghost use Rattle.capi.specs.Checker.{verdictFigures};
 
-// Returns whether the report agrees (1 or 0), and the number of its first wrong line, 0 where it agrees.
+// Returns the figures of a verdict: 1 if the listing agrees, else 0; and the number of its first wrong line, 0 if it agrees.
 fn verdict_figures(verdict: Verdict) -> [u64; 2]
     ensures { λ r. ⌜ r ≡ verdictFigures verdict ⌝ }
 {
@@ -17,7 +17,7 @@ fn verdict_figures(verdict: Verdict) -> [u64; 2]
     }
 }
 
-// Checks a report against a sample.
+// Checks `report`, a supplier's listing, against a sample.
 #[no_mangle]
 pub extern "C" fn krakobran_report_check(file: &[u8], report: &[u8], verdict: &mut [u64; 2]) -> u64
     ensures { λ r. ⌜ (r ≡ sampleVerdict (decode (now (file .entry))) (now (report .entry)) .refusal)

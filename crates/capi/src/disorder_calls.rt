@@ -5,7 +5,7 @@ ghost use mathlib.Core.List.{[], _∷_};
 ghost use Rattle.sample.specs.Decode.{decode};
 ghost use Rattle.disorder.specs.Sample.{sampleDisorder};
 
-// The total of disorder of a sample.
+// Finds the total of disorder of a sample.
 #[no_mangle]
 pub extern "C" fn krakobran_disorder(file: &[u8], total: &mut [u64; 1]) -> u64
     ensures { λ r. ⌜ (r ≡ sampleDisorder (decode (now (file .entry))) .refusal)

@@ -1,5 +1,5 @@
-// The figures of a sample as lists of u64: an enum is the number of its case, or whether it is known, beside the figures of all cases, and
-// an f64 is its bits.
+// The figures of a sample as arrays of u64. An enum becomes the number of its case (or 1 if its value is known, else 0) and the figures of all
+// cases. An f64 becomes its bits.
 
 use rfc4737::Answer;
 use rfc4737::Counts;
@@ -17,8 +17,8 @@ ghost use lib.Ieee.{binary64, toBits};
 ghost use Rattle.metrics.specs.Rows.{rowOf};
 ghost use Rattle.capi.specs.Figures.{countFigures, gapFigures, degreeFigures, ratiosFigures};
 
-// Returns the row of an answer: the case, position, jump size, extent, the late time's amount, which the case gives its direction, byte
-// offset, largest n, and the record of the first copy.
+// Returns the row of an answer: the number of its case, position, jump size, extent, amount of the late time, byte offset, largest n, and the
+// record of the first copy. The case tells the direction of the late time.
 pub fn answer_row(answer: Answer) -> [u64; 8]
     ensures { λ r. ⌜ r ≡ rowOf answer ⌝ }
 {
@@ -50,8 +50,8 @@ pub fn answer_row(answer: Answer) -> [u64; 8]
     }
 }
 
-// Returns the counts of a sample: first arrivals (L), reordered packets, duplicates, in-order packets; closed runs, the squares of their
-// lengths, and the length of the open run.
+// Returns the counts of a sample: first arrivals (L), reordered packets, duplicates, in-order packets, closed runs, the sum of the squares of
+// their lengths, and the length of the open run.
 pub fn count_figures(counts: Counts) -> [u64; 7]
     ensures { λ r. ⌜ r ≡ countFigures counts ⌝ }
 {
@@ -67,7 +67,7 @@ pub fn count_figures(counts: Counts) -> [u64; 7]
     ]
 }
 
-// Returns whether a record has a gap, and its positions.
+// Returns 1 and the gap of a record in positions, or 0 and 0 if it has none.
 pub fn gap_figures(gap: Gap) -> [u64; 2]
     ensures { λ r. ⌜ r ≡ gapFigures gap ⌝ }
 {
@@ -77,7 +77,7 @@ pub fn gap_figures(gap: Gap) -> [u64; 2]
     }
 }
 
-// Returns the bits of an f64; those of one NaN for every NaN, which no ratio is.
+// Returns the bits of an f64. Every NaN gives the same bits, but no ratio is NaN.
 fn bits_of(x: f64) -> u64
     ensures { λ r. ⌜ r ≡ toBits binary64 x ⌝ }
 {
@@ -87,7 +87,7 @@ fn bits_of(x: f64) -> u64
     f64::to_bits(x)
 }
 
-// Returns whether a degree of n-reordering is known, and its bits.
+// Returns 1 and the bits of a degree of n-reordering, or 0 and 0 if it is undefined.
 pub fn degree_figures(ratio: Ratio) -> [u64; 2]
     ensures { λ r. ⌜ r ≡ degreeFigures ratio ⌝ }
 {
@@ -97,7 +97,8 @@ pub fn degree_figures(ratio: Ratio) -> [u64; 2]
     }
 }
 
-// Returns whether the ratio figures of a sample are known, and the bits of each: the reordered ratio, and the degrees for n = 1 and n = 3.
+// Returns 1 and the bits of the ratios of a sample: the reordered ratio and the degrees for n = 1 and n = 3. If they are undefined, returns
+// zeros.
 pub fn ratios_figures(ratios: Ratios) -> [u64; 4]
     ensures { λ r. ⌜ r ≡ ratiosFigures ratios ⌝ }
 {

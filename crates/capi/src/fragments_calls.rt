@@ -2,7 +2,7 @@
 
 ghost use Rattle.fragments.specs.Calls.{OrderedTo};
 
-// Fills two lists: the order flags of packets that may be cut on the way, and which arrivals are usable.
+// Fills two lists: the order flags of packets that may be fragmented on the way, and which arrivals are usable.
 #[no_mangle]
 pub extern "C" fn krakobran_fragment_order(
     sent: u32,

@@ -1,4 +1,4 @@
-// The figures of a sample for C, and its report.
+// The figures and the report of a sample for C.
 
 use crate::figures::answer_row;
 use crate::figures::count_figures;
@@ -19,7 +19,7 @@ ghost use Rattle.metrics.specs.Report.{ListedTo};
 ghost use Rattle.capi.specs.Sample.{writeTold};
 ghost use Rattle.capi.specs.Figures.{countFigures, gapFigures, degreeFigures, ratiosFigures};
 
-// The answer for a record, as its row.
+// Finds the answer for a record, as its row.
 #[no_mangle]
 pub extern "C" fn krakobran_answer(file: &[u8], asked: u32, row: &mut [u64; 8]) -> u64
     ensures { λ r. ⌜ (r ≡ recordAnswer (decode (now (file .entry))) asked .refusal)
@@ -41,7 +41,7 @@ pub extern "C" fn krakobran_rows(file: &[u8], rows: &mut [u64]) -> u64
     layout.refusal as u64
 }
 
-// Fills a list with the gaps of all records, 0 where a record has none.
+// Fills a list with the gaps of all records, 0 for a record without a gap.
 #[no_mangle]
 pub extern "C" fn krakobran_gaps(file: &[u8], gaps: &mut [u32]) -> u64
     ensures { λ r. ⌜ (r ≡ decodedRefusal (gapsInto (decode (now (file .entry))) (length (now (gaps .entry)))))
@@ -51,7 +51,7 @@ pub extern "C" fn krakobran_gaps(file: &[u8], gaps: &mut [u32]) -> u64
     layout.refusal as u64
 }
 
-// The counts of a sample.
+// Finds the counts of a sample.
 #[no_mangle]
 pub extern "C" fn krakobran_counts(file: &[u8], counts: &mut [u64; 7]) -> u64
     ensures { λ r. ⌜ (r ≡ sampleCounts (decode (now (file .entry))) .refusal)
@@ -63,7 +63,7 @@ pub extern "C" fn krakobran_counts(file: &[u8], counts: &mut [u64; 7]) -> u64
     found.refusal as u64
 }
 
-// The extent tally of a sample.
+// Finds the extent tally of a sample.
 #[no_mangle]
 pub extern "C" fn krakobran_tally(file: &[u8], tally: &mut [u32; TALLY_PLACES]) -> u64
     ensures { λ r. ⌜ (r ≡ sampleTally (decode (now (file .entry))) .refusal)
@@ -75,7 +75,7 @@ pub extern "C" fn krakobran_tally(file: &[u8], tally: &mut [u32; TALLY_PLACES]) 
     found.refusal as u64
 }
 
-// The gap of a record.
+// Finds the gap of a record.
 #[no_mangle]
 pub extern "C" fn krakobran_gap(file: &[u8], asked: u32, gap: &mut [u64; 2]) -> u64
     ensures { λ r. ⌜ (r ≡ recordGap (decode (now (file .entry))) asked .refusal)
@@ -87,7 +87,7 @@ pub extern "C" fn krakobran_gap(file: &[u8], asked: u32, gap: &mut [u64; 2]) -> 
     found.refusal as u64
 }
 
-// The two counts of a degree of n-reordering: the n-reordered packets, and L.
+// Counts the n-reordered packets and the first arrivals (L), whose quotient is the degree of n-reordering.
 #[no_mangle]
 pub extern "C" fn krakobran_n_reordered(file: &[u8], n: u32, counts: &mut [u64; 2]) -> u64
     ensures { λ r. ⌜ (r ≡ degreeCounts (decode (now (file .entry))) n .refusal)
@@ -98,7 +98,7 @@ pub extern "C" fn krakobran_n_reordered(file: &[u8], n: u32, counts: &mut [u64; 
     found.refusal as u64
 }
 
-// The degree of n-reordering.
+// Finds the degree of n-reordering.
 #[no_mangle]
 pub extern "C" fn krakobran_degree(file: &[u8], n: u32, degree: &mut [u64; 2]) -> u64
     ensures { λ r. ⌜ (r ≡ sampleDegree (decode (now (file .entry))) n .refusal)
@@ -110,7 +110,7 @@ pub extern "C" fn krakobran_degree(file: &[u8], n: u32, degree: &mut [u64; 2]) -
     found.refusal as u64
 }
 
-// The ratio figures of a sample.
+// Finds the ratios of a sample.
 #[no_mangle]
 pub extern "C" fn krakobran_ratios(file: &[u8], ratios: &mut [u64; 4]) -> u64
     ensures { λ r. ⌜ (r ≡ sampleRatios (decode (now (file .entry))) .refusal)

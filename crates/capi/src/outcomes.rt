@@ -1,4 +1,4 @@
-// What a receiver or a meter says of an arrival, for C: the refusal, and what is noted as figures.
+// The outcome of a step of a receiver or a meter for C: the refusal, and the figures of what is noted of the arrival.
 
 use receiver::Lateness;
 use receiver::Outcome;
@@ -16,7 +16,7 @@ ghost use Rattle.rfc4737.specs.Numbering.{byDirection};
 ghost use Rattle.receiver.specs.Outcomes.{refusedOutcome};
 ghost use Rattle.capi.specs.Outcomes.{lateFigures, notedFigures};
 
-// Returns the figures of a reordered packet, in one of its two cases, of which each has a number for after and one for before.
+// Returns the figures of a reordered packet. Its case is `after` or `before`, by the direction of its late time.
 fn late_figures(after: u32, before: u32, l: Lateness) -> [u64; 4]
     ensures { λ r. ⌜ r ≡ lateFigures (byDirection after before (l .late)) l ⌝ }
 {
@@ -29,7 +29,7 @@ fn late_figures(after: u32, before: u32, l: Lateness) -> [u64; 4]
     ]
 }
 
-// Returns the figures of what is noted: the case, jump size, extent, and the late time's amount, which the case gives its direction.
+// Returns the figures of what is noted: the number of the case, jump size, extent, and amount of the late time. The case tells its direction.
 pub fn noted_figures(noted: ReceiverAnswer) -> [u64; 4]
     ensures { λ r. ⌜ r ≡ notedFigures noted ⌝ }
 {
@@ -48,7 +48,7 @@ pub fn refusal_of(outcome: Outcome) -> u64
     outcome.refusal as u64
 }
 
-// Returns the refusal of an outcome; what is noted goes into the lent figures.
+// Returns the refusal of an outcome, and writes the figures of what is noted to `figures`.
 pub fn outcome_told(outcome: Outcome, figures: &mut [u64; 4]) -> u64
     ensures { λ r. ⌜ (r ≡ outcome .refusal) × (now (figures .exit) ≡ notedFigures (outcome .noted)) ⌝ }
 {
@@ -57,7 +57,7 @@ pub fn outcome_told(outcome: Outcome, figures: &mut [u64; 4]) -> u64
     refusal_of(outcome)
 }
 
-// Returns the outcome of a call that notes nothing.
+// Returns the outcome of a refused call, which notes nothing.
 pub fn refused_outcome(refusal: u32) -> Outcome
     ensures { λ r. ⌜ r ≡ refusedOutcome refusal ⌝ }
 {

@@ -4,7 +4,7 @@ ghost use Rattle.owamp.specs.Calls.{RecordsImportedFrom, RecordsWrittenTo};
 ghost use Rattle.capi.specs.Sample.{writeTold};
 ghost use Rattle.capi.specs.Imports.{recordsTold};
 
-// Imports the OWAMP packet records of K sent packets into lists of numbers and times.
+// Imports OWAMP packet records into lists of numbers and times. `sent` is K.
 #[no_mangle]
 pub extern "C" fn krakobran_owamp_import(
     records: &[u8],
@@ -21,7 +21,7 @@ pub extern "C" fn krakobran_owamp_import(
     imported.refusal as u64
 }
 
-// Writes the OWAMP packet records of a sample file's arrivals.
+// Writes the arrivals of a sample file as OWAMP packet records.
 #[no_mangle]
 pub extern "C" fn krakobran_owamp_write(file: &[u8], out: &mut [u8], length: &mut [u64; 1]) -> u64
     ensures { λ r. ⌜ RecordsWrittenTo (now (file .entry)) (now (out .entry)) (writeTold r (now (length .exit))) (now (out .exit)) ⌝ }

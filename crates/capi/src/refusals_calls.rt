@@ -6,14 +6,14 @@ ghost use Rattle.refusals.specs.Words.{wordsOf, askedRefusal};
 ghost use Rattle.capi.specs.Sample.{writeTold};
 ghost use Rattle.capi.specs.Version.{version};
 
-// The greatest refusal.
-const GREATEST: u64 = 18;
+// The greatest number of a refusal.
+const MAX_REFUSAL: u64 = 18;
 
-// Returns a number of 32 bits that has the same words, and is refused alike.
+// Narrows `refusal` to 32 bits. A number that is no refusal stays one: it has no words either way.
 fn narrow(refusal: u64) -> u32
     ensures { λ r. ⌜ (askedRefusal r ≡ askedRefusal refusal) × (wordsOf r ≡ wordsOf refusal) ⌝ }
 {
-    if GREATEST < refusal {
+    if MAX_REFUSAL < refusal {
         return 0;
     }
     refusal as u32

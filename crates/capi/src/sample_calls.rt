@@ -1,22 +1,21 @@
-// The sample file for C: its layout, its lists and its label, the writer, and the judge of lists.
+// The sample file for C: check, read, label and write; and the check of K and lists.
 
 use rfc4737::judge::refusal_of_lists;
 use sample::Layout;
 ghost use mathlib.Core.Path.{_≡_};
-ghost use mathlib.Core.List.{[], _∷_};
 ghost use Rattle.rfc4737.specs.Judge.{refusalOfLists};
 ghost use Rattle.sample.specs.Decode.{decode, decodedRefusal, layoutOf};
 ghost use Rattle.sample.specs.Calls.{ReadFrom, WrittenTo};
 ghost use Rattle.capi.specs.Sample.{layoutFigures, layoutTold, labelPart, labelFigures, writeTold};
 
-// Where the label begins in a file, its octets, and the file's refusal (0 for none), with which both are 0.
+// The offset and the length of the label in a file, and the file's refusal (0 for none). If it is refused, both are 0.
 pub struct LabelPart {
     pub refusal: u32,
     pub start: u32,
     pub length: u32,
 }
 
-// Returns the figures of a layout: the octets of the label, K and A.
+// Returns the figures of a layout: the length of the label, K and A.
 pub fn layout_figures(layout: Layout) -> [u64; 3]
     ensures { λ r. ⌜ r ≡ layoutFigures layout ⌝ }
 {
@@ -27,7 +26,7 @@ pub fn layout_figures(layout: Layout) -> [u64; 3]
     ]
 }
 
-// Returns the part of a file that is its label; with a refusal the empty part at the file's start.
+// Returns the part of a file that is its label; if the file is refused, the empty part at its start.
 pub fn label_part(file: &[u8]) -> LabelPart
     ensures { λ r. ⌜ r ≡ labelPart (decode (now (file .entry))) ⌝ }
 {
@@ -46,7 +45,7 @@ pub fn label_part(file: &[u8]) -> LabelPart
     }
 }
 
-// Checks a file.
+// Checks a sample file.
 #[no_mangle]
 pub extern "C" fn krakobran_sample_check(file: &[u8], layout: &mut [u64; 3]) -> u64
     ensures { λ r. ⌜ (r ≡ decodedRefusal (decode (now (file .entry))))
@@ -57,7 +56,7 @@ pub extern "C" fn krakobran_sample_check(file: &[u8], layout: &mut [u64; 3]) -> 
     found.refusal as u64
 }
 
-// Reads a file into lists of sizes, numbers and times.
+// Reads a sample file into lists of sizes, numbers and times.
 #[no_mangle]
 pub extern "C" fn krakobran_sample_read(
     file: &[u8],
@@ -74,18 +73,18 @@ pub extern "C" fn krakobran_sample_read(
     found.refusal as u64
 }
 
-// Finds the label in a file: where it begins, and its length.
+// Finds the offset and the length of the label in a sample file.
 #[no_mangle]
 pub extern "C" fn krakobran_sample_label(file: &[u8], part: &mut [u64; 2]) -> u64
     ensures { λ r. ⌜ (r ≡ decodedRefusal (decode (now (file .entry))))
-        × (now (part .exit) ≡ labelFigures (decode (now (file .entry)))) ⌝ }
+        × (now (part .exit) ≡ labelFigures (labelPart (decode (now (file .entry))))) ⌝ }
 {
     let found = label_part(file);
     *part = [found.start as u64, found.length as u64];
     found.refusal as u64
 }
 
-// Writes the file of a label and lists.
+// Writes the sample file of a label and lists.
 #[no_mangle]
 pub extern "C" fn krakobran_sample_write(
     label: &[u8],
@@ -103,7 +102,7 @@ pub extern "C" fn krakobran_sample_write(
     written.refusal as u64
 }
 
-// Returns the first refusal that applies to K and lists, as the writer's.
+// Returns the first refusal that applies to K and lists, as `krakobran_sample_write` does.
 #[no_mangle]
 pub extern "C" fn krakobran_lists_check(sent: u64, numbers: &[u32], times: &[u64]) -> u64
     ensures { λ r. ⌜ r ≡ refusalOfLists sent (now (numbers .entry)) (now (times .entry)) ⌝ }

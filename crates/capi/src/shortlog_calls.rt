@@ -6,7 +6,7 @@ ghost use Rattle.shortnumbers.specs.Number.{rangeOf};
 ghost use Rattle.shortlog.specs.Found.{judgeShortLog, ShortLogImportedFrom};
 ghost use Rattle.capi.specs.Imports.{logTold};
 
-// Imports the text log of K sent packets whose numbers are the lowest 8 bits into lists of full numbers and times.
+// Imports a text log whose sequence numbers are the lowest 8 bits, into lists of full numbers and times. `sent` is K.
 #[no_mangle]
 pub extern "C" fn krakobran_log_import_8(
     log: &[u8],
@@ -23,7 +23,7 @@ pub extern "C" fn krakobran_log_import_8(
     imported.refusal as u64
 }
 
-// The same of the lowest 10 bits.
+// Imports a text log whose sequence numbers are the lowest 10 bits.
 #[no_mangle]
 pub extern "C" fn krakobran_log_import_10(
     log: &[u8],
@@ -40,7 +40,7 @@ pub extern "C" fn krakobran_log_import_10(
     imported.refusal as u64
 }
 
-// Finds the first refused line of such a log of 8 bits: its number from 1, or 0 where no line is refused.
+// Finds the first refused line of a log with 8-bit numbers, from 1; 0 if no line is refused.
 #[no_mangle]
 pub extern "C" fn krakobran_log_refused_line_8(log: &[u8], sent: u32, line: &mut [u64; 1])
     ensures { λ _. ⌜ now (line .exit) ≡ judgeShortLog (rangeOf 8) sent (now (log .entry)) .line ∷ [] ⌝ }
@@ -48,7 +48,7 @@ pub extern "C" fn krakobran_log_refused_line_8(log: &[u8], sent: u32, line: &mut
     *line = [shortlog::refused_line_8(log, sent) as u64];
 }
 
-// The same of 10 bits.
+// Finds the first refused line of a log with 10-bit numbers.
 #[no_mangle]
 pub extern "C" fn krakobran_log_refused_line_10(log: &[u8], sent: u32, line: &mut [u64; 1])
     ensures { λ _. ⌜ now (line .exit) ≡ judgeShortLog (rangeOf 10) sent (now (log .entry)) .line ∷ [] ⌝ }

@@ -15,7 +15,7 @@ pub extern "C" fn krakobran_summary_write(file: &[u8], out: &mut [u8], length: &
     written.refusal as u64
 }
 
-// Writes the summary of a sample as one object of JSON and a line feed.
+// Writes the summary of a sample as one JSON object and a line feed.
 #[no_mangle]
 pub extern "C" fn krakobran_summary_json(file: &[u8], out: &mut [u8], length: &mut [u64; 1]) -> u64
     ensures { λ r. ⌜ SummaryJsonTo (decode (now (file .entry))) (now (out .entry)) (writeTold r (now (length .exit))) (now (out .exit)) ⌝ }

@@ -4,7 +4,7 @@ ghost use Rattle.sample.specs.Decode.{decode};
 ghost use Rattle.sweep.specs.Calls.{lent};
 ghost use Rattle.capi.specs.Sweep.{SweptWith};
 
-// Fills the lists with the figures of every record of a file, and leaves the first 4,096 numbers of the table at 0.
+// Fills the lists with the figures of every record of a file, and sets the first 4,096 numbers of the table to 0.
 #[no_mangle]
 pub extern "C" fn krakobran_sweep(
     file: &[u8],

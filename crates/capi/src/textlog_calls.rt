@@ -7,7 +7,7 @@ ghost use Rattle.textlog.specs.Calls.{LogImportedFrom, LogWrittenTo, logLine};
 ghost use Rattle.capi.specs.Sample.{writeTold};
 ghost use Rattle.capi.specs.Imports.{logTold, lineTold};
 
-// Imports the text log of K sent packets into lists of numbers and times.
+// Imports a text log into lists of numbers and times. `sent` is K.
 #[no_mangle]
 pub extern "C" fn krakobran_log_import(
     log: &[u8],
@@ -24,7 +24,7 @@ pub extern "C" fn krakobran_log_import(
     imported.refusal as u64
 }
 
-// Finds the first refused line of the text log of K sent packets: its number from 1, or 0 where no line is refused.
+// Finds the first refused line of a text log, from 1; 0 if no line is refused.
 #[no_mangle]
 pub extern "C" fn krakobran_log_refused_line(log: &[u8], sent: u32, line: &mut [u64; 1])
     ensures { λ _. ⌜ now (line .exit) ≡ judgeLog sent (now (log .entry)) .line ∷ [] ⌝ }
@@ -32,7 +32,7 @@ pub extern "C" fn krakobran_log_refused_line(log: &[u8], sent: u32, line: &mut [
     *line = [textlog::refused_line(log, sent) as u64];
 }
 
-// Reads one line of a text log, with its line feed: its number and its time.
+// Reads one line of a text log, with its line feed, as a sequence number and a time.
 #[no_mangle]
 pub extern "C" fn krakobran_log_read_line(line: &[u8], arrival: &mut [u64; 2]) -> u64
     ensures { λ r. ⌜ lineTold r (now (arrival .exit)) ≡ logLine (decodeLine (now (line .entry))) ⌝ }
@@ -42,7 +42,7 @@ pub extern "C" fn krakobran_log_read_line(line: &[u8], arrival: &mut [u64; 2]) -
     read.refusal as u64
 }
 
-// Writes the text log of arrivals of K sent packets.
+// Writes arrivals as a text log. `sent` is K.
 #[no_mangle]
 pub extern "C" fn krakobran_log_write(
     sent: u32,

@@ -1,4 +1,4 @@
-// Of two samples the one with the greater reordered ratio, for C: its number, and where its label stands in it.
+// Compares the reordered ratios of two samples, for C: the number of the worse sample, and the offset and length of its label.
 
 use crate::sample_calls::label_part;
 use worse::Link;
@@ -8,13 +8,13 @@ ghost use Rattle.sample.specs.Decode.{decode};
 ghost use Rattle.worse.specs.Worse.{comparisonOf};
 ghost use Rattle.capi.specs.Worse.{linkFigures, worseFigures};
 
-// The first sample.
+// The number of the first sample.
 pub const FIRST: u64 = 1;
 
-// The second sample.
+// The number of the second sample.
 pub const SECOND: u64 = 2;
 
-// Returns the number of the worse sample, where its label begins in it, and the label's octets; 0 for each if there is none.
+// Returns the number of the worse sample, and the offset and length of its label in it; zeros if a sample is refused.
 fn link_figures(link: Link, first: &[u8], second: &[u8]) -> [u64; 3]
     ensures { λ r. ⌜ r ≡ linkFigures link (decode (now (first .entry))) (decode (now (second .entry))) ⌝ }
 {
@@ -31,7 +31,7 @@ fn link_figures(link: Link, first: &[u8], second: &[u8]) -> [u64; 3]
     }
 }
 
-// Of two samples the one with the greater reordered ratio, and its label.
+// Finds which of two samples has the greater reordered ratio, and its label.
 #[no_mangle]
 pub extern "C" fn krakobran_worse(first: &[u8], second: &[u8], worse: &mut [u64; 3]) -> u64
     ensures { λ r. ⌜ (r ≡ comparisonOf (decode (now (first .entry))) (decode (now (second .entry))) .refusal)

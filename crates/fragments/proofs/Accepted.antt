@@ -1,7 +1,7 @@
--- What holds of K and the lists where nothing is refused: from `orderRefusal ≡ 0` each test of the judge in turn, last the lengths of both
--- lists (`accepted`). The arrivals have the numbers of the list of numbers, so what the judge says of theirs holds of the list. With a
--- refusal the caller's lists stay.
--- Here ns, ts, ls, ms and os are the five lists, f and u the places for flags and for usable values, r is a refusal. Assumes nothing.
+-- What holds for K and the lists if nothing is refused: `orderRefusal ≡ 0` settles each test of the judge in turn, last the room in both of the
+-- caller's lists (`accepted`). The arrivals have the numbers of the list of numbers, so what the judge says of the arrivals holds for the list. If
+-- the call is refused, the caller's lists stay unchanged.
+-- ns, ts, ls, ms and os are the five lists, f and u the lists for flags and for usable values, r is a refusal. Assumes nothing.
 use Prim.Native.Nat.{ℕ, zero, suc, _≤_, _<_}
 use native.Mathlib.Omega.{arith}
 use mathlib.Core.Bool.{Bool, true, not, _&&_, _||_}

@@ -1,6 +1,6 @@
--- Copies by marks. An arrival is a copy exactly if an earlier one has its number, offset and length, or both are whole packets of one
--- number (`copy-split`). The first is its mark, the second what was seen of whole packets (`copy-here`).
--- Here l are arrivals, a and b single ones, p and q tests. Assumes nothing.
+-- Copies by marks. An arrival is a copy exactly if an earlier arrival has its number, offset and length, or both are whole packets with the same
+-- number (`copy-split`). The mark of the arrival tells the first, the table of whole packets seen the second (`copy-here`).
+-- l are arrivals, a and b single ones, p and q are tests. Assumes nothing.
 use Prim.Native.Nat.{ℕ}
 use mathlib.Core.Bool.{Bool, true, false, cond, not, _&&_, _||_}
 use mathlib.Core.List.{List, [], _∷_}

@@ -1,9 +1,9 @@
--- One pass over a packet's arrivals in the order of their starts finds the first octet that is not covered. `run` has the places of its
--- arrivals in l, in that order. It is covered up to r, and none of the first j has the octet r (`OnePass`). The next one, a, takes r to its
--- end if it has the octet r (`pass-next`). An earlier one starts no later than a, so by r, and does not have r. So it ends by r and has no
--- later octet (`no-later`). All are passed in the end, and no other arrival is of the packet (`pass-done`). The search for a last fragment
--- that ends by r goes through them from the end (`Unended`). A whole packet among them settles it (`whole-found`).
--- Here l are the arrivals, s is the packet, o an octet, r the reach, d an earlier arrival, j and m places in the run. Assumes nothing.
+-- One pass over a packet's arrivals, sorted by start, finds the first octet that is not covered. `run` has the places of its arrivals in l, in that
+-- order. Invariant (`OnePass`): the packet is covered up to r, and none of the first j arrivals has octet r. The next arrival a moves r to its end
+-- if it has octet r (`pass-next`). An earlier arrival starts no later than a, so no later than r, and does not have r. So it ends at r or before,
+-- and has no later octet (`no-later`). In the end all are passed, and no other arrival belongs to the packet (`pass-done`). The search for a last
+-- fragment that ends at r or before goes through them from the end (`Unended`). A whole packet among them settles it (`whole-found`).
+-- l are the arrivals, s is the packet, o an octet, r the reach, d an earlier arrival, j and m are indices in the run. Assumes nothing.
 use Prim.Native.Nat.{ℕ, _+_, _-_, _≤_, _<_}
 use native.Mathlib.Omega.{arith}
 use mathlib.Core.Bool.{Bool, true, false, cond, _&&_, true≢false}

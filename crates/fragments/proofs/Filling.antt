@@ -1,6 +1,6 @@
--- One turn of the loop that fills the two lists, on plain values: l are the arrivals, a the one at i, copy and e what was found of it and
--- expected before it. By `each-at` what is put at i is what the lists have there (`flag-here`, `usable-here`; w is the table's value for
--- the packet). What is expected after it follows by `expected-more` (`expected-here`). Assumes nothing.
+-- One turn of the loop that fills the two lists, on plain values. l are the arrivals, a is the arrival at i, `copy` tells whether it is a copy, and e
+-- is what is expected before it. By `each-at` the values stored at i are those of the definitions (`flag-here`, `usable-here`; w is the table's
+-- value for the packet). `expected-more` gives what is expected after it (`expected-here`). Assumes nothing.
 use Prim.Native.Nat.{ℕ, _+_, _<_}
 use mathlib.Core.Bool.{Bool, true, false, cond, not, _&&_}
 use mathlib.Core.Path.{_≡_, refl, sym, ap, _∙_}

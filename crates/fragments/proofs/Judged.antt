@@ -1,7 +1,6 @@
--- Arrivals judged in turn. What `each` gives at place i is its function of the arrivals before and the arrival there (`each-at`). So the
--- loop finds at i the refusal of a by the reference (`refusal-here`), which is the greatest time before it (past). Where no refusal applies
--- none is at any place, so every number lies in 1 to k (`numbered`).
--- Here k is K, l are the arrivals, a the one at i, r a refusal or a reference. Assumes nothing.
+-- Arrivals judged in turn. The element of `each` at i is its function of the arrivals before and the arrival at i (`each-at`). So the loop finds at i
+-- the refusal of a by the reference (`refusal-here`), which is the greatest time before it (past). If no refusal applies, no arrival is refused, so
+-- every number is from 1 to k (`numbered`). k is K, l are the arrivals, a is the arrival at i, r a refusal or a reference. Assumes nothing.
 use Prim.Native.Nat.{ℕ, zero, suc, _+_, _≤_, _<_}
 use native.Mathlib.Omega.{arith}
 use mathlib.Core.Path.{_≡_, refl, sym, ap, _∙_}

@@ -1,9 +1,9 @@
--- A packet's places in order are a run: all places of its arrivals, by start, equal ones side by side. They have the places that the packet
--- has (`same-has`), so each is one of its arrivals (`run-own`), and each of these stands somewhere (`run-all`). Of one key the packet's
--- places rise strictly, and a list that does so splits at an element in one way (`split-one`). So before a place y in the run stand, of y's
--- key, exactly those that came before y (`prefix-same`). So an earlier arrival has y's number, offset and length exactly if one before it
--- in the run does. As keys rise, that is the one just before it (`neighbour`).
--- Here ns, ts, ls, ms and fs are the five lists, y is a place, m where it stands in the run, t a key, p and q are tests. Assumes nothing.
+-- The sorted places of a packet are a run: all places of its arrivals, by start, equal ones side by side. They are the packet's places
+-- (`same-has`), so each is one of its arrivals (`run-own`), and each of its arrivals is among them (`run-all`). The places with one key rise
+-- strictly, and such a list splits at an element in one way only (`split-one`). So before a place y in the run stand, of those with y's key, exactly
+-- those that came before y (`prefix-same`). So an earlier arrival has y's number, offset and length exactly if one before it in the run has. As keys
+-- rise, this is the one just before it (`neighbour`).
+-- ns, ts, ls, ms and fs are the five lists, y is a place, m its index in the run, t a key, p and q are tests. Assumes nothing.
 use Prim.Native.Nat.{ℕ, zero, suc, _+_, _*_, _-_, _≤_, _<_}
 use native.Mathlib.Numerals.{add-one}
 use native.Mathlib.Omega.{arith}

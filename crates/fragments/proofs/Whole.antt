@@ -1,8 +1,8 @@
--- Where no arrival is a fragment, the flags are those of the base. A copy is then an arrival whose number came before (`copy-whole`).
--- FragSeq# and NextExpFrag stay 0. So an arrival is reordered exactly if its number is below NextExp, and NextExp moves as the base's does
--- (`reordered-whole`, `after-whole`). By induction over the arrivals from the last, what is expected is the base's NextExp alone
--- (`expected-whole`). So each flag is that of the base's answer (`flag-whole`), and so are all of them.
--- Here l are the arrivals before, a the next one, n NextExp, c says that no arrival is cut and w that a is whole. Assumes nothing.
+-- If no arrival is a fragment, the flags are those of the answers of rfc4737. A copy is then an arrival whose number came before (`copy-whole`).
+-- FragSeq# and NextExpFrag stay 0. So an arrival is reordered exactly if its number is below NextExp, and NextExp changes as in rfc4737
+-- (`reordered-whole`, `after-whole`). By induction over the arrivals from the last, only NextExp is expected (`expected-whole`). So each flag is that
+-- of the answer (`flag-whole`), and so are all of them.
+-- l are the arrivals before, a is the next one, n is NextExp, c says that no arrival is a fragment and w that a is whole. Assumes nothing.
 use Prim.Native.Nat.{ℕ, _+_}
 use native.Mathlib.Omega.{arith}
 use mathlib.Core.Bool.{Bool, true, false, cond, not, or-false, and-true, and-false}

@@ -28,18 +28,18 @@ pub(crate) fn piece_at(
 }
 
 // Returns whether an arrival is a whole packet.
-pub(crate) fn is_whole(a: Piece) -> bool
-    ensures { λ r. ⌜ r ≡ isWhole a ⌝ }
+pub(crate) fn is_whole(piece: Piece) -> bool
+    ensures { λ r. ⌜ r ≡ isWhole piece ⌝ }
 {
-    if a.more != 0 {
+    if piece.more != 0 {
         return false;
     }
-    a.offset == 0
+    piece.offset == 0
 }
 
 // Returns the offset after the last octet of an arrival in its packet.
-pub(crate) fn piece_end(a: Piece) -> u32
-    ensures { λ r. ⌜ r ≡ pieceEnd a ⌝ }
+pub(crate) fn piece_end(piece: Piece) -> u32
+    ensures { λ r. ⌜ r ≡ pieceEnd piece ⌝ }
 {
-    8 * (a.offset as u32) + a.length as u32
+    8 * (piece.offset as u32) + piece.length as u32
 }

@@ -14,17 +14,17 @@ use crate::arrival::piece_at;
 use crate::arrival::piece_end;
 use crate::tables::index_of;
 
-// Returns how far a packet is covered by an arrival too, if it was covered up to r.
-fn reach_after(r: u32, a: Piece) -> u32
-    ensures { λ n. ⌜ n ≡ cond (leb (pieceStart a) r && ltb r (pieceEnd a)) (pieceEnd a) r ⌝ }
+// Returns how far a packet is covered by an arrival too, if it was covered up to `reach`.
+fn reach_after(reach: u32, piece: Piece) -> u32
+    ensures { λ n. ⌜ n ≡ cond (leb (pieceStart piece) reach && ltb reach (pieceEnd piece)) (pieceEnd piece) reach ⌝ }
 {
-    if r < 8 * (a.offset as u32) {
-        return r;
+    if reach < 8 * (piece.offset as u32) {
+        return reach;
     }
-    if r < piece_end(a) {
-        return piece_end(a);
+    if reach < piece_end(piece) {
+        return piece_end(piece);
     }
-    r
+    reach
 }
 
 // Returns the first octet of packet s that is not covered, by one pass over its arrivals, which are sorted by start.
@@ -41,24 +41,24 @@ fn reach_of(
         × Run (piecesIn numbers times lengths mores offsets) s (now run) ⌝ }
     ensures { λ r. ⌜ Reach (piecesIn (numbers .entry) (times .entry) (lengths .entry) (mores .entry) (offsets .entry)) s r ⌝ }
 {
-    let mut r: u32 = 0;
+    let mut reach: u32 = 0;
     let mut m = 0;
     while m < run.len() {
-        let a = piece_at(numbers, times, lengths, mores, offsets, index_of(run[m]));
-        r = reach_after(r, a);
+        let piece = piece_at(numbers, times, lengths, mores, offsets, index_of(run[m]));
+        reach = reach_after(reach, piece);
         m += 1;
     }
-    r
+    reach
 }
 
-// Returns whether an arrival is a last fragment and ends at r or before.
-fn ends_by(r: u32, a: Piece) -> bool
-    ensures { λ t. ⌜ t ≡ (isLast a && leb (pieceEnd a) r) ⌝ }
+// Returns whether an arrival is a last fragment and ends at `reach` or before.
+fn ends_by(reach: u32, piece: Piece) -> bool
+    ensures { λ t. ⌜ t ≡ (isLast piece && leb (pieceEnd piece) reach) ⌝ }
 {
-    if a.more != 0 {
+    if piece.more != 0 {
         return false;
     }
-    piece_end(a) <= r
+    piece_end(piece) <= reach
 }
 
 // Returns whether packet s is complete: a last fragment ends at its first octet that is not covered, or before. Starts with its last arrival.
@@ -79,8 +79,8 @@ fn ends_covered(
     let mut m = run.len();
     while 0 < m {
         m -= 1;
-        let a = piece_at(numbers, times, lengths, mores, offsets, index_of(run[m]));
-        if ends_by(reach, a) {
+        let piece = piece_at(numbers, times, lengths, mores, offsets, index_of(run[m]));
+        if ends_by(reach, piece) {
             return true;
         }
     }

@@ -28,56 +28,56 @@ const REORDERED: u8 = REORDERED_AFTER as u8;
 const ORDERED: u8 = IN_ORDER as u8;
 
 // Returns whether an arrival is reordered: the three cases of section B.3.
-fn is_reordered(e: Expected, a: Piece) -> bool
-    ensures { λ r. ⌜ r ≡ isReorderedFragment e a ⌝ }
+fn is_reordered(expected: Expected, piece: Piece) -> bool
+    ensures { λ r. ⌜ r ≡ isReorderedFragment expected piece ⌝ }
 {
-    if a.number < e.next {
+    if piece.number < expected.next {
         return true;
     }
-    if a.number < e.packet {
+    if piece.number < expected.packet {
         return true;
     }
-    if a.number != e.packet {
+    if piece.number != expected.packet {
         return false;
     }
-    (a.offset as u32) < e.fragment
+    (piece.offset as u32) < expected.fragment
 }
 
 // Returns the flag of an arrival.
-fn flag_of(copy: bool, e: Expected, a: Piece) -> u8
-    ensures { λ r. ⌜ r ≡ cond copy duplicateNumber (cond (isReorderedFragment e a) reorderedAfterNumber inOrderNumber) ⌝ }
+fn flag_of(copy: bool, expected: Expected, piece: Piece) -> u8
+    ensures { λ r. ⌜ r ≡ cond copy duplicateNumber (cond (isReorderedFragment expected piece) reorderedAfterNumber inOrderNumber) ⌝ }
 {
     if copy {
         return COPY;
     }
-    if is_reordered(e, a) {
+    if is_reordered(expected, piece) {
         return REORDERED;
     }
     ORDERED
 }
 
 // Returns what is expected after an arrival.
-fn expected_after(copy: bool, e: Expected, a: Piece) -> Expected
-    requires { ⌜ a .number < 4294967295 ⌝ }
-    ensures { λ r. ⌜ r ≡ cond copy e (expectedAfter e a) ⌝ }
+fn expected_after(copy: bool, expected: Expected, piece: Piece) -> Expected
+    requires { ⌜ piece .number < 4294967295 ⌝ }
+    ensures { λ r. ⌜ r ≡ cond copy expected (expectedAfter expected piece) ⌝ }
 {
     if copy {
-        return e;
+        return expected;
     }
-    if is_reordered(e, a) {
-        return e;
+    if is_reordered(expected, piece) {
+        return expected;
     }
-    if a.more == 0 {
+    if piece.more == 0 {
         return Expected {
-            next: a.number + 1,
+            next: piece.number + 1,
             packet: 0,
             fragment: 0,
         };
     }
     Expected {
-        next: e.next,
-        packet: a.number,
-        fragment: a.offset as u32 + 1,
+        next: expected.next,
+        packet: piece.number,
+        fragment: piece.offset as u32 + 1,
     }
 }
 
@@ -93,23 +93,23 @@ fn usable_of(copy: bool, whole: u8) -> u8
 
 // Returns whether an arrival is a copy. `mark` is not 0 if an earlier arrival has its number, offset and length; `seen` is not 0 if an earlier
 // whole packet has its number.
-fn is_copy(a: Piece, mark: u8, seen: u8) -> bool
-    ensures { λ r. ⌜ r ≡ (not (eqb mark 0) || (isWhole a && not (eqb seen 0))) ⌝ }
+fn is_copy(piece: Piece, mark: u8, seen: u8) -> bool
+    ensures { λ r. ⌜ r ≡ (not (eqb mark 0) || (isWhole piece && not (eqb seen 0))) ⌝ }
 {
     if mark != 0 {
         return true;
     }
-    if is_whole(a) {
+    if is_whole(piece) {
         return seen != 0;
     }
     false
 }
 
 // Returns `seen` after an arrival.
-fn seen_after(a: Piece, seen: u8) -> u8
-    ensures { λ r. ⌜ r ≡ cond (isWhole a) 1 seen ⌝ }
+fn seen_after(piece: Piece, seen: u8) -> u8
+    ensures { λ r. ⌜ r ≡ cond (isWhole piece) 1 seen ⌝ }
 {
-    if is_whole(a) {
+    if is_whole(piece) {
         return 1;
     }
     seen
@@ -132,22 +132,22 @@ pub(crate) fn fill_flags_and_used(
         × (now (used .exit) ≡ usable (piecesIn (numbers .entry) (times .entry) (lengths .entry) (mores .entry) (offsets .entry))) ⌝ }
 {
     let mut seen = [0u8; MAX_PACKETS];
-    let mut e = Expected {
+    let mut expected = Expected {
         next: 1,
         packet: 0,
         fragment: 0,
     };
     let mut i = 0;
     while i < numbers.len() {
-        let a = piece_at(numbers, times, lengths, mores, offsets, i);
-        let p = (a.number - 1) as usize;
+        let piece = piece_at(numbers, times, lengths, mores, offsets, i);
+        let p = (piece.number - 1) as usize;
         let old = seen[p];
-        let copy = is_copy(a, flagged[i], old);
-        seen[p] = seen_after(a, old);
-        flagged[i] = flag_of(copy, e, a);
+        let copy = is_copy(piece, flagged[i], old);
+        seen[p] = seen_after(piece, old);
+        flagged[i] = flag_of(copy, expected, piece);
         used[i] = usable_of(copy, used[i]);
-        let next = expected_after(copy, e, a);
-        e = next;
+        let next = expected_after(copy, expected, piece);
+        expected = next;
         i += 1;
     }
 }

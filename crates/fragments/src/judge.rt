@@ -25,35 +25,35 @@ use rfc4737::time::too_early;
 const END_MOST: u32 = 65535;
 
 // Returns whether an arrival is a fragment that is refused with 17.
-fn is_unfit(a: Piece) -> bool
-    ensures { λ r. ⌜ r ≡ isUnfit a ⌝ }
+fn is_unfit(piece: Piece) -> bool
+    ensures { λ r. ⌜ r ≡ isUnfit piece ⌝ }
 {
-    if is_whole(a) {
+    if is_whole(piece) {
         return false;
     }
-    if a.length == 0 {
+    if piece.length == 0 {
         return true;
     }
-    if a.more == 0 {
-        return END_MOST < piece_end(a);
+    if piece.more == 0 {
+        return END_MOST < piece_end(piece);
     }
-    if a.length % 8 != 0 {
+    if piece.length % 8 != 0 {
         return true;
     }
-    END_MOST < piece_end(a)
+    END_MOST < piece_end(piece)
 }
 
 // Returns the first refusal of one arrival: 6, 17, 7; 0 if none applies.
-fn judge_piece(k: u64, reference: u64, a: Piece) -> u32
-    ensures { λ r. ⌜ r ≡ judgePiece k reference a ⌝ }
+fn judge_piece(k: u64, reference: u64, piece: Piece) -> u32
+    ensures { λ r. ⌜ r ≡ judgePiece k reference piece ⌝ }
 {
-    if outside(1, k, a.number as u64) {
+    if outside(1, k, piece.number as u64) {
         return NUMBER_OUTSIDE;
     }
-    if is_unfit(a) {
+    if is_unfit(piece) {
         return FRAGMENT_UNFIT;
     }
-    if too_early(reference, a.time) {
+    if too_early(reference, piece.time) {
         return TIME_BACK;
     }
     0
@@ -74,12 +74,12 @@ fn judge_pieces(
     let mut reference: u64 = 0;
     let mut i = 0;
     while i < numbers.len() {
-        let a = piece_at(numbers, times, lengths, mores, offsets, i);
-        let refusal = judge_piece(k, reference, a);
+        let piece = piece_at(numbers, times, lengths, mores, offsets, i);
+        let refusal = judge_piece(k, reference, piece);
         if refusal != 0 {
             return refusal;
         }
-        reference = next_reference(reference, a.time);
+        reference = next_reference(reference, piece.time);
         i += 1;
     }
     0

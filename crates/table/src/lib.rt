@@ -23,7 +23,7 @@ pub const PARTS: u32 = 18;
 pub const PART_OCTETS: usize = 131072;
 
 // The length of the rows of the longest sample: 8 numbers for each record.
-const ROWS_LENGTH: usize = 8 * ARRIVALS_MOST as usize;
+const ROWS_LEN: usize = 8 * ARRIVALS_MOST as usize;
 
 // Returns the answer of a refused call.
 fn refused(refusal: u32) -> WriteAnswer
@@ -38,7 +38,7 @@ fn write_part(file: &[u8], json: bool, part: u32, out: &mut [u8]) -> WriteAnswer
     ensures { λ r. ⌜ PartTo json (decode (now (file .entry))) part (now (out .entry)) r (now (out .exit))
         × (length (partText json (decode (now (file .entry))) part) ≤ partOctets) × PartsJoin json (decode (now (file .entry))) ⌝ }
 {
-    let mut rows = [0u64; ROWS_LENGTH];
+    let mut rows = [0u64; ROWS_LEN];
     let layout = metrics::record_rows(file, &mut rows);
     let counts = metrics::counts(file).counts;
     let mut none = [0u8; 1];

@@ -1,5 +1,5 @@
--- `fragments::order` meets its contract: with a refusal of `order_refusal` the lists stay (`refused-over`); with none `accepted` gives what
--- `order_accepted` asks, and it fills both. Beside each answer stand the theorems that the contract carries. Assumes nothing.
+-- `fragments::order` meets its contract: if `order_refusal` refuses, the lists stay unchanged (`refused-over`). If not, `accepted` gives what
+-- `order_accepted` requires, and it fills both. Beside each answer stand the theorems that the contract carries. Assumes nothing.
 use Rattle.fragments.proofs.Whole.{whole-flags}
 use Rattle.fragments.proofs.Cases.{flagged-as-given}
 use Rattle.fragments.proofs.Accepted.{accepted, refused-over}

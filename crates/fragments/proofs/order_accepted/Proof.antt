@@ -1,6 +1,6 @@
--- `fragments::order_accepted` meets its contract: in the first places of both lists, as many as there are arrivals, what `note_arrivals`
--- notes is replaced by the values. Behind them the lists stay (`filled`). Numbers up to K lie in 1 to 4,096, as K is no greater
--- (`within-more`). Assumes nothing.
+-- `fragments::order_accepted` meets its contract: at the start of both lists, one entry for each arrival, the values replace the notes of
+-- `note_arrivals`. After them the lists stay unchanged (`filled`). Numbers up to K are from 1 to 4,096, as K is at most 4,096 (`within-more`).
+-- Assumes nothing.
 use native.Mathlib.Omega.{arith}
 use Prim.Native.Nat.{ℕ, _≤_}
 use mathlib.Core.List.{List, _++_}

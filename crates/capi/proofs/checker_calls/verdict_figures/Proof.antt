@@ -1,4 +1,4 @@
--- `capi::checker_calls::verdict_figures` meets its contract: the report agrees, or a line is wrong. Assumes nothing.
+-- `capi::checker_calls::verdict_figures` meets its contract: the listing agrees, or a line is wrong. Assumes nothing.
 use borrow.Author.Needs.{needs}
 use mathlib.Core.Path.{refl}
 use Rattle.capi.proofs.checker_calls.verdict_figures.Statement.{statement}

@@ -1,5 +1,5 @@
--- `capi::figures::bits_of` meets its contract. A NaN, and nothing else, differs from itself, and its bits are those returned; any other
--- number is none, so that its bits may be asked for. Assumes nothing.
+-- `capi::figures::bits_of` meets its contract. Only a NaN differs from itself, and the bits returned for it are those of the definition. Any other
+-- number has its own bits. Assumes nothing.
 use borrow.Author.Needs.{needs}
 use mathlib.Core.Path.{_≡_, refl, sym, ap, subst, _∙_}
 use mathlib.Core.Bool.{true, false, not}

@@ -1,4 +1,4 @@
--- `capi::refusals_calls::krakobran_refusal_words` meets its contract: the number that is asked for has the words of the refusal, and is refused alike
+-- `capi::refusals_calls::krakobran_refusal_words` meets its contract: the narrowed number has the words and the refusal of the number asked for
 -- (`alike`). Assumes nothing.
 use borrow.Author.Needs.{needs}
 use Prim.Native.Nat.{ℕ}

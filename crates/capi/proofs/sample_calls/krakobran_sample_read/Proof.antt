@@ -1,4 +1,4 @@
--- `capi::sample_calls::krakobran_sample_read` meets its contract: the layout that is told is the one that `read` returns. Assumes nothing.
+-- `capi::sample_calls::krakobran_sample_read` meets its contract: it stores the figures of the layout that `read` returns. Assumes nothing.
 use borrow.Author.Needs.{needs}
 use Rattle.capi.proofs.sample_calls.krakobran_sample_read.Statement.{statement}
 use Rattle.capi.proofs.sample_calls.krakobran_sample_read.Tie as tie

@@ -1,6 +1,6 @@
--- `fragments::cover::ends_covered` meets its contract. The loop's invariant: none of the arrivals from m on has no more to come and ends by
--- the reach (`Unended`). One that does makes the packet complete (`ends-found`); if there is none it is not (`ends-none`). The measure is
--- m. Assumes nothing.
+-- `fragments::cover::ends_covered` meets its contract. The loop's invariant: none of the arrivals from m on is a last fragment that ends at the reach or
+-- before (`Unended`). One that does makes the packet complete (`ends-found`); if there is none, it is not (`ends-none`). The measure is m. Assumes
+-- nothing.
 use borrow.Author.Needs.{needs}
 use native.Mathlib.Omega.{arith}
 use Prim.Native.Nat.{_-_, _≤_, _<_}

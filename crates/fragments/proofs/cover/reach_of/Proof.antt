@@ -43,11 +43,11 @@ loop-again : tie.Need-loop-again Inv-loop μ-loop
 loop-again c =
     let l = c .before .before .before .before .before in
     let p = c .before .piece-at in
-    pass-next _ _ _ (start l .pre .1) (l .loop .r) (l .loop .m) _ (p .result) (c .before .before .before .before .loop-test .taken)
+    pass-next _ _ _ (start l .pre .1) (l .loop .reach) (l .loop .m) _ (p .result) (c .before .before .before .before .loop-test .taken)
     (p .ensures ∙ ap (λ i. getD (pieces l) i noPiece) (c .before .before .index-of .ensures)) (c .reach-after .ensures) (l .loop .inv)
 
 returns : tie.Need-returns Inv-loop μ-loop
-returns c = let l = c .before in pass-done _ _ _ (start l .pre .1) (l .loop .r) (l .loop .m) (c .loop-test .left) (l .loop .inv)
+returns c = let l = c .before in pass-done _ _ _ (start l .pre .1) (l .loop .reach) (l .loop .m) (c .loop-test .left) (l .loop .inv)
 
 pub reach-of-spec : {M : Type 1} → statement M
 reach-of-spec =

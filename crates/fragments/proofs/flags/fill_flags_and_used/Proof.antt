@@ -1,7 +1,6 @@
--- `fragments::flags::fill_flags_and_used` meets its contract. The loop's invariant: both lists hold the values of the first i arrivals,
--- then what was noted (`read-left`), and e is what is expected after these. What one arrival gives is Filling's (`flag-here`,
--- `usable-here`, `expected-here`), and that its number is a place of the tables follows from `NumbersWithin`. The measure is the number of
--- arrivals left. Assumes nothing.
+-- `fragments::flags::fill_flags_and_used` meets its contract. The loop's invariant: both lists have the values of the first i arrivals, then the notes
+-- (`read-left`), and e is what is expected next. The laws of Filling give the values of the next arrival (`flag-here`, `usable-here`,
+-- `expected-here`). Its number is an index of the table by `NumbersWithin`. The measure is the number of arrivals left. Assumes nothing.
 use borrow.Author.Needs.{needs}
 use native.Mathlib.Omega.{arith}
 use Prim.Native.Nat.{ℕ, _+_, _-_, _≤_, _<_}
@@ -153,11 +152,11 @@ loop-again c =
     let copy = copy-here (b .result) (take i xs) (found .result) (getD (l .loop .flagged) i 0) (getD (l .loop .seen) (b .result .number - 1) 0) (found .ensures) (read-left (flags xs) (now (a .flagged)) i (omega arith) (l .loop .inv .1) ∙ rw (b .ensures) (q .5 .at i h .0)) (l .loop .inv .4 .at (b .result .number) (v .0) (v .1)) in (
       omega arith,
       fill-next (flags xs) (now (a .flagged)) i 0 (omega arith) (omega (arith, q .3)) (l .loop .inv .1)
-          (flag-here xs i (b .result) (l .loop .e) (found .result) h (b .ensures) copy (l .loop .inv .3) _ (c .before .before .before .flag-of .ensures)),
+          (flag-here xs i (b .result) (l .loop .expected) (found .result) h (b .ensures) copy (l .loop .inv .3) _ (c .before .before .before .flag-of .ensures)),
       fill-next (usable xs) (now (a .used)) i 0 (omega arith) (omega (arith, q .4)) (l .loop .inv .2)
-          (usable-here xs i (b .result) (l .loop .e) (found .result) h (b .ensures) copy (l .loop .inv .3) _ (getD (l .loop .used) i 0) (c .before .usable-of .ensures)
+          (usable-here xs i (b .result) (l .loop .expected) (found .result) h (b .ensures) copy (l .loop .inv .3) _ (getD (l .loop .used) i 0) (c .before .usable-of .ensures)
           (read-left (usable xs) (now (a .used)) i (omega arith) (l .loop .inv .2) ∙ rw (b .ensures) (q .5 .at i h .1))),
-      expected-here xs i (b .result) (l .loop .e) (found .result) h (b .ensures) copy (l .loop .inv .3) _ (c .expected-after .ensures),
+      expected-here xs i (b .result) (l .loop .expected) (found .result) h (b .ensures) copy (l .loop .inv .3) _ (c .expected-after .ensures),
       seen-next xs i _ (b .result) h (b .ensures) (v .0) (v .1) (c .before .before .before .before .seen-after .ensures) (l .loop .inv .4),
     )
 

@@ -1,6 +1,6 @@
--- `fragments::notes::note_packets` meets its contract. The loop's invariant: the arrivals of the first p packets are noted, and `from` is
--- their number. The places of the packets after them stand as they were filled in (`PlacedFrom`). The next packet's places, put in order,
--- are a run (`block-same`, `run-of`). The measure is the number of packets left. Assumes nothing.
+-- `fragments::notes::note_packets` meets its contract. The loop's invariant: the arrivals of the first p packets are noted, and `from` is their number.
+-- The places of the packets after them are as they were filled in (`PlacedFrom`). The sorted places of the next packet are a run (`block-same`,
+-- `run-of`). The measure is the number of packets left. Assumes nothing.
 use borrow.Author.Needs.{needs}
 use native.Mathlib.Numerals.{add-one}
 use native.Mathlib.Omega.{arith}

@@ -1,6 +1,6 @@
--- `fragments::notes::note_run` meets its contract. The loop's invariant: the packets before s and the first m of the run are noted
--- (`NotingTo`), and `last` is the key of the one before. The run's first has no earlier one that equals it, any other has one exactly if
--- the key before is its own. The measure is what is left of the run. Assumes nothing.
+-- `fragments::notes::note_run` meets its contract. The loop's invariant: the arrivals of the packets before s and the first m of the run are noted
+-- (`NotingTo`), and `last` is the key before m. The first of the run equals no earlier arrival; any other equals one exactly if the key before is its
+-- own. The measure is the number of arrivals left in the run. Assumes nothing.
 use borrow.Author.Needs.{needs}
 use native.Mathlib.Omega.{arith}
 use Prim.Native.Nat.{ℕ, _+_, _-_, _*_, _<_}

@@ -1,10 +1,6 @@
 -- `table::records::write_answer` meets its contract: the number of the case in the row tells the answer (`in-order-row`, `duplicate-row`,
 -- `reordered-row`). Here a is the answer, h that the row is its. Assumes nothing.
 use native.Mathlib.Omega.{arith}
-use mathlib.Core.Path.{_≡_, sym, ap, _∙_}
-use mathlib.Core.List.{List}
-use Prim.Native.Nat.{ℕ}
-use lib.ListN.{getD}
 use Rattle.writing.proofs.Parts.{named}
 use Rattle.table.proofs.Laws.{in-order-row, duplicate-row, reordered-row}
 use borrow.Author.Needs.{needs}
