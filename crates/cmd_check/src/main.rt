@@ -1,6 +1,6 @@
-// The checking program: its arguments are the names of a sample file and of a listing. It prints that the listing is right; or the
-// number of its first wrong line, what stands there and what the sample gives; or the refusal of the sample in words. No sample has over
-// 57,414 octets and no sample's listing over 262,144, so one octet more than these decides of longer files.
+// The check program: its arguments are the names of a sample file and of a listing. It prints that the listing is right; or the number of its
+// first wrong line, that line and the right one; or the refusal of the sample in words. No sample has over 57,414 octets and no report over
+// 262,144, so one octet more than these decides about longer files.
 mod shown;
 
 ghost use mathlib.Core.Path.{_≡_};
@@ -23,17 +23,17 @@ use rfc4737::refusal::NONE;
 use shown::write_line;
 use text_lines::line_of;
 
-// One octet more than the longest listing has.
+// One octet more than the longest report.
 const LISTING_ROOM: usize = LISTING_OCTETS + 1;
 
-// Checks the start of a listing: the answer is that for the whole listing, of which these octets decide.
+// Checks the start of a listing. The answer is the same as for the whole listing, since these octets decide.
 fn check_start(file: &[u8], start: &[u8]) -> SampleVerdict
     ensures { λ r. ⌜ ((whole : List ℕ) → now (start .entry) ≡ take (listingOctets + 1) whole → r ≡ sampleVerdict (decode (now (file .entry))) whole) ⌝ }
 {
     checker::check(file, start)
 }
 
-// Writes line n of the sample's own listing, counted from 0.
+// Writes line n of the sample's report. Lines count from 0.
 fn write_right_line(file: &[u8], n: usize) {
     let mut out = [0u8; LISTING_OCTETS];
     let length = metrics::listing(file, &mut out).length as usize;
@@ -42,7 +42,7 @@ fn write_right_line(file: &[u8], n: usize) {
     }
 }
 
-// Writes that line n is wrong, counted from 1, and both lines.
+// Writes that line n is wrong, that line and the right one. Lines count from 1.
 fn write_wrong_line(file: &[u8], start: &[u8], n: u32) {
     write_word(b"line ");
     write_number(n as u64);
@@ -53,14 +53,14 @@ fn write_wrong_line(file: &[u8], start: &[u8], n: u32) {
     }
 }
 
-// Writes what was found of a sample and the start of a listing.
+// Checks the start of a listing against a sample, and writes the verdict.
 fn write_verdict(file: &[u8], start: &[u8]) {
-    let found = check_start(file, start);
-    if found.refusal != NONE {
-        write_refusal(found.refusal);
+    let checked = check_start(file, start);
+    if checked.refusal != NONE {
+        write_refusal(checked.refusal);
         return;
     }
-    let verdict = found.verdict;
+    let verdict = checked.verdict;
     match verdict {
         Verdict::Agrees => {
             write_word(b"the listing is right\n");

@@ -1,10 +1,10 @@
-// A line shown: its printable octets as they are, others as a backslash, an x and two hexadecimal digits.
+// Shows a line: printable octets as they are, others as a backslash, an x and two hexadecimal digits.
 use program::write_word;
 
-// The most octets of a line that are shown.
-const SHOWN_MOST: usize = 120;
+// The greatest number of octets of a line that are shown.
+const MAX_SHOWN: usize = 120;
 
-// The hexadecimal digit of a number below 16.
+// Returns the hexadecimal digit of a number below 16.
 fn hexadecimal(n: u8) -> u8 {
     if n < 10 {
         return 48 + n;
@@ -15,7 +15,7 @@ fn hexadecimal(n: u8) -> u8 {
     b'?'
 }
 
-// Writes an octet so that it can be seen.
+// Writes an octet visibly.
 fn write_octet(octet: u8) {
     if octet < 32 || 126 < octet {
         let escape = [
@@ -31,17 +31,17 @@ fn write_octet(octet: u8) {
     write_word(&word);
 }
 
-// Writes octets so that they can be seen.
+// Writes octets visibly.
 fn write_octets(octets: &[u8]) {
     for i in 0..octets.len() {
         write_octet(octets[i]);
     }
 }
 
-// Writes the text of a line, cut if it is long, and that it has no line feed, or has not ended.
+// Writes the text of a line, cut if it is long. If the line has not `ended`, says that it has no line feed.
 fn write_text(text: &[u8], ended: bool) {
-    if SHOWN_MOST < text.len() {
-        write_octets(&text[0..SHOWN_MOST]);
+    if MAX_SHOWN < text.len() {
+        write_octets(&text[0..MAX_SHOWN]);
         write_word(b" ..\n");
         return;
     }
@@ -53,7 +53,7 @@ fn write_text(text: &[u8], ended: bool) {
     write_word(b" (no line feed)\n");
 }
 
-// Writes what stands at a line: its text, or that there is no such line.
+// Writes `words` and a line, or that there is no such line.
 pub(crate) fn write_line(words: &[u8], line: &[u8]) {
     write_word(words);
     let n = line.len();

@@ -1,9 +1,9 @@
--- The log of a sample that is read into lists of 4,096 places or more. They are long enough for every sample, so what is read is what the
--- file decodes to, refused or not (`same`). Where nothing is refused the first places hold the sample's arrivals, since they were written
--- over the start. Nothing of them is refused, since the sample is fit (`read-numbers` to `read-lists`). The log's writer is given these, so
--- what it writes is the sample's log, and its refusal is 8 or none (`log-written`).
--- Here a, b and c are numbers of places, r a refusal, y what the reader answers, by f, z that it has no refusal; sizes′, numbers′ and
--- times′ are the lists after it, d what the file decodes to. Assumes nothing.
+-- The log of a sample that is read into lists of length 4,096 or more. They have room for every sample, so the answer of the reader is what the
+-- file decodes to, refused or not (`same`). If nothing is refused, the lists begin with the sample's arrivals, which were written over their
+-- start. The arrivals are not refused, since the sample is fit (`read-numbers` to `read-lists`). So `textlog::write` writes the sample's log, and
+-- its refusal is 8 or none (`log-written`).
+-- a, b and c are lengths of lists, r is a refusal, y the answer of the reader, f its contract, z says that it has no refusal; sizes′, numbers′ and
+-- times′ are the lists after it, d is the decoded file. Assumes nothing.
 use Prim.Native.Nat.{ℕ, zero, suc, _≤_}
 use native.Mathlib.Omega.{arith}
 use mathlib.Core.Path.{_≡_, refl, sym, ap, _∙_, subst}
@@ -88,7 +88,7 @@ module _ (file sizes numbers times : List ℕ) (y : Layout) (sizes′ numbers′
         let h = first-none (judgeLabel (length (s .label))) (judgeOctets (s .label) ∷ r ∷ []) (accepted-fit file s read-sample o .judged) in
         first-none r [] (first-none (judgeOctets (s .label)) (r ∷ []) (h .1) .1) .0
 
--- ---- what is answered
+-- ---- the answer
 
 -- an accepted file, of which the lists were filled
 pub log-written : (d : Decoded) (out : List ℕ) (written : WriteAnswer) (out′ : List ℕ) {k : ℕ} {numbers times : List ℕ} → decodedRefusal d ≡ 0

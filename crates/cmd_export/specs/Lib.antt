@@ -1,2 +1,2 @@
--- What the program writes of a sample.
+-- The text log that the program writes.
 pub mod SampleLog

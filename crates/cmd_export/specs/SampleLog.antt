@@ -1,4 +1,4 @@
--- The text log of a sample's arrivals in octets of the caller, and the answer. Assumes nothing.
+-- The text log of a sample's arrivals, in the caller's buffer. Assumes nothing.
 use Prim.Native.Nat.{ℕ}
 use mathlib.Core.List.{List}
 use Rattle.sample.specs.Output.{Output}
@@ -10,6 +10,6 @@ use Rattle.textlog.specs.Form.{logOf}
 abbrev pub sampleLog : Decoded → List ℕ
 sampleLog d = logOf (sampleOf d .arrivals)
 
--- the answer, and the octets after it, which begin with the log
+-- the answer, and the caller's buffer after it, which begins with the log
 abbrev pub LoggedTo : Decoded → List ℕ → WriteAnswer → List ℕ → Type 0
 LoggedTo d out answer out′ = Output (decodedRefusal d) (sampleLog d) out answer out′

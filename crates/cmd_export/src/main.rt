@@ -1,6 +1,6 @@
-// The export program: reads a sample on standard input, and writes its arrivals on standard output. With the argument `log` it writes
-// a text log, with `owamp` OWAMP records. For a refused sample it writes the line `refused N: WORDS` instead. That is neither, since a
-// line of a log begins with a digit and a record with the octet 0.
+// The export program: reads a sample on standard input and writes its arrivals on standard output, as a text log with the argument `log`, as
+// OWAMP records with `owamp`. If the sample is refused, it writes the line `refused N: WORDS` instead. This line can't be taken for either,
+// since a line of a log begins with a digit and a record with the octet 0.
 mod log;
 
 use log::put_log;
@@ -12,16 +12,16 @@ use program::write_refusal;
 use program::write_word;
 use sample::WriteAnswer;
 
-// The octets that suffice for any log: 46 for each of 4,096 lines. A record has 25.
+// Room for any output: 4,096 lines of at most 46 octets, or records of 25.
 const OUTPUT_OCTETS: usize = 188_416;
 
-// What the arrivals are written as.
+// The form of the output.
 enum Kind {
     Log,
     Records,
 }
 
-// Writes a sample's arrivals from the start of `out`.
+// Writes a sample's arrivals to the start of `out`.
 fn put_arrivals(kind: Kind, file: &[u8], out: &mut [u8]) -> WriteAnswer {
     match kind {
         Kind::Log => put_log(file, out),
@@ -40,13 +40,13 @@ fn write_arrivals(kind: Kind, file: &[u8]) {
     write_first(&out, written.length as usize);
 }
 
-// Reads the input whole, and writes its arrivals.
+// Reads the whole input and writes its arrivals.
 fn export(kind: Kind) {
     let mut input = [0u8; SAMPLE_ROOM];
     write_arrivals(kind, read_input(&mut input));
 }
 
-// Exports by the word of the argument.
+// Exports in the form that the argument names.
 fn main() {
     if argument_is(1, b"log") {
         export(Kind::Log);

@@ -36,7 +36,7 @@ use Rattle.cmd_import.specs.Convert.{inputRefusal, inputArrivals, RoomFo
 use Rattle.cmd_import.specs.declared.convert.Kind.{Kind}
 use Rattle.cmd_import.specs.declared.convert.Kind.the-variants.{Records}
 
--- ---- what is imported
+-- ---- the import
 
 -- the first places of a list of equal values
 pub take-equal : (k n size : ℕ) → k ≤ n → take k (replicate n size) ≡ replicate k size
@@ -92,7 +92,7 @@ module _ (k : ℕ) (os : List ℕ) {numbers times : List ℕ} {y : RecordsImport
             holds-filled (y .refusal) (importedArrivals os) numbers times (none-refused k os none .most) (records-accepted k os none .lists) (f .arrivals) (f .filledNumbers) (f .filledTimes) z;
       }
 
--- ---- what is answered
+-- ---- the answer
 
 -- of the refusals in their order, a last one that is not due
 last-none : (a b : ℕ) → firstRefusal (a ∷ b ∷ 0 ∷ []) ≡ firstRefusal (a ∷ b ∷ [])

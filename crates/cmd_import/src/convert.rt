@@ -8,7 +8,7 @@ use sample::WriteAnswer;
 use textlog::LogImport;
 
 // The length of each list: a sample has at most 4,096 packets and as many arrivals.
-const LIST_LENGTH: usize = ARRIVALS_MOST as usize;
+const LIST_LEN: usize = ARRIVALS_MOST as usize;
 
 // The kind of input.
 pub(crate) enum Kind {
@@ -66,7 +66,7 @@ fn convert_lists(
             length: 0,
         };
     }
-    let sizes = [size; LIST_LENGTH];
+    let sizes = [size; LIST_LEN];
     let sent = k as usize;
     let n = imported.arrivals as usize;
     sample::write(label, &sizes[..sent], &numbers[..n], &times[..n], out)
@@ -83,8 +83,8 @@ pub(crate) fn convert(
 ) -> WriteAnswer
     ensures { λ r. ⌜ ConvertedTo (inputRefusal kind k (now (input .entry))) (now (label .entry)) k size (inputArrivals kind (now (input .entry))) (now (out .entry)) r (now (out .exit)) ⌝ }
 {
-    let mut numbers = [0u32; LIST_LENGTH];
-    let mut times = [0u64; LIST_LENGTH];
+    let mut numbers = [0u32; LIST_LEN];
+    let mut times = [0u64; LIST_LEN];
     let imported = import_lists(kind, input, k, &mut numbers, &mut times);
     convert_lists(imported, label, k, size, &numbers, &times, out)
 }

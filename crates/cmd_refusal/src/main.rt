@@ -1,13 +1,13 @@
-// The program that says a refusal in words: its argument is the number of the refusal. Of another number it writes an empty line.
+// The refusal program: prints the words of the refusal whose number is the argument; an empty line for any other number.
 use program::write_word;
 
-// Writes the words of a refusal, as a line.
+// Writes the words of a refusal and a line feed.
 fn write_line(refusal: u32) {
     program::write_words(refusal);
     write_word(b"\n");
 }
 
-// Takes the argument, and writes its words; 0, which is no refusal, stands for a number of over 32 bits.
+// Reads the argument and writes its words. A number of over 32 bits is taken as 0, which is no refusal.
 fn main() {
     let mut word = [0u8; 32];
     let n = os::arg(1, &mut word);

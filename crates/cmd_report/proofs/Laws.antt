@@ -1,7 +1,7 @@
--- The text of an input, and what stands in lent memory with it. A text put at the start of memory is written whole if it fits
--- (`put-fitting`), else nothing is (`put-short`). A refused input has the line of its refusal as its text, an accepted one its listing.
--- An accepted one can be refused by 8 alone, so that what `metrics::listing` leaves is its text if it fits (`listed-text`).
--- Here d is the decoded input, old and new are memory before and after, n is the length put, and r a refusal or what the listing answered.
+-- The text of an input, and the buffer that holds it. A text is written whole to the start of a buffer if it fits (`put-fitting`), else not at
+-- all (`put-short`). The text of a refused input is the line of its refusal, that of an accepted one its report. An accepted input can be refused
+-- only with 8, so `metrics::listing` leaves its text if it fits (`listed-text`).
+-- d is the decoded input, old and new are the buffer before and after, n is the length written, and r a refusal or the answer of `listing`.
 -- Assumes nothing.
 use mathlib.Core.Path.{_≡_, refl, sym, ap, _∙_}
 use mathlib.Core.Bool.{Bool, true, false}

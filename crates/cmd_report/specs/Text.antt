@@ -1,4 +1,4 @@
--- The text that the program prints of an input, and the caller's buffer that holds it. Assumes nothing.
+-- The text that the program prints for an input, and the buffer that holds it. Assumes nothing.
 use mathlib.Core.Path.{_≡_}
 use mathlib.Core.Bool.{cond}
 use mathlib.Core.List.{List}
@@ -10,12 +10,12 @@ use Rattle.listing.specs.Lines.{refusedLine}
 use Rattle.metrics.specs.Report.{sampleText}
 use Rattle.sample.specs.Decode.{Decoded, refused, accepted}
 
--- the text of a decoded input: the one line of a refused input, else the listing of its sample
+-- the text of a decoded input: the report of its sample, or one line if the input is refused
 unfoldable pub reportText : Decoded → List ℕ
 reportText (refused r) = refusedLine r
 reportText (accepted s) = sampleText (accepted s)
 
--- a text written at the start of a buffer: r octets of it, which are all if it fits, and none if it does not
+-- a text written to the start of a buffer. r is the number of octets written: all if the text fits, else 0
 pub record PutWhole (text old : List ℕ) (r : ℕ) (new : List ℕ) : Type 0 where
   pub answer : r ≡ cond (leb (length text) (length old)) (length text) 0
   pub memory : new ≡ put 0 text old

@@ -1,5 +1,5 @@
-// The report program: reads a sample on standard input, and prints its report, or the one line of a refused input, on
-// standard output. No sample has over 57,414 octets, so of a longer input the first 57,415 octets suffice.
+// The report program: reads a sample on standard input and prints its report on standard output, or one line if the input is refused. No sample
+// has over 57,414 octets, so the first 57,415 octets decide about longer input.
 ghost use Prim.Native.Nat.{_≤_};
 ghost use lib.ListN.{length};
 ghost use Rattle.listing.specs.Lines.{refusedLine};
@@ -12,8 +12,7 @@ use program::read_input;
 use program::write_first;
 use rfc4737::refusal::NONE;
 
-// Writes the one line of a refused input at the start of `out` if `out` has room for it, and returns how many octets
-// were written.
+// Writes the line of a refused input to the start of `out` if it has room. Returns the number of octets written.
 fn refuse(refusal: u32, out: &mut [u8]) -> usize
     ensures { λ r. ⌜ PutWhole (refusedLine refusal) (now (out .entry)) r (now (out .exit)) ⌝ }
 {
@@ -24,8 +23,8 @@ fn refuse(refusal: u32, out: &mut [u8]) -> usize
     n
 }
 
-// Writes the text of an input at the start of `out` if `out` has room for it, as LISTING_OCTETS octets have for any, and
-// returns how many octets were written.
+// Writes the text of an input to the start of `out` if it has room; LISTING_OCTETS octets have room for any. Returns the number of octets
+// written.
 fn report(input: &[u8], out: &mut [u8]) -> usize
     ensures { λ r. ⌜ PutWhole (reportText (decode (now (input .entry)))) (now (out .entry)) r (now (out .exit)) ⌝ }
     ensures room { λ _. ⌜ length (reportText (decode (now (input .entry)))) ≤ listingOctets ⌝ }
@@ -37,7 +36,7 @@ fn report(input: &[u8], out: &mut [u8]) -> usize
     metrics::listing(input, out).length as usize
 }
 
-// Reads the whole input, and prints its text.
+// Reads the whole input and prints its text.
 fn main() {
     let mut input = [0u8; SAMPLE_ROOM];
     let mut out = [0u8; LISTING_OCTETS];

@@ -1,6 +1,5 @@
-// The program that prints every record of a sample with named fields: reads a sample on standard input and prints its table, or the one
-// line of a refused input, on standard output. The argument is `csv` or `json`. No sample has over 57,414 octets, so the first 57,415
-// decide of longer input.
+// The table program: reads a sample on standard input and prints every record with named fields on standard output, or one line if the input is
+// refused. The argument is `csv` or `json`. No sample has over 57,414 octets, so the first 57,415 octets decide about longer input.
 ghost use mathlib.Core.Path.{_≡_};
 ghost use Prim.Native.Nat.{_≤_};
 ghost use lib.ListN.{length};
@@ -19,7 +18,7 @@ use sample::WriteAnswer;
 use table::PART_OCTETS;
 use table::PARTS;
 
-// Writes a part of the table of a sample at the start of `out`.
+// Writes a part of the table of a sample to the start of `out`.
 fn write_form(json: bool, input: &[u8], part: u32, out: &mut [u8]) -> WriteAnswer
     ensures { λ r. ⌜ PartTo json (decode (now (input .entry))) part (now (out .entry)) r (now (out .exit))
         × (length (partText json (decode (now (input .entry))) part) ≤ partOctets) × PartsJoin json (decode (now (input .entry))) ⌝ }
@@ -30,7 +29,7 @@ fn write_form(json: bool, input: &[u8], part: u32, out: &mut [u8]) -> WriteAnswe
     table::write_csv(input, part, out)
 }
 
-// Puts the one line of a refused input at the start of `out`, which has room for it, and returns how many octets were written.
+// Writes the line of a refused input to the start of `out`, which has room for it. Returns its length.
 fn refuse(refusal: u32, out: &mut [u8]) -> usize
     requires { ⌜ partOctets ≤ length (now out) ⌝ }
     ensures { λ r. ⌜ (r ≡ length (refusedLine refusal)) × (now (out .exit) ≡ over (refusedLine refusal) (now (out .entry))) ⌝ }
@@ -38,7 +37,7 @@ fn refuse(refusal: u32, out: &mut [u8]) -> usize
     listing::put_refused(out, 0, refusal)
 }
 
-// Puts a part of the text of an input at the start of `out`, which has room for it, and returns how many octets were written.
+// Writes a part of the text of an input to the start of `out`, which has room for it. Returns its length.
 fn put_part(json: bool, input: &[u8], part: u32, out: &mut [u8]) -> usize
     requires { ⌜ partOctets ≤ length (now out) ⌝ }
     ensures { λ r. ⌜ Shown json (decode (now (input .entry))) part (now (out .entry)) r (now (out .exit)) ⌝ }
@@ -61,7 +60,7 @@ fn print_part(json: bool, input: &[u8], part: u32) {
     write_first(&out, n);
 }
 
-// Prints the parts of the text of an input in turn.
+// Prints all parts of the text of an input.
 fn print_parts(json: bool, input: &[u8]) {
     let mut part: u32 = 0;
     while part < PARTS {
@@ -70,13 +69,13 @@ fn print_parts(json: bool, input: &[u8]) {
     }
 }
 
-// Reads the input whole, and prints its text.
+// Reads the whole input and prints its text.
 fn print_table(json: bool) {
     let mut input = [0u8; SAMPLE_ROOM];
     print_parts(json, read_input(&mut input));
 }
 
-// Prints by the word of the argument.
+// Prints the table in the form that the argument names.
 fn main() {
     if argument_is(1, b"csv") {
         print_table(false);

@@ -1,5 +1,5 @@
--- `cmd_report::refuse` meets its contract: the line is put if it fits (`put-fitting`); where it does not nothing is put, and the answer is
--- 0 (`put-short`). Assumes nothing.
+-- `cmd_report::refuse` meets its contract: the line is written if it fits (`put-fitting`); if not, nothing is written, and the answer is 0
+-- (`put-short`). Assumes nothing.
 use native.Mathlib.Omega.{arith}
 use borrow.Author.Needs.{needs}
 use Rattle.cmd_report.proofs.Laws.{put-short, put-fitting}

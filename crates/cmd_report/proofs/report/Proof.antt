@@ -1,5 +1,5 @@
--- `cmd_report::report` meets its contract: a refused input's text is the line of its refusal (`text-refused`), which is short; an accepted
--- one's is its listing (`text-accepted`, `listed-text`), which has room by what `metrics::listing` carries. Assumes nothing.
+-- `cmd_report::report` meets its contract: the text of a refused input is the line of its refusal (`text-refused`), which is short. The text of an
+-- accepted input is its report (`text-accepted`, `listed-text`), which has room by the contract of `metrics::listing`. Assumes nothing.
 use mathlib.Core.Path.{_≡_, sym, ap, _∙_}
 use Prim.Native.Nat.{_^_, _<_}
 use native.Mathlib.Omega.{arith}

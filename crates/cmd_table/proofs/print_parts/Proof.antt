@@ -1,4 +1,4 @@
--- `cmd_table::print_parts` ends: the measure is what is left of the parts. Assumes nothing.
+-- `cmd_table::print_parts` ends: the measure is the number of parts left. Assumes nothing.
 use Prim.Native.Nat.{_-_, _≤_}
 use borrow.Author.Needs.{needs}
 use Rattle.cmd_table.proofs.print_parts.Statement.{statement}

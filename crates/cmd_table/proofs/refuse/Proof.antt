@@ -1,4 +1,4 @@
--- `cmd_table::refuse` meets its contract: the line has at most 19 octets, so it is put. Here p is where it is put, s the start. Assumes
+-- `cmd_table::refuse` meets its contract: the line has at most 19 octets, so it fits. p is the place after it is written, s the start. Assumes
 -- nothing.
 use Prim.Native.Nat.{_+_, _≤_, _<_, _^_}
 use native.Mathlib.Omega.{arith}

@@ -1,5 +1,5 @@
--- `cmd_export::log::put_log` meets its contract: a refusal of `read` is the file's own. With none the first places hold the arrivals
--- (`numbers`, `times`), so these parts can be taken, and what `write` does with them is the sample's log (`log-written`). Assumes nothing.
+-- `cmd_export::log::put_log` meets its contract: a refusal of `read` is the file's own. If there is none, the lists begin with the arrivals
+-- (`numbers`, `times`), so these parts lie within the lists, and `write` writes the sample's log (`log-written`). Assumes nothing.
 use Prim.Native.Nat.{ℕ, _≤_}
 use mathlib.Core.Path.{_≡_, sym, ap}
 use mathlib.Core.List.{List}
