@@ -57,6 +57,32 @@ wait "$!"
 verdict 'lines that come late' "$([ "$first, $second" = '1 at 1000 us: in order, jump 0, 2 at 3000 us: in order, jump 0' ] || echo ", $first, $second")"
 exec 6<&-
 
+# A named pipe is opened once, so that nothing of what is written to it is lost.
+printf '1 at 1000 us: in order, jump 0\naccepted 1, in order 1, reordered 0, copies 0, closed runs 0, open run 1\n' > "$dir/expected"
+echo '1;1' > "$dir/in" &
+try 'a named pipe' 0 '' follow 1 "$dir/in"
+wait "$!"
+
+# A signal to the command alone ends its program too: the named pipe, which is open here for writing, has no reader then.
+: > "$dir/out"
+PATH=$path "$krakobran" follow 1 "$dir/in" > "$dir/out" 2> "$dir/err" &
+follow=$!
+exec 5> "$dir/in"
+echo '1;1' >&5
+for ((i = 0; i < 600; i++)); do
+    [ ! -s "$dir/out" ] || break
+    sleep 0.1
+done
+kill "$follow"
+wait "$follow" 2> "$dir/which"
+found=$?
+for ((i = 0; i < 50; i++)); do
+    (trap '' PIPE && echo '1;1' >&5) 2> "$dir/which" || break
+    sleep 0.1
+done
+verdict 'a signal ends the program too' "$([ "$found" -eq 143 ] && [ "$i" -lt 50 ] || echo ", status $found, its input is still read")"
+exec 5>&-
+
 # An interrupt ends what writes to the pipe, and then the counts are printed.
 printf '1 at 1000 us: in order, jump 0\naccepted 1, in order 1, reordered 0, copies 0, closed runs 0, open run 1\n' > "$dir/expected"
 : > "$dir/out"
