@@ -23,4 +23,6 @@ pub mod Returned
 pub mod PassedNumbers
 pub mod LentStruct
 pub mod Local
+pub mod Members
+pub mod LentMembers
 pub mod LentReceiver

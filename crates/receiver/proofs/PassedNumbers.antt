@@ -202,7 +202,7 @@ module _ {M : Type 1} {𝓤 : URA M} {H : Heap 𝓤} {A : Atoms 𝓤} {K : Type 
       record { go = λ Kt h. subst (λ (d : Ty × ℕ). ent 𝓤 (⋆ 𝓤 H A Γ) (steps 𝓤 H E (d .0, d .1, zero) st Kt)) (sym e) (w .go Kt h) }
 
   -- operands are read in any context that says the same
-  same-opds : {Γ : List (Item 𝓤)} (Γ′ : List (Item 𝓤)) {E : Env 𝓤 H} {xs : List Operand} {vs : List Val}
+  pub same-opds : {Γ : List (Item 𝓤)} (Γ′ : List (Item 𝓤)) {E : Env 𝓤 H} {xs : List Operand} {vs : List Val}
       → Seq K W Γ (prop (⋆ 𝓤 H A Γ′)) → Seq K W Γ′ (prop (⋆ 𝓤 H A Γ)) → Opds K W Γ′ E xs vs → Opds K W Γ E xs vs
   same-opds Γ′ i j os = record { go = λ Kt h. via 𝓤 _ (i .prf) (os .go Kt (via 𝓤 _ (j .prf) h)) }
 
@@ -222,7 +222,7 @@ module _ {M : Type 1} {𝓤 : URA M} {H : Heap 𝓤} {A : Atoms 𝓤} {K : Type 
       passes-all t ws (bs .1) (ns .1) (fits .1) E $ move t (1 ∷ 2 ∷ 0 ∷ []) $ fjoin t $ fjoin t $ s)
 
   -- with them at the head of the context
-  reads-first : {Γ : List (Item 𝓤)} {E : Env 𝓤 H} → K → (ws : List Width) (bs ns : Numbers ws) (i : ℕ) → From 𝓤 H E i ws bs
+  pub reads-first : {Γ : List (Item 𝓤)} {E : Env 𝓤 H} → K → (ws : List Width) (bs ns : Numbers ws) (i : ℕ) → From 𝓤 H E i ws bs
       → Opds K W (‵ (Full ws bs ns) ∷ Γ) E (copies i ws) (values ws ns)
   reads-first t [] bs ns i at = no-more t
   reads-first {Γ} t (w ∷ ws) bs ns i at =

@@ -1,4 +1,4 @@
--- `meter::start_in_place` meets its contract: it is the function of LentMeter that calls `restart`, whose answer is the start's, and a refused
+-- `meter::start_in_place` meets its contract: it is the function of the receiver's LentMembers over a meter that calls `restart`, whose answer is the start's, and a refused
 -- start leaves an equal meter (`start-refused`). Assumes nothing.
 use mathlib.Core.Path.{_≡_, ap, _∙_}
 use Prim.Native.Nat.{ℕ}
@@ -6,21 +6,15 @@ use mathlib.Core.List.{[], _∷_}
 use mir.Syntax.{w32}
 use base.Logic.{emp, id⊢}
 use contract.Monad.{factI, fact-mono}
-use contract.Running.{givenOf, tables, tablesOf}
-use denote.Struct.Laws as LL
-use denote.Triple.Spec.{tripleOf}
-use denote.Triple.Table.{entered, cited}
-use Rattle.receiver.proofs.LentStruct.{meets}
-use Rattle.receiver.proofs.Outcome as S
-use Rattle.receiver.proofs.Outcome.Laws as S′
+use contract.Running.{tablesOf}
+use Rattle.receiver.proofs.LentMembers.{in-place}
 use Rattle.meter.specs.declared.Meter.{Meter}
 use Rattle.meter.specs.declared.MeterStepAnswer.{MeterStepAnswer}
 use Rattle.meter.specs.Step.{meterStart}
 use Rattle.meter.specs.Lent.{AsMeterStart}
 use Rattle.meter.specs.Private.{startAsStep}
 use Rattle.meter.proofs.Meters.{start-refused}
-use Rattle.meter.proofs.LentMeter.{walk}
-use Rattle.meter.proofs.Meter as R
+use Rattle.meter.proofs.LentMeter.{lendable}
 use Rattle.meter.proofs.restart as restart
 use Rattle.meter.proofs.restart.Symbol as restart-def
 use Rattle.meter.proofs.restart.Met as restart-thm
@@ -41,16 +35,7 @@ as-start h stream k d e = (
 pub start-in-place-spec : {M : Type 1} → stated.statement M
 unfolding code.routine tablesOf
 start-in-place-spec 𝓤 H 𝓜 𝓖 𝓡 =
-    let A = 𝓖 .A in
-    let W = givenOf 𝓤 H 𝓜 𝓖 in
-    let 𝓣 = tablesOf 𝓤 H 𝓜 (tables 𝓤 H 𝓜 𝓡 code.env) in
-    entered 𝓤 H (tripleOf 𝓤 H A f.signature (f.spec 𝓤 H A (𝓜 .mem) (𝓡 .run))) (𝓣 .C) (𝓣 .Λ) #f code.function
-    (code.unfolded 𝓤 H 𝓜 𝓡)
-    (meets 𝓤 H A R.the-row S.the-row (w32 ∷ w32 ∷ []) (λ h ns. AsMeterStart h (ns .0) (ns .1 .0)) W 𝓣
-    code.function (LL.makes S.the-type S′.the-plain 𝓤 H A) (f.clauses 𝓤 H A (𝓜 .mem) (𝓡 .run))
-    (λ κs a g s h e. factI 𝓤 _ (emp 𝓤) e)
-    (walk 𝓤 H A W 𝓣 (w32 ∷ w32 ∷ []) (restart.clauses 𝓤 H A (𝓜 .mem) (𝓡 .run)) restart-def.name
-    (cited 𝓤 H (tripleOf 𝓤 H A restart.signature (restart.spec 𝓤 H A (𝓜 .mem) (𝓡 .run))) 𝓜 𝓡 code.env restart-def.name
-    restart-def.routine code.calls-meter·restart (restart-thm.met 𝓤 H 𝓜 𝓖 𝓡))
-    (λ κs a. tt) (λ κs a. id⊢ 𝓤 _) (λ h ns. AsMeterStart h (ns .0) (ns .1 .0))
-    (λ κs h ns p₁ p₂ p₃ p₄ p₅ γ₁ γ₂ γ₃ γ₄ γ₅ a e. fact-mono 𝓤 _ _ (as-start h (ns .0) (ns .1 .0) _)) _))
+    in-place 𝓤 H 𝓜 𝓖 𝓡 code.env lendable (w32 ∷ w32 ∷ []) (restart.clauses 𝓤 H (𝓖 .A) (𝓜 .mem) (𝓡 .run)) restart-def.name
+    restart-def.routine code.calls-meter·restart (restart-thm.met 𝓤 H 𝓜 𝓖 𝓡) (λ κs a. tt) (λ κs a. id⊢ 𝓤 _)
+    (λ h ns. AsMeterStart h (ns .0) (ns .1 .0)) (λ κs h ns b o γs a e. fact-mono 𝓤 _ _ (as-start h (ns .0) (ns .1 .0) _))
+    (f.clauses 𝓤 H (𝓖 .A) (𝓜 .mem) (𝓡 .run)) (λ κs a g s h e. factI 𝓤 _ (emp 𝓤) e) #f _ (code.unfolded 𝓤 H 𝓜 𝓡)

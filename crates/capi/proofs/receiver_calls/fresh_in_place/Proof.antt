@@ -1,19 +1,13 @@
--- `capi::receiver_calls::fresh_in_place` meets its contract: it is the function of LentReceiver that calls `refresh`. Assumes nothing.
+-- `capi::receiver_calls::fresh_in_place` meets its contract: it is the function of the receiver's LentMembers over a receiver that calls `refresh`. Assumes nothing.
 use mathlib.Core.Path.{_≡_, ap}
 use mathlib.Core.List.{[], _∷_}
 use mir.Syntax.{w32}
 use base.Logic.{emp, id⊢}
 use contract.Monad.{factI, fact-mono}
-use contract.Running.{givenOf, tables, tablesOf}
-use denote.Struct.Laws as LL
-use denote.Triple.Spec.{tripleOf}
-use denote.Triple.Table.{entered, cited}
-use Rattle.receiver.proofs.LentStruct.{meets}
-use Rattle.receiver.proofs.LentReceiver.{walk}
-use Rattle.receiver.proofs.Outcome as S
-use Rattle.receiver.proofs.Outcome.Laws as S′
+use contract.Running.{tablesOf}
+use Rattle.receiver.proofs.LentMembers.{in-place}
+use Rattle.receiver.proofs.LentReceiver.{lendable}
 use Rattle.receiver.specs.declared.FreshAnswer.{FreshAnswer}
-use Rattle.receiver.proofs.Receiver as R
 use Rattle.capi.specs.Receiver.{freshIn}
 use Rattle.capi.proofs.receiver_calls.refresh as callee
 use Rattle.capi.proofs.receiver_calls.refresh.Symbol as callee-def
@@ -26,16 +20,8 @@ use Rattle.capi.proofs.receiver_calls.fresh_in_place.Code as code
 pub fresh-in-place-spec : {M : Type 1} → stated.statement M
 unfolding code.routine tablesOf
 fresh-in-place-spec 𝓤 H 𝓜 𝓖 𝓡 =
-    let A = 𝓖 .A in
-    let W = givenOf 𝓤 H 𝓜 𝓖 in
-    let 𝓣 = tablesOf 𝓤 H 𝓜 (tables 𝓤 H 𝓜 𝓡 code.env) in
-    entered 𝓤 H (tripleOf 𝓤 H A f.signature (f.spec 𝓤 H A (𝓜 .mem) (𝓡 .run))) (𝓣 .C) (𝓣 .Λ) #f code.function
-    (code.unfolded 𝓤 H 𝓜 𝓡)
-    (meets 𝓤 H A R.the-row S.the-row (w32 ∷ []) (λ h ns s h′. (s .refusal ≡ freshIn h (ns .0) .refusal) × (h′ ≡ freshIn h (ns .0) .state)) W 𝓣
-    code.function (LL.makes S.the-type S′.the-plain 𝓤 H A) (f.clauses 𝓤 H A (𝓜 .mem) (𝓡 .run))
-    (λ κs a g s h e. factI 𝓤 _ (emp 𝓤) e)
-    (walk 𝓤 H A W 𝓣 (w32 ∷ []) (callee.clauses 𝓤 H A (𝓜 .mem) (𝓡 .run)) callee-def.name
-    (cited 𝓤 H (tripleOf 𝓤 H A callee.signature (callee.spec 𝓤 H A (𝓜 .mem) (𝓡 .run))) 𝓜 𝓡 code.env callee-def.name
-    callee-def.routine code.calls-capi·receiver-calls·refresh (callee-thm.met 𝓤 H 𝓜 𝓖 𝓡))
-    (λ κs a. tt) (λ κs a. id⊢ 𝓤 _) (λ h ns s h′. (s .refusal ≡ freshIn h (ns .0) .refusal) × (h′ ≡ freshIn h (ns .0) .state))
-    (λ κs h ns p₁ p₂ p₃ p₄ γ₁ γ₂ γ₃ γ₄ a e. fact-mono 𝓤 _ _ (λ e. (ap (λ (z : FreshAnswer). z .refusal) e, ap (λ (z : FreshAnswer). z .state) e))) _))
+    in-place 𝓤 H 𝓜 𝓖 𝓡 code.env lendable (w32 ∷ []) (callee.clauses 𝓤 H (𝓖 .A) (𝓜 .mem) (𝓡 .run)) callee-def.name callee-def.routine
+    code.calls-capi·receiver-calls·refresh (callee-thm.met 𝓤 H 𝓜 𝓖 𝓡) (λ κs a. tt) (λ κs a. id⊢ 𝓤 _)
+    (λ h ns s h′. (s .refusal ≡ freshIn h (ns .0) .refusal) × (h′ ≡ freshIn h (ns .0) .state))
+    (λ κs h ns b o γs a e. fact-mono 𝓤 _ _ (λ e. (ap (λ (z : FreshAnswer). z .refusal) e, ap (λ (z : FreshAnswer). z .state) e)))
+    (f.clauses 𝓤 H (𝓖 .A) (𝓜 .mem) (𝓡 .run)) (λ κs a g s h e. factI 𝓤 _ (emp 𝓤) e) #f _ (code.unfolded 𝓤 H 𝓜 𝓡)
