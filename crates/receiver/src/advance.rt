@@ -2,7 +2,7 @@
 // are borrowed and written in place.
 
 use crate::MARK_WORDS;
-use crate::MOST;
+use crate::MAX_KEPT;
 use crate::Outcome;
 use crate::Receiver;
 use crate::ReceiverAnswer;
@@ -99,7 +99,7 @@ pub(crate) fn advance<'a>(
     parts::advance(
         s,
         false,
-        MOST,
+        MAX_KEPT,
         marks,
         positions,
         numbers,

@@ -133,7 +133,7 @@ impl Receiver {
     pub fn step(self, number: u32, time: u64) -> StepAnswer
         ensures { λ r. ⌜ r ≡ stepOf self number time ⌝ }
     {
-        self.step_within(MOST, number, time)
+        self.step_within(MAX_KEPT, number, time)
     }
 
     // The same for a receiver that keeps at most `most` jumps; 0 is taken as 1, and more than 64 as 64.
@@ -186,7 +186,7 @@ impl Receiver {
 }
 
 // Receiver::WINDOW as a number of 32 bits.
-const MOST: u32 = Receiver::WINDOW as u32;
+const MAX_KEPT: u32 = Receiver::WINDOW as u32;
 
 // Clamps `most` to 1 to 64.
 pub(crate) fn at_most(most: u32) -> u32
@@ -195,8 +195,8 @@ pub(crate) fn at_most(most: u32) -> u32
     if most == 0 {
         return 1;
     }
-    if MOST < most {
-        return MOST;
+    if MAX_KEPT < most {
+        return MAX_KEPT;
     }
     most
 }

@@ -22,6 +22,25 @@ stateAt c = whole (c .args .s) (c .args .marks .now) (oldestFirst (c .args .down
 abbrev startOf : tie.Else1 → tie.Start
 startOf c = c .before .before .before .before .before .before .before
 
+-- ---- places in the code, each by one before it: where an in-order arrival is noted, after its numbers are made, after it is marked, and where
+-- its jump is stored
+
+abbrev unrefused-at : tie.After-after-in-order-arg → tie.Else1
+unrefused-at c = c .before .before .before .before
+
+abbrev numbers-at : tie.After-mark → tie.After-after-in-order
+numbers-at c = c .before .before
+
+abbrev marked-at : tie.After-struct-known2 → tie.After-mark
+marked-at c = c .before .before .before .before .before
+
+-- an in-order arrival that is marked was not refused, and so was one whose jump is stored
+abbrev in-order-at : tie.After-mark → tie.Else1
+in-order-at c = unrefused-at (numbers-at c .before)
+
+abbrev jump-at : tie.After-struct-known2 → tie.Else1
+jump-at c = in-order-at (marked-at c)
+
 -- an arrival that is not refused
 accepted : (c : tie.Else1) → Unrefused (stateAt (startOf c)) (startOf c .args .number)
 accepted c = said-accepted _ _ _ true _ (c .before .before .decide .ensures) (c .if1 .left)
@@ -39,33 +58,33 @@ after-duplicate-requires c κs =
 
 after-in-order-requires : tie.Need-after-in-order-requires
 after-in-order-requires c κs =
-    let e = c .before .before .before .before in
+    let e = unrefused-at c in
     let a = accepted e in
     (a .stream, (omega (arith, a .number-high, a .stream .sent-high), (startOf e .pre .0 .0, startOf e .pre .1 .1 .0)))
 
 mark-requires : tie.Need-mark-requires
 mark-requires c κs =
-    let a = accepted (c .before .before .before .before .before .before) in
+    let a = accepted (unrefused-at (c .before .before)) in
     (a .number-low, omega (arith, a .number-high, a .stream .sent-high))
 
 add-push : tie.Need-add-push
 add-push c =
-    let a = accepted (c .before .before .before .before .before .before .before .before .before .before .before .before) in
+    let a = accepted (jump-at c) in
     record { fits = omega (arith, a .stream .arrived-high, a .stream .sent-high) }
 
 cast-push : tie.Need-cast-push
 cast-push c =
-    let a = accepted (c .before .before .before .before .before .before .before .before .before .before .before .before) in
+    let a = accepted (jump-at c) in
     record { fits = omega (arith, a .stream .arrived-high, a .stream .sent-high) }
 
 cast-push-2 : tie.Need-cast-push-2
 cast-push-2 c =
-    let a = accepted (c .before .before .before .before .before .before .before .before .before .before .before .before) in
+    let a = accepted (jump-at c) in
     record { fits = omega (arith, a .number-high, a .stream .sent-high) }
 
 push-requires : tie.Need-push-requires
 push-requires c κs =
-    let e = c .before .before .before .before .before .before .before .before .before .before .before .before in
+    let e = jump-at c in
     (accepted e .places .kept-high, startOf e .pre)
 
 mark-requires-2 : tie.Need-mark-requires-2
@@ -85,17 +104,19 @@ returns-2 c =
 
 returns-3 : tie.Need-returns-3
 returns-3 c =
-    let late = c .before .before .before .before .before .before .before .before in
-    let early = late .before .before .before .before .before in
+    let marked = marked-at (c .before) in
+    let late = numbers-at marked in
+    let early = in-order-at marked in
     step-noted _ _ _ _ _ (early .before .before .decide .ensures) _ (early .if1 .left)
     (jump-written _ _ _ _ _ _ _ _ _ _ _ _ _ _ _ (accepted early .places .kept-high, (startOf early .pre .0, same-full _ _ _ _ (startOf early .pre .1))) (late .before .before .before .noted .given .1) (c .before .before .before .before .before .if2 .taken) (late .after-in-order .ensures _ _)
-    (c .before .before .before .before .before .before .mark .ensures) (c .push .ensures))
+    (marked .mark .ensures) (c .push .ensures))
 
 returns-4 : tie.Need-returns-4
 returns-4 c =
-    let early = c .before .before .before .before .before .before .before .before in
+    let late = numbers-at (c .before) in
+    let early = in-order-at (c .before) in
     step-noted _ _ _ _ _ (early .before .before .decide .ensures) _ (early .if1 .left)
-    (in-order-written _ _ _ _ _ _ _ _ _ _ _ _ (c .before .before .before .before .before .before .noted .given .1) (c .if2 .left) (c .before .before .before .after-in-order .ensures _ _) (c .before .mark .ensures))
+    (in-order-written _ _ _ _ _ _ _ _ _ _ _ _ (late .before .before .before .noted .given .1) (c .if2 .left) (late .after-in-order .ensures _ _) (c .before .mark .ensures))
 
 returns-5 : tie.Need-returns-5
 returns-5 c =

@@ -7,36 +7,6 @@ use Rattle.receiver.proofs.Fits.{stream-pass, stream-false}
 use Rattle.receiver.proofs.fit.stream_fit.Statement.{statement}
 use Rattle.receiver.proofs.fit.stream_fit.Tie as tie
 
-returns : tie.Need-returns
-returns c = stream-false _ (λ h. omega arith)
-
-returns-2 : tie.Need-returns-2
-returns-2 c = stream-false _ (λ h. omega arith)
-
-returns-3 : tie.Need-returns-3
-returns-3 c = stream-false _ (λ h. omega arith)
-
-returns-4 : tie.Need-returns-4
-returns-4 c = stream-false _ (λ h. omega arith)
-
-returns-5 : tie.Need-returns-5
-returns-5 c = stream-false _ (λ h. omega arith)
-
-returns-6 : tie.Need-returns-6
-returns-6 c = stream-false _ (λ h. omega arith)
-
-returns-7 : tie.Need-returns-7
-returns-7 c = stream-false _ (λ h. omega arith)
-
-returns-8 : tie.Need-returns-8
-returns-8 c = stream-false _ (λ h. omega arith)
-
-returns-9 : tie.Need-returns-9
-returns-9 c = stream-false _ (λ h. omega arith)
-
-returns-10 : tie.Need-returns-10
-returns-10 c = stream-false _ (λ h. omega arith)
-
 returns-11 : tie.Need-returns-11
 returns-11 c =
     let late = c .before .before .before .before .before .before .before in
@@ -49,16 +19,16 @@ pub stream-fit-spec : {M : Type 1} → statement M
 stream-fit-spec =
     tie.close
     (tie.spec
-    returns
-    returns-2
-    returns-3
+    (λ c. stream-false _ (λ h. omega arith))
+    (λ c. stream-false _ (λ h. omega arith))
+    (λ c. stream-false _ (λ h. omega arith))
     (λ c. search needs)
-    returns-4
-    returns-5
-    returns-6
-    returns-7
-    returns-8
-    returns-9
+    (λ c. stream-false _ (λ h. omega arith))
+    (λ c. stream-false _ (λ h. omega arith))
+    (λ c. stream-false _ (λ h. omega arith))
+    (λ c. stream-false _ (λ h. omega arith))
+    (λ c. stream-false _ (λ h. omega arith))
+    (λ c. stream-false _ (λ h. omega arith))
     (λ c. search needs)
-    returns-10
+    (λ c. stream-false _ (λ h. omega arith))
     returns-11)
