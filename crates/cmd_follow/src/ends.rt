@@ -1,6 +1,6 @@
-// How the program ends, as numbers and as words.
+// How the program ended, as a number and as a word.
 
-// It goes on.
+// It has not ended yet.
 pub(crate) const GOING: u32 = 0;
 
 // The input has ended.
@@ -15,10 +15,10 @@ pub(crate) const UNWRITTEN: u32 = 3;
 // K is refused.
 pub(crate) const REFUSED: u32 = 4;
 
-// Where the program says how it ended.
+// The descriptor on which the program says how it ended.
 const STATUS: i32 = 3;
 
-// Says how the program ended: with GOING, all was read and written.
+// Says how the program ended. GOING means that all was read and written.
 pub(crate) fn say_end(end: u32) {
     if end == UNREAD {
         io::write_all(STATUS, b"unread");

@@ -1,8 +1,7 @@
-// The program that follows a text log: its argument is K. It reads lines on standard input as they come, and writes on standard output what
-// the receiver says of each, a write to a line, and the counts at the end. What it holds is of fixed size, however long the input is.
-// It ends where the input does, where standard input can't be read, or where a line can't be written. A program of Rattle has no exit
-// status: it says on descriptor 3 how it ended, with the word `done`, `unread`, `unwritten` or, where K is refused,
-// `refused`.
+// The follow program: steps a receiver by the lines of a text log as they come on standard input. Its argument is K. For each line it writes
+// the outcome on standard output at once, and the counts at the end. Its memory does not grow with the input.
+// It ends when the input ends, when standard input can't be read, or when a line can't be written. A program of Rattle has no exit status, so
+// it says on descriptor 3 how it ended: `done`, `unread`, `unwritten`, or `refused` if K is refused.
 mod ends;
 
 use ends::GOING;
@@ -19,23 +18,26 @@ use receiver::Receiver;
 use rfc4737::refusal::STATE_FULL;
 use std::num::wrapping_add_u64;
 
-// The octets that are held of a line. Of a longer line the first ones are, which have no line feed at their end and so are refused.
+// Room for a line, in octets. A longer line is cut there, so it has no line feed and is refused.
 const HELD_OCTETS: usize = 256;
 
-// The octets that are read at a time.
+// The number of octets that are read at a time.
 const BLOCK_OCTETS: usize = 4096;
 
-// Where the program stands between two octets: the receiver, how many octets of the next line are held, that line's number, whether it
-// was said that the receiver is full, and how the program ends, or that it goes on.
+// The state of the program between two octets.
 struct Progress {
+    // The receiver.
     state: Receiver,
+    // The octets of the current line that are held, and its number.
     held: usize,
     line: u64,
+    // Whether the program has said that the receiver is full.
     told: bool,
+    // How the program ends, or GOING.
     end: u32,
 }
 
-// Says that the receiver accepts no more, and where a new one goes on.
+// Says that the receiver is full, and at which line a new one has to start.
 fn tell_full(line: u64) {
     io::write_all(
         STDERR_FILENO,
@@ -45,7 +47,7 @@ fn tell_full(line: u64) {
     io::write_all(STDERR_FILENO, b"\n");
 }
 
-// Writes the first n octets of `out`, and returns how the program goes on.
+// Writes the first n octets of `out`. Returns GOING, or UNWRITTEN if they can't be written.
 fn write_line(out: &[u8], n: usize) -> u32 {
     if write_first(out, n) {
         return GOING;
@@ -53,7 +55,7 @@ fn write_line(out: &[u8], n: usize) -> u32 {
     UNWRITTEN
 }
 
-// Whether it was said that the receiver is full; says it at the first line that is refused for it.
+// Says that the receiver is full at the first line that is refused for it. Returns whether this was said, now or before.
 fn told_full(told: bool, refusal: u32, line: u64) -> bool {
     if told {
         return true;
@@ -65,28 +67,28 @@ fn told_full(told: bool, refusal: u32, line: u64) -> bool {
     true
 }
 
-// Ends the line that is held, which has at most all octets of `line`: writes what is said of it.
-fn end_line(p: Progress, line: &[u8]) -> Progress {
-    let held = p.held;
-    let state = p.state;
+// Ends the line that is held in `line`: steps the receiver and writes the outcome.
+fn end_line(progress: Progress, line: &[u8]) -> Progress {
+    let held = progress.held;
+    let state = progress.state;
     if held <= line.len() {
         let mut out = [0u8; LINE_OCTETS];
         let answer = follow::line(state, &line[0..held], &mut out);
         let after = answer.state;
         let end = write_line(&out, answer.length as usize);
-        let told = told_full(p.told, answer.refusal, p.line);
+        let told = told_full(progress.told, answer.refusal, progress.line);
         return Progress {
             state: after,
             held: 0,
-            line: wrapping_add_u64(p.line, 1),
+            line: wrapping_add_u64(progress.line, 1),
             told,
             end,
         };
     }
-    p
+    progress
 }
 
-// Holds one octet more if there is room for it, and returns how many are held.
+// Holds an octet if there is room for it. Returns the number of octets held.
 fn hold(line: &mut [u8], held: usize, octet: u8) -> usize {
     if held < line.len() {
         line[held] = octet;
@@ -95,10 +97,10 @@ fn hold(line: &mut [u8], held: usize, octet: u8) -> usize {
     held
 }
 
-// Takes one octet: it is held, and a line feed ends the line.
-fn take_octet(p: Progress, line: &mut [u8], octet: u8) -> Progress {
-    let held = hold(line, p.held, octet);
-    let mut next = p;
+// Takes one octet. A line feed ends the line.
+fn take_octet(progress: Progress, line: &mut [u8], octet: u8) -> Progress {
+    let held = hold(line, progress.held, octet);
+    let mut next = progress;
     next.held = held;
     if octet == b'\n' {
         return end_line(next, line);
@@ -108,72 +110,72 @@ fn take_octet(p: Progress, line: &mut [u8], octet: u8) -> Progress {
 
 // Takes the octets of a block in turn.
 fn take_block(start: Progress, line: &mut [u8], block: &[u8]) -> Progress {
-    let mut p = start;
+    let mut progress = start;
     let mut i = 0;
     while i < block.len() {
-        if p.end != GOING {
-            return p;
+        if progress.end != GOING {
+            return progress;
         }
-        let next = take_octet(p, line, block[i]);
-        p = next;
+        let next = take_octet(progress, line, block[i]);
+        progress = next;
         i += 1;
     }
-    p
+    progress
 }
 
-// The same progress, with an end.
-fn ended(p: Progress, end: u32) -> Progress {
-    let mut last = p;
+// Returns the progress with another end.
+fn ended(progress: Progress, end: u32) -> Progress {
+    let mut last = progress;
     last.end = end;
     last
 }
 
 // Reads a block and takes its octets.
-fn read_block(p: Progress, line: &mut [u8]) -> Progress {
+fn read_block(progress: Progress, line: &mut [u8]) -> Progress {
     let mut block = [0u8; BLOCK_OCTETS];
     let got = libc::read(STDIN_FILENO, &mut block);
     if got < 0 {
-        return ended(p, UNREAD);
+        return ended(progress, UNREAD);
     }
     if got == 0 {
-        return ended(p, INPUT_ENDED);
+        return ended(progress, INPUT_ENDED);
     }
     let n = io::count(got, &block);
-    take_block(p, line, &block[..n])
+    take_block(progress, line, &block[..n])
 }
 
-// Reads block after block. A proved loop has to end: it counts its turns down from a number that no run uses up.
+// Reads block after block. Every loop must be proved to end, so this one counts down from a number of turns that no run reaches.
 fn read_all(start: Progress, line: &mut [u8]) -> Progress {
-    let mut p = start;
+    let mut progress = start;
     let mut turns = u64::MAX;
     while turns > 0 {
-        if p.end != GOING {
-            return p;
+        if progress.end != GOING {
+            return progress;
         }
-        let next = read_block(p, line);
-        p = next;
+        let next = read_block(progress, line);
+        progress = next;
         turns -= 1;
     }
-    p
+    progress
 }
 
-// Ends a last line that has no line feed, which is refused.
-fn end_last(p: Progress, line: &[u8]) -> Progress {
-    if p.end != INPUT_ENDED {
-        return p;
+// Ends a last line without a line feed, which is refused.
+fn end_last(progress: Progress, line: &[u8]) -> Progress {
+    if progress.end != INPUT_ENDED {
+        return progress;
     }
-    if p.held == 0 {
-        return ended(p, GOING);
+    if progress.held == 0 {
+        return ended(progress, GOING);
     }
-    end_line(p, line)
+    end_line(progress, line)
 }
 
-// Writes the counts, and returns how the program ends.
-fn write_counts(p: Progress) -> u32 {
-    if p.end != GOING {
-        return p.end;
+// Writes the counts. Returns how the program ends.
+fn write_counts(progress: Progress) -> u32 {
+    if progress.end != GOING {
+        return progress.end;
     }
-    let state = p.state;
+    let state = progress.state;
     let mut out = [0u8; LINE_OCTETS];
     let answer = follow::counts(state, &mut out);
     write_line(&out, answer.length as usize)
@@ -194,7 +196,7 @@ fn follow_input(state: Receiver) {
     say_end(write_counts(last));
 }
 
-// The K that a word is in decimal; 0, which is refused, for another word.
+// Reads a word as K. Any other word gives 0, which is refused.
 fn sent_in(word: &[u8]) -> u32 {
     let number = decimal::reading::number_at(word, 0);
     let value = number.value;
@@ -207,7 +209,7 @@ fn sent_in(word: &[u8]) -> u32 {
     value as u32
 }
 
-// Takes K, and follows standard input.
+// Reads K, and follows standard input.
 fn main() {
     let mut word = [0u8; 32];
     let n = os::arg(1, &mut word);

@@ -1,2 +1,2 @@
--- Where the panels of the picture stand. Assumes nothing.
+-- The frames of the panels of the picture. Assumes nothing.
 pub mod Panels

@@ -15,7 +15,7 @@ use crate::text::write_number;
 use crate::text::write_shape;
 use crate::text::write_word;
 
-// What an axis counts: microseconds, shown in a greater unit; positions, which take two halves each; or things.
+// The unit of an axis: a unit of time, for values in microseconds; positions, each drawn as two halves; or plain numbers.
 pub(crate) enum Unit {
     Milliseconds,
     Seconds,
@@ -26,7 +26,7 @@ pub(crate) enum Unit {
     Things,
 }
 
-// The unit in which a span of microseconds is shown: its numbers have at most five digits before the point.
+// Returns the unit for a span of microseconds, so that its numbers have at most five digits before the point.
 pub(crate) fn unit_for(span: u64) -> Unit {
     if span < 100000000 {
         return Unit::Milliseconds;
@@ -56,7 +56,7 @@ pub(crate) fn write_unit(unit: Unit) {
     }
 }
 
-// Writes the decimals of a number of thousandths, without the zeros at their end.
+// Writes a number of thousandths as decimals, without trailing zeros.
 fn write_decimals(thousandths: u64) {
     if thousandths == 0 {
         return;
@@ -88,7 +88,7 @@ fn write_value(value: u64, unit: Unit) {
     }
 }
 
-// How far a value of a unit is along its axis.
+// Returns how far along its axis a value of a unit is.
 fn along(value: u64, unit: Unit) -> u64 {
     match unit {
         Unit::Positions => plus(value, value),
@@ -141,19 +141,19 @@ fn write_tick_beside(panel: Panel, y: u64, sign: &[u8], value: u64, unit: Unit)
     write_word(b"</text>\n");
 }
 
-// An axis beside a panel: the value at its base, and how far it goes below and above the base.
+// The axis beside a panel: the value at its base, and how far it extends below and above the base.
 pub(crate) struct Levels {
     pub(crate) base: u64,
     pub(crate) below: u64,
     pub(crate) above: u64,
 }
 
-// The length of an axis beside a panel.
+// Returns the length of an axis beside a panel.
 pub(crate) fn span_of(levels: Levels) -> u64 {
     plus(levels.below, levels.above)
 }
 
-// Writes the ticks from the base of an axis upwards.
+// Writes the ticks from the base of an axis up.
 fn write_ticks_up(panel: Panel, levels: Levels, step: u64, unit: Unit)
     requires { ⌜ 1 ≤ step ⌝ }
 {

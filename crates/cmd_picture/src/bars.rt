@@ -1,4 +1,4 @@
-// The extents of the late packets: a bar for each of the bins 1, 2, 3-4, 5-8 and so on up to 2049-4095, as far as there are extents.
+// The panel of extents: a bar for each of the bins 1, 2, 3-4, 5-8 and so on up to 2049-4095; the last bin drawn is the last with an extent.
 ghost use Prim.Native.Nat.{_≤_};
 use crate::axes::Unit;
 use crate::axes::begin_name_below;
@@ -20,7 +20,7 @@ use std::num::wrapping_sub_u64;
 // The number of bins.
 const BINS: u32 = 13;
 
-// The greatest extent of a bin: 1, 2, 4, 8 and so on; 4095 for the last bin.
+// Returns the greatest extent of a bin: 1, 2, 4, 8 and so on; 4095 for the last bin.
 fn bin_end(bin: u32) -> u64
     ensures { λ r. ⌜ r ≤ 4095 ⌝ }
 {
@@ -33,7 +33,7 @@ fn bin_end(bin: u32) -> u64
     4095
 }
 
-// The least extent of a bin.
+// Returns the least extent of a bin.
 fn bin_start(bin: u32) -> u64 {
     if bin == 0 {
         return 1;
@@ -41,7 +41,7 @@ fn bin_start(bin: u32) -> u64 {
     bin_end(bin - 1) + 1
 }
 
-// How many extents are in a bin.
+// Counts the extents in a bin.
 fn count_in(rows: &[u64], arrivals: u32, bin: u32) -> u64 {
     let start = bin_start(bin);
     let end = bin_end(bin);
@@ -57,7 +57,7 @@ fn count_in(rows: &[u64], arrivals: u32, bin: u32) -> u64 {
     count
 }
 
-// The bars of a sample: how many bins up to the last one that has an extent, and the greatest count of a bin.
+// The bars of a sample: the number of bins up to the last with an extent, and the greatest count of a bin.
 struct Bars {
     pub bins: u32,
     pub greatest: u64,
@@ -90,7 +90,7 @@ fn write_bin(bin: u32) {
     }
 }
 
-// Writes the bar of a bin, the first at the top, and its name.
+// Writes the bar of a bin and its name. The first bin is at the top.
 fn write_bar(bin: u32, bins: u32, count: u64, span: u64) {
     let panel = Panel::Extents;
     let span_down = 10 * (bins as u64);
@@ -117,7 +117,7 @@ fn write_bar(bin: u32, bins: u32, count: u64, span: u64) {
     write_shape(b"HAz'/>\n", left_of(panel), 0, 0, 0);
 }
 
-// Writes the bars, as far as there are bins.
+// Writes the bars of all bins.
 fn write_rows(rows: &[u64], arrivals: u32, bars: Bars, span: u64) {
     for bin in 0..bars.bins {
         write_bar(bin, bars.bins, count_in(rows, arrivals, bin), span);

@@ -11,7 +11,7 @@ use rfc4737::Counts;
 use sample::Layout;
 use sample::arrival;
 
-// Writes an octet of the label, as XML has it.
+// Writes an octet of the label, escaped for XML if necessary.
 fn write_octet(octet: u8) {
     match octet {
         b'&' => write_word(b"&amp;"),
@@ -32,7 +32,7 @@ fn write_label(label: &[u8]) {
     }
 }
 
-// Writes the name of the picture: the label, or what the picture shows if the label is empty.
+// Writes the name of the picture: the label or, if it is empty, what the picture shows.
 fn write_name(label: &[u8]) {
     if label.len() == 0 {
         write_word(b"Packet reordering");
@@ -41,9 +41,9 @@ fn write_name(label: &[u8]) {
     }
 }
 
-// Writes the picture's size, its colours by class, for light and for dark, and its background. The classes: i in order, l late, s stem
-// or join, b bar or triangle, c copy, w stair, n and t the settings for 95 in 100 and for all, a frame, g grid; m and e text that is
-// centred or ends at its place, h text over lines.
+// Writes the size of the picture, its colours by class, for light and for dark, and its background. The classes: i in order, l late, s stem
+// or join, b bar or triangle, c copy, w stair, n and t the settings for 95 percent and for all, a frame, g grid; m text that is centred at its
+// point, e text that ends there, h text over lines.
 fn write_style() {
     write_word(
         b"</title>\n<style>\
@@ -58,7 +58,7 @@ fn write_style() {
     );
 }
 
-// Writes the title: a long label in smaller letters, so that 64 of the widest fit.
+// Writes the title. A long label has smaller letters, so that 64 of the widest fit.
 fn write_title(label: &[u8]) {
     write_word(
         b"<svg xmlns='http://www.w3.org/2000/svg' viewBox='0 0 1200 970' width='1200' height='970' role='img'>\n<title>",
@@ -90,7 +90,7 @@ fn write_counts(layout: Layout, counts: Counts) {
     write_word(b"</text>\n");
 }
 
-// Writes a row of the table: the sizes of a setting.
+// Writes the sizes of a setting, as a row of the table.
 fn write_sizes(sizes: Sizes, y: u64) {
     write_shape(b"<text class='e' x='410' y='A'>", y, 0, 0, 0);
     write_milliseconds(sizes.time);
@@ -114,7 +114,7 @@ fn write_settings(settings: Settings) {
     write_sizes(settings.all, 1360);
 }
 
-// Whether the clock steps back: an arrival is stamped earlier than the arrival before it.
+// Returns whether the clock steps back: whether an arrival has an earlier time than the arrival before it.
 fn steps_back(file: &[u8], layout: Layout) -> bool {
     let mut last: u64 = 0;
     for i in 0..layout.arrivals {
@@ -127,7 +127,7 @@ fn steps_back(file: &[u8], layout: Layout) -> bool {
     false
 }
 
-// Writes what the settings leave out.
+// Writes what limits the settings.
 fn write_notes(back: bool) {
     write_word(b"<text x='680' y='118'>Packets that never arrived are not counted.</text>\n");
     if back {

@@ -1,5 +1,5 @@
-// The panel of late times over arrival times: a dot for each packet in order, and for each late packet a dot at its late time with a
-// stem from 0; lines at the waiting times of the two settings.
+// The panel of late times over arrival times: a dot for each packet in order, a dot with a stem from 0 for each late packet, and a line at the
+// waiting time of each setting.
 ghost use Prim.Native.Nat.{_≤_};
 ghost use lib.ListN.{length};
 use crate::axes::Levels;
@@ -44,7 +44,7 @@ struct Times {
     pub latest: u64,
 }
 
-// The range extended by one more time.
+// Returns the range extended by `time`.
 fn with_time(times: Times, time: u64) -> Times {
     if time < times.earliest {
         let latest = times.latest;
@@ -63,12 +63,12 @@ fn with_time(times: Times, time: u64) -> Times {
     times
 }
 
-// The time of record i + 1.
+// Returns the time of record i + 1.
 fn time_of(file: &[u8], layout: Layout, i: u32) -> u64 {
     arrival(file, layout, i).time
 }
 
-// The range of all arrival times.
+// Returns the range of all arrival times.
 fn times_of(file: &[u8], layout: Layout) -> Times {
     let first = time_of(file, layout, 0);
     let mut times = Times {
@@ -81,7 +81,7 @@ fn times_of(file: &[u8], layout: Layout) -> Times {
     times
 }
 
-// The greatest amount by which a late packet's time is before that of its discontinuity.
+// Returns the greatest amount by which a late packet is before its discontinuity in time.
 fn greatest_before(rows: &[u64], arrivals: u32) -> u64 {
     let mut greatest: u64 = 0;
     for i in 0..arrivals {
@@ -95,7 +95,7 @@ fn greatest_before(rows: &[u64], arrivals: u32) -> u64 {
     greatest
 }
 
-// The axis of late times, from the greatest one before a discontinuity to the greatest one after, with room for a line of text above.
+// Returns the axis of late times, from the greatest before a discontinuity to the greatest after, with room for a line of text above.
 fn levels_for(before: u64, after: u64) -> Levels {
     let below = span_for(before, 0);
     Levels {
@@ -105,7 +105,7 @@ fn levels_for(before: u64, after: u64) -> Levels {
     }
 }
 
-// The axes for a sample with this greatest late time.
+// Returns the axes of a sample. `greatest` is its greatest late time.
 fn axes_of(file: &[u8], layout: Layout, rows: &[u64], greatest: u64) -> Axes {
     let times = times_of(file, layout);
     let span = wrapping_sub_u64(times.latest, times.earliest);
@@ -117,7 +117,7 @@ fn axes_of(file: &[u8], layout: Layout, rows: &[u64], greatest: u64) -> Axes {
     }
 }
 
-// `span`, or `other` if `span` is 0.
+// Returns `span`, or `other` if `span` is 0.
 fn span_or(span: u64, other: u64) -> u64 {
     if span == 0 {
         return other;
@@ -125,7 +125,7 @@ fn span_or(span: u64, other: u64) -> u64 {
     span
 }
 
-// How far from the upper edge the late time of record i + 1 stands.
+// Returns how far from the upper edge the late time of record i + 1 stands.
 fn level_of(panel: Panel, levels: Levels, rows: &[u64], i: u32) -> u64 {
     let amount = amount_of(rows, i);
     if is_before(rows, i) {
@@ -138,7 +138,7 @@ fn level_of(panel: Panel, levels: Levels, rows: &[u64], i: u32) -> u64 {
     down(panel, plus(levels.below, amount), span_of(levels))
 }
 
-// Writes a shape for each record of a kind, at its time and late time, with the level of 0.
+// Writes a shape for each record of a kind, at its time and its late time. The shape also gets the level of 0.
 fn write_marks(
     panel: Panel,
     axes: Axes,
@@ -161,7 +161,7 @@ fn write_marks(
     }
 }
 
-// Writes the marks of all packets, those in order last.
+// Writes the marks of all packets; those in order come last.
 fn write_layers(panel: Panel, axes: Axes, file: &[u8], layout: Layout, rows: &[u64]) {
     write_word(b"<path class='s' d='");
     write_marks(panel, axes, file, layout, rows, LATE, b"MA CVB");
@@ -172,14 +172,14 @@ fn write_layers(panel: Panel, axes: Axes, file: &[u8], layout: Layout, rows: &[u
     write_word(b"'/>\n");
 }
 
-// How far from the upper edge a waiting time stands.
+// Returns how far from the upper edge a waiting time stands.
 fn level_of_time(panel: Panel, levels: Levels, time: u64) -> u64
     ensures { λ r. ⌜ 2000 ≤ r ⌝ }
 {
     down(panel, plus(levels.below, time), span_of(levels))
 }
 
-// Writes the line of a waiting time; there is none for 0.
+// Writes the line of a waiting time; nothing for 0.
 fn write_level(panel: Panel, levels: Levels, time: u64, line: &[u8])
     requires { ⌜ length (now line) ≤ 64 ⌝ }
 {
@@ -201,7 +201,7 @@ fn write_level_name(panel: Panel, levels: Levels, time: u64, name: &[u8], x: u64
     }
 }
 
-// Writes the lines of the waiting times for 95 in 100 and for all, and over them their names.
+// Writes the lines of the waiting times for 95 percent and for all, with their names above.
 fn write_settings(panel: Panel, levels: Levels, most: u64, all: u64) {
     write_level(panel, levels, most, b"<path class='n' d='MA BHC'/>");
     write_level(panel, levels, all, b"<path class='t' d='MA BHC'/>");

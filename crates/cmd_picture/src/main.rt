@@ -1,5 +1,5 @@
-// The picture program: reads a sample on standard input, and draws it as SVG on standard output, or prints the one line of a refused
-// input. No sample has over 57,414 octets, so of a longer input the first 57,415 octets suffice.
+// The picture program: reads a sample on standard input and draws it as SVG on standard output, or prints one line if the input is refused. No
+// sample has over 57,414 octets, so the first 57,415 octets decide about longer input.
 mod axes;
 mod bars;
 mod head;
@@ -27,15 +27,15 @@ use settings::Settings;
 use settings::settings_of;
 use stairs::write_stairs;
 
-// The numbers in the rows of all records: eight for each.
-const ROW_PLACES: usize = 8 * (ARRIVALS_MOST as usize);
+// The length of the rows of the longest sample: 8 numbers for each record.
+const ROWS_LEN: usize = 8 * (ARRIVALS_MOST as usize);
 
-// The most arrivals of which sequence numbers are drawn over positions.
-const NUMBERED_MOST: u32 = 300;
+// The greatest number of arrivals whose sequence numbers are drawn over positions.
+const MAX_NUMBERED: u32 = 300;
 
 // Draws the left side: late times, and below them sequence numbers if there are not too many.
 fn draw_left(file: &[u8], layout: Layout, rows: &[u64], settings: Settings) {
-    if NUMBERED_MOST < layout.arrivals {
+    if MAX_NUMBERED < layout.arrivals {
         write_late_times(Panel::TallLateTimes, file, layout, rows, settings);
         return;
     }
@@ -43,9 +43,9 @@ fn draw_left(file: &[u8], layout: Layout, rows: &[u64], settings: Settings) {
     write_numbers(file, layout, rows);
 }
 
-// Draws the panels of a sample by the rows of its records.
+// Draws the panels of a sample from the rows of its records.
 fn draw_panels(file: &[u8], settings: Settings) {
-    let mut rows = [0u64; ROW_PLACES];
+    let mut rows = [0u64; ROWS_LEN];
     let layout = record_rows(file, &mut rows);
     draw_left(file, layout, &rows, settings);
     write_stairs(file, settings);
@@ -72,7 +72,7 @@ fn draw_input(file: &[u8]) {
     draw(file, layout);
 }
 
-// Reads the whole input, and draws it.
+// Reads the whole input and draws it.
 fn main() {
     let mut input = [0u8; SAMPLE_ROOM];
     draw_input(read_input(&mut input));

@@ -1,5 +1,5 @@
-// The panel of sequence numbers over positions: a mark for each arrival, and a line from each late packet to its discontinuity. A first
-// arrival stands at its position, a copy half a position after the first arrival before it.
+// The panel of sequence numbers over positions: a mark for each arrival, and a line from each late packet to its discontinuity. A first arrival
+// is drawn at its position, a copy half a position after the last first arrival.
 ghost use Prim.Native.Nat.{_≤_};
 ghost use lib.ListN.{length};
 use crate::axes::Levels;
@@ -25,19 +25,19 @@ use sample::Layout;
 use sample::arrival;
 use std::num::wrapping_sub_u64;
 
-// What the axes end with: the positions, and the greatest sequence number that arrived; each at least 1.
+// The ends of the axes: the last position and the greatest sequence number that arrived, each at least 1.
 struct Ends {
     pub positions: u64,
     pub numbers: u64,
 }
 
-// The sequence number of record i + 1.
+// Returns the sequence number of record i + 1.
 fn number_of(file: &[u8], layout: Layout, i: u32) -> u64 {
     let a = arrival(file, layout, i);
     a.number as u64
 }
 
-// The greater of two numbers.
+// Returns the greater of two numbers.
 fn greater(a: u64, b: u64) -> u64 {
     if a < b {
         return b;
@@ -56,7 +56,7 @@ fn ends_of(file: &[u8], layout: Layout, rows: &[u64]) -> Ends {
     Ends { positions, numbers }
 }
 
-// How far from the left edge a number of half positions stands: the axis ends half a position after the last one.
+// Returns how far from the left edge a number of half positions is drawn. The axis ends half a position after the last.
 fn x_of(halves: u64, ends: Ends) -> u64 {
     across(
         Panel::Numbers,
@@ -65,7 +65,7 @@ fn x_of(halves: u64, ends: Ends) -> u64 {
     )
 }
 
-// How far from the upper edge a sequence number stands.
+// Returns how far from the upper edge a sequence number is drawn.
 fn y_of(number: u64, ends: Ends) -> u64 {
     down(Panel::Numbers, number, ends.numbers)
 }
@@ -90,7 +90,7 @@ fn write_marks(file: &[u8], layout: Layout, rows: &[u64], ends: Ends, kind: u32,
     }
 }
 
-// The sequence number of the first arrival at a position; 0 if there is none.
+// Returns the sequence number of the first arrival at a position; 0 if there is none.
 fn number_at(file: &[u8], layout: Layout, rows: &[u64], position: u64) -> u64 {
     for i in 0..layout.arrivals {
         if position_of(rows, i) == position {
@@ -100,7 +100,7 @@ fn number_at(file: &[u8], layout: Layout, rows: &[u64], position: u64) -> u64 {
     0
 }
 
-// Writes the line from record i + 1, a late packet, to its discontinuity, whose position is the packet's less its extent.
+// Writes the line from record i + 1, a late packet, to its discontinuity, whose position is the packet's position minus its extent.
 fn write_join(file: &[u8], layout: Layout, rows: &[u64], ends: Ends, i: u32) {
     let position = position_of(rows, i);
     let other = wrapping_sub_u64(position, extent_of(rows, i));
@@ -123,7 +123,7 @@ fn write_joins(file: &[u8], layout: Layout, rows: &[u64], ends: Ends) {
     }
 }
 
-// Writes all marks, those in order last.
+// Writes all marks; those in order come last.
 fn write_layers(file: &[u8], layout: Layout, rows: &[u64], ends: Ends) {
     write_word(b"<path class='s' d='");
     write_joins(file, layout, rows, ends);

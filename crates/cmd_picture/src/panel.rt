@@ -1,10 +1,10 @@
-// Where things stand in the picture, in tenths of a pixel from its left and upper edge. No mark, tick or bar lies outside its panel.
+// Positions in the picture, in tenths of a pixel from its left and upper edge. No mark, tick or bar lies outside its panel.
 ghost use mathlib.Core.Path.{_≡_};
 ghost use Prim.Native.Nat.{_+_, _-_, _*_, _/_, _≤_, _<_};
 ghost use Rattle.cmd_picture.specs.Panels.{rectangle, frameOf};
 
-// The panels: late times, in a form that leaves room for the sequence numbers and a taller one; sequence numbers; the share in order
-// by waiting time and by buffer; extents.
+// The panels: late times, with room for the sequence numbers below or taller without; sequence numbers; the share in order by waiting time and
+// by buffer; extents.
 pub(crate) enum Panel {
     LateTimes,
     TallLateTimes,
@@ -14,7 +14,7 @@ pub(crate) enum Panel {
     Extents,
 }
 
-// Where a panel stands: how far it is from the left and from the upper edge of the picture, its width and its height.
+// The frame of a panel: its distance from the left and from the upper edge of the picture, its width and its height.
 struct Frame {
     pub left: u64,
     pub top: u64,
@@ -22,7 +22,7 @@ struct Frame {
     pub height: u64,
 }
 
-// The frame of these numbers.
+// Returns the frame with these numbers.
 fn rectangle(left: u64, top: u64, width: u64, height: u64) -> Frame
     ensures { λ r. ⌜ r ≡ rectangle left top width height ⌝ }
 {
@@ -34,7 +34,7 @@ fn rectangle(left: u64, top: u64, width: u64, height: u64) -> Frame
     }
 }
 
-// The frame of a panel.
+// Returns the frame of a panel.
 fn frame_of(panel: Panel) -> Frame
     ensures { λ r. ⌜ r ≡ frameOf panel ⌝ }
     ensures inside { λ r. ⌜ (800 ≤ r .left) × (r .left ≤ 8500) × (2000 ≤ r .top) × (r .top ≤ 7400)
@@ -50,7 +50,7 @@ fn frame_of(panel: Panel) -> Frame
     }
 }
 
-// How far a panel is from the left edge of the picture.
+// Returns how far a panel is from the left edge of the picture.
 pub(crate) fn left_of(panel: Panel) -> u64
     ensures { λ r. ⌜ r ≡ frameOf panel .left ⌝ }
     ensures inside { λ r. ⌜ (800 ≤ r) × (r ≤ 8500) ⌝ }
@@ -58,7 +58,7 @@ pub(crate) fn left_of(panel: Panel) -> u64
     frame_of(panel).left
 }
 
-// How far a panel is from the upper edge of the picture.
+// Returns how far a panel is from the upper edge of the picture.
 pub(crate) fn top_of(panel: Panel) -> u64
     ensures { λ r. ⌜ r ≡ frameOf panel .top ⌝ }
     ensures inside { λ r. ⌜ (2000 ≤ r) × (r ≤ 7400) ⌝ }
@@ -66,7 +66,7 @@ pub(crate) fn top_of(panel: Panel) -> u64
     frame_of(panel).top
 }
 
-// The width of a panel.
+// Returns the width of a panel.
 pub(crate) fn width_of(panel: Panel) -> u64
     ensures { λ r. ⌜ r ≡ frameOf panel .width ⌝ }
     ensures inside { λ r. ⌜ r ≤ 6800 ⌝ }
@@ -74,7 +74,7 @@ pub(crate) fn width_of(panel: Panel) -> u64
     frame_of(panel).width
 }
 
-// The height of a panel.
+// Returns the height of a panel.
 pub(crate) fn height_of(panel: Panel) -> u64
     ensures { λ r. ⌜ r ≡ frameOf panel .height ⌝ }
     ensures inside { λ r. ⌜ r ≤ 7200 ⌝ }
@@ -82,7 +82,7 @@ pub(crate) fn height_of(panel: Panel) -> u64
     frame_of(panel).height
 }
 
-// The sum of two numbers, or the greatest number of 64 bits if the sum is greater.
+// Returns the sum of two numbers, or the greatest number of 64 bits if the sum is greater.
 pub(crate) fn plus(a: u64, b: u64) -> u64 {
     let room = u64::MAX - a;
     if room < b {
@@ -91,7 +91,7 @@ pub(crate) fn plus(a: u64, b: u64) -> u64 {
     a + b
 }
 
-// `length` times `value` over `span`, at most `length`. From a span of 2^48 on, the last 16 binary digits of both are left out.
+// Returns `length` * `value` / `span`, at most `length`. From a span of 2^48 on, the last 16 bits of `value` and `span` are ignored.
 fn scaled(value: u64, span: u64, length: u64) -> u64
     requires { ⌜ length ≤ 10000 ⌝ }
     ensures { λ r. ⌜ r ≤ length ⌝ }
@@ -106,7 +106,7 @@ fn scaled(value: u64, span: u64, length: u64) -> u64
     value / 65536 * length / (span / 65536)
 }
 
-// How far from the left edge of the picture `value` stands, of a span that begins with 0 at the left of the panel.
+// Returns how far from the left edge of the picture `value` is drawn; 0 is at the left of the panel, `span` at its right.
 pub(crate) fn across(panel: Panel, value: u64, span: u64) -> u64
     ensures { λ r. ⌜ (frameOf panel .left ≤ r) × (r ≤ frameOf panel .left + frameOf panel .width) ⌝ }
     ensures proportion { λ r. ⌜ (value < span → span < 281474976710656 → r ≡ frameOf panel .left + value * frameOf panel .width / span) ⌝ }
@@ -114,7 +114,7 @@ pub(crate) fn across(panel: Panel, value: u64, span: u64) -> u64
     left_of(panel) + scaled(value, span, width_of(panel))
 }
 
-// How far from the upper edge of the picture `value` stands, of a span that begins with 0 at the bottom of the panel.
+// Returns how far from the upper edge of the picture `value` is drawn; 0 is at the bottom of the panel, `span` at its top.
 pub(crate) fn down(panel: Panel, value: u64, span: u64) -> u64
     ensures { λ r. ⌜ (frameOf panel .top ≤ r) × (r ≤ frameOf panel .top + frameOf panel .height) ⌝ }
     ensures inside { λ r. ⌜ (2000 ≤ r) × (r ≤ 14600) ⌝ }
@@ -125,7 +125,7 @@ pub(crate) fn down(panel: Panel, value: u64, span: u64) -> u64
     top_of(panel) + (height - scaled(value, span, height))
 }
 
-// The lower end of a panel.
+// Returns the lower end of a panel.
 pub(crate) fn bottom(panel: Panel) -> u64
     ensures { λ r. ⌜ r ≡ frameOf panel .top + frameOf panel .height ⌝ }
     ensures inside { λ r. ⌜ r ≤ 14600 ⌝ }
@@ -133,14 +133,14 @@ pub(crate) fn bottom(panel: Panel) -> u64
     top_of(panel) + height_of(panel)
 }
 
-// The right end of a panel.
+// Returns the right end of a panel.
 pub(crate) fn right(panel: Panel) -> u64
     ensures { λ r. ⌜ r ≡ frameOf panel .left + frameOf panel .width ⌝ }
 {
     left_of(panel) + width_of(panel)
 }
 
-// The span of an axis for values up to `greatest`, with some room after it; `none` if `greatest` is 0.
+// Returns the span of an axis for values up to `greatest`, with some room above; `none` if `greatest` is 0.
 pub(crate) fn span_for(greatest: u64, none: u64) -> u64 {
     if greatest == 0 {
         return none;
@@ -148,7 +148,7 @@ pub(crate) fn span_for(greatest: u64, none: u64) -> u64 {
     plus(greatest, greatest / 12 + 1)
 }
 
-// The step between the ticks of a span: the least of 1, 2 and 5 times a power of ten that gives at most six ticks after 0.
+// Returns the step between the ticks of a span: the least of 1, 2 and 5 times a power of ten that gives at most six ticks above 0.
 pub(crate) fn tick_step(span: u64) -> u64
     ensures { λ r. ⌜ 1 ≤ r ⌝ }
 {

@@ -1,10 +1,9 @@
-// What a receiver that restores order is set to: the least waiting time, packets and octets for 95 in 100 of the first arrivals, and
-// for all.
+// The settings of a receiver that restores order: the least waiting time, packets and octets for 95 percent of the first arrivals, and for all.
 use metrics::SampleNeeds;
 use metrics::greatest_needs;
 use rfc4737::Measure;
 
-// A setting in each measure.
+// A setting: one size in each measure.
 pub(crate) struct Sizes {
     pub(crate) time: u64,
     pub(crate) packets: u64,
@@ -17,12 +16,12 @@ pub(crate) struct Settings {
     pub(crate) all: Sizes,
 }
 
-// The least size for 95 in 100 of the first arrivals.
+// Returns the least size for 95 percent of the first arrivals.
 fn size_for_most(file: &[u8], measure: Measure) -> u64 {
     buffering::least(file, measure, 95, 100).size
 }
 
-// The settings for all first arrivals: the greatest needs.
+// Returns the settings for all first arrivals: the greatest needs.
 fn sizes_for_all(needs: SampleNeeds) -> Sizes {
     Sizes {
         time: needs.time,
@@ -31,7 +30,7 @@ fn sizes_for_all(needs: SampleNeeds) -> Sizes {
     }
 }
 
-// The settings of a sample.
+// Returns the settings of a sample.
 pub(crate) fn settings_of(file: &[u8]) -> Settings {
     let most = Sizes {
         time: size_for_most(file, Measure::Time),

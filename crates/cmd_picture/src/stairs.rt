@@ -1,5 +1,5 @@
-// The two stairs: the share of the first arrivals that are in order after a receiver restored it, by its waiting time and by its
-// buffer. The share is asked for at every second pixel, of `metrics::accommodated`.
+// The two stairs: the share of the first arrivals in order after a receiver restored the order, by its waiting time and by its buffer.
+// `metrics::accommodated` gives the share at every second pixel.
 ghost use Prim.Native.Nat.{_≤_};
 ghost use lib.ListN.{length};
 use crate::axes::Levels;
@@ -25,11 +25,10 @@ use crate::text::write_word;
 use metrics::accommodated;
 use rfc4737::Measure;
 
-// How many sizes a stair is asked for, after 0: one for each second pixel.
+// The number of sizes of a stair after 0: one for each second pixel.
 const COLUMNS: u64 = 165;
 
-// The percent that a stair begins with at the foot of its panel: the greatest of 0, 50, 80 and 90 that is at most the share, so that 100
-// has a tick.
+// Returns the percent at the bottom of a stair's panel: the greatest of 0, 50, 80 and 90 that is at most the share. So 100 has a tick.
 fn low_for(part: u32, whole: u32) -> u32
     ensures { λ r. ⌜ r ≤ 90 ⌝ }
 {
@@ -46,7 +45,7 @@ fn low_for(part: u32, whole: u32) -> u32
     90
 }
 
-// How far from the upper edge a share stands, if the foot of the panel is a share of `low` in 100.
+// Returns how far from the upper edge a share is drawn, if the bottom of the panel is `low` percent.
 fn level_of(panel: Panel, part: u32, whole: u32, low: u32) -> u64
     requires { ⌜ low ≤ 90 ⌝ }
 {
@@ -59,7 +58,7 @@ fn level_of(panel: Panel, part: u32, whole: u32, low: u32) -> u64
     down(panel, share - foot, room)
 }
 
-// The size at a column: the span times the column over the number of columns. From 2^48 on the span is divided first.
+// Returns the size at a column: the span times the column over the number of columns. From 2^48 on, the span is divided first.
 fn size_at(column: u64, span: u64) -> u64
     requires { ⌜ column ≤ 165 ⌝ }
 {
@@ -80,7 +79,7 @@ fn write_step(panel: Panel, column: u64, part: u32, whole: u32, low: u32)
     write_shape(b"HAVB", across(panel, column, COLUMNS), y, 0, 0);
 }
 
-// Writes the steps of a stair that begins with a number of accommodated packets: one at each column where this number has changed.
+// Writes the steps of a stair: one at each column where the number of accommodated packets changes. `start` is that number for size 0.
 fn write_steps(panel: Panel, file: &[u8], measure: Measure, span: u64, low: u32, start: u32)
     requires { ⌜ low ≤ 90 ⌝ }
 {
@@ -105,7 +104,7 @@ fn write_stair(panel: Panel, file: &[u8], measure: Measure, span: u64, low: u32)
     write_shape(b"HA'/>\n", right(panel), 0, 0, 0);
 }
 
-// Writes the line of a setting; there is none for 0.
+// Writes the line of a setting; nothing for 0.
 fn write_size(panel: Panel, size: u64, span: u64, line: &[u8])
     requires { ⌜ length (now line) ≤ 64 ⌝ }
 {
@@ -121,7 +120,7 @@ fn write_size(panel: Panel, size: u64, span: u64, line: &[u8])
     );
 }
 
-// Writes a panel with a stair: `most` and `all` are the settings for 95 in 100 and for all.
+// Writes a panel with a stair. `most` and `all` are the settings for 95 percent and for all.
 fn write_panel(
     panel: Panel,
     file: &[u8],

@@ -1,5 +1,4 @@
-// What the picture is written with: words, numbers, and shapes in which lengths are filled in. A length is a whole number of tenths of a
-// pixel.
+// Writes words, numbers, and shapes with lengths filled in. A length is a whole number of tenths of a pixel.
 ghost use Prim.Native.Nat.{_+_, _≤_};
 ghost use lib.ListN.{length};
 use libc::STDOUT_FILENO;
@@ -21,7 +20,7 @@ pub(crate) fn write_number(n: u64) {
     io::print_decimal(STDOUT_FILENO, n);
 }
 
-// Writes a number, and the word for one or for another number of things.
+// Writes a number, then the word `one` for 1 or `more` for any other number.
 pub(crate) fn write_counted(n: u32, one: &[u8], more: &[u8]) {
     write_number(n as u64);
     if n == 1 {
@@ -31,7 +30,7 @@ pub(crate) fn write_counted(n: u32, one: &[u8], more: &[u8]) {
     }
 }
 
-// Writes a time of microseconds as milliseconds with three decimals.
+// Writes a time, given in microseconds, in milliseconds with three decimals.
 pub(crate) fn write_milliseconds(time: u64) {
     write_number(time / 1000);
     write_word(b".");
@@ -41,7 +40,7 @@ pub(crate) fn write_milliseconds(time: u64) {
     write_word(b" ms");
 }
 
-// Writes the share that `part` is of `whole` in percent, to the nearest tenth; of nothing there is none.
+// Writes `part` of `whole` in percent, to the nearest tenth; nothing if `whole` is 0.
 pub(crate) fn write_percent(part: u32, whole: u32) {
     if whole == 0 {
         write_word(b"- %");
@@ -54,7 +53,7 @@ pub(crate) fn write_percent(part: u32, whole: u32) {
     write_word(b" %");
 }
 
-// Puts a word at an offset, and returns the offset after it.
+// Writes a word at an offset. Returns the offset after it.
 fn put_word(out: &mut [u8], at: usize, word: &[u8]) -> usize
     requires { ⌜ (at ≤ 3000) × (length (now word) ≤ 1) ⌝ }
     ensures { λ r. ⌜ r ≤ at + 1 ⌝ }
@@ -63,7 +62,7 @@ fn put_word(out: &mut [u8], at: usize, word: &[u8]) -> usize
     at + word.len()
 }
 
-// Puts the digits of a number at an offset, and returns the offset after them.
+// Writes the digits of a number at an offset. Returns the offset after them.
 fn put_digits(out: &mut [u8], at: usize, v: u64) -> usize
     requires { ⌜ at ≤ 3000 ⌝ }
     ensures { λ r. ⌜ r ≤ at + 20 ⌝ }
@@ -71,7 +70,7 @@ fn put_digits(out: &mut [u8], at: usize, v: u64) -> usize
     at + decimal::put_decimal(out, at, v)
 }
 
-// Puts a length in pixels, with one decimal if it has one, and returns the offset after it.
+// Writes a length in pixels, with one decimal if it is not whole. Returns the offset after it.
 fn put_length(out: &mut [u8], at: usize, tenths: u64) -> usize
     requires { ⌜ at ≤ 2900 ⌝ }
     ensures { λ r. ⌜ r ≤ at + 41 ⌝ }
@@ -84,7 +83,7 @@ fn put_length(out: &mut [u8], at: usize, tenths: u64) -> usize
     put_digits(out, decimal, tenths % 10)
 }
 
-// Puts an octet of a shape, or for one of the letters from A to D the length that it stands for, and returns the offset after it.
+// Writes an octet of a shape, or the length for which a letter from A to D stands. Returns the offset after it.
 fn put_part(out: &mut [u8], at: usize, octet: u8, a: u64, b: u64, c: u64, d: u64) -> usize
     requires { ⌜ at ≤ 2900 ⌝ }
     ensures { λ r. ⌜ r ≤ at + 41 ⌝ }
@@ -101,8 +100,8 @@ fn put_part(out: &mut [u8], at: usize, octet: u8, a: u64, b: u64, c: u64, d: u64
     }
 }
 
-// Writes a shape: an element or a part of one in which the letters from A to D stand for lengths. No part is longer than a number of
-// 20 digits with one decimal, so the text has room for all of it.
+// Writes a shape: an element, or a part of one, in which the letters from A to D stand for lengths. No length has more than 20 digits and one
+// decimal, so the text has room for all of it.
 pub(crate) fn write_shape(shape: &[u8], a: u64, b: u64, c: u64, d: u64)
     requires { ⌜ length (now shape) ≤ 64 ⌝ }
 {

@@ -1,2 +1,2 @@
--- What the program says of two samples. Assumes nothing.
+-- The comparison that the program prints. Assumes nothing.
 pub mod Standing

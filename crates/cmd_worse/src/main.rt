@@ -1,6 +1,6 @@
-// The program that says which of two samples is the worse link. Its arguments are the paths of two sample files, and the names that
-// it calls them by, which are the paths where none are given. It prints one line: which sample has the greater reordered ratio, with
-// name, label and ratio of each; or the sample that is refused.
+// The worse program: tells which of two samples is of the worse link. Its arguments are the paths of two sample files and, if wanted, the names
+// to print for them. It prints one line: which sample has the greater reordered ratio, with the name, label and ratio of each; or which sample
+// is refused.
 mod ratio;
 
 use program::SAMPLE_ROOM;
@@ -36,7 +36,7 @@ fn write_sample(name: &[u8], between: &[u8], file: &[u8]) {
     write_sample_ratio(file);
 }
 
-// Writes that the first of two accepted samples is worse.
+// Writes that the sample `file` is worse than `other`. Both are accepted.
 fn write_worse(name: &[u8], file: &[u8], other_name: &[u8], other: &[u8]) {
     write_sample(name, b" is worse: ", file);
     write_word(b"; ");
@@ -53,7 +53,7 @@ fn write_equal(name: &[u8], file: &[u8], other_name: &[u8], other: &[u8]) {
     write_word(b"\n");
 }
 
-// Writes which of two accepted samples is the worse one.
+// Writes which of two accepted samples is worse.
 fn write_comparison(name: &[u8], file: &[u8], other_name: &[u8], other: &[u8]) {
     let standing = standing_of(metrics::counts(file).counts, metrics::counts(other).counts);
     match standing {
@@ -63,7 +63,7 @@ fn write_comparison(name: &[u8], file: &[u8], other_name: &[u8], other: &[u8]) {
     }
 }
 
-// Writes the refusal of a sample in words, and returns whether there is one.
+// Writes the refusal of a sample, if any. Returns whether there is one.
 fn write_refusal(which: &[u8], file: &[u8]) -> bool {
     let refusal = sample::check(file).refusal;
     if refusal == 0 {
@@ -85,14 +85,14 @@ fn compare_files(name: &[u8], file: &[u8], other_name: &[u8], other: &[u8]) {
     write_comparison(name, file, other_name, other);
 }
 
-// Reads two open files, and compares them; their names are the arguments at two places.
-fn compare_open(first: i32, second: i32, first_place: usize, second_place: usize) {
+// Reads two open files and compares them. Their names are the arguments at two indices.
+fn compare_open(first: i32, second: i32, first_name: usize, second_name: usize) {
     let mut one = [0u8; SAMPLE_ROOM];
     let mut other = [0u8; SAMPLE_ROOM];
     let mut name = io::buffer();
-    let i = os::arg(first_place, &mut name);
+    let i = os::arg(first_name, &mut name);
     let mut other_name = io::buffer();
-    let j = os::arg(second_place, &mut other_name);
+    let j = os::arg(second_name, &mut other_name);
     compare_files(
         &name[..i],
         read(first, &mut one),
@@ -101,8 +101,8 @@ fn compare_open(first: i32, second: i32, first_place: usize, second_place: usize
     );
 }
 
-// Opens both files, and compares them.
-fn compare_named(first_place: usize, second_place: usize) {
+// Opens both files and compares them. Their names are the arguments at two indices.
+fn compare_named(first_name: usize, second_name: usize) {
     let first = open_argument(1);
     if first < 0 {
         write_word(b"the first sample can't be opened\n");
@@ -113,10 +113,10 @@ fn compare_named(first_place: usize, second_place: usize) {
         write_word(b"the second sample can't be opened\n");
         return;
     }
-    compare_open(first, second, first_place, second_place);
+    compare_open(first, second, first_name, second_name);
 }
 
-// Takes the arguments, and compares.
+// Compares the files that the arguments name.
 fn main() {
     let words = os::arg_count();
     if words == 3 {

@@ -1,4 +1,4 @@
-// The reordered ratios of two samples compared, and one written as a fraction of whole numbers and in percent with two decimals.
+// Compares the reordered ratios of two samples, and writes a ratio as a fraction and in percent with two decimals.
 ghost use mathlib.Core.Path.{_≡_};
 ghost use Prim.Native.Nat.{_*_, _<_};
 ghost use Rattle.summary.specs.Text.{tenths};
@@ -9,14 +9,14 @@ use rfc4737::Counts;
 use worse::greater;
 use worse::reordered_ratio;
 
-// The sample with the greater reordered ratio, if their ratios are not equal.
+// Which of two samples has the greater reordered ratio.
 pub(crate) enum Standing {
     Equal,
     First,
     Second,
 }
 
-// How two samples stand to each other, by their counts.
+// Compares the reordered ratios of two samples, given their counts.
 pub(crate) fn standing_of(one: Counts, other: Counts) -> Standing
     ensures { λ r. ⌜ r ≡ standing one other ⌝ }
 {
@@ -31,7 +31,7 @@ pub(crate) fn standing_of(one: Counts, other: Counts) -> Standing
     Standing::Equal
 }
 
-// The share that `part` is of `whole` in hundredths of a percent, by the rule of the summary's tenths: to the nearest, and half up.
+// Returns `part` of `whole` in hundredths of a percent, rounded as the summary rounds tenths: to the nearest, half up.
 fn hundredths(part: u32, whole: u32) -> u64
     requires { ⌜ 0 < whole ⌝ }
     ensures { λ r. ⌜ r ≡ tenths (10 * part) whole ⌝ }
@@ -39,7 +39,7 @@ fn hundredths(part: u32, whole: u32) -> u64
     (2000 * (10 * (part as u64)) + whole as u64) / (2 * (whole as u64))
 }
 
-// Writes the reordered ratio of a sample, by its counts.
+// Writes the reordered ratio of a sample: `reordered` of `arrived` packets.
 pub(crate) fn write_ratio(reordered: u32, arrived: u32) {
     if arrived == 0 {
         write_word(b"no ratio, as nothing arrived, which counts as 0");
