@@ -1,4 +1,4 @@
--- The text that the program prints of an input. Assumes nothing.
+-- The text that the program prints for an input. Assumes nothing.
 use mathlib.Core.List.{List}
 use Prim.Native.Nat.{ℕ}
 use Rattle.listing.specs.Lines.{refusedLine}
@@ -14,7 +14,7 @@ formText Form.Text d = summaryText d
 formText Form.Json d = summaryJson d
 formText Form.All d = allText d
 
--- the text of a decoded input: the one line of a refused input, else the summary of its sample
+-- the text of a decoded input: the summary of its sample, or one line if the input is refused
 unfoldable pub shownText : Form → Decoded → List ℕ
 shownText form (refused r) = refusedLine r
 shownText form (accepted s) = formText form (accepted s)

@@ -1,6 +1,6 @@
-// The summary program: reads a sample on standard input, and prints its summary, or the one line of a refused input, on standard output.
-// With the argument `json` the summary is an object of JSON; with the argument `all` the other figures of the whole sample follow it. No
-// sample has over 57,414 octets, so the first 57,415 decide of longer input.
+// The summary program: reads a sample on standard input and prints its summary on standard output, or one line if the input is refused. With
+// the argument `json` the summary is a JSON object. With `all` the other figures of the whole sample follow it. No sample has over 57,414
+// octets, so the first 57,415 octets decide about longer input.
 ghost use Rattle.listing.specs.Lines.{refusedLine};
 ghost use Rattle.sample.specs.Decode.{decode, decodedRefusal};
 ghost use Rattle.sample.specs.Output.{Output};
@@ -14,14 +14,14 @@ use rfc4737::refusal::OUTPUT_SHORT;
 use sample::WriteAnswer;
 use summary::ALL_OCTETS;
 
-// What the summary is written as.
+// The form of the summary.
 enum Form {
     Text,
     Json,
     All,
 }
 
-// Writes the one line of a refused input at the start of `out`.
+// Writes the line of a refused input to the start of `out`.
 fn refuse(refusal: u32, out: &mut [u8]) -> WriteAnswer
     ensures { λ r. ⌜ Output 0 (refusedLine refusal) (now (out .entry)) r (now (out .exit)) ⌝ }
 {
@@ -38,7 +38,7 @@ fn refuse(refusal: u32, out: &mut [u8]) -> WriteAnswer
     }
 }
 
-// Writes the summary of a sample at the start of `out`.
+// Writes the summary of a sample to the start of `out`.
 fn write_form(form: Form, input: &[u8], out: &mut [u8]) -> WriteAnswer
     ensures { λ r. ⌜ Output (decodedRefusal (decode (now (input .entry)))) (formText form (decode (now (input .entry)))) (now (out .entry)) r (now (out .exit)) ⌝ }
 {
@@ -49,7 +49,7 @@ fn write_form(form: Form, input: &[u8], out: &mut [u8]) -> WriteAnswer
     }
 }
 
-// Writes the text of an input at the start of `out`.
+// Writes the text of an input to the start of `out`.
 fn summarize(form: Form, input: &[u8], out: &mut [u8]) -> WriteAnswer
     ensures { λ r. ⌜ Output 0 (shownText form (decode (now (input .entry)))) (now (out .entry)) r (now (out .exit)) ⌝ }
 {
@@ -60,7 +60,7 @@ fn summarize(form: Form, input: &[u8], out: &mut [u8]) -> WriteAnswer
     write_form(form, input, out)
 }
 
-// The form that the argument names; any other is text.
+// Returns the form that the argument names; text for any other word.
 fn asked_form() -> Form {
     if argument_is(1, b"json") {
         return Form::Json;
@@ -71,7 +71,7 @@ fn asked_form() -> Form {
     Form::Text
 }
 
-// Takes the argument, reads the input whole, and prints its text.
+// Reads the argument and the whole input, and prints its text.
 fn main() {
     let mut input = [0u8; SAMPLE_ROOM];
     let mut out = [0u8; ALL_OCTETS];

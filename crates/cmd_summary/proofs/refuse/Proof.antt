@@ -1,4 +1,4 @@
--- `cmd_summary::refuse` meets its contract: the line is put where it fits, else nothing is. Assumes nothing.
+-- `cmd_summary::refuse` meets its contract: the line is written if it fits, else nothing is. Assumes nothing.
 use Prim.Native.Nat.{_+_, _≤_, _<_, _^_}
 use native.Mathlib.Omega.{arith}
 use mathlib.Core.Path.{refl, _∙_}
