@@ -98,7 +98,7 @@ fn judge_time(time: u64) -> u32
     0
 }
 
-// Returns 18 if a time of an accepted file is refused, else 0. It judges only the greatest time, since a time is refused exactly if that is.
+// Returns 18 if a time of an accepted file is refused, else 0. Judges only the greatest time: some time is refused exactly if that one is.
 pub(crate) fn judge_seconds(file: &[u8], layout: Layout) -> u32
     requires { ⌜ (layout ≡ layoutOf (decode (now file))) × (layout .refusal ≡ 0) ⌝ }
     ensures { λ r. ⌜ r ≡ judgeSeconds (arrivalsOfFile (now (file .entry))) ⌝ }
