@@ -30,7 +30,7 @@ value-one : (o : ℕ) → beValue (o ∷ []) ≡ o
 unfolding beValue
 value-one o = simp (zero-mul, zero-add)
 
--- under one octet more
+-- with one more octet at the end
 value-snoc : (os : List ℕ) (o : ℕ) → beValue (os ++ (o ∷ [])) ≡ beValue os * 256 + o
 unfolding beValue
 value-snoc os o = foldl-append (λ (v o : ℕ). v * 256 + o) 0 os (o ∷ [])
@@ -46,7 +46,7 @@ pub value-append : (a b : List ℕ) → beValue (a ++ b) ≡ beValue a * 256 ^ l
 unfolding beValue
 value-append a b = foldl-append (λ (v o : ℕ). v * 256 + o) 0 a b ∙ value-from (beValue a) b
 
--- under one octet more in front
+-- with one more octet in front
 value-cons : (o : ℕ) (os : List ℕ) → beValue (o ∷ os) ≡ o * 256 ^ length os + beValue os
 value-cons o os = value-append (o ∷ []) os ∙ ap (λ (n : ℕ). n * 256 ^ length os + beValue os) (value-one o)
 
@@ -64,7 +64,7 @@ value-fits w os h p = lt-of-lt-of-le (value-below os h) (pow-le-pow-right (omega
 pub value-part : (w at n : ℕ) (l : List ℕ) → Octets l → n ≤ w → beValue (part at n l) < 256 ^ w
 value-part w at n l h p = value-fits w (part at n l) (below-part 256 at n l h) (le-trans (part-most at n l) p)
 
--- of a part under one octet more
+-- of a part with one more octet
 pub value-part-snoc : (at n : ℕ) (l : List ℕ) → at + n < length l
     → beValue (part at (n + 1) l) ≡ beValue (part at n l) * 256 + getD l (at + n) 0
 value-part-snoc at n l h = ap beValue (part-snoc at n l 0 h) ∙ value-snoc (part at n l) (getD l (at + n) 0)
@@ -84,7 +84,7 @@ octets-below (suc w) v =
     below-append 256 (beOctets w (v / 256)) (v % 256 ∷ []) (octets-below w (v / 256))
     (below-cons 256 (v % 256) [] (omega arith) (below-nil 256 (omega arith)))
 
--- under one octet more
+-- with one more octet at the end
 pub octets-snoc : (w v : ℕ) → beOctets (w + 1) v ≡ beOctets w (v / 256) ++ (v % 256 ∷ [])
 unfolding beOctets
 octets-snoc w v = rw add-one
@@ -137,6 +137,6 @@ octets-value os h = octets-value-at (length os) os refl h
 
 -- ---- in memory
 
--- a number that fits, put where there is room, is read back at its place
+-- a number that fits, put where there is room, is read back at its offset
 pub put-value : (at w v : ℕ) (old : List ℕ) → v < 256 ^ w → at + w ≤ length old → beValue (part at w (put at (beOctets w v) old)) ≡ v
 put-value at w v old h p = ap beValue (put-part at w (beOctets w v) old (octets-length w v) p) ∙ value-octets w v h

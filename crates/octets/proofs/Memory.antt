@@ -32,7 +32,7 @@ module _ {ℓ} {A : Type ℓ} where
   drop-take (suc k) (suc n) [] = sym (take-nil (suc n - suc k))
   drop-take (suc k) (suc n) (x ∷ xs) = rw suc-sub-suc (drop-take k n xs)
 
-  -- a part is what the elements up to its end have from its place on
+  -- a part is what the elements up to its end have from its offset on
   pub part-drop : (at n : ℕ) (l : List A) → part at n l ≡ drop at (take (at + n) l)
   part-drop at n l =
       let e : n ≡ at + n - at = omega arith in
@@ -95,13 +95,13 @@ module _ {ℓ} {A : Type ℓ} where
   splice-head at xs old h =
       rw (← append-assoc) (take-at (take at old ++ xs) (drop (at + length xs) old) (at + length xs) (head-length at xs old h))
 
-  -- the first n stay, where n is at most the place
+  -- the first n stay, where n is at most the offset
   pub splice-take : (at : ℕ) (xs old : List A) (n : ℕ) → n ≤ at → at ≤ length old → take n (splice at xs old) ≡ take n old
   splice-take at xs old n h k =
       let e : n ≤ length (take at old) = simp length-take (omega arith) in
       take-append-le n (take at old) (xs ++ drop (at + length xs) old) e ∙ take-take n at old h
 
-  -- from the place on
+  -- from the offset on
   pub splice-tail : (at : ℕ) (xs old : List A) → at ≤ length old → drop at (splice at xs old) ≡ xs ++ drop (at + length xs) old
   splice-tail at xs old h = drop-at (take at old) (xs ++ drop (at + length xs) old) at (length-take-le at old h)
 
@@ -119,7 +119,7 @@ module _ {ℓ} {A : Type ℓ} where
   pub splice-part : (at : ℕ) (xs old : List A) → at ≤ length old → part at (length xs) (splice at xs old) ≡ xs
   splice-part at xs old h = rw (splice-tail at xs old h) (take-append-seam xs (drop (at + length xs) old))
 
-  -- written on, at the next place: one write of both
+  -- written on, at the next offset: one write of both
   pub splice-next : (at next : ℕ) (xs ys old : List A) → at + length xs ≡ next → at ≤ length old
       → splice next ys (splice at xs old) ≡ splice at (xs ++ ys) old
   splice-next at next xs ys old e h =
@@ -172,7 +172,7 @@ module _ {ℓ} {A : Type ℓ} where
       let p : 0 + length xs ≤ n = omega arith in
       rw over-splice (splice-drop 0 xs old n p zero-le)
 
-  -- written on, at the next place: one write of both
+  -- written on, at the next offset: one write of both
   pub over-next : (at : ℕ) (xs ys old : List A) → length xs ≡ at → splice at ys (over xs old) ≡ over (xs ++ ys) old
   over-next at xs ys old e =
       let p : 0 + length xs ≡ at = omega arith in
@@ -205,7 +205,7 @@ module _ {ℓ} {A : Type ℓ} where
       let q : at ≤ length old = omega arith in
       rw (← e, put-room at xs old p) (splice-part at xs old q)
 
-  -- put on, at the next place, where there is room for both
+  -- put on, at the next offset, where there is room for both
   pub put-next : (at next : ℕ) (xs ys old : List A) → at + length xs ≡ next → next + length ys ≤ length old
       → put next ys (put at xs old) ≡ put at (xs ++ ys) old
   put-next at next xs ys old e h =
@@ -222,7 +222,7 @@ module _ {ℓ} {A : Type ℓ} where
       let q : length old ≤ 0 + length xs = omega arith in
       rw (put-room 0 xs old p, drop-of-length-le old q) (append-nil xs)
 
-  -- put over all of a part that is lent: written in the whole, once the part is back
+  -- put over all of a borrowed part: written in the whole, once the borrow ends
   pub put-lent : (at n : ℕ) (xs old : List A) {lent : List A} → length xs ≡ n → at + n ≤ length old → lent ≡ put 0 xs (taken at n old)
       → take at old ++ (lent ++ drop (at + n - at) (drop at old)) ≡ splice at xs old
   put-lent at n xs old e h f =
@@ -237,7 +237,7 @@ module _ {ℓ} {A : Type ℓ} where
       let q : at + length ys ≤ length (over xs old) = rw over-length h in
       put-room at ys (over xs old) q ∙ over-next at xs ys old e
 
-  -- ---- a loop that writes xs from a place on, one element a turn: after i turns memory is `splice at (take i xs) old`
+  -- ---- a loop that writes xs from an offset on, one element a turn: after i turns memory is `splice at (take i xs) old`
 
   -- at the start
   pub copy-start : (at : ℕ) (xs old : List A) → old ≡ splice at (take 0 xs) old
@@ -249,7 +249,7 @@ module _ {ℓ} {A : Type ℓ} where
       let p : at + length (take i xs) ≤ length old = simp length-take (omega arith) in
       splice-length at (take i xs) old p
 
-  -- a turn: the element at i is stored at its place
+  -- a turn: the element at i is stored at its offset
   pub copy-next : (at : ℕ) (xs old : List A) (i : ℕ) (z : A) {d : List A} {x : A} → i < length xs → at + i < length old
       → d ≡ splice at (take i xs) old → x ≡ getD xs i z
       → set d (at + i) x ≡ splice at (take (i + 1) xs) old

@@ -14,7 +14,7 @@ use borrow.Author.Tests.{lt-ltb, leb-true, leb-false, ltb-true, ltb-false}
 use Rattle.sums.specs.Tree.{rest, share, partsTo, sumTo, Holds, nothing, more, valuesTo, ExactSum}
 use Rattle.sums.proofs.Lowest.{rest-low}
 
--- the shares that place i has of the values
+-- the shares that index i has of the values
 abbrev sharesOf : ℕ → List (ℕ × ℕ) → ℕ
 sharesOf i [] = 0
 sharesOf i (a ∷ vs) = share (a .0) (a .1) i + sharesOf i vs
@@ -64,7 +64,7 @@ values-none (a ∷ vs) = omega (arith, none (leb 1 (a .0)) refl (leb (a .0) 0) r
     none true e false f = refl
     none false e u f = refl
 
--- the places together
+-- the indices together
 parts-values : {vs : List (ℕ × ℕ)} {tree : List ℕ} → Holds vs tree → (fuel i : ℕ) → i ≤ fuel → i < length tree
     → partsTo fuel tree i % 2 ^ 32 ≡ valuesTo i vs % 2 ^ 32
 unfolding partsTo

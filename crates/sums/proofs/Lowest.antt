@@ -49,7 +49,7 @@ module _ (P : ℕ → Type 0) (none : P 0) (even : (h i : ℕ) → i ≡ h * 2 �
           go true e = let q : i ≡ i / 2 * 2 = omega (arith, eqb-true (i % 2) 0 e) in even (i / 2) i q (ap rest q ∙ rest-even (i / 2)) k
           go false e = let q : i ≡ i / 2 * 2 + 1 = omega (arith, eqb-false (i % 2) 0 e) in odd (i / 2) i q (ap rest q ∙ rest-odd (i / 2)) k
 
--- no place between one and the next holds a number up to the first
+-- no index between one and the next holds a number up to the first
 pub rest-between : (i j : ℕ) → i < j → j < i + (i - rest i) → i ≤ rest j
 rest-between = half-ind (λ (i : ℕ). (j : ℕ) → i < j → j < i + (i - rest i) → i ≤ rest j) (λ j a b. absurd (omega arith)) even odd
   where
@@ -64,7 +64,7 @@ rest-between = half-ind (λ (i : ℕ). (j : ℕ) → i < j → j < i + (i - rest
         → (j : ℕ) → i < j → j < i + (i - rest i) → i ≤ rest j
     odd h i e r k j a b = absurd (omega arith)
 
--- the next place holds all that one holds
+-- the next index holds all that one holds
 pub rest-next : (i : ℕ) → rest (i + (i - rest i)) ≤ rest i
 rest-next = half-ind (λ (i : ℕ). rest (i + (i - rest i)) ≤ rest i) (omega (arith, rest-low (0 + (0 - rest 0)))) even odd
   where

@@ -15,7 +15,7 @@ use Rattle.sums.specs.Tree.{rest, share, Added}
 use Rattle.sums.proofs.Lowest.{rest-low, rest-between}
 
 module _ (number value i : ℕ) where
-  -- a place takes all of a value at a number that it holds
+  -- an index takes all of a value at a number that it holds
   share-all : rest i < number → number ≤ i → share number value i ≡ value
   unfolding share
   share-all a b = simp (lt-ltb _ _ a, le-leb _ _ b)
@@ -44,7 +44,7 @@ module _ (number value i : ℕ) where
 none-added : (n s : ℕ) → n < 2 ^ 32 → s ≡ 0 → n ≡ (n + s) % 2 ^ 32
 none-added n s fits z = omega arith
 
--- a tree while a value is added at a number: it stands at the places before i, and not yet from there on
+-- a tree while a value is added at a number: it stands at the indices before i, and not yet from there on
 pub record Partly (number value i : ℕ) (old new : List ℕ) : Type 0 where
   pub places : length new ≡ length old
   pub below : (j : ℕ) → j < i → getD new j 0 ≡ (getD old j 0 + share number value j) % 2 ^ 32
@@ -55,7 +55,7 @@ module _ (number value : ℕ) (old : List ℕ) (fits : (j : ℕ) → getD old j 
   pub partly-none : Partly number value number old old
   partly-none = record { places = refl; below = λ j h. none-added _ _ (fits j) (share-greater number value j h); from = λ j h. refl }
 
-  -- at the next place
+  -- at the next index
   pub partly-next : (i x : ℕ) (new : List ℕ) → number ≤ i → rest i < number → i < length new → x ≡ (getD new i 0 + value) % 2 ^ 32
       → Partly number value i old new → Partly number value (i + (i - rest i)) old (set new i x)
   partly-next i x new a b c sum p =

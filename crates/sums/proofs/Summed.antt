@@ -25,7 +25,7 @@ parts-enough (suc f) (suc g) tree (suc i) a b =
     ap (λ (n : ℕ). getD tree (suc i) 0 + n)
     (parts-enough f g tree (rest (suc i)) (omega (arith, rest-low (suc i))) (omega (arith, rest-low (suc i))))
 
--- the first of the places, and those after it
+-- the first of the indices, and those after it
 pub parts-first : (tree : List ℕ) (i : ℕ) → 1 ≤ i → partsTo i tree i ≡ getD tree i 0 + partsTo (rest i) tree (rest i)
 unfolding partsTo
 parts-first tree zero h = absurd (omega arith)
@@ -33,7 +33,7 @@ parts-first tree (suc i) h =
     ap (λ (n : ℕ). getD tree (suc i) 0 + n) (parts-enough i (rest (suc i)) tree (rest (suc i)) (omega (arith, rest-low (suc i)))
     (omega arith))
 
--- there is none after place 0
+-- there is none after index 0
 pub parts-none : (tree : List ℕ) → partsTo 0 tree 0 ≡ 0
 unfolding partsTo
 parts-none tree = refl
@@ -45,7 +45,7 @@ module _ (f : ℕ → ℕ) where
       record { at = λ i a b. omega (arith, getD-replicate {A = ℕ} n i 0 0 (omega (arith, length-replicate {A = ℕ} n 0)), z i, z (rest i)) }
 
   module _ (tree : List ℕ) (s : Summed f tree) where
-    -- the places together
+    -- the indices together
     parts-sum : (fuel i : ℕ) → i ≤ fuel → i < length tree → partsTo fuel tree i + f i ≡ f 0
     unfolding partsTo
     parts-sum zero i a b = let z : i ≡ 0 = omega arith in rw z (omega arith)

@@ -9,7 +9,7 @@ use lib.Dec.{leb}
 use Rattle.octets.proofs.has_room.Statement.{statement}
 use Rattle.octets.proofs.has_room.Tie as tie
 
--- the place against what is left beside n, and place and n against the whole
+-- at against len - n, and at + n against len
 same-test : (at n len : ℕ) → n ≤ len → leb at (len - n) ≡ leb (at + n) len
 same-test at n len h = go (leb at (len - n)) refl where
   go : (t : Bool) → leb at (len - n) ≡ t → leb at (len - n) ≡ leb (at + n) len
