@@ -58,8 +58,8 @@ fn hand_over(refusal: u32, text: &[u8], out: &mut [u8]) -> WriteAnswer
     }
 }
 
-// Writes the summary of a sample to the start of `out`; SUMMARY_OCTETS octets have room for any. If the file is refused, or with 8 if `out` is
-// too short, `out` stays unchanged. Cost: fifteen searches by `buffering::least`, and seven passes over the file.
+// Writes the summary of a sample to the start of `out`; SUMMARY_OCTETS octets have room for any. Refusals: the file's; 8 if `out` is too
+// short. If the call is refused, `out` stays unchanged. Cost: fifteen searches by `buffering::least`, and seven passes over the file.
 pub fn write(file: &[u8], out: &mut [u8]) -> WriteAnswer
     ensures { λ r. ⌜ SummaryTo (decode (now (file .entry))) (now (out .entry)) r (now (out .exit)) ⌝ }
     ensures room { λ _. ⌜ length (summaryText (decode (now (file .entry)))) ≤ summaryOctets ⌝ }

@@ -58,8 +58,8 @@ fn write_part(file: &[u8], json: bool, part: u32, out: &mut [u8]) -> WriteAnswer
 
 // Writes a part of a sample's table as comma-separated values: a line with the names of the fields, a line for each record, and a line with
 // the counts. Parts 0 to 17, one after the other, are the whole table; any other part is empty. The part is written to the start of `out`;
-// PART_OCTETS octets have room for any. If the file is refused, or with 8 if `out` is too short, `out` stays unchanged. Cost: that of
-// `metrics::record_rows`, and 262,144 octets of stack.
+// PART_OCTETS octets have room for any. Refusals: the file's; 8 if `out` is too short. If the call is refused, `out` stays unchanged. Cost:
+// that of `metrics::record_rows`, and 262,144 octets of stack.
 pub fn write_csv(file: &[u8], part: u32, out: &mut [u8]) -> WriteAnswer
     ensures { λ r. ⌜ PartTo false (decode (now (file .entry))) part (now (out .entry)) r (now (out .exit)) ⌝ }
     ensures room { λ _. ⌜ length (partText false (decode (now (file .entry))) part) ≤ partOctets ⌝ }
