@@ -11,7 +11,7 @@
 --     in-place     such a function of a crate meets its contract d, which follows from Q, where the callee meets its own
 -- Here h is the struct, lent at (b, o) under the name γ, ns are the numbers, α is the lifetime of the call, a what it gives back, at the
 -- machine value v, and f are the last values of what was lent. Assumes `Given`.
-use mathlib.Core.Path.{_≡_, refl, ap, sym, subst, _∙_}
+use mathlib.Core.Path.{_≡_, refl, ap, subst, _∙_}
 use Prim.Native.Nat.{ℕ, zero, suc}
 use mathlib.Core.List.{[], _∷_, List}
 use lib.ListN.{getD}
@@ -28,7 +28,7 @@ use ghost.Atoms.{Atoms, sem}
 use contract.Lifetimes.{Lfts}
 use contract.Monad.{fact}
 use contract.Running.{GhostRules, Running, givenOf, tables, tablesOf}
-use types.Kit.{Given, Item, Post as Ends, Step, runs, ‵, raw, _⊛_, _$_, _∵_, !, qed, by, move, keep, drop, use0, use1, use2, rewrite, split, split3, join, fsplit3, done}
+use types.Kit.{Given, Item, Post as Ends, Step, runs, ‵, raw, _⊛_, _$_, _∵_, !, qed, by, move, keep, drop, use0, use1, use2, rewrite, split, split3, join, fsplit3}
 use types.Run.{look, init, forget, land, returns, enter, alloc1, params1, pass1, free1}
 use types.Tokens.{lft-new, lft-end}
 use sound.WpLaws.{fmOf}

@@ -20,13 +20,6 @@ use denote.Struct.Steps.{spelt}
 use denote.Struct.Struct.{Plains}
 use denote.Struct.Declared.{Declared, fields, row}
 use denote.Struct.Laws as LL
-use Rattle.receiver.specs.declared.Receiver.{Receiver}
-use Rattle.receiver.proofs.Receiver as Own
-use Rattle.receiver.proofs.Receiver.Laws as Own′
-
--- a receiver's machine value
-abbrev pub mach : Receiver → Val
-mach h = LL.val Own.the-type Own′.the-laws h
 
 module _ {M : Type 1} (𝓤 : URA M) (H : Heap 𝓤) (A : Atoms 𝓤) (W : Given 𝓤 H A) (R : Declared) (L : LL.Laws R) (h : R .D) (b : ℕ) where
   -- a struct in a local at b lies in memory
