@@ -241,8 +241,7 @@ fn advance_8<'a>(
     short: u16,
     time: u64,
 ) -> StreamStep
-    ensures { λ a. ⌜ stepAnswerOf a (now (marks .exit)) (now (positions .exit)) (now (numbers .exit)) (now (times .exit))
-        ≡ shortStep (rangeOf 8) (whole s (now (marks .entry)) (now (positions .entry)) (now (numbers .entry)) (now (times .entry))) short time ⌝ }
+    ensures { λ a. ⌜ stepAnswerOf a (now (marks .exit)) (now (positions .exit)) (now (numbers .exit)) (now (times .exit)) ≡ shortStep (rangeOf 8) (whole s (now (marks .entry)) (now (positions .entry)) (now (numbers .entry)) (now (times .entry))) short time ⌝ }
 {
     short_advance(RANGE_8, s, marks, positions, numbers, times, short, time)
 }
@@ -257,8 +256,7 @@ fn advance_10<'a>(
     short: u16,
     time: u64,
 ) -> StreamStep
-    ensures { λ a. ⌜ stepAnswerOf a (now (marks .exit)) (now (positions .exit)) (now (numbers .exit)) (now (times .exit))
-        ≡ shortStep (rangeOf 10) (whole s (now (marks .entry)) (now (positions .entry)) (now (numbers .entry)) (now (times .entry))) short time ⌝ }
+    ensures { λ a. ⌜ stepAnswerOf a (now (marks .exit)) (now (positions .exit)) (now (numbers .exit)) (now (times .exit)) ≡ shortStep (rangeOf 10) (whole s (now (marks .entry)) (now (positions .entry)) (now (numbers .entry)) (now (times .entry))) short time ⌝ }
 {
     short_advance(RANGE_10, s, marks, positions, numbers, times, short, time)
 }

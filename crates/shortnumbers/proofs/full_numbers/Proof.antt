@@ -10,6 +10,10 @@ use Rattle.shortnumbers.proofs.Lists.{found-length, filled-refused, fil
 use Rattle.shortnumbers.proofs.full_numbers.Statement.{statement}
 use Rattle.shortnumbers.proofs.full_numbers.Tie as tie
 
+-- the entry, from past the two tests
+abbrev entry : tie.Else2 → tie.Start
+entry c = c .before .before .before .before .before .before
+
 returns : tie.Need-returns
 returns c =
     let a = c .before .before .before .before .before .args in
@@ -23,16 +27,19 @@ returns-2 c =
 
 fill-numbers-requires : tie.Need-fill-numbers-requires
 fill-numbers-requires c κs =
-    let a = c .before .before .before .before .before .before .before .args in
-    let f = lists-fit (a .k) (numbersFound (a .range) (now (a .shorts))) (now (a .times)) (sym (c .before .before .before .refusal-of-found .ensures) ∙ c .before .before .if1 .left) in
+    let t = c .before in
+    let a = entry t .args in
+    let f = lists-fit (a .k) (numbersFound (a .range) (now (a .shorts))) (now (a .times)) (sym (t .before .before .refusal-of-found .ensures) ∙ t .before .if1 .left) in
     let m = found-length (a .range) (now (a .shorts)) in
-    (c .before .before .before .before .before .before .before .pre, omega (arith, f .few), c .before .if2 .left)
+    (entry t .pre, omega (arith, f .few), t .if2 .left)
 
 returns-3 : tie.Need-returns-3
 returns-3 c =
-    let a = c .before .before .before .before .before .before .before .before .before .before .args in
+    let filled = c .before .before in
+    let t = filled .before .before in
+    let a = entry t .args in
     filled-whole (a .range) (a .k) (now (a .shorts)) (now (a .times)) (now (a .numbers)) _
-    (sym (c .before .before .before .before .before .before .refusal-of-found .ensures) ∙ c .before .before .before .before .before .if1 .left) (c .before .before .before .before .if2 .left) (c .before .before .fill-numbers .ensures)
+    (sym (t .before .before .refusal-of-found .ensures) ∙ t .before .if1 .left) (t .if2 .left) (filled .fill-numbers .ensures)
 
 pub full-numbers-spec : {M : Type 1} → statement M
 full-numbers-spec =

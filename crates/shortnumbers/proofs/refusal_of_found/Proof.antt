@@ -11,6 +11,10 @@ use Rattle.shortnumbers.proofs.Lists.{found-length}
 use Rattle.shortnumbers.proofs.refusal_of_found.Statement.{statement}
 use Rattle.shortnumbers.proofs.refusal_of_found.Tie as tie
 
+-- the entry, from past the three tests
+abbrev entry : tie.Else3 → tie.Start
+entry c = c .before .before .before .before .before .before .before
+
 returns : tie.Need-returns
 unfolding refusalOfLists
 returns c = simp (sym (c .before .outside .ensures) ∙ c .if1 .taken)
@@ -29,19 +33,20 @@ returns-3 c =
 
 judge-found-requires : tie.Need-judge-found-requires
 judge-found-requires c κs =
-    let a = c .before .before .before .before .before .before .before .args in
+    let a = entry c .args in
     let m = between 0 arrivalsMost (length (now (a .shorts))) (sym (c .before .before .outside2 .ensures) ∙ c .before .if2 .left) in
-    (c .before .before .before .before .before .before .before .pre, m .1, sym (c .if3 .left))
+    (entry c .pre, m .1, sym (c .if3 .left))
 
 returns-4 : tie.Need-returns-4
 unfolding refusalOfLists
 returns-4 c =
-    let a = c .before .before .before .before .before .before .before .before .args in
+    let t = c .before in
+    let a = entry t .args in
     simp (
       found-length (a .range) (now (a .shorts)),
-      sym (c .before .before .before .before .before .outside .ensures) ∙ c .before .before .before .before .if1 .left,
-      sym (c .before .before .before .outside2 .ensures) ∙ c .before .before .if2 .left,
-      eq-eqb _ _ (c .before .if3 .left),
+      sym (t .before .before .before .before .outside .ensures) ∙ t .before .before .before .if1 .left,
+      sym (t .before .before .outside2 .ensures) ∙ t .before .if2 .left,
+      eq-eqb _ _ (t .if3 .left),
       sym (c .judge-found .ensures),
     )
     (sym (first-one (c .judge-found .result)))
