@@ -13,7 +13,7 @@ use receiver::parts::fresh_stream;
 use rfc4737::refusal::NONE;
 ghost use mathlib.Core.Path.{_≡_};
 ghost use Rattle.receiver.specs.Parts.{placesOf};
-ghost use Rattle.meter.specs.Private.{wholeMeter};
+ghost use Rattle.meter.specs.Whole.{wholeMeter};
 ghost use Rattle.meter.specs.Step.{newMeter, meterStart, meterStep};
 ghost use Rattle.capi.specs.Outcomes.{notedFigures};
 

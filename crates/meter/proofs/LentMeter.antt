@@ -36,7 +36,7 @@ use Rattle.receiver.proofs.Outcome as S
 use Rattle.receiver.proofs.Outcome.Laws as S′
 use Rattle.meter.specs.declared.StreamState.{StreamState}
 use Rattle.meter.specs.declared.Meter.{Meter}
-use Rattle.meter.specs.Private.{wholeMeter}
+use Rattle.meter.specs.Whole.{wholeMeter}
 use Rattle.meter.proofs.Meter as R
 use Rattle.meter.proofs.Meter.Laws as R′
 use Rattle.meter.proofs.StreamState as T

@@ -35,7 +35,8 @@ use Rattle.meter.specs.declared.Meter.{Meter}
 use Rattle.meter.specs.declared.MeterStepAnswer.{MeterStepAnswer}
 use Rattle.meter.specs.declared.MeterStartAnswer.{MeterStartAnswer}
 use Rattle.meter.specs.Streams.{Side, one, two, sideOf, other, shared, mostKept, freeBeside, takesPlace, facing, receiverOf, streamIn, withStream, withReceiver, keptIn, free}
-use Rattle.meter.specs.Private.{fewKept, wholeMeter}
+use Rattle.meter.specs.Private.{fewKept}
+use Rattle.meter.specs.Whole.{wholeMeter}
 use Rattle.meter.specs.Step.{fitOnMeter, meterFit, notStepped, stepOn, meterStep, notStarted, startOn, meterStart}
 use Rattle.meter.proofs.PlacesFacing.{put-back, facing-back}
 use Rattle.meter.proofs.KeptJumps.{takes}

@@ -1,5 +1,6 @@
 -- The meter's rule: two streams that share the places of their kept jumps, after request 6. Assumes nothing.
 pub mod Streams
+pub mod Whole
 pub mod Step
 pub mod Lent
 pub mod Account

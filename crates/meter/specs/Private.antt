@@ -3,23 +3,17 @@ use mathlib.Core.List.{List}
 use Prim.Native.Nat.{ℕ, _+_}
 use mathlib.Core.Bool.{Bool, _&&_}
 use lib.Dec.{leb}
-use Rattle.receiver.specs.declared.Stream.{Stream}
 use Rattle.receiver.specs.declared.Places.{Places}
 use Rattle.receiver.specs.Outcomes.{refusedOutcome}
-use Rattle.meter.specs.declared.Meter.{Meter}
 use Rattle.meter.specs.declared.MeterStepAnswer.{MeterStepAnswer}
 use Rattle.meter.specs.declared.MeterStartAnswer.{MeterStartAnswer}
 use Rattle.meter.specs.declared.StreamsStep.{StreamsStep}
 use Rattle.meter.specs.Streams.{mostKept, shared}
+use Rattle.meter.specs.Whole.{wholeMeter}
 
 -- two streams that keep `first` and `second` jumps keep as few as those of a fit meter
 abbrev pub fewKept : ℕ → ℕ → Bool
 fewKept first second = leb first mostKept && (leb second mostKept && leb (first + second) shared)
-
--- the meter of two streams, with the marks of each, and their places
-abbrev pub wholeMeter : Stream → Stream → List ℕ → List ℕ → Places → Meter
-wholeMeter first second marks₁ marks₂ places =
-    record { first = record { stream = first; marks = marks₁ }; second = record { stream = second; marks = marks₂ }; places = places }
 
 -- the answer of a step on the parts
 abbrev pub meterAnswerOf : StreamsStep → List ℕ → List ℕ → Places → MeterStepAnswer

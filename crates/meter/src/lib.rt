@@ -7,18 +7,21 @@ use receiver::Places;
 use receiver::Receiver;
 use receiver::ReceiverAnswer;
 use receiver::Stream;
+use receiver::advance::StreamStep;
 use receiver::parts;
 use rfc4737::judge::SENT_MOST;
 use rfc4737::judge::outside;
 use rfc4737::refusal;
 ghost use mathlib.Core.Path.{_≡_};
+ghost use mathlib.Core.Bool.{cond};
 ghost use mathlib.Core.List.{List};
 ghost use Prim.Native.Nat.{ℕ, _-_, _≤_, min};
 ghost use lib.ListN.{replicate};
 ghost use Rattle.meter.specs.Streams.{shared, mostKept, streamIn};
 ghost use Rattle.meter.specs.Step.{newMeter, meterFit, meterStep, meterStart};
 ghost use Rattle.meter.specs.Lent.{AsMeterStep, AsMeterStart};
-ghost use Rattle.meter.specs.Private.{fewKept, wholeMeter, meterAnswerOf, startAsStep};
+ghost use Rattle.meter.specs.Private.{fewKept, meterAnswerOf, startAsStep};
+ghost use Rattle.meter.specs.Whole.{wholeMeter};
 ghost use Rattle.receiver.specs.Outcomes.{refusedOutcome};
 ghost use Rattle.receiver.specs.Marks.{markWords};
 ghost use Rattle.receiver.specs.Parts.{placesOf};
@@ -90,43 +93,10 @@ impl Meter {
         ensures start { λ r. ⌜ r ≡ meterStart self stream k ⌝ }
         ensures refused { λ r. ⌜ ((r .refusal ≡ 0 → ⊥) → r .state ≡ self) ⌝ }
     {
-        let mut marks1 = self.first.marks;
-        let mut marks2 = self.second.marks;
-        let mut positions = self.places.positions;
-        let mut numbers = self.places.numbers;
-        let mut times = self.places.times;
-        let a = restart(
-            self.first.stream,
-            self.second.stream,
-            &mut marks1,
-            &mut marks2,
-            &mut positions,
-            &mut numbers,
-            &mut times,
-            stream,
-            k,
-        );
+        let a = self.turned(true, stream, k, 0);
         let refusal = a.outcome.refusal;
-        let first = a.first;
-        let second = a.second;
-        MeterStartAnswer {
-            refusal,
-            state: Meter {
-                first: StreamState {
-                    stream: first,
-                    marks: marks1,
-                },
-                second: StreamState {
-                    stream: second,
-                    marks: marks2,
-                },
-                places: Places {
-                    positions,
-                    numbers,
-                    times,
-                },
-            },
-        }
+        let state = a.state;
+        MeterStartAnswer { refusal, state }
     }
 
     // Steps a stream with an arrival.
@@ -134,12 +104,19 @@ impl Meter {
         ensures step { λ r. ⌜ r ≡ meterStep self stream number time ⌝ }
         ensures refused { λ r. ⌜ ((r .outcome .refusal ≡ 0 → ⊥) → r .state ≡ self) ⌝ }
     {
+        self.turned(false, stream, number, time)
+    }
+
+    // Starts a stream afresh for `number` packets if `starts`, with the refusal as an outcome; else steps it with an arrival.
+    fn turned(self, starts: bool, stream: u32, number: u32, time: u64) -> MeterStepAnswer
+        ensures { λ r. ⌜ r ≡ cond starts (startAsStep (meterStart self stream number)) (meterStep self stream number time) ⌝ }
+    {
         let mut marks1 = self.first.marks;
         let mut marks2 = self.second.marks;
         let mut positions = self.places.positions;
         let mut numbers = self.places.numbers;
         let mut times = self.places.times;
-        let a = advance(
+        let a = turn(
             self.first.stream,
             self.second.stream,
             &mut marks1,
@@ -147,6 +124,7 @@ impl Meter {
             &mut positions,
             &mut numbers,
             &mut times,
+            starts,
             stream,
             number,
             time,
@@ -241,6 +219,32 @@ fn is_fit<'a>(
     parts::is_fit(second, true, positions, numbers, times)
 }
 
+// Returns the outcome of a step of stream 1 and its numbers, beside those of stream 2.
+fn first_stepped(a: StreamStep, second: Stream) -> StreamsStep
+    ensures { λ r. ⌜ r ≡ record { outcome = a .outcome; first = a .stream; second = second } ⌝ }
+{
+    let outcome = a.outcome;
+    let first = a.stream;
+    StreamsStep {
+        outcome,
+        first,
+        second,
+    }
+}
+
+// The same for stream 2, beside the numbers of stream 1.
+fn second_stepped(a: StreamStep, first: Stream) -> StreamsStep
+    ensures { λ r. ⌜ r ≡ record { outcome = a .outcome; first = first; second = a .stream } ⌝ }
+{
+    let outcome = a.outcome;
+    let second = a.stream;
+    StreamsStep {
+        outcome,
+        first,
+        second,
+    }
+}
+
 // Steps a stream on the meter's parts: the numbers by value, the marks and the places borrowed and written in place. The neighbour's
 // fit test is made here, the stream's own by its step.
 fn advance<'a>(
@@ -279,13 +283,7 @@ fn advance<'a>(
             number,
             time,
         );
-        let outcome = a.outcome;
-        let own = a.stream;
-        return StreamsStep {
-            outcome,
-            first: own,
-            second,
-        };
+        return first_stepped(a, second);
     }
     if !parts::is_fit(first, false, positions, numbers, times) {
         return answered(refusal::STATE_UNFIT, first, second);
@@ -301,13 +299,7 @@ fn advance<'a>(
         number,
         time,
     );
-    let outcome = a.outcome;
-    let own = a.stream;
-    StreamsStep {
-        outcome,
-        first,
-        second: own,
-    }
+    second_stepped(a, first)
 }
 
 // Clears the marks.
@@ -348,6 +340,52 @@ fn restart<'a>(
     }
     clear(marks2);
     answered(0, first, parts::fresh_stream(k))
+}
+
+// Starts a stream afresh for `number` packets if `starts`, else steps it with an arrival, on the meter's parts.
+fn turn<'a>(
+    first: Stream,
+    second: Stream,
+    marks1: &'a mut [u64; MARK_WORDS],
+    marks2: &'a mut [u64; MARK_WORDS],
+    positions: &'a mut [u16; Receiver::WINDOW],
+    numbers: &'a mut [u16; Receiver::WINDOW],
+    times: &'a mut [u64; Receiver::WINDOW],
+    starts: bool,
+    stream: u32,
+    number: u32,
+    time: u64,
+) -> StreamsStep
+    ensures { λ a. ⌜ meterAnswerOf a (now (marks1 .exit)) (now (marks2 .exit)) (placesOf (now (positions .exit)) (now (numbers .exit)) (now (times .exit)))
+        ≡ cond starts
+        (startAsStep (meterStart (wholeMeter first second (now (marks1 .entry)) (now (marks2 .entry)) (placesOf (now (positions .entry)) (now (numbers .entry)) (now (times .entry)))) stream number))
+        (meterStep (wholeMeter first second (now (marks1 .entry)) (now (marks2 .entry)) (placesOf (now (positions .entry)) (now (numbers .entry)) (now (times .entry)))) stream number time) ⌝ }
+{
+    if starts {
+        return restart(
+            first,
+            second,
+            marks1,
+            marks2,
+            positions,
+            numbers,
+            times,
+            stream,
+            number,
+        );
+    }
+    advance(
+        first,
+        second,
+        marks1,
+        marks2,
+        positions,
+        numbers,
+        times,
+        stream,
+        number,
+        time,
+    )
 }
 
 // Steps the borrowed meter in place; returns the outcome of `Meter::step`. Only the numbers of the two streams are copied.

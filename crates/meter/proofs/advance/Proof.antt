@@ -14,7 +14,8 @@ use Rattle.meter.specs.declared.Meter.{Meter}
 use Rattle.meter.specs.declared.StreamsStep.{StreamsStep}
 use Rattle.meter.specs.Streams.{one, two}
 use Rattle.meter.specs.Step.{notStepped}
-use Rattle.meter.specs.Private.{fewKept, wholeMeter, meterAnswerOf}
+use Rattle.meter.specs.Private.{fewKept, meterAnswerOf}
+use Rattle.meter.specs.Whole.{wholeMeter}
 use Rattle.meter.proofs.Meters.{side-outside, side-known, side-one, side-two, few-each, fit-one, fit-two, second-put, step-nowhere, step-many, step-beside, stepped}
 use Rattle.meter.proofs.advance.Statement.{statement}
 use Rattle.meter.proofs.advance.Tie as tie
@@ -81,12 +82,13 @@ most-beside-requires c κs = few-each (meterAt (entry (few-one c))) (few-known (
 returns-4 : tie.Need-returns-4
 unfolding oldestFirst
 returns-4 c =
-    let b = c .before .before .before .before .before .before .before in
+    let b = c .before .before .before .before .before .before in
     let e = b .before in
     let m = meterAt (entry (few-one e)) in
-    stepped m _ _ _ one (side-one _ (e .before .before .before .before .before .if3 .taken)) (few-known (few-one e))
+    rw (c .first-stepped .ensures)
+    (stepped m _ _ _ one (side-one _ (e .before .before .before .before .before .if3 .taken)) (few-known (few-one e))
     (sym (fit-two m) ∙ sym (e .before .is-fit .ensures) ∙ not-false _ (e .if4 .left))
-    _ _ _ (b .most-beside .ensures) (c .before .before .advance .ensures) refl
+    _ _ _ (b .most-beside .ensures) (c .before .advance .ensures) refl)
 
 returns-5 : tie.Need-returns-5
 returns-5 c =
@@ -102,12 +104,13 @@ most-beside-requires-2 c κs = few-each (meterAt (entry (few-two c))) (few-known
 returns-6 : tie.Need-returns-6
 unfolding oldestFirst
 returns-6 c =
-    let b = c .before .before .before .before .before .before .before in
+    let b = c .before .before .before .before .before .before in
     let e = b .before in
     let m = meterAt (entry (few-two e)) in
-    stepped m _ _ _ two (side-two _ (is-two (e .before .before .before .before .before))) (few-known (few-two e))
+    rw (c .second-stepped .ensures)
+    (stepped m _ _ _ two (side-two _ (is-two (e .before .before .before .before .before))) (few-known (few-two e))
     (sym (fit-one m) ∙ sym (e .before .is-fit2 .ensures) ∙ not-false _ (e .if5 .left))
-    _ _ _ (b .most-beside2 .ensures) (c .before .before .advance2 .ensures) (second-put m _ _ _)
+    _ _ _ (b .most-beside2 .ensures) (c .before .advance2 .ensures) (second-put m _ _ _))
 
 pub advance-spec : {M : Type 1} → statement M
 advance-spec =
@@ -121,9 +124,11 @@ advance-spec =
     returns-3
     most-beside-requires
     (λ c κs. search needs)
+    (λ c κs. search needs)
     returns-4
     (λ c κs. search needs) (λ c κs. search needs)
     returns-5
     most-beside-requires-2
+    (λ c κs. search needs)
     (λ c κs. search needs)
     returns-6)

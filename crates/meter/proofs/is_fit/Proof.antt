@@ -7,7 +7,8 @@ use borrow.Author.Needs.{needs}
 use borrow.Author.Tests.{not-true, not-false}
 use Rattle.receiver.specs.Parts.{placesOf}
 use Rattle.meter.specs.declared.Meter.{Meter}
-use Rattle.meter.specs.Private.{fewKept, wholeMeter}
+use Rattle.meter.specs.Private.{fewKept}
+use Rattle.meter.specs.Whole.{wholeMeter}
 use Rattle.meter.proofs.Meters.{fit-parts, fit-one, fit-two}
 use Rattle.meter.proofs.is_fit.Statement.{statement}
 use Rattle.meter.proofs.is_fit.Tie as tie

@@ -20,7 +20,8 @@ use Rattle.meter.specs.declared.MeterStepAnswer.{MeterStepAnswer}
 use Rattle.meter.specs.declared.StreamsStep.{StreamsStep}
 use Rattle.meter.specs.Streams.{one, two, withStream}
 use Rattle.meter.specs.Step.{meterFit, notStarted}
-use Rattle.meter.specs.Private.{wholeMeter, meterAnswerOf, startAsStep}
+use Rattle.meter.specs.Private.{meterAnswerOf, startAsStep}
+use Rattle.meter.specs.Whole.{wholeMeter}
 use Rattle.meter.proofs.Meters.{side-outside, side-known, side-one, side-two, start-nowhere, start-unfit, start-outside, start-done}
 use Rattle.meter.proofs.restart.Statement.{statement}
 use Rattle.meter.proofs.restart.Tie as tie

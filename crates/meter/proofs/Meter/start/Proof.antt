@@ -1,5 +1,5 @@
--- `meter::Meter::start` meets its contract: the parts are those of the meter, and the meter is put together of what they become; and as it
--- is the definition's, a refused start leaves an equal meter (`start-refused`). Assumes nothing.
+-- `meter::Meter::start` meets its contract: it is a turn that is a start, and as it is the definition's, a refused start leaves an equal meter
+-- (`start-refused`). Assumes nothing.
 use Prim.Native.Nat.{ℕ}
 use mathlib.Core.Path.{_≡_, ap, _∙_}
 use borrow.Author.Needs.{needs}
@@ -19,10 +19,9 @@ carries m n k r e =
 
 returns : tie.Need-returns
 returns c =
-    let call = c .before .before in
-    let lent = call .before .before .before .before .before in
-    carries (lent .before .before .before .before .before .before .args .self) _ _ _
-    (ap (λ (d : MeterStepAnswer). record { refusal = d .outcome .refusal; state = d .state }) (call .restart .ensures))
+    let call = c .before in
+    carries (call .before .args .self) _ _ _
+    (ap (λ (d : MeterStepAnswer). record { refusal = d .outcome .refusal; state = d .state }) (call .turned .ensures))
 
 pub start-spec : {M : Type 1} → statement M
 start-spec = tie.close (tie.spec (λ c κs. search needs) returns)

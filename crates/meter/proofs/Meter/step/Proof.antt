@@ -1,5 +1,5 @@
--- `meter::Meter::step` meets its contract: the parts are those of the meter, and the meter is put together of what they become; and as it
--- is the definition's, a refused step leaves an equal meter (`step-refused`). Assumes nothing.
+-- `meter::Meter::step` meets its contract: it is a turn that is no start, and as it is the definition's, a refused step leaves an equal meter
+-- (`step-refused`). Assumes nothing.
 use Prim.Native.Nat.{ℕ}
 use mathlib.Core.Path.{_≡_, ap, _∙_}
 use borrow.Author.Needs.{needs}
@@ -18,9 +18,7 @@ carries m n number time r e =
 
 returns : tie.Need-returns
 returns c =
-    let call = c .before .before .before in
-    let lent = call .before .before .before .before .before in
-    carries (lent .before .before .before .before .before .before .args .self) _ _ _ _ (call .advance .ensures)
+    carries (c .before .args .self) _ _ _ _ (c .turned .ensures)
 
 pub step-spec : {M : Type 1} → statement M
 step-spec = tie.close (tie.spec (λ c κs. search needs) returns)
