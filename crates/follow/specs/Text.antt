@@ -24,13 +24,17 @@ arrivalText l = cond (eqb (l .refusal) 0) (joined (between [] (l .number) (ascii
 unfoldable pub inOrderText : ℕ → List ℕ
 inOrderText jump = between (ascii "in order, jump ") jump (ascii "\n")
 
+-- an extent after the words before it: 1 packet, or n packets
+unfoldable pub extentText : List ℕ → ℕ → List ℕ
+extentText words n = between words n (cond (eqb n 1) (ascii " packet, ") (ascii " packets, "))
+
 -- reordered, with exact extent and late time
 unfoldable pub exactText : Lateness → List ℕ
-exactText l = joined (between (ascii "late by ") (l .extent) (ascii " packets, ") ∷ lateTime (l .late) ∷ ascii " us\n" ∷ [])
+exactText l = joined (extentText (ascii "late by ") (l .extent) ∷ lateTime (l .late) ∷ ascii " us\n" ∷ [])
 
 -- reordered beyond the window: the true extent is greater than the extent given; nothing is claimed about the late time
 unfoldable pub beyondText : Lateness → List ℕ
-beyondText l = between (ascii "late by more than ") (l .extent) (ascii " packets, beyond the window\n")
+beyondText l = joined (extentText (ascii "late by more than ") (l .extent) ∷ ascii "beyond the window\n" ∷ [])
 
 -- what is noted of an arrival
 unfoldable pub notedText : ReceiverAnswer → List ℕ

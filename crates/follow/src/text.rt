@@ -3,7 +3,7 @@ ghost use mathlib.Core.Path.{_≡_};
 ghost use Prim.Native.Nat.{_+_, _-_, _≤_};
 ghost use lib.ListN.{length};
 ghost use Rattle.writing.specs.Parts.{Written};
-ghost use Rattle.follow.specs.Text.{arrivalText, exactText, notedText, refusalText, outcomeText, lineText};
+ghost use Rattle.follow.specs.Text.{arrivalText, extentText, exactText, beyondText, notedText, refusalText, outcomeText, lineText};
 ghost use Rattle.follow.specs.Text.{acceptedText, runsText, countsText};
 use crate::parts::write_between;
 use crate::parts::write_late;
@@ -27,15 +27,36 @@ fn write_arrival(out: &mut [u8], at: usize, read: LogLine) -> usize
     write_between(out, one, b"", read.time, b" us: ")
 }
 
+// Writes an extent after `words`.
+fn write_extent(out: &mut [u8], at: usize, words: &[u8], extent: u32) -> usize
+    requires { ⌜ at + (length (now words) + 30) ≤ length (now out) ⌝ }
+    ensures { λ r. ⌜ Written at r (extentText (now (words .entry)) extent) (now (out .entry)) (now (out .exit))
+        × (r ≤ at + (length (now (words .entry)) + 30)) ⌝ }
+{
+    if extent == 1 {
+        return write_between(out, at, words, extent as u64, b" packet, ");
+    }
+    write_between(out, at, words, extent as u64, b" packets, ")
+}
+
 // Writes a reordered packet with exact extent and late time.
 fn write_exact(out: &mut [u8], at: usize, l: Lateness) -> usize
     requires { ⌜ at + 100 ≤ length (now out) ⌝ }
     ensures { λ r. ⌜ Written at r (exactText l) (now (out .entry)) (now (out .exit)) × (r ≤ at + 100) ⌝ }
 {
     let late = l.late;
-    let one = write_between(out, at, b"late by ", l.extent as u64, b" packets, ");
+    let one = write_extent(out, at, b"late by ", l.extent);
     let two = write_late(out, one, late);
     write_word(out, two, b" us\n")
+}
+
+// Writes a reordered packet beyond the window.
+fn write_beyond(out: &mut [u8], at: usize, l: Lateness) -> usize
+    requires { ⌜ at + 100 ≤ length (now out) ⌝ }
+    ensures { λ r. ⌜ Written at r (beyondText l) (now (out .entry)) (now (out .exit)) × (r ≤ at + 100) ⌝ }
+{
+    let one = write_extent(out, at, b"late by more than ", l.extent);
+    write_word(out, one, b"beyond the window\n")
 }
 
 // Writes what is noted of an arrival.
@@ -49,13 +70,7 @@ fn write_noted(out: &mut [u8], at: usize, noted: ReceiverAnswer) -> usize
             write_between(out, at, b"in order, jump ", jump as u64, b"\n")
         }
         ReceiverAnswer::Exact(l) => write_exact(out, at, l),
-        ReceiverAnswer::Beyond(l) => write_between(
-            out,
-            at,
-            b"late by more than ",
-            l.extent as u64,
-            b" packets, beyond the window\n",
-        ),
+        ReceiverAnswer::Beyond(l) => write_beyond(out, at, l),
     }
 }
 

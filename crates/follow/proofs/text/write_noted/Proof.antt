@@ -2,7 +2,7 @@
 use native.Mathlib.Omega.{arith}
 use mathlib.Core.Path.{sym, ap}
 use Rattle.writing.proofs.Parts.{named}
-use Rattle.follow.specs.Text.{inOrderText, beyondText, notedText}
+use Rattle.follow.specs.Text.{inOrderText, notedText}
 use borrow.Author.Needs.{needs}
 use Rattle.follow.proofs.text.write_noted.Statement.{statement}
 use Rattle.follow.proofs.text.write_noted.Tie as tie
@@ -26,14 +26,13 @@ returns-3 c =
     (named (sym (ap notedText (c .before .before .before .before .before .noted2 .given .1))) (w .0), omega (arith, w .1))
 
 returns-4 : tie.Need-returns-4
-unfolding notedText beyondText
+unfolding notedText
 returns-4 c =
-    let w = c .before .before .write-between2 .ensures in
-    let known = c .before .before .before .before .before .before .before in
-    (named (sym (ap notedText (known .before .noted3 .given .1))) (w .0), omega (arith, w .1))
+    let w = c .before .before .write-beyond .ensures in
+    (named (sym (ap notedText (c .before .before .before .before .before .noted3 .given .1))) (w .0), omega (arith, w .1))
 
 pub write-noted-spec : {M : Type 1} → statement M
 write-noted-spec = tie.close (tie.spec (λ c. search needs) (λ c. search needs) (λ c κs. search needs) (λ c. search needs)
     (λ c. search needs) (λ c. search needs) (λ c. search needs) (λ c κs. search needs) (λ c. search needs) (λ c κs. search needs)
-    (λ c. search needs) (λ c. search needs) (λ c. search needs) (λ c. search needs) (λ c κs. search needs) (λ c. search needs) returns
-    (λ c. search needs) returns-2 (λ c. search needs) returns-3 (λ c. search needs) returns-4)
+    (λ c. search needs) (λ c κs. search needs) (λ c. search needs) returns (λ c. search needs) returns-2 (λ c. search needs) returns-3
+    (λ c. search needs) returns-4)
