@@ -9,7 +9,7 @@ ghost use Rattle.capi.specs.Version.{version};
 // The greatest number of a refusal.
 const MAX_REFUSAL: u64 = 18;
 
-// Narrows `refusal` to 32 bits. A number that is no refusal stays one: it has no words either way.
+// Narrows `refusal` to 32 bits. Any number above 18 becomes 0: neither is a refusal, so both have no words.
 fn narrow(refusal: u64) -> u32
     ensures { λ r. ⌜ (askedRefusal r ≡ askedRefusal refusal) × (wordsOf r ≡ wordsOf refusal) ⌝ }
 {
