@@ -112,6 +112,11 @@ try 'a damaged second sample' 1 "damaged: $damage" worse "$dir/cable" "$dir/dama
 cp "$root/crates/cmd_summary/stdout" "$dir/expected"
 try 'a summary' 0 '' summary "$root/crates/cmd_summary/stdin"
 try 'a summary of standard input' 0 '' summary - < "$root/crates/cmd_summary/stdin"
+# A waiting time that fills its column stands apart from the share.
+printf '%s\n' '     50 %        0.000' '     90 % 123456789.000' '     95 % 123456789.000' '     99 % 123456789.000' \
+    '      all 123456789.000' > "$dir/expected"
+"$krakobran" import log 2 100 - < <(printf '2;0\n1;123456789\n') | "$krakobran" summary - | sed -n 's/ ms .*//p' > "$dir/out"
+verdict 'a long waiting time' "$(cmp -s "$dir/out" "$dir/expected" || echo ", $(< "$dir/out")")"
 sizes() { printf '{"share_percent":%d,"waiting_time_us":%d,"packets_held":%d,"octets_held":%d}' "$@"; }
 share() { printf '"%s":{"packets":%d,"of":%d,"percent":%s}' "$@"; }
 {

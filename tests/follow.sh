@@ -35,6 +35,14 @@ try 'a line of 5000 octets' 0 '' follow 1 - < <(head -c 4999 /dev/zero | tr '\0'
 } > "$dir/expected"
 try 'beyond the window' 0 '' follow 130 - < <(for ((i = 1; i <= 65; i++)); do echo "$((2 * i));$i"; done; printf '1;66\n3;66.5\n129;65.5\n')
 
+# An extent of 1 is one packet.
+{
+    echo '2 at 0 us: in order, jump 1'
+    echo '1 at 9000 us: late by 1 packet, 9000 us'
+    echo 'accepted 2, in order 1, reordered 1, copies 0, closed runs 1, open run 0'
+} > "$dir/expected"
+try 'late by one packet' 0 '' follow 2 - < <(printf '2;0\n1;9\n')
+
 # 4,096 arrivals are accepted; the line after them is told once.
 {
     echo '1 at 1000 us: in order, jump 0'
