@@ -24,11 +24,18 @@ use Rattle.summary.specs.Figures.{figuresOf, sizesFor}
 unfoldable pub column : ℕ → ℕ → List ℕ
 column width n = replicate (width - length (decimalOf n)) space ++ decimalOf n
 
--- a time, given in microseconds, in milliseconds with three decimals, in a column
+-- a time, given in microseconds, in milliseconds with three decimals, in a column; a space stands before it, whatever its length
 unfoldable pub milliseconds : ℕ → List ℕ
 milliseconds t =
     joined
-    (column 9 (t / 1000) ∷ ascii "." ∷ decimalOf (t / 100 % 10) ∷ decimalOf (t / 10 % 10) ∷ decimalOf (t % 10) ∷ ascii " ms" ∷ [])
+    (ascii " "
+    ∷ column 8 (t / 1000)
+    ∷ ascii "."
+    ∷ decimalOf (t / 100 % 10)
+    ∷ decimalOf (t / 10 % 10)
+    ∷ decimalOf (t % 10)
+    ∷ ascii " ms"
+    ∷ [])
 
 -- `part` of `whole` in tenths of a percent, rounded to the nearest; half a tenth is rounded up
 abbrev pub tenths : ℕ → ℕ → ℕ

@@ -38,9 +38,9 @@ fn write_share(out: &mut [u8], at: usize, name: &[u8], part: u32, whole: u32) ->
 
 // Writes the line with the least sizes for a share.
 fn write_sizes(out: &mut [u8], at: usize, share: &[u8], sizes: Sizes) -> usize
-    requires { ⌜ at + (length (now share) + 173) ≤ length (now out) ⌝ }
+    requires { ⌜ at + (length (now share) + 174) ≤ length (now out) ⌝ }
     ensures { λ r. ⌜ Written at r (sizesLine (now (share .entry)) sizes) (now (out .entry)) (now (out .exit))
-        × (r ≤ at + (length (now (share .entry)) + 173)) ⌝ }
+        × (r ≤ at + (length (now (share .entry)) + 174)) ⌝ }
 {
     let one = write_word(out, at, share);
     let two = write_milliseconds(out, one, sizes.time);
@@ -51,9 +51,9 @@ fn write_sizes(out: &mut [u8], at: usize, share: &[u8], sizes: Sizes) -> usize
 
 // Finds the least sizes for `share` percent of the first arrivals, and writes their row of the table.
 fn write_row(out: &mut [u8], at: usize, file: &[u8], name: &[u8], share: u32) -> usize
-    requires { ⌜ (at + (length (now name) + 173) ≤ length (now out)) × (1 ≤ share) × (share ≤ 100) ⌝ }
+    requires { ⌜ (at + (length (now name) + 174) ≤ length (now out)) × (1 ≤ share) × (share ≤ 100) ⌝ }
     ensures { λ r. ⌜ Written at r (sizesLine (now (name .entry)) (sizesFor (answersOf (decode (now (file .entry)))) share)) (now (out .entry)) (now (out .exit))
-        × (r ≤ at + (length (now (name .entry)) + 173)) ⌝ }
+        × (r ≤ at + (length (now (name .entry)) + 174)) ⌝ }
 {
     let sizes = sizes_for(file, share);
     write_sizes(out, at, name, sizes)
@@ -61,8 +61,8 @@ fn write_row(out: &mut [u8], at: usize, file: &[u8], name: &[u8], share: u32) ->
 
 // Writes the rows of the table of the least sizes.
 fn write_rows(out: &mut [u8], at: usize, file: &[u8]) -> usize
-    requires { ⌜ at + 910 ≤ length (now out) ⌝ }
-    ensures { λ r. ⌜ Written at r (rowLines (answersOf (decode (now (file .entry))))) (now (out .entry)) (now (out .exit)) × (r ≤ at + 910) ⌝ }
+    requires { ⌜ at + 915 ≤ length (now out) ⌝ }
+    ensures { λ r. ⌜ Written at r (rowLines (answersOf (decode (now (file .entry))))) (now (out .entry)) (now (out .exit)) × (r ≤ at + 915) ⌝ }
 {
     let one = write_row(out, at, file, b"     50 %", 50);
     let two = write_row(out, one, file, b"     90 %", 90);

@@ -56,12 +56,13 @@ pub(crate) fn write_column(out: &mut [u8], at: usize, width: usize, v: u64) -> u
     write_number(out, number, v)
 }
 
-// Writes a time, given in microseconds, in milliseconds with three decimals, in a column.
+// Writes a time, given in microseconds, in milliseconds with three decimals, in a column after a space.
 pub(crate) fn write_milliseconds(out: &mut [u8], at: usize, time: u64) -> usize
-    requires { ⌜ at + 100 ≤ length (now out) ⌝ }
-    ensures { λ r. ⌜ Written at r (milliseconds time) (now (out .entry)) (now (out .exit)) × (r ≤ at + 100) ⌝ }
+    requires { ⌜ at + 101 ≤ length (now out) ⌝ }
+    ensures { λ r. ⌜ Written at r (milliseconds time) (now (out .entry)) (now (out .exit)) × (r ≤ at + 101) ⌝ }
 {
-    let point = write_column(out, at, 9, time / 1000);
+    let column = write_word(out, at, b" ");
+    let point = write_column(out, column, 8, time / 1000);
     let tenths = write_word(out, point, b".");
     let hundredths = write_number(out, tenths, time / 100 % 10);
     let thousandths = write_number(out, hundredths, time / 10 % 10);
