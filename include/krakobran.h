@@ -44,8 +44,8 @@
  * version, and so do the layouts; before 1.0.0 they may change with the minor version. */
 #define KRAKOBRAN_VERSION_MAJOR 0
 #define KRAKOBRAN_VERSION_MINOR 11
-#define KRAKOBRAN_VERSION_PATCH 0
-#define KRAKOBRAN_VERSION "0.11.0"
+#define KRAKOBRAN_VERSION_PATCH 1
+#define KRAKOBRAN_VERSION "0.11.1"
 
 #ifdef __cplusplus
 extern "C" {

@@ -1,6 +1,6 @@
 -- The version of the library for C. Assumes nothing.
 use Prim.Native.Nat.{ℕ}
 
--- major * 1,000,000 + minor * 1,000 + patch, for 0.11.0
+-- major * 1,000,000 + minor * 1,000 + patch, for 0.11.1
 abbrev pub version : ℕ
-version = 11000
+version = 11001
