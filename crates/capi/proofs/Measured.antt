@@ -1,5 +1,5 @@
--- A call in the measure with number n, for a decoded file d. If n is the number of a measure m, the call is made for the file; else for a refused
--- file, which has no answers. r is the refusal for a number that is no measure, x is the answer of the call. Assumes nothing.
+-- A call in the measure with number n, for a decoded file d. If n is the number of a measure m, the call is made for the file; else for a
+-- refused file, which has no answers. r is the refusal for a number that is no measure, x is the answer of the call. Assumes nothing.
 use Prim.Native.Nat.{ℕ, zero, suc, _<_}
 use native.Mathlib.Omega.{arith}
 use mathlib.Core.Bool.{true, false}
@@ -21,7 +21,8 @@ use Rattle.capi.specs.Buffering.{measureOf, withMeasure}
 
 -- ---- of a refused file
 
-accommodated-none : (m : Measure) (size r : ℕ) → record { refusal = r; accommodated = 0; arrived = 0 } ≡ sampleAccommodated (refused r) m size
+accommodated-none : (m : Measure) (size r : ℕ) → record { refusal = r; accommodated = 0; arrived = 0 }
+    ≡ sampleAccommodated (refused r) m size
 unfolding sampleAccommodated accommodated arrived count answers each eachAfter
 accommodated-none m size r = refl
 
@@ -58,6 +59,7 @@ module _ (n : ℕ) (d : Decoded) where
     accommodated-in size x h =
         h ∙ ap (λ (k : Measure). sampleAccommodated d k size) f ∙ ap (λ (y : Decoded). sampleAccommodated y (measureOf n) size) (sym some)
 
-    pub least-in : (part whole : ℕ) (x : SampleLeast) → x ≡ sampleLeast d m part whole → x ≡ sampleLeast (withMeasure n d) (measureOf n) part whole
+    pub least-in : (part whole : ℕ) (x : SampleLeast) → x ≡ sampleLeast d m part whole
+        → x ≡ sampleLeast (withMeasure n d) (measureOf n) part whole
     least-in part whole x h =
         h ∙ ap (λ (k : Measure). sampleLeast d k part whole) f ∙ ap (λ (y : Decoded). sampleLeast y (measureOf n) part whole) (sym some)

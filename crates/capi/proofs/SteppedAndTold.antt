@@ -1,9 +1,9 @@
--- A function over a struct that is lent to it, numbers, and lent figures. It passes the struct's reference on to `#step`, which gives it up at the
--- new state and returns an outcome, and hands that with the figures' reference to `outcome_told`, which returns the refusal and leaves
--- what is noted in the figures. A walk of its MIR, by hand, once for every struct, list of numbers and `#step`.
+-- A function over a struct that is lent to it, numbers, and lent figures. It passes the struct's reference on to `#step`, which gives it
+-- up at the new state and returns an outcome, and hands that with the figures' reference to `outcome_told`, which returns the refusal and
+-- leaves what is noted in the figures. A walk of its MIR, by hand, once for every struct, list of numbers and `#step`.
 --     R            the type of the struct; ws the widths of the numbers
 --     slots        the parameters after the struct: the numbers, then the figures; those after it with a mark of 2 are for two lifetimes
---     stepped      the function; τ and ρ are the type to which the struct's reference refers, as the MIR names it and spelled out, σ and φ those
+-- stepped the function; τ and ρ are the type to which the struct's reference refers, as the MIR names it and spelled out, σ and φ those
 --                  of the figures' reference; ℓ and ℓ′ the lifetimes of the references that are passed on
 --     Says         what `#step` ensures
 --     meets        the function meets every contract that follows
@@ -137,7 +137,8 @@ module _ {M : Type 1} (𝓤 : URA M) (H : Heap 𝓤) (A : Atoms 𝓤) (W : Given
       qed W (‵ (fres (a .0 .name) (Figures .coded .code zs)) ∷ []) ∵ nothing ! $ move ! (1 ∷ 0 ∷ []) $ fjoin ! $ done !
   had κs (w ∷ ws) a are zs =
       qed W (‵ (fres (figures κs ws (a .1) .name) (Figures .coded .code zs)) ∷ []) ∵
-      use1 W (‵ (hasOf κs (slots ws) (all yes (slots ws)) (stays ws) (a .1) (last κs ws (a .1) zs) (valss (rows κs ws) (spells κs ws) (a .1))))
+      use1 W (‵ (hasOf κs (slots ws) (all yes (slots ws)) (stays ws) (a .1) (last κs ws (a .1) zs)
+      (valss (rows κs ws) (spells κs ws) (a .1))))
       (had κs ws (a .1) (are .1) zs) $ owned ! (UInt w) (Is (UInt w)) (uint-makes 𝓤 H A W w) (a .0) _ (are .0) $ fjoin ! $ done !
 
   -- what the reference to the figures owns, of what they own at entry
@@ -264,7 +265,8 @@ module _ {M : Type 1} (𝓤 : URA M) (H : Heap 𝓤) (A : Atoms 𝓤) (W : Given
         move ! (3 ∷ []) $
         use1 W (‵ (hasOf κs (slots ws) (all yes (slots ws)) (stays ws) (a .1) (last κs ws (a .1) zs) (vss .1)))
         (had 𝓤 H A W κs ws (a .1) are zs) $ move ! (2 ∷ 0 ∷ []) $ fjoin ! $
-        suffices ! _ (ends-at 𝓤 H A T stayed c W ((κs, qs, bounds, a, vss), g) v r (h, last κs ws (a .1) zs) (tt, last-fits κs ws (a .1) zs)) $
+        suffices ! _ (ends-at 𝓤 H A T stayed c W ((κs, qs, bounds, a, vss), g) v r (h, last κs ws (a .1) zs)
+        (tt, last-fits κs ws (a .1) zs)) $
         owned ! u64 (Is u64) (uint-makes 𝓤 H A W w64) r _ is $
         use0 W (raw (c κs a .ensures g r (atExit T κs a (h, last κs ws (a .1) zs)))) (follows κs a g s h r zs e e₁ e₂) $
         nothing ! $ move ! (5 ∷ 0 ∷ []) $ join ! $ move ! (4 ∷ 0 ∷ []) $ join ! $ move ! (3 ∷ 2 ∷ []) $ join ! $ move ! (1 ∷ 0 ∷ []) $
@@ -296,8 +298,8 @@ module _ {M : Type 1} (𝓤 : URA M) (H : Heap 𝓤) (A : Atoms 𝓤) (W : Given
         alloc0 ! $ params1 ! $ pass1 ! (init ! 9 refl (tt, tt)) $ move ! (8 ∷ []) $
         passes-before ! ws bs ns (fit κs ws (a .1) are) _ (vptr (y .ptr .0) (y .ptr .1)) $ pass1 ! (init ! 7 refl (tt, tt)) $ pass0 ! $
         -- the context: the numbers; then each other local, with what frees it: the references that are passed on at 1 and 3, the outcome
-        -- at 5, the figures' reference at 7, the struct's at 9, the refusal at 11; what is lent of the struct at 13; the token and the reference
-        -- of the figures
+        -- at 5, the figures' reference at 7, the struct's at 9, the refusal at 11; what is lent of the struct at 13; the token and the
+        -- reference of the figures
         assigns ! (addr ! (from ! (hop ! (look ! 9 refl) (stop !)))) (found ! (after 𝓤 H ws bs _ 2)) (init ! 3 refl (tt, tt)) $
         move ! (13 ∷ []) $ lends ! fm R S.the-row ws Says (κ, tt) (q, tt) (x, given (κ, tt) ws ns)
         (step-gives (κ, tt) (q, tt) (x, given (κ, tt) ws ns) (given-known (κ, tt) ws ns (fit κs ws (a .1) are)))
@@ -310,7 +312,8 @@ module _ {M : Type 1} (𝓤 : URA M) (H : Heap 𝓤) (A : Atoms 𝓤) (W : Given
         (init ! 2 refl (tt, tt)) $
         move ! (14 ∷ 15 ∷ []) $ use2 W (raw (Told .pre (to-told s v₁))) (goes-told s v₁ is₁) $
         calls-at ! fm Told known-told (to-told s v₁)
-        (and-then ! (load ! (found ! (after 𝓤 H ws bs _ 1)) (look ! 7 refl)) (and-then ! (load ! (found ! (after 𝓤 H ws bs _ 3)) (look ! 3 refl))
+        (and-then ! (load ! (found ! (after 𝓤 H ws bs _ 1)) (look ! 7 refl))
+        (and-then ! (load ! (found ! (after 𝓤 H ws bs _ 3)) (look ! 3 refl))
         (no-more !))) (λ v₂.
         returned-with 𝓤 H A told.ended (told.clauses 𝓤 H A at-mem run) (to-told s v₁) v₂ ! tt
         (λ r e. (r ≡ s .refusal) × (e .1 .0 .now ≡ notedFigures (s .noted))) (λ r e. id⊢ 𝓤 _) (λ r zs e₂ is₂.
@@ -357,8 +360,10 @@ module _ {M : Type 1} (𝓤 : URA M) (H : Heap 𝓤) (𝓜 : Model 𝓤 H) (𝓖
     (closing 𝓤 H (𝓖 .A) (LentStruct.ended R S.the-row ws) d)))
     (ghosts : (κs : Lfts 1) (a : Args (LentStruct.ended R S.the-row ws .signature) κs) → d κs a .ghost)
     (asks : (κs : Lfts 1) (a : Args (LentStruct.ended R S.the-row ws .signature) κs) → ent 𝓤 (emp 𝓤) (d κs a .requires (ghosts κs a)))
-    (says : (κs : Lfts 1) (a : Args (LentStruct.ended R S.the-row ws .signature) κs) (s : Outcome) (e : AtExit (LentStruct.ended R S.the-row ws) κs)
-    → ent 𝓤 (d κs a .ensures (ghosts κs a) s e) (fact 𝓤 (Says (a .0 .now) (Rattle.receiver.proofs.PassedNumbers.taken κs ws (a .1)) s (e .0 .now))))
+    (says : (κs : Lfts 1) (a : Args (LentStruct.ended R S.the-row ws .signature) κs) (s : Outcome)
+    (e : AtExit (LentStruct.ended R S.the-row ws) κs)
+    → ent 𝓤 (d κs a .ensures (ghosts κs a) s e) (fact 𝓤 (Says (a .0 .now) (Rattle.receiver.proofs.PassedNumbers.taken κs ws (a .1)) s
+    (e .0 .now))))
     (tells-means : γ #told ≡ told-def.routine) (c : Clauses 𝓤 (ended R ws))
     (follows : (κs : Lfts 2) (a : Args (ended R ws .signature) κs) (g : c κs a .ghost) (s : Outcome) (h : R .Denot) (r : ℕ) (zs : List ℕ)
     → Says (a .0 .now) (taken κs ws (a .1)) s h → r ≡ s .refusal → zs ≡ notedFigures (s .noted)

@@ -1,5 +1,5 @@
--- The figures of a sample for C. A value that may be missing becomes 1 and its figures, or zeros. An f64 becomes its bits. The row of an answer
--- is `rowOf` of metrics. Assumes nothing.
+-- The figures of a sample for C. A value that may be missing becomes 1 and its figures, or zeros. An f64 becomes its bits. The row of an
+-- answer is `rowOf` of metrics. Assumes nothing.
 use Prim.Native.Nat.{ℕ}
 use mathlib.Core.List.{List, [], _∷_}
 use lib.Ieee.{binary64, toBits}

@@ -1,5 +1,5 @@
--- What a receiver or a meter notes of an arrival, for C: the number of the case, jump size, extent, and amount of the late time. Figures that a
--- case lacks are 0. Assumes nothing.
+-- What a receiver or a meter notes of an arrival, for C: the number of the case, jump size, extent, and amount of the late time. Figures
+-- that a case lacks are 0. Assumes nothing.
 use Prim.Native.Nat.{ℕ}
 use mathlib.Core.List.{List, [], _∷_}
 use Rattle.receiver.specs.declared.Lateness.{Lateness}

@@ -1,5 +1,5 @@
--- The comparison of two samples for C: the number of the worse one, and the offset and length of its label; zeros if one is refused. Assumes
--- nothing.
+-- The comparison of two samples for C: the number of the worse one, and the offset and length of its label; zeros if one is refused.
+-- Assumes nothing.
 use Prim.Native.Nat.{ℕ}
 use mathlib.Core.List.{List, [], _∷_}
 use lib.ListN.{length}

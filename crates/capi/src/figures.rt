@@ -1,5 +1,5 @@
-// The figures of a sample as arrays of u64. An enum becomes the number of its case (or 1 if its value is known, else 0) and the figures of all
-// cases. An f64 becomes its bits.
+// The figures of a sample as arrays of u64. An enum becomes the number of its case (or 1 if its value is known, else 0) and the figures
+// of all cases. An f64 becomes its bits.
 
 use rfc4737::Answer;
 use rfc4737::Counts;
@@ -17,8 +17,8 @@ ghost use lib.Ieee.{binary64, toBits};
 ghost use Rattle.metrics.specs.Rows.{rowOf};
 ghost use Rattle.capi.specs.Figures.{countFigures, gapFigures, degreeFigures, ratiosFigures};
 
-// Returns the row of an answer: the number of its case, position, jump size, extent, amount of the late time, byte offset, largest n, and the
-// record of the first copy. The case tells the direction of the late time.
+// Returns the row of an answer: the number of its case, position, jump size, extent, amount of the late time, byte offset, largest n, and
+// the record of the first copy. The case tells the direction of the late time.
 pub fn answer_row(answer: Answer) -> [u64; 8]
     ensures { λ r. ⌜ r ≡ rowOf answer ⌝ }
 {
@@ -50,8 +50,8 @@ pub fn answer_row(answer: Answer) -> [u64; 8]
     }
 }
 
-// Returns the counts of a sample: first arrivals (L), reordered packets, duplicates, in-order packets, closed runs, the sum of the squares of
-// their lengths, and the length of the open run.
+// Returns the counts of a sample: first arrivals (L), reordered packets, duplicates, in-order packets, closed runs, the sum of the
+// squares of their lengths, and the length of the open run.
 pub fn count_figures(counts: Counts) -> [u64; 7]
     ensures { λ r. ⌜ r ≡ countFigures counts ⌝ }
 {

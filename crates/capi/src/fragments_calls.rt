@@ -14,7 +14,8 @@ pub extern "C" fn krakobran_fragment_order(
     flags: &mut [u8],
     usable: &mut [u8],
 ) -> u64
-    ensures { λ r. ⌜ OrderedTo sent (now (numbers .entry)) (now (times .entry)) (now (lengths .entry)) (now (mores .entry)) (now (offsets .entry)) (now (flags .entry)) (now (usable .entry)) r (now (flags .exit)) (now (usable .exit)) ⌝ }
+    ensures { λ r. ⌜ OrderedTo sent (now (numbers .entry)) (now (times .entry)) (now (lengths .entry)) (now (mores .entry))
+        (now (offsets .entry)) (now (flags .entry)) (now (usable .entry)) r (now (flags .exit)) (now (usable .exit)) ⌝ }
 {
     fragments::order(sent, numbers, times, lengths, mores, offsets, flags, usable) as u64
 }

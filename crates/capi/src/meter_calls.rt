@@ -27,7 +27,8 @@ fn renew<'a>(
     numbers: &'a mut [u16; Receiver::WINDOW],
     times: &'a mut [u64; Receiver::WINDOW],
 ) -> StreamsStep
-    ensures { λ a. ⌜ wholeMeter (a .first) (a .second) (now (marks1 .exit)) (now (marks2 .exit)) (placesOf (now (positions .exit)) (now (numbers .exit)) (now (times .exit)))
+    ensures { λ a. ⌜ wholeMeter (a .first) (a .second) (now (marks1 .exit)) (now (marks2 .exit))
+        (placesOf (now (positions .exit)) (now (numbers .exit)) (now (times .exit)))
         ≡ newMeter ⌝ }
 {
     *marks1 = [0u64; MARK_WORDS];

@@ -35,7 +35,8 @@ pub extern "C" fn krakobran_answer(file: &[u8], asked: u32, row: &mut [u64; 8]) 
 #[no_mangle]
 pub extern "C" fn krakobran_rows(file: &[u8], rows: &mut [u64]) -> u64
     ensures { λ r. ⌜ (r ≡ decodedRefusal (rowsInto (decode (now (file .entry))) (length (now (rows .entry)))))
-        × (now (rows .exit) ≡ over (rowsOf (answersOf (rowsInto (decode (now (file .entry))) (length (now (rows .entry)))))) (now (rows .entry))) ⌝ }
+        × (now (rows .exit) ≡ over (rowsOf (answersOf (rowsInto (decode (now (file .entry))) (length (now (rows .entry))))))
+        (now (rows .entry))) ⌝ }
 {
     let layout = metrics::record_rows(file, rows);
     layout.refusal as u64
@@ -45,7 +46,8 @@ pub extern "C" fn krakobran_rows(file: &[u8], rows: &mut [u64]) -> u64
 #[no_mangle]
 pub extern "C" fn krakobran_gaps(file: &[u8], gaps: &mut [u32]) -> u64
     ensures { λ r. ⌜ (r ≡ decodedRefusal (gapsInto (decode (now (file .entry))) (length (now (gaps .entry)))))
-        × (now (gaps .exit) ≡ over (gapNumbers (answersOf (gapsInto (decode (now (file .entry))) (length (now (gaps .entry)))))) (now (gaps .entry))) ⌝ }
+        × (now (gaps .exit) ≡ over (gapNumbers (answersOf (gapsInto (decode (now (file .entry))) (length (now (gaps .entry))))))
+        (now (gaps .entry))) ⌝ }
 {
     let layout = metrics::record_gaps(file, gaps);
     layout.refusal as u64
@@ -91,7 +93,8 @@ pub extern "C" fn krakobran_gap(file: &[u8], asked: u32, gap: &mut [u64; 2]) -> 
 #[no_mangle]
 pub extern "C" fn krakobran_n_reordered(file: &[u8], n: u32, counts: &mut [u64; 2]) -> u64
     ensures { λ r. ⌜ (r ≡ degreeCounts (decode (now (file .entry))) n .refusal)
-        × (now (counts .exit) ≡ degreeCounts (decode (now (file .entry))) n .reordered ∷ degreeCounts (decode (now (file .entry))) n .arrived ∷ []) ⌝ }
+        × (now (counts .exit) ≡ degreeCounts (decode (now (file .entry))) n .reordered
+        ∷ degreeCounts (decode (now (file .entry))) n .arrived ∷ []) ⌝ }
 {
     let found = metrics::n_reordered(file, n);
     *counts = [found.reordered as u64, found.arrived as u64];

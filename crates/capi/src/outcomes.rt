@@ -29,7 +29,8 @@ fn late_figures(after: u32, before: u32, l: Lateness) -> [u64; 4]
     ]
 }
 
-// Returns the figures of what is noted: the number of the case, jump size, extent, and amount of the late time. The case tells its direction.
+// Returns the figures of what is noted: the number of the case, jump size, extent, and amount of the late time. The case tells its
+// direction.
 pub fn noted_figures(noted: ReceiverAnswer) -> [u64; 4]
     ensures { λ r. ⌜ r ≡ notedFigures noted ⌝ }
 {

@@ -29,7 +29,10 @@ fn refresh<'a>(
     times: &'a mut [u64; Receiver::WINDOW],
     sent: u32,
 ) -> StreamStep
-    ensures { λ a. ⌜ record { refusal = a .outcome .refusal; state = whole (a .stream) (now (marks .exit)) (now (positions .exit)) (now (numbers .exit)) (now (times .exit)) }
+    ensures { λ a. ⌜ record {
+      refusal = a .outcome .refusal;
+      state = whole (a .stream) (now (marks .exit)) (now (positions .exit)) (now (numbers .exit)) (now (times .exit));
+    }
         ≡ freshIn (whole stream (now (marks .entry)) (now (positions .entry)) (now (numbers .entry)) (now (times .entry))) sent ⌝ }
 {
     if outside(1, SENT_MOST, sent as u64) {
@@ -50,7 +53,8 @@ fn refresh<'a>(
 
 // Makes the borrowed receiver a fresh one for K sent packets; with a refusal it is as it was.
 fn fresh_in_place(r: &mut Receiver, sent: u32) -> Outcome
-    ensures { λ outcome. ⌜ (outcome .refusal ≡ freshIn (now (r .entry)) sent .refusal) × (now (r .exit) ≡ freshIn (now (r .entry)) sent .state) ⌝ }
+    ensures { λ outcome. ⌜ (outcome .refusal ≡ freshIn (now (r .entry)) sent .refusal)
+        × (now (r .exit) ≡ freshIn (now (r .entry)) sent .state) ⌝ }
 {
     let a = refresh(
         r.stream,
@@ -67,7 +71,8 @@ fn fresh_in_place(r: &mut Receiver, sent: u32) -> Outcome
 // Makes a receiver a fresh one for K sent packets.
 #[no_mangle]
 pub extern "C" fn krakobran_receiver_fresh(receiver: &mut Receiver, sent: u32) -> u64
-    ensures { λ r. ⌜ (r ≡ freshIn (now (receiver .entry)) sent .refusal) × (now (receiver .exit) ≡ freshIn (now (receiver .entry)) sent .state) ⌝ }
+    ensures { λ r. ⌜ (r ≡ freshIn (now (receiver .entry)) sent .refusal)
+        × (now (receiver .exit) ≡ freshIn (now (receiver .entry)) sent .state) ⌝ }
 {
     refusal_of(fresh_in_place(receiver, sent))
 }

@@ -26,7 +26,8 @@ pub extern "C" fn krakobran_refusal_words(
     out: &mut [u8],
     length: &mut [u64; 1],
 ) -> u64
-    ensures { λ r. ⌜ Output (askedRefusal refusal) (wordsOf refusal) (now (out .entry)) (writeTold r (now (length .exit))) (now (out .exit)) ⌝ }
+    ensures { λ r. ⌜ Output (askedRefusal refusal) (wordsOf refusal) (now (out .entry)) (writeTold r (now (length .exit)))
+        (now (out .exit)) ⌝ }
 {
     let written = refusals::words(narrow(refusal), out);
     *length = [written.length as u64];

@@ -29,7 +29,8 @@ pub extern "C" fn krakobran_full_numbers_10(
     times: &[u64],
     numbers: &mut [u32],
 ) -> u64
-    ensures { λ r. ⌜ FilledTo (rangeOf 10) sent (now (shorts .entry)) (now (times .entry)) (now (numbers .entry)) r (now (numbers .exit)) ⌝ }
+    ensures { λ r. ⌜ FilledTo (rangeOf 10) sent (now (shorts .entry)) (now (times .entry)) (now (numbers .entry)) r
+        (now (numbers .exit)) ⌝ }
 {
     shortnumbers::full_numbers_10(sent, shorts, times, numbers) as u64
 }

@@ -64,7 +64,8 @@ pub fn fill_32(text: &[u8], out: &mut [u32]) -> usize
 // Fills a list of 64 bits with the numbers of a text, until either ends; returns how many numbers the text has.
 pub fn fill_64(text: &[u8], out: &mut [u64]) -> usize
     ensures { λ r. ⌜ (r ≡ length (numbersIn (now (text .entry))))
-        × (now (out .exit) ≡ over (numbersWithin 18446744073709551615 (length (now (out .entry))) (now (text .entry))) (now (out .entry))) ⌝ }
+        × (now (out .exit) ≡ over (numbersWithin 18446744073709551615 (length (now (out .entry))) (now (text .entry)))
+        (now (out .entry))) ⌝ }
 {
     let n = count(text, BLANK);
     for i in 0..least(n, out.len()) {

@@ -33,7 +33,8 @@ module _ (d : Decoded) (listing : List ℕ) (agreement : SampleAgreement) (is : 
   checked-refused n = rw own (go (decodedRefusal d) (λ e. n (own ∙ e)))
     where
       go : (r : ℕ) → (r ≡ 0 → ⊥)
-          → _≡_ {A = SampleVerdict} (record { refusal = r; verdict = Verdict.WrongLine 0 }) (record { refusal = r; verdict = ifNone r (verdictOn (sampleText d) listing) (Verdict.WrongLine 0) })
+          → _≡_ {A = SampleVerdict} (record { refusal = r; verdict = Verdict.WrongLine 0 })
+          (record { refusal = r; verdict = ifNone r (verdictOn (sampleText d) listing) (Verdict.WrongLine 0) })
       go zero n = absurd (n refl)
       go (suc r) n = refl
 
@@ -43,7 +44,11 @@ module _ (d : Decoded) (listing : List ℕ) (agreement : SampleAgreement) (is : 
     unfolding sampleAgreement
     compared =
         is
-        ∙ ap (λ (r : ℕ). record { refusal = r; octets = ifNone r (common (sampleText d) listing) 0; same = ifNone r (sameText (sampleText d) listing) false })
+        ∙ ap (λ (r : ℕ). record {
+          refusal = r;
+          octets = ifNone r (common (sampleText d) listing) 0;
+          same = ifNone r (sameText (sampleText d) listing) false;
+        })
         (sym own ∙ z)
 
     -- the octets that agree

@@ -1,7 +1,7 @@
--- The verdict is `Agrees` exactly for the report, and the start of a listing decides. By the longest common prefix (`by-prefix`) the verdict is
--- `Agrees` exactly if both texts have the same octets, and then they are equal (`same-text`, by induction over both). For a refused sample it
--- is never `Agrees`. The verdict reads at most one octet more of the listing than the report has (`verdict-start`), and no report has more than
--- `listingOctets`. e is the report, t another text, and d the decoded sample. Assumes nothing.
+-- The verdict is `Agrees` exactly for the report, and the start of a listing decides. By the longest common prefix (`by-prefix`) the
+-- verdict is `Agrees` exactly if both texts have the same octets, and then they are equal (`same-text`, by induction over both). For a
+-- refused sample it is never `Agrees`. The verdict reads at most one octet more of the listing than the report has (`verdict-start`), and
+-- no report has more than `listingOctets`. e is the report, t another text, and d the decoded sample. Assumes nothing.
 use Prim.Native.Nat.{ℕ, zero, suc, _≤_}
 use mathlib.Core.Path.{_≡_, refl, sym, ap, ap₂, _∙_}
 use mathlib.Core.Bool.{Bool, true, false, cond, _&&_, true≢false}
@@ -66,7 +66,8 @@ pub agrees-exactly : (d : Decoded) → AgreesExactly d
 unfolding sampleVerdict
 agrees-exactly d = record { only = λ listing q. go listing (decodedRefusal d) q; always = λ z. rw z (verdict-self (sampleText d)) }
   where
-    go : (listing : List ℕ) (r : ℕ) → ifNone r (verdictOn (sampleText d) listing) (Verdict.WrongLine 0) ≡ Verdict.Agrees → (r ≡ 0) × (listing ≡ sampleText d)
+    go : (listing : List ℕ) (r : ℕ) → ifNone r (verdictOn (sampleText d) listing) (Verdict.WrongLine 0) ≡ Verdict.Agrees → (r ≡ 0)
+        × (listing ≡ sampleText d)
     go listing zero q = (refl, verdict-only (sampleText d) listing q)
     go listing (suc r) q = absurd (true≢false (sym (ap isYes q)))
 

@@ -1,5 +1,5 @@
--- The line feeds of a text l: appending an octet x adds one if x is a line feed, so the loop over the first i octets counts them. There are at
--- most as many as octets. Assumes nothing.
+-- The line feeds of a text l: appending an octet x adds one if x is a line feed, so the loop over the first i octets counts them. There
+-- are at most as many as octets. Assumes nothing.
 use Prim.Native.Nat.{ℕ, suc, _+_, _≤_, _<_}
 use mathlib.Core.Path.{_≡_, refl}
 use mathlib.Core.Bool.{Bool, true, false, cond}
@@ -18,14 +18,16 @@ unfolding feeds
 feeds-more [] x = refl
 feeds-more (y ∷ l) x = rw (feeds-more l x) (go (eqb y lineFeed) (eqb x lineFeed))
   where
-    go : (b c : Bool) → cond b (cond c (feeds l + 1) (feeds l) + 1) (cond c (feeds l + 1) (feeds l)) ≡ cond c (cond b (feeds l + 1) (feeds l) + 1) (cond b (feeds l + 1) (feeds l))
+    go : (b c : Bool) → cond b (cond c (feeds l + 1) (feeds l) + 1) (cond c (feeds l + 1) (feeds l))
+        ≡ cond c (cond b (feeds l + 1) (feeds l) + 1) (cond b (feeds l + 1) (feeds l))
     go true true = refl
     go true false = refl
     go false true = refl
     go false false = refl
 
 -- those of the first i + 1 octets
-pub feeds-next : (l : List ℕ) (i f : ℕ) → i < length l → f ≡ cond (eqb (getD l i 0) lineFeed) 1 0 → feeds (take i l) + f ≡ feeds (take (i + 1) l)
+pub feeds-next : (l : List ℕ) (i f : ℕ) → i < length l → f ≡ cond (eqb (getD l i 0) lineFeed) 1 0
+    → feeds (take i l) + f ≡ feeds (take (i + 1) l)
 feeds-next l i f h e = rw (add-one, take-suc l i 0 h, feeds-more (take i l) (getD l i 0), e) (go (eqb (getD l i 0) lineFeed))
   where
     go : (b : Bool) → feeds (take i l) + cond b 1 0 ≡ cond b (feeds (take i l) + 1) (feeds (take i l))

@@ -1,8 +1,8 @@
--- The verdict by lines equals the verdict by the longest common prefix: the wrong line is the number of its line feeds, plus 1 (`by-prefix`).
--- Both equal the verdict octet by octet, by induction over both texts. A common octet before both texts does not change the verdict by lines,
--- unless it is a line feed, since no line is empty (`judged-lines`). It lengthens the prefix by 1, and adds a line if it is a line feed
--- (`stepped-prefix`). Octet by octet, at most one octet more of the listing is read than the report has (`stepped-start`).
--- e is the report, t the listing, x and y are their next octets, n or m is the number of the line. Assumes nothing.
+-- The verdict by lines equals the verdict by the longest common prefix: the wrong line is the number of its line feeds, plus 1
+-- (`by-prefix`). Both equal the verdict octet by octet, by induction over both texts. A common octet before both texts does not change
+-- the verdict by lines, unless it is a line feed, since no line is empty (`judged-lines`). It lengthens the prefix by 1, and adds a line
+-- if it is a line feed (`stepped-prefix`). Octet by octet, at most one octet more of the listing is read than the report has
+-- (`stepped-start`). e is the report, t the listing, x and y are their next octets, n or m is the number of the line. Assumes nothing.
 use Prim.Native.Nat.{ℕ, zero, suc, _+_, _<_}
 use mathlib.Core.Path.{_≡_, refl, sym, ap, _∙_}
 use mathlib.Core.Bool.{Bool, true, false, cond, _&&_}
@@ -22,7 +22,8 @@ use Rattle.checker.specs.Private.{feeds, wrongAfter}
 -- ---- lines, octet by octet
 
 -- an octet more in front of both changes nothing
-judged-in-front : (n x : ℕ) (e t : List ℕ) → verdictOnLines n (inFront x (lines e)) (inFront x (lines t)) ≡ verdictOnLines n (lines e) (lines t)
+judged-in-front : (n x : ℕ) (e t : List ℕ) → verdictOnLines n (inFront x (lines e)) (inFront x (lines t))
+    ≡ verdictOnLines n (lines e) (lines t)
 unfolding lines verdictOnLines sameText
 judged-in-front n x [] [] = rw (eq-eqb x x refl)
 judged-in-front n x [] (y ∷ t) = rw (first-line y t .lead, eq-eqb x x refl)
@@ -45,7 +46,8 @@ judged-lines n (x ∷ e) [] = rw (first-line x e .lead)
 judged-lines n (x ∷ e) (y ∷ t) = go (λ m. judged-lines m e t) (eqb x y) refl
   where
     both : ((m : ℕ) → verdictOnLines m (lines e) (lines t) ≡ stepped m e t) → (b : Bool)
-        → verdictOnLines n (cond b ((x ∷ []) ∷ lines e) (inFront x (lines e))) (cond b ((x ∷ []) ∷ lines t) (inFront x (lines t))) ≡ stepped (cond b (n + 1) n) e t
+        → verdictOnLines n (cond b ((x ∷ []) ∷ lines e) (inFront x (lines e))) (cond b ((x ∷ []) ∷ lines t) (inFront x (lines t)))
+        ≡ stepped (cond b (n + 1) n) e t
     both h true = rw (eq-eqb x x refl) (h (n + 1))
     both h false = judged-in-front n x e t ∙ h n
 
@@ -82,7 +84,8 @@ stepped-prefix n (x ∷ e) (y ∷ t) = go (λ m. stepped-prefix m e t) (eqb x y)
     go h false q = rw (add-zero n)
 
 -- the verdict by lines is that by the longest common prefix
-pub by-prefix : (expected listing : List ℕ) → verdictOn expected listing ≡ cond (sameText expected listing) Verdict.Agrees (wrongAfter (common expected listing) listing)
+pub by-prefix : (expected listing : List ℕ) → verdictOn expected listing
+    ≡ cond (sameText expected listing) Verdict.Agrees (wrongAfter (common expected listing) listing)
 unfolding verdictOn
 by-prefix expected listing = judged-lines 1 expected listing ∙ stepped-prefix 1 expected listing
 
@@ -98,7 +101,8 @@ stepped-start m (suc n) (x ∷ e) [] h = refl
 stepped-start m (suc n) (x ∷ e) (y ∷ t) h = rw (stepped-start (cond (eqb x lineFeed) (m + 1) m) n e t (omega arith))
 
 -- so by lines
-pub verdict-start : (n : ℕ) (expected listing : List ℕ) → length expected < n → verdictOn expected (take n listing) ≡ verdictOn expected listing
+pub verdict-start : (n : ℕ) (expected listing : List ℕ) → length expected < n
+    → verdictOn expected (take n listing) ≡ verdictOn expected listing
 unfolding verdictOn
 verdict-start n expected listing h =
     judged-lines 1 expected (take n listing) ∙ stepped-start 1 n expected listing h ∙ sym (judged-lines 1 expected listing)

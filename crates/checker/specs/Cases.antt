@@ -39,4 +39,6 @@ listingCases =
 
 -- the definition gives these verdicts
 abbrev pub ListingCasesHold : Type 0
-ListingCasesHold = map (λ (c : ListingCase). verdictOn exampleText (flatten (map ascii (c .given)))) listingCases ≡ map (λ (c : ListingCase). c .verdict) listingCases
+ListingCasesHold =
+    map (λ (c : ListingCase). verdictOn exampleText (flatten (map ascii (c .given)))) listingCases
+    ≡ map (λ (c : ListingCase). c .verdict) listingCases

@@ -1,6 +1,6 @@
-// The check program: its arguments are the names of a sample file and of a listing. It prints that the listing is right; or the number of its
-// first wrong line, that line and the right one; or the refusal of the sample in words. No sample has over 57,414 octets and no report over
-// 262,144, so one octet more than these decides about longer files.
+// The check program: its arguments are the names of a sample file and of a listing. It prints that the listing is right; or the number of
+// its first wrong line, that line and the right one; or the refusal of the sample in words. No sample has over 57,414 octets and no
+// report over 262,144, so one octet more than these decides about longer files.
 mod shown;
 
 ghost use mathlib.Core.Path.{_≡_};
@@ -28,7 +28,8 @@ const LISTING_ROOM: usize = LISTING_OCTETS + 1;
 
 // Checks the start of a listing. The answer is the same as for the whole listing, since these octets decide.
 fn check_start(file: &[u8], start: &[u8]) -> SampleVerdict
-    ensures { λ r. ⌜ ((whole : List ℕ) → now (start .entry) ≡ take (listingOctets + 1) whole → r ≡ sampleVerdict (decode (now (file .entry))) whole) ⌝ }
+    ensures { λ r. ⌜ ((whole : List ℕ) → now (start .entry) ≡ take (listingOctets + 1) whole
+        → r ≡ sampleVerdict (decode (now (file .entry))) whole) ⌝ }
 {
     checker::check(file, start)
 }

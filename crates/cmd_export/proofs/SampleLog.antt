@@ -1,9 +1,9 @@
--- The log of a sample that is read into lists of length 4,096 or more. They have room for every sample, so the answer of the reader is what the
--- file decodes to, refused or not (`same`). If nothing is refused, the lists begin with the sample's arrivals, which were written over their
--- start. The arrivals are not refused, since the sample is fit (`read-numbers` to `read-lists`). So `textlog::write` writes the sample's log, and
--- its refusal is 8 or none (`log-written`).
--- a, b and c are lengths of lists, r is a refusal, y the answer of the reader, f its contract, z says that it has no refusal; sizes′, numbers′ and
--- times′ are the lists after it, d is the decoded file. Assumes nothing.
+-- The log of a sample that is read into lists of length 4,096 or more. They have room for every sample, so the answer of the reader is
+-- what the file decodes to, refused or not (`same`). If nothing is refused, the lists begin with the sample's arrivals, which were
+-- written over their start. The arrivals are not refused, since the sample is fit (`read-numbers` to `read-lists`). So `textlog::write`
+-- writes the sample's log, and its refusal is 8 or none (`log-written`). a, b and c are lengths of lists, r is a refusal, y the answer of
+-- the reader, f its contract, z says that it has no refusal; sizes′, numbers′ and times′ are the lists after it, d is the decoded file.
+-- Assumes nothing.
 use Prim.Native.Nat.{ℕ, zero, suc, _≤_}
 use native.Mathlib.Omega.{arith}
 use mathlib.Core.Path.{_≡_, refl, sym, ap, _∙_, subst}
@@ -41,7 +41,8 @@ into-whole : (a b c : ℕ) (file : List ℕ) → Octets file → sentMost ≤ a 
 into-whole a b c file o p q t zero e =
     let d = decode-accepted file e in
     let l = accepted-limits file (sampleIn file) d o in
-    into-room a b c file (sampleIn file) d (omega (arith, l .sentFits)) (omega (arith, l .arrivalsFit)) (omega (arith, l .arrivalsFit)) ∙ sym d
+    into-room a b c file (sampleIn file) d (omega (arith, l .sentFits)) (omega (arith, l .arrivalsFit)) (omega (arith, l .arrivalsFit))
+    ∙ sym d
 into-whole a b c file o p q t (suc r) e = refused-alike a b c file r e
 
 module _ (file sizes numbers times : List ℕ) (y : Layout) (sizes′ numbers′ times′ : List ℕ)
@@ -91,7 +92,8 @@ module _ (file sizes numbers times : List ℕ) (y : Layout) (sizes′ numbers′
 -- ---- the answer
 
 -- an accepted file, of which the lists were filled
-pub log-written : (d : Decoded) (out : List ℕ) (written : WriteAnswer) (out′ : List ℕ) {k : ℕ} {numbers times : List ℕ} → decodedRefusal d ≡ 0
+pub log-written : (d : Decoded) (out : List ℕ) (written : WriteAnswer) (out′ : List ℕ) {k : ℕ} {numbers times : List ℕ}
+    → decodedRefusal d ≡ 0
     → refusalOfLists (length (sampleOf d .sizes)) (numbersOf (sampleOf d .arrivals)) (timesOf (sampleOf d .arrivals)) ≡ 0
     → k ≡ length (sampleOf d .sizes) → numbers ≡ numbersOf (sampleOf d .arrivals) → times ≡ timesOf (sampleOf d .arrivals)
     → LogWrittenTo k numbers times out written out′ → LoggedTo d out written out′

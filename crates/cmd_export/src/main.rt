@@ -1,6 +1,6 @@
-// The export program: reads a sample on standard input and writes its arrivals on standard output, as a text log with the argument `log`, as
-// OWAMP records with `owamp`. If the sample is refused, it writes the line `refused N: WORDS` instead. This line can't be taken for either,
-// since a line of a log begins with a digit and a record with the octet 0.
+// The export program: reads a sample on standard input and writes its arrivals on standard output, as a text log with the argument `log`,
+// as OWAMP records with `owamp`. If the sample is refused, it writes the line `refused N: WORDS` instead. This line can't be taken for
+// either, since a line of a log begins with a digit and a record with the octet 0.
 mod log;
 
 use log::put_log;

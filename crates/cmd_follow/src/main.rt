@@ -1,7 +1,7 @@
-// The follow program: steps a receiver by the lines of a text log as they come on standard input. Its argument is K. For each line it writes
-// the outcome on standard output at once, and the counts at the end. Its memory does not grow with the input.
-// It ends when the input ends, when standard input can't be read, or when a line can't be written. A program of Rattle has no exit status, so
-// it says on descriptor 3 how it ended: `done`, `unread`, `unwritten`, or `refused` if K is refused.
+// The follow program: steps a receiver by the lines of a text log as they come on standard input. Its argument is K. For each line it
+// writes the outcome on standard output at once, and the counts at the end. Its memory does not grow with the input. It ends when the
+// input ends, when standard input can't be read, or when a line can't be written. A program of Rattle has no exit status, so it says on
+// descriptor 3 how it ended: `done`, `unread`, `unwritten`, or `refused` if K is refused.
 mod ends;
 
 use ends::GOING;

@@ -1,10 +1,10 @@
 -- The sample file of a log or of records. Lists of 4,096 places have room for any sample, so the refusal of an import is the input's own
 -- (`lines-refusal`, `records-refusal`). If nothing is refused, K is in its range and the lists begin with the arrivals, which were written
 -- over their start (`holds-filled`). Together: `lines-imported`, by the decoded lines of a log of any kind, and `records-imported`.
--- The program's answer is the input's refusal (`convert-refused`) or that of `sample::write`. With K equal sizes, and nothing refused of K and
--- the lists, `sample::write` refuses nothing but the label (`label-decides`), and writes the file of the sample (`convert-written`).
--- k is K, ds are decoded lines, os the octets of records, y the answer of the import, f the contract of the import, numbers′ and times′ the
--- lists after it; l are the arrivals, out and out′ the caller's buffer before and after. Assumes nothing.
+-- The program's answer is the input's refusal (`convert-refused`) or that of `sample::write`. With K equal sizes, and nothing refused of
+-- K and the lists, `sample::write` refuses nothing but the label (`label-decides`), and writes the file of the sample
+-- (`convert-written`). k is K, ds are decoded lines, os the octets of records, y the answer of the import, f the contract of the import,
+-- numbers′ and times′ the lists after it; l are the arrivals, out and out′ the caller's buffer before and after. Assumes nothing.
 use Prim.Native.Nat.{ℕ, zero, suc, _≤_}
 use native.Mathlib.Omega.{arith}
 use mathlib.Core.Path.{_≡_, refl, sym, ap, _∙_, subst}
@@ -54,7 +54,8 @@ holds-filled {k} {arrivals} refusal l numbers times most judged a n t z =
     record {
       sent = most;
       inNumbers =
-          over-first (numbersOf l) numbers (many ∙ sym (length-map l _)) (n ∙ ap (λ (r : ℕ). ifNone r (over (numbersOf l) numbers) numbers) z);
+          over-first (numbersOf l) numbers (many ∙ sym (length-map l _))
+          (n ∙ ap (λ (r : ℕ). ifNone r (over (numbersOf l) numbers) numbers) z);
       inTimes = over-first (timesOf l) times (many ∙ sym (length-map l _)) (t ∙ ap (λ (r : ℕ). ifNone r (over (timesOf l) times) times) z);
       judged = judged;
     }
@@ -69,10 +70,12 @@ module _ (k : ℕ) (ds : List DecodedLine) {numbers times : List ℕ} {y : LogIm
   lines-hold : y .refusal ≡ 0 → Holds k (y .arrivals) numbers′ times′ (arrivalsOfLines ds)
   lines-hold z =
       let none : judgeDecoded k ds .refusal ≡ 0 = sym lines-refusal ∙ z in
-      holds-filled (y .refusal) (arrivalsOfLines ds) numbers times (accepted-decoded k ds none .most) (accepted-lists k ds none) (f .arrivals) (f .filledNumbers) (f .filledTimes) z
+      holds-filled (y .refusal) (arrivalsOfLines ds) numbers times (accepted-decoded k ds none .most) (accepted-lists k ds none)
+      (f .arrivals) (f .filledNumbers) (f .filledTimes) z
 
   -- the import of a log of a kind, whose decoded lines these are
-  pub lines-imported : (kind : Kind) (input : List ℕ) → judgeDecoded k ds .refusal ≡ inputRefusal kind k input → arrivalsOfLines ds ≡ inputArrivals kind input
+  pub lines-imported : (kind : Kind) (input : List ℕ) → judgeDecoded k ds .refusal ≡ inputRefusal kind k input
+      → arrivalsOfLines ds ≡ inputArrivals kind input
       → ImportedTo kind k input y numbers′ times′
   lines-imported kind input e a = record { refusal = lines-refusal ∙ e; holds = λ z. rw (← a) (lines-hold z) }
 
@@ -89,7 +92,8 @@ module _ (k : ℕ) (os : List ℕ) {numbers times : List ℕ} {y : RecordsImport
         refusal = records-refusal;
         holds = λ z.
             let none : recordsRefusal k os ≡ 0 = sym records-refusal ∙ z in
-            holds-filled (y .refusal) (importedArrivals os) numbers times (none-refused k os none .most) (records-accepted k os none .lists) (f .arrivals) (f .filledNumbers) (f .filledTimes) z;
+            holds-filled (y .refusal) (importedArrivals os) numbers times (none-refused k os none .most)
+            (records-accepted k os none .lists) (f .arrivals) (f .filledNumbers) (f .filledTimes) z;
       }
 
 -- ---- the answer
@@ -114,11 +118,16 @@ convert-refused zero label k size l out z = absurd (z refl)
 convert-refused (suc r) label k size l out z = output-refused (suc r) (fileOf (labelledSample label k size l)) out (suc r) refl z
 
 -- its sample is written, or its label is refused, or there is no room
-pub convert-written : (k size refusal : ℕ) (l : List Arrival) (label out : List ℕ) (written : WriteAnswer) (out′ : List ℕ) {sizes numbers times : List ℕ}
+pub convert-written : (k size refusal : ℕ) (l : List Arrival) (label out : List ℕ) (written : WriteAnswer) (out′ : List ℕ)
+    {sizes numbers times : List ℕ}
     → refusal ≡ 0 → refusalOfLists k (numbersOf l) (timesOf l) ≡ 0
     → sizes ≡ replicate k size → numbers ≡ numbersOf l → times ≡ timesOf l → WrittenTo label sizes numbers times out written out′
     → ConvertedTo refusal label k size l out written out′
 convert-written k size refusal l label out written out′ z j es en et w =
-    let own = (λ i. sampleRefusal label (es i) (en i) (et i)) ∙ label-decides refusal label (replicate k size) (numbersOf l) (timesOf l) z (rw (length-replicate k size) j) in
-    let file = (λ i. fileOf (record { label = label; sizes = es i; arrivals = arrivalsFrom (en i) (et i) })) ∙ ap (λ (x : List Arrival). fileOf (labelledSample label k size x)) (arrivals-back l) in
+    let own =
+    (λ i. sampleRefusal label (es i) (en i) (et i)) ∙ label-decides refusal label (replicate k size) (numbersOf l) (timesOf l) z
+    (rw (length-replicate k size) j) in
+    let file =
+    (λ i. fileOf (record { label = label; sizes = es i; arrivals = arrivalsFrom (en i) (et i) }))
+    ∙ ap (λ (x : List Arrival). fileOf (labelledSample label k size x)) (arrivals-back l) in
     subst (λ (p : ℕ × List ℕ). Output (p .0) (p .1) out written out′) (λ i. (own i, file i)) w

@@ -9,8 +9,8 @@ use Rattle.decimal.specs.declared.reading.Number.{Number}
 use Rattle.cmd_import.specs.declared.arguments.Argument.{Argument}
 use Rattle.cmd_import.specs.declared.arguments.Argument.the-variants.{Given, Bad}
 
--- a word of `octets` octets is an argument if it consists of digits, at least one, and its value is below 2^32. `number` is the value of the digits with
--- which it begins, and the index after them
+-- a word of `octets` octets is an argument if it consists of digits, at least one, and its value is below 2^32. `number` is the value of
+-- the digits with which it begins, and the index after them
 unfoldable pub argumentOf : (octets : ℕ) → Number → Argument
 argumentOf octets number =
     cond (eqb (number .end) 0) Bad

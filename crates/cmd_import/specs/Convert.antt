@@ -65,5 +65,7 @@ unfoldable pub convertRefusal : (refusal : ℕ) (label : List ℕ) → ℕ
 convertRefusal refusal label = firstRefusal (refusal ∷ judgeLabel (length label) ∷ judgeOctets label ∷ [])
 
 -- the answer, and the caller's buffer after it, which begins with the sample file
-abbrev pub ConvertedTo : (refusal : ℕ) (label : List ℕ) (k size : ℕ) → List Arrival → (out : List ℕ) → WriteAnswer → (out′ : List ℕ) → Type 0
-ConvertedTo refusal label k size l out answer out′ = Output (convertRefusal refusal label) (fileOf (labelledSample label k size l)) out answer out′
+abbrev pub ConvertedTo : (refusal : ℕ) (label : List ℕ) (k size : ℕ) → List Arrival → (out : List ℕ) → WriteAnswer → (out′ : List ℕ)
+    → Type 0
+ConvertedTo refusal label k size l out answer out′ =
+    Output (convertRefusal refusal label) (fileOf (labelledSample label k size l)) out answer out′

@@ -58,7 +58,9 @@ fn convert_lists(
     out: &mut [u8],
 ) -> WriteAnswer
     requires { ⌜ (imported .refusal ≡ 0 → (l : List Arrival) × Holds k (imported .arrivals) (now numbers) (now times) l) ⌝ }
-    ensures { λ r. ⌜ ((l : List Arrival) → (imported .refusal ≡ 0 → Holds k (imported .arrivals) (now (numbers .entry)) (now (times .entry)) l) → ConvertedTo (imported .refusal) (now (label .entry)) k size l (now (out .entry)) r (now (out .exit))) ⌝ }
+    ensures { λ r. ⌜ ((l : List Arrival) → (imported .refusal ≡ 0
+        → Holds k (imported .arrivals) (now (numbers .entry)) (now (times .entry)) l)
+        → ConvertedTo (imported .refusal) (now (label .entry)) k size l (now (out .entry)) r (now (out .exit))) ⌝ }
 {
     if imported.refusal != 0 {
         return WriteAnswer {
@@ -81,7 +83,8 @@ pub(crate) fn convert(
     size: u16,
     out: &mut [u8],
 ) -> WriteAnswer
-    ensures { λ r. ⌜ ConvertedTo (inputRefusal kind k (now (input .entry))) (now (label .entry)) k size (inputArrivals kind (now (input .entry))) (now (out .entry)) r (now (out .exit)) ⌝ }
+    ensures { λ r. ⌜ ConvertedTo (inputRefusal kind k (now (input .entry))) (now (label .entry)) k size
+        (inputArrivals kind (now (input .entry))) (now (out .entry)) r (now (out .exit)) ⌝ }
 {
     let mut numbers = [0u32; LIST_LEN];
     let mut times = [0u64; LIST_LEN];

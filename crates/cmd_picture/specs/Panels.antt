@@ -1,5 +1,5 @@
--- The frame of each panel of the picture, in tenths of a pixel: its distance from the left and from the upper edge, its width and its height.
--- Assumes nothing.
+-- The frame of each panel of the picture, in tenths of a pixel: its distance from the left and from the upper edge, its width and its
+-- height. Assumes nothing.
 use Prim.Native.Nat.{ℕ}
 use Rattle.cmd_picture.specs.declared.panel.Frame.{Frame}
 use Rattle.cmd_picture.specs.declared.panel.Panel.{Panel}

@@ -42,8 +42,8 @@ fn write_name(label: &[u8]) {
 }
 
 // Writes the size of the picture, its colours by class, for light and for dark, and its background. The classes: i in order, l late, s stem
-// or join, b bar or triangle, c copy, w stair, n and t the settings for 95 percent and for all, a frame, g grid; m text that is centred at its
-// point, e text that ends there, h text over lines.
+// or join, b bar or triangle, c copy, w stair, n and t the settings for 95 percent and for all, a frame, g grid; m text that is centred
+// at its point, e text that ends there, h text over lines.
 fn write_style() {
     write_word(
         b"</title>\n<style>\

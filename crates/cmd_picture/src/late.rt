@@ -1,5 +1,5 @@
-// The panel of late times over arrival times: a dot for each packet in order, a dot with a stem from 0 for each late packet, and a line at the
-// waiting time of each setting.
+// The panel of late times over arrival times: a dot for each packet in order, a dot with a stem from 0 for each late packet, and a line
+// at the waiting time of each setting.
 ghost use Prim.Native.Nat.{_≤_};
 ghost use lib.ListN.{length};
 use crate::axes::Levels;

@@ -1,5 +1,5 @@
-// The panel of sequence numbers over positions: a mark for each arrival, and a line from each late packet to its discontinuity. A first arrival
-// is drawn at its position, a copy half a position after the last first arrival.
+// The panel of sequence numbers over positions: a mark for each arrival, and a line from each late packet to its discontinuity. A first
+// arrival is drawn at its position, a copy half a position after the last first arrival.
 ghost use Prim.Native.Nat.{_≤_};
 ghost use lib.ListN.{length};
 use crate::axes::Levels;

@@ -3,8 +3,8 @@ ghost use mathlib.Core.Path.{_≡_};
 ghost use Prim.Native.Nat.{_+_, _-_, _*_, _/_, _≤_, _<_};
 ghost use Rattle.cmd_picture.specs.Panels.{rectangle, frameOf};
 
-// The panels: late times, with room for the sequence numbers below or taller without; sequence numbers; the share in order by waiting time and
-// by buffer; extents.
+// The panels: late times, with room for the sequence numbers below or taller without; sequence numbers; the share in order by waiting
+// time and by buffer; extents.
 pub(crate) enum Panel {
     LateTimes,
     TallLateTimes,

@@ -1,4 +1,5 @@
-// The settings of a receiver that restores order: the least waiting time, packets and octets for 95 percent of the first arrivals, and for all.
+// The settings of a receiver that restores order: the least waiting time, packets and octets for 95 percent of the first arrivals, and
+// for all.
 use metrics::SampleNeeds;
 use metrics::greatest_needs;
 use rfc4737::Measure;

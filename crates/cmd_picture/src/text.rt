@@ -100,8 +100,8 @@ fn put_part(out: &mut [u8], at: usize, octet: u8, a: u64, b: u64, c: u64, d: u64
     }
 }
 
-// Writes a shape: an element, or a part of one, in which the letters from A to D stand for lengths. No length has more than 20 digits and one
-// decimal, so the text has room for all of it.
+// Writes a shape: an element, or a part of one, in which the letters from A to D stand for lengths. No length has more than 20 digits and
+// one decimal, so the text has room for all of it.
 pub(crate) fn write_shape(shape: &[u8], a: u64, b: u64, c: u64, d: u64)
     requires { ⌜ length (now shape) ≤ 64 ⌝ }
 {

@@ -1,5 +1,5 @@
-// The report program: reads a sample on standard input and prints its report on standard output, or one line if the input is refused. No sample
-// has over 57,414 octets, so the first 57,415 octets decide about longer input.
+// The report program: reads a sample on standard input and prints its report on standard output, or one line if the input is refused. No
+// sample has over 57,414 octets, so the first 57,415 octets decide about longer input.
 ghost use Prim.Native.Nat.{_≤_};
 ghost use lib.ListN.{length};
 ghost use Rattle.listing.specs.Lines.{refusedLine};

@@ -1,5 +1,5 @@
--- The text of an input: the line of its refusal (`shown-refused`), or its summary if it is accepted (`shown-accepted`). d is the decoded input, r
--- its refusal. Assumes nothing.
+-- The text of an input: the line of its refusal (`shown-refused`), or its summary if it is accepted (`shown-accepted`). d is the decoded
+-- input, r its refusal. Assumes nothing.
 use mathlib.Core.Path.{_≡_, sym, ap, _∙_}
 use Prim.Native.Nat.{ℕ}
 use Rattle.listing.specs.Lines.{refusedLine}

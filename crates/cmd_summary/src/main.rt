@@ -1,6 +1,6 @@
-// The summary program: reads a sample on standard input and prints its summary on standard output, or one line if the input is refused. With
-// the argument `json` the summary is a JSON object. With `all` the other figures of the whole sample follow it. No sample has over 57,414
-// octets, so the first 57,415 octets decide about longer input.
+// The summary program: reads a sample on standard input and prints its summary on standard output, or one line if the input is refused.
+// With the argument `json` the summary is a JSON object. With `all` the other figures of the whole sample follow it. No sample has over
+// 57,414 octets, so the first 57,415 octets decide about longer input.
 ghost use Rattle.listing.specs.Lines.{refusedLine};
 ghost use Rattle.sample.specs.Decode.{decode, decodedRefusal};
 ghost use Rattle.sample.specs.Output.{Output};
@@ -40,7 +40,8 @@ fn refuse(refusal: u32, out: &mut [u8]) -> WriteAnswer
 
 // Writes the summary of a sample to the start of `out`.
 fn write_form(form: Form, input: &[u8], out: &mut [u8]) -> WriteAnswer
-    ensures { λ r. ⌜ Output (decodedRefusal (decode (now (input .entry)))) (formText form (decode (now (input .entry)))) (now (out .entry)) r (now (out .exit)) ⌝ }
+    ensures { λ r. ⌜ Output (decodedRefusal (decode (now (input .entry)))) (formText form (decode (now (input .entry))))
+        (now (out .entry)) r (now (out .exit)) ⌝ }
 {
     match form {
         Form::Text => summary::write(input, out),

@@ -1,6 +1,6 @@
--- The text of an input. A part of an accepted input is that of its table (`shown-accepted`). Part 0 of a refused input is the line of its refusal
--- (`shown-line`), any other part is empty (`shown-empty`). The 18 parts are the whole text (`shown-join`). d is the decoded input, r its refusal.
--- Assumes nothing.
+-- The text of an input. A part of an accepted input is that of its table (`shown-accepted`). Part 0 of a refused input is the line of its
+-- refusal (`shown-line`), any other part is empty (`shown-empty`). The 18 parts are the whole text (`shown-join`). d is the decoded
+-- input, r its refusal. Assumes nothing.
 use Prim.Native.Nat.{ℕ, zero, suc, _≤_}
 use native.Mathlib.Omega.{arith}
 use mathlib.Core.Path.{_≡_, refl, sym, ap, _∙_}

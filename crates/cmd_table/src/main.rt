@@ -1,5 +1,6 @@
-// The table program: reads a sample on standard input and prints every record with named fields on standard output, or one line if the input is
-// refused. The argument is `csv` or `json`. No sample has over 57,414 octets, so the first 57,415 octets decide about longer input.
+// The table program: reads a sample on standard input and prints every record with named fields on standard output, or one line if the
+// input is refused. The argument is `csv` or `json`. No sample has over 57,414 octets, so the first 57,415 octets decide about longer
+// input.
 ghost use mathlib.Core.Path.{_≡_};
 ghost use Prim.Native.Nat.{_≤_};
 ghost use lib.ListN.{length};

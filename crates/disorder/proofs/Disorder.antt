@@ -1,12 +1,11 @@
--- The total of disorder. If every payload size is 1, a byte offset is the number of greater numbers before it (`offset-higher`), 0 for a packet
--- in order (`higher-next`). The next first arrival adds that many pairs in the wrong order (`wrong-snoc`). So the sum of the byte offsets is the
--- number of wrong pairs (`sum-wrong`, by induction over the arrivals from the end). That number is the least number of exchanges of neighbours
--- that sorts the first arrivals (`wrong-least`). Fewer do not suffice: an exchange changes the order of one pair, so it removes at most one
--- wrong pair (`exchange-wrong`), and sorted arrivals have none (`rising-none`). That number suffices: from the last arrival on, each is moved
--- past the smaller numbers among the sorted arrivals after it (`insert`), and these are its wrong pairs (`sort`). For this the numbers of first
--- arrivals must differ (`firsts-differ`).
--- l and m are arrivals before and after an exchange, a and b two of them, fs first arrivals, s is a number, p a test and n the number of
--- exchanges. Assumes nothing.
+-- The total of disorder. If every payload size is 1, a byte offset is the number of greater numbers before it (`offset-higher`), 0 for a
+-- packet in order (`higher-next`). The next first arrival adds that many pairs in the wrong order (`wrong-snoc`). So the sum of the byte
+-- offsets is the number of wrong pairs (`sum-wrong`, by induction over the arrivals from the end). That number is the least number of
+-- exchanges of neighbours that sorts the first arrivals (`wrong-least`). Fewer do not suffice: an exchange changes the order of one pair,
+-- so it removes at most one wrong pair (`exchange-wrong`), and sorted arrivals have none (`rising-none`). That number suffices: from the
+-- last arrival on, each is moved past the smaller numbers among the sorted arrivals after it (`insert`), and these are its wrong pairs
+-- (`sort`). For this the numbers of first arrivals must differ (`firsts-differ`). l and m are arrivals before and after an exchange, a
+-- and b two of them, fs first arrivals, s is a number, p a test and n the number of exchanges. Assumes nothing.
 use Prim.Native.Nat.{ℕ, suc, _+_, _≤_, _<_}
 use mathlib.Core.Path.{_≡_, refl, sym, ap, _∙_}
 use mathlib.Core.Bool.{Bool, true, false, cond, _||_}
@@ -39,7 +38,8 @@ module _ {A : Type 0} (p : A → Bool) where
   unfolding count
   count-cons a = snoc-ind (λ (l : List A). count p (a ∷ l) ≡ oneIf (p a) + count p l) more (sym (add-zero (oneIf (p a))))
     where
-      more : (l : List A) (b : A) → count p (a ∷ l) ≡ oneIf (p a) + count p l → count p (a ∷ l ++ (b ∷ [])) ≡ oneIf (p a) + count p (l ++ (b ∷ []))
+      more : (l : List A) (b : A) → count p (a ∷ l) ≡ oneIf (p a) + count p l
+          → count p (a ∷ l ++ (b ∷ [])) ≡ oneIf (p a) + count p (l ++ (b ∷ []))
       more l b e = omega (arith, e, count-plus p (a ∷ l) b, count-plus p l b)
 
   count-append : (l m : List A) → count p (l ++ m) ≡ count p l + count p m
@@ -69,7 +69,9 @@ higher s l = count (λ (b : Arrival). ltb s (b .number)) l
 -- an arrival more at the front, and at the end
 pub wrong-cons : (a : Arrival) (l : List Arrival) → wrongPairs (a ∷ l) ≡ lower (a .number) l + wrongPairs l
 unfolding wrongPairs pairs
-wrong-cons a l = count-append isWrong (map (λ (b : Arrival). (a, b)) l) (pairs l) ∙ ap (λ (n : ℕ). n + count isWrong (pairs l)) (count-map isWrong (λ (b : Arrival). (a, b)) l)
+wrong-cons a l =
+    count-append isWrong (map (λ (b : Arrival). (a, b)) l) (pairs l)
+    ∙ ap (λ (n : ℕ). n + count isWrong (pairs l)) (count-map isWrong (λ (b : Arrival). (a, b)) l)
 
 wrong-snoc : (l : List Arrival) (b : Arrival) → wrongPairs (l ++ (b ∷ [])) ≡ wrongPairs l + higher (b .number) l
 unfolding wrongPairs pairs count
@@ -98,7 +100,12 @@ offset-higher size s = snoc-ind (λ (fs : List Arrival). All (SizeOne size) fs �
     more : (fs : List Arrival) (a : Arrival) → (All (SizeOne size) fs → byteOffset size fs s ≡ higher s fs)
         → All (SizeOne size) (fs ++ (a ∷ [])) → byteOffset size (fs ++ (a ∷ [])) s ≡ higher s (fs ++ (a ∷ []))
     more fs a h g =
-        rw (offset-more size fs s a, count-plus (λ (b : Arrival). ltb s (b .number)) fs a, all-right (SizeOne size) fs (a ∷ []) g .0, h (all-left (SizeOne size) fs (a ∷ []) g))
+        rw (
+          offset-more size fs s a,
+          count-plus (λ (b : Arrival). ltb s (b .number)) fs a,
+          all-right (SizeOne size) fs (a ∷ []) g .0,
+          h (all-left (SizeOne size) fs (a ∷ []) g),
+        )
 
 -- where every size is 1
 all-ones : (l : List Arrival) → All (SizeOne (λ _. 1)) l
@@ -114,7 +121,8 @@ higher-next : (s : ℕ) (fs : List Arrival) → nextExp fs ≤ s → higher s fs
 unfolding count nextExp nextAfter
 higher-next s = snoc-ind (λ (fs : List Arrival). nextExp fs ≤ s → higher s fs ≡ 0) more (λ h. refl)
   where
-    more : (fs : List Arrival) (a : Arrival) → (nextExp fs ≤ s → higher s fs ≡ 0) → nextExp (fs ++ (a ∷ [])) ≤ s → higher s (fs ++ (a ∷ [])) ≡ 0
+    more : (fs : List Arrival) (a : Arrival) → (nextExp fs ≤ s → higher s fs ≡ 0) → nextExp (fs ++ (a ∷ [])) ≤ s
+        → higher s (fs ++ (a ∷ [])) ≡ 0
     more fs a h g = go (leb (nextExp fs) (a .number)) refl (rw (next-more fs a) at g)
       where
         last : a .number ≤ s → nextExp fs ≤ s → higher s (fs ++ (a ∷ [])) ≡ 0
@@ -147,7 +155,8 @@ sum-wrong size = snoc-ind (λ (l : List Arrival). All (SizeOne size) l → offse
   where
     more : (l : List Arrival) (a : Arrival) → (All (SizeOne size) l → offsetSum (answers size l) ≡ wrongPairs (firsts l))
         → All (SizeOne size) (l ++ (a ∷ [])) → offsetSum (answers size (l ++ (a ∷ []))) ≡ wrongPairs (firsts (l ++ (a ∷ [])))
-    more l a h g = rw (answers-more size l a, sum-more (answers size l) (answerTo size l a), firsts-more l a, h ones) (go (has (a .number) l) refl)
+    more l a h g =
+        rw (answers-more size l a, sum-more (answers size l) (answerTo size l a), firsts-more l a, h ones) (go (has (a .number) l) refl)
       where
         ones : All (SizeOne size) l
         ones = all-left (SizeOne size) l (a ∷ []) g
@@ -257,12 +266,16 @@ unfolding count
 insert a [] h d = record { order = a ∷ []; rises = tt; reached = none }
 insert a (b ∷ l) h d = go (insert a l (rising-rest b l h) (d .1)) (ltb (b .number) (a .number)) refl
   where
-    go : Sorted (lower (a .number) l) (a ∷ l) → (t : Bool) → ltb (b .number) (a .number) ≡ t → Sorted (lower (a .number) (b ∷ l)) (a ∷ b ∷ l)
+    go : Sorted (lower (a .number) l) (a ∷ l) → (t : Bool) → ltb (b .number) (a .number) ≡ t
+        → Sorted (lower (a .number) (b ∷ l)) (a ∷ b ∷ l)
     go s true e =
-        let n : lower (a .number) (b ∷ l) ≡ suc (lower (a .number) l) = rw (count-cons (λ (c : Arrival). ltb (c .number) (a .number)) b l, e) (omega arith) in
+        let n : lower (a .number) (b ∷ l) ≡ suc (lower (a .number) l) =
+        rw (count-cons (λ (c : Arrival). ltb (c .number) (a .number)) b l, e) (omega arith) in
         record {
           order = b ∷ s .order;
-          rises = rising-more b (s .order) (exchanges-all (Less b) (s .reached) (ltb-true (b .number) (a .number) e, rising-all b l h)) (s .rises);
+          rises =
+              rising-more b (s .order) (exchanges-all (Less b) (s .reached) (ltb-true (b .number) (a .number) e, rising-all b l h))
+              (s .rises);
           reached = rw n (one here (exchanges-after b (s .reached)));
         }
     go s false e =
@@ -287,7 +300,8 @@ unfolding has
 has-none a [] e = tt
 has-none a (b ∷ l) e = go (has-none a l) (eqb (b .number) (a .number)) refl e
   where
-    go : (has (a .number) l ≡ false → All (λ (b : Arrival). Differ b a) l) → (t : Bool) → eqb (b .number) (a .number) ≡ t → (t || has (a .number) l) ≡ false → All (λ (b : Arrival). Differ b a) (b ∷ l)
+    go : (has (a .number) l ≡ false → All (λ (b : Arrival). Differ b a) l) → (t : Bool) → eqb (b .number) (a .number) ≡ t
+        → (t || has (a .number) l) ≡ false → All (λ (b : Arrival). Differ b a) (b ∷ l)
     go rest true q z = let n : _≡_ {A = ℕ} 0 1 = cc in absurd (omega arith)
     go rest false q z = (eqb-false (b .number) (a .number) q, rest z)
 

@@ -1,10 +1,10 @@
--- The total of disorder of a file. The tree counts the first arrivals by number: its sum up to a number, and the number of first arrivals above
--- it, make up all (`lower-sum`). The next first arrival makes a wrong pair with each number above its own, and is counted at its number
--- (`paired-more`). The table of packets tells whether an arrival is a first one (`firsts-seen`). If all sizes are 1, the total is the sum of the
--- byte offsets (`sums-offsets`), since the packet of each arrival has one of the sizes.
--- fs are the first arrivals, a is the next one, p has their number, the number of their wrong pairs and a number that none exceeds; k is the
--- greatest index of the tree, d the decoded file, y its layout, i the number of records before, n the number of record i + 1. A prime marks the
--- tree after it. Assumes nothing.
+-- The total of disorder of a file. The tree counts the first arrivals by number: its sum up to a number, and the number of first arrivals
+-- above it, make up all (`lower-sum`). The next first arrival makes a wrong pair with each number above its own, and is counted at its
+-- number (`paired-more`). The table of packets tells whether an arrival is a first one (`firsts-seen`). If all sizes are 1, the total is
+-- the sum of the byte offsets (`sums-offsets`), since the packet of each arrival has one of the sizes. fs are the first arrivals, a is
+-- the next one, p has their number, the number of their wrong pairs and a number that none exceeds; k is the greatest index of the tree,
+-- d the decoded file, y its layout, i the number of records before, n the number of record i + 1. A prime marks the tree after it.
+-- Assumes nothing.
 use mathlib.Core.Path.{_≡_, refl, sym, ap, _∙_}
 use mathlib.Core.Bool.{Bool, true, false, cond}
 use mathlib.Core.List.{List, [], _∷_, _++_}
@@ -41,14 +41,17 @@ all-at : (P : Arrival → Type 0) (l : List Arrival) → ((i : ℕ) → i < leng
 all-at P l h = rw (take-all (length l) l (omega arith)) at (all-take P noArrival l (length l) h)
 
 -- every arrival's packet has one of the sizes
-sizes-one : (d : Decoded) (y : Layout) → FileLayout d y → sampleOf d .sizes ≡ replicate (length (sampleOf d .sizes)) 1 → All (SizeOne (sizeOf d)) (sampleArrivals d)
+sizes-one : (d : Decoded) (y : Layout) → FileLayout d y → sampleOf d .sizes ≡ replicate (length (sampleOf d .sizes)) 1
+    → All (SizeOne (sizeOf d)) (sampleArrivals d)
 unfolding sizeIn
 sizes-one d y h e = all-at (SizeOne (sizeOf d)) (sampleArrivals d) (λ i g. one i (h .numbers i (omega (arith, arrivals-laid d y h))))
   where
-    one : (i : ℕ) → (1 ≤ arrivalAt d i .number) × (arrivalAt d i .number ≤ y .sent) → getD (sampleOf d .sizes) (arrivalAt d i .number - 1) 0 ≡ 1
+    one : (i : ℕ) → (1 ≤ arrivalAt d i .number) × (arrivalAt d i .number ≤ y .sent)
+        → getD (sampleOf d .sizes) (arrivalAt d i .number - 1) 0 ≡ 1
     one i n =
         ap (λ (l : List ℕ). getD l (arrivalAt d i .number - 1) 0) e
-        ∙ getD-replicate (length (sampleOf d .sizes)) (arrivalAt d i .number - 1) 1 0 (omega (arith, n, ap (λ (y : Layout). y .sent) (h .laid)))
+        ∙ getD-replicate (length (sampleOf d .sizes)) (arrivalAt d i .number - 1) 1 0
+        (omega (arith, n, ap (λ (y : Layout). y .sent) (h .laid)))
 
 -- if all its sizes are 1, the total is the sum of the byte offsets
 pub sums-offsets : (d : Decoded) (y : Layout) → FileLayout d y → SumsOffsets d
@@ -58,21 +61,33 @@ sums-offsets d y h ones = sum-wrong (sizeOf d) (sampleArrivals d) (sizes-one d y
 -- ---- the pairs, one first arrival after the other
 
 -- of none
-pub paired-start : (k : ℕ) (d : Decoded) → PairTree k (firsts (before d 0)) (replicate (k + 1) 0) (record { count = 0; wrong = 0; greatest = 0 })
+pub paired-start : (k : ℕ) (d : Decoded) → PairTree k (firsts (before d 0)) (replicate (k + 1) 0)
+    (record { count = 0; wrong = 0; greatest = 0 })
 unfolding firsts wrongPairs pairs count byteOffset
-paired-start k d = record { places = length-replicate (k + 1) 0; summed = summed-none _ (k + 1) (λ i. refl); count = refl; whole = refl; wrong = refl; small = omega arith; above = λ s h. refl }
+paired-start k d =
+    record {
+      places = length-replicate (k + 1) 0;
+      summed = summed-none _ (k + 1) (λ i. refl);
+      count = refl;
+      whole = refl;
+      wrong = refl;
+      small = omega arith;
+      above = λ s h. refl;
+    }
 
 -- the sums are small
 ones-few : (fs : List Arrival) (s : ℕ) → byteOffset (λ _. 1) fs s ≤ length fs
 ones-few fs s = omega (arith, offset-le (λ _. 1) 1 (λ _. omega arith) fs s)
 
 -- the tree gives how many have a number up to one, and with those above it all
-pub lower-sum : (k : ℕ) (fs : List Arrival) (tree : List ℕ) (p : Pairs) → PairTree k fs tree p → p .count < arrivalsMost → (number : ℕ) → number < length tree
+pub lower-sum : (k : ℕ) (fs : List Arrival) (tree : List ℕ) (p : Pairs) → PairTree k fs tree p → p .count < arrivalsMost → (number : ℕ)
+    → number < length tree
     → sumTo tree number + byteOffset (λ _. 1) fs number ≡ p .count
 lower-sum k fs tree p h few number inside = sum-summed _ tree (h .summed) number inside (omega (arith, h .whole)) ∙ sym (h .whole)
 
 -- of one more: w are the wrong pairs then, and g a number that none is above
-pub paired-more : (k : ℕ) (fs : List Arrival) (a : Arrival) (tree tree′ : List ℕ) (p : Pairs) → 1 ≤ a .number → p .count < arrivalsMost → PairTree k fs tree p
+pub paired-more : (k : ℕ) (fs : List Arrival) (a : Arrival) (tree tree′ : List ℕ) (p : Pairs) → 1 ≤ a .number → p .count < arrivalsMost
+    → PairTree k fs tree p
     → Added (a .number) 1 tree tree′ → (w g : ℕ) → w ≡ p .wrong + byteOffset (λ _. 1) fs (a .number) → p .greatest ≤ g → a .number ≤ g
     → PairTree k (fs ++ (a ∷ [])) tree′ (record { count = p .count + 1; wrong = w; greatest = g })
 paired-more k fs a tree tree′ p low few h added w g is up own =
@@ -114,7 +129,8 @@ firsts-seen d y i h seen f n is high =
     ∙ rw (f .at n high, ← has-firsts n (before d i), is)
 
 -- all pairs
-pub disorder-end : (d : Decoded) (y : Layout) (i : ℕ) → FileLayout d y → y .arrivals ≤ i → (k : ℕ) (tree : List ℕ) (p : Pairs) → PairTree k (firsts (before d i)) tree p
+pub disorder-end : (d : Decoded) (y : Layout) (i : ℕ) → FileLayout d y → y .arrivals ≤ i → (k : ℕ) (tree : List ℕ) (p : Pairs)
+    → PairTree k (firsts (before d i)) tree p
     → p .wrong ≡ disorderOf d
 unfolding disorderOf
 disorder-end d y i h end k tree p t =

@@ -1,6 +1,6 @@
--- Moving the clock by c does not change the total of disorder: the first arrivals of the moved arrivals are the moved first arrivals (rfc4737's
--- `firsts-moved`), and whether a pair is wrong depends only on its numbers (`wrong-moved`, by induction over the arrivals). fs are first
--- arrivals, s is the sample. Assumes nothing.
+-- Moving the clock by c does not change the total of disorder: the first arrivals of the moved arrivals are the moved first arrivals
+-- (rfc4737's `firsts-moved`), and whether a pair is wrong depends only on its numbers (`wrong-moved`, by induction over the arrivals). fs
+-- are first arrivals, s is the sample. Assumes nothing.
 use Prim.Native.Nat.{ℕ, _+_}
 use native.Mathlib.Omega.{arith}
 use mathlib.Core.Path.{_≡_, refl, sym, ap, _∙_}
@@ -19,8 +19,10 @@ use Rattle.disorder.proofs.Disorder.{count-map, lower, wrong-cons}
 wrong-moved : (c : ℕ) (fs : List Arrival) → wrongPairs (moved c fs) ≡ wrongPairs fs
 wrong-moved c [] = refl
 wrong-moved c (a ∷ fs) =
-    let n : wrongPairs (moved c (a ∷ fs)) ≡ lower (a .number) (moved c fs) + wrongPairs (moved c fs) = wrong-cons (movedOne c a) (moved c fs) in
-    let e : lower (a .number) (moved c fs) ≡ lower (a .number) fs = count-map (λ (b : Arrival). ltb (b .number) (a .number)) (movedOne c) fs in
+    let n : wrongPairs (moved c (a ∷ fs)) ≡ lower (a .number) (moved c fs) + wrongPairs (moved c fs) =
+    wrong-cons (movedOne c a) (moved c fs) in
+    let e : lower (a .number) (moved c fs) ≡ lower (a .number) fs =
+    count-map (λ (b : Arrival). ltb (b .number) (a .number)) (movedOne c) fs in
     omega (arith, n, e, wrong-cons a fs, wrong-moved c fs)
 
 -- as `total` carries it, of a file of octets
@@ -28,5 +30,6 @@ pub disorder-moved : (file : List ℕ) → Octets file → DisorderMoved file
 unfolding sampleDisorder disorderOf
 disorder-moved file o s c e t =
     ap sampleDisorder (moved-accepted file o s c e t)
-    ∙ ap (λ (n : ℕ). record { refusal = 0; total = n }) (ap wrongPairs (firsts-moved c (s .arrivals)) ∙ wrong-moved c (firsts (s .arrivals)))
+    ∙ ap (λ (n : ℕ). record { refusal = 0; total = n }) (ap wrongPairs (firsts-moved c (s .arrivals))
+    ∙ wrong-moved c (firsts (s .arrivals)))
     ∙ ap sampleDisorder (sym e)

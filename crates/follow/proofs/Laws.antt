@@ -1,8 +1,8 @@
 -- Laws of the text of a line and of the call's answer. A late time has a minus only if it is before by more than 0 (`after-amount`,
 -- `before-none`, `before-some`). The octets written for a refusal are its words, or none (`words-read`). A line is refused or not
--- (`arrival-none`, `arrival-some`, `followed-refused`, `followed-step`), and so is its arrival (`outcome-refused`, `outcome-noted`). The caller's
--- buffer has room for the text or not (`line-short`, `line-written`; `counts-short`, `counts-written`). r is a receiver, l a line, read the
--- arrival read from it, s the step, n the length of the text in `new`, out the caller's buffer. Assumes nothing.
+-- (`arrival-none`, `arrival-some`, `followed-refused`, `followed-step`), and so is its arrival (`outcome-refused`, `outcome-noted`). The
+-- caller's buffer has room for the text or not (`line-short`, `line-written`; `counts-short`, `counts-written`). r is a receiver, l a
+-- line, read the arrival read from it, s the step, n the length of the text in `new`, out the caller's buffer. Assumes nothing.
 use Prim.Native.Nat.{ℕ, _+_, _≤_, _<_}
 use native.Mathlib.Omega.{arith}
 use mathlib.Core.Path.{_≡_, refl, sym, ap, _∙_}
@@ -68,17 +68,21 @@ words-none n h = go (leb 1 n) refl (leb n 18) refl
         List·getD-eq-default allWords [] q
 
 -- and nothing is written of it
-words-refused : (n : ℕ) (old new : List ℕ) (answer : WriteAnswer) → askedRefusal n ≡ 9 → Output (askedRefusal n) (wordsOf n) old answer new → answer .length ≡ 0
+words-refused : (n : ℕ) (old new : List ℕ) (answer : WriteAnswer) → askedRefusal n ≡ 9
+    → Output (askedRefusal n) (wordsOf n) old answer new → answer .length ≡ 0
 words-refused n old new answer e w =
-    let h : answer .refusal ≡ 9 = w .refusal ∙ ap (λ (own : ℕ). firstRefusal (own ∷ refusalIf (ltb (length old) (length (wordsOf n))) outputShort ∷ [])) e in
+    let h : answer .refusal ≡ 9 =
+    w .refusal ∙ ap (λ (own : ℕ). firstRefusal (own ∷ refusalIf (ltb (length old) (length (wordsOf n))) outputShort ∷ [])) e in
     w .octets ∙ ap (λ (refusal : ℕ). ifNone refusal (length (wordsOf n)) 0) h
 
-pub words-read : (n : ℕ) {old new : List ℕ} {answer : WriteAnswer} → Output (askedRefusal n) (wordsOf n) old answer new → WordsFit → length old ≡ 128
+pub words-read : (n : ℕ) {old new : List ℕ} {answer : WriteAnswer} → Output (askedRefusal n) (wordsOf n) old answer new → WordsFit
+    → length old ≡ 128
     → (answer .length ≤ 128) × ((answer .length ≤ length new) × (take (answer .length) new ≡ wordsOf n))
 unfolding askedRefusal
 words-read n {old} {new} {answer} w fit room = go (outside 1 18 n) refl
   where
-    go : (t : Bool) → outside 1 18 n ≡ t → (answer .length ≤ 128) × ((answer .length ≤ length new) × (take (answer .length) new ≡ wordsOf n))
+    go : (t : Bool) → outside 1 18 n ≡ t → (answer .length ≤ 128)
+        × ((answer .length ≤ length new) × (take (answer .length) new ≡ wordsOf n))
     go false e =
         let own : refusalIf (outside 1 18 n) askedOutside ≡ 0 = rw e refl in
         let most = fit .most n in
@@ -110,7 +114,8 @@ pub outcome-noted : (o : Outcome) → o .refusal ≡ 0 → notedText (o .noted) 
 unfolding outcomeText
 outcome-noted o e = rw (eq-eqb (o .refusal) 0 e) refl
 
-pub followed-refused : (r : Receiver) (l : LogLine) → (l .refusal ≡ 0 → ⊥) → record { outcome = refusedOutcome (l .refusal); state = r } ≡ followed r l
+pub followed-refused : (r : Receiver) (l : LogLine) → (l .refusal ≡ 0 → ⊥)
+    → record { outcome = refusedOutcome (l .refusal); state = r } ≡ followed r l
 unfolding followed
 followed-refused r l h = rw (ne-eqb (l .refusal) 0 h) refl
 

@@ -47,8 +47,8 @@ fn step_line(state: Receiver, read: LogLine) -> StepAnswer
 }
 
 // Reads one line, steps the receiver by its arrival, and writes the outcome to the start of `out`; LINE_OCTETS octets have room for any. A
-// malformed line is refused with 14. A refused line leaves the receiver unchanged. If `out` is too short, the refusal is 8, and the receiver
-// and `out` stay unchanged.
+// malformed line is refused with 14. A refused line leaves the receiver unchanged. If `out` is too short, the refusal is 8, and the
+// receiver and `out` stay unchanged.
 pub fn line(state: Receiver, line: &[u8], out: &mut [u8]) -> FollowAnswer
     ensures { λ r. ⌜ FollowedTo state (logLine (decodeLine (now (line .entry)))) (now (out .entry)) r (now (out .exit)) ⌝ }
     ensures room { λ _. ⌜ length (followedText state (logLine (decodeLine (now (line .entry))))) ≤ lineOctets ⌝ }

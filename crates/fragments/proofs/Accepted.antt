@@ -1,7 +1,7 @@
--- What holds for K and the lists if nothing is refused: `orderRefusal ≡ 0` settles each test of the judge in turn, last the room in both of the
--- caller's lists (`accepted`). The arrivals have the numbers of the list of numbers, so what the judge says of the arrivals holds for the list. If
--- the call is refused, the caller's lists stay unchanged.
--- ns, ts, ls, ms and os are the five lists, f and u the lists for flags and for usable values, r is a refusal. Assumes nothing.
+-- What holds for K and the lists if nothing is refused: `orderRefusal ≡ 0` settles each test of the judge in turn, last the room in both
+-- of the caller's lists (`accepted`). The arrivals have the numbers of the list of numbers, so what the judge says of the arrivals holds
+-- for the list. If the call is refused, the caller's lists stay unchanged. ns, ts, ls, ms and os are the five lists, f and u the lists
+-- for flags and for usable values, r is a refusal. Assumes nothing.
 use Prim.Native.Nat.{ℕ, zero, suc, _≤_, _<_}
 use native.Mathlib.Omega.{arith}
 use mathlib.Core.Bool.{Bool, true, not, _&&_, _||_}
@@ -24,13 +24,19 @@ use Rattle.fragments.proofs.Laws.{both, pieces-length}
 use Rattle.fragments.proofs.Judged.{numbered}
 use Rattle.fragments.proofs.Numbers.{pieces-number}
 
-pub same-lists : (ns ts ls ms os : List ℕ) → sameLengths (length ns) (length ts) (length ls) (length ms) (length os) ≡ true → Lists ns ts ls ms os
+pub same-lists : (ns ts ls ms os : List ℕ) → sameLengths (length ns) (length ts) (length ls) (length ms) (length os) ≡ true
+    → Lists ns ts ls ms os
 unfolding sameLengths
 same-lists ns ts ls ms os e =
-    let p = both (eqb (length ns) (length ts)) (eqb (length ns) (length ls) && (eqb (length ns) (length ms) && eqb (length ns) (length os))) e in
+    let p =
+    both (eqb (length ns) (length ts)) (eqb (length ns) (length ls) && (eqb (length ns) (length ms) && eqb (length ns) (length os))) e in
     let q = both (eqb (length ns) (length ls)) (eqb (length ns) (length ms) && eqb (length ns) (length os)) (p .1) in
-    let r = both (eqb (length ns) (length ms)) (eqb (length ns) (length os)) (q .1) in
-    (sym (eqb-true (length ns) (length ts) (p .0)), sym (eqb-true (length ns) (length ls) (q .0)), sym (eqb-true (length ns) (length ms) (r .0)), sym (eqb-true (length ns) (length os) (r .1)))
+    let r = both (eqb (length ns) (length ms)) (eqb (length ns) (length os)) (q .1) in (
+      sym (eqb-true (length ns) (length ts) (p .0)),
+      sym (eqb-true (length ns) (length ls) (q .0)),
+      sym (eqb-true (length ns) (length ms) (r .0)),
+      sym (eqb-true (length ns) (length os) (r .1)),
+    )
 
 pub record AcceptedPieces (k : ℕ) (ns ts ls ms os : List ℕ) (f u : ℕ) : Type 0 where
   pub sent : k ≤ sentMost
@@ -45,7 +51,9 @@ unfolding orderRefusal
 accepted k ns ts ls ms os f u e =
     let same : Bool = sameLengths (length ns) (length ts) (length ls) (length ms) (length os) in
     let short : Bool = ltb f (length ns) || ltb u (length ns) in
-    let r = each-none (judgeSent k ∷ judgeArrivals (length ns) ∷ refusalIf (not same) listsDiffer ∷ judgePieces k (piecesOf ns ts ls ms os) ∷ refusalIf short outputShort ∷ []) e in
+    let r =
+    each-none (judgeSent k ∷ judgeArrivals (length ns) ∷ refusalIf (not same) listsDiffer ∷ judgePieces k (piecesOf ns ts ls ms os)
+    ∷ refusalIf short outputShort ∷ []) e in
     let sent = limit-none 1 sentMost k sentOutside (omega arith) (r 0) in
     let many = limit-none 0 arrivalsMost (length ns) manyArrivals (omega arith) (r 1) in
     let rooms = neither (ltb f (length ns)) (ltb u (length ns)) (case-none short outputShort (omega arith) (r 4)) in

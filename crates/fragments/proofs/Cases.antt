@@ -12,5 +12,6 @@ use Rattle.fragments.specs.Judge.{isUnfit, judgePiece}
 use Rattle.fragments.specs.Cases.{FlaggedAsGiven}
 
 pub flagged-as-given : FlaggedAsGiven
-unfolding flatten each eachAfter any copies isCopy firstAfter noCopies isReorderedFragment inOrderAfter expectedAfter expected flagAfter flags hasOctet everyBelow covered complete usableAfter usable outside tooEarly isUnfit judgePiece
+unfolding flatten each eachAfter any copies isCopy firstAfter noCopies isReorderedFragment inOrderAfter expectedAfter expected flagAfter
+    flags hasOctet everyBelow covered complete usableAfter usable outside tooEarly isUnfit judgePiece
 flagged-as-given = record { marked = refl; refused = refl }

@@ -1,6 +1,6 @@
--- Copies by marks. An arrival is a copy exactly if an earlier arrival has its number, offset and length, or both are whole packets with the same
--- number (`copy-split`). The mark of the arrival tells the first, the table of whole packets seen the second (`copy-here`).
--- l are arrivals, a and b single ones, p and q are tests. Assumes nothing.
+-- Copies by marks. An arrival is a copy exactly if an earlier arrival has its number, offset and length, or both are whole packets with
+-- the same number (`copy-split`). The mark of the arrival tells the first, the table of whole packets seen the second (`copy-here`). l
+-- are arrivals, a and b single ones, p and q are tests. Assumes nothing.
 use Prim.Native.Nat.{ℕ}
 use mathlib.Core.Bool.{Bool, true, false, cond, not, _&&_, _||_}
 use mathlib.Core.List.{List, [], _∷_}
@@ -59,7 +59,8 @@ copy-split a l =
 pub copy-here : (a : Piece) (l : List Piece) (r : Bool) (mark seen : ℕ) → r ≡ (not (eqb mark 0) || (isWhole a && not (eqb seen 0)))
     → mark ≡ cond (any (sameKey a) l) 1 0 → seen ≡ cond (any (wholeOf (a .number)) l) 1 0 → r ≡ isCopy l a
 copy-here a l r mark seen e f g =
-    e ∙ ap₂ (λ (x y : ℕ). not (eqb x 0) || (isWhole a && not (eqb y 0))) f g ∙ go (any (sameKey a) l) (any (wholeOf (a .number)) l) ∙ sym (copy-split a l)
+    e ∙ ap₂ (λ (x y : ℕ). not (eqb x 0) || (isWhole a && not (eqb y 0))) f g ∙ go (any (sameKey a) l) (any (wholeOf (a .number)) l)
+    ∙ sym (copy-split a l)
   where
     go : (s w : Bool) → (not (eqb (cond s 1 0) 0) || (isWhole a && not (eqb (cond w 1 0) 0))) ≡ (s || (isWhole a && w))
     go true true = refl

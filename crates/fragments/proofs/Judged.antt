@@ -1,6 +1,7 @@
--- Arrivals judged in turn. The element of `each` at i is its function of the arrivals before and the arrival at i (`each-at`). So the loop finds at i
--- the refusal of a by the reference (`refusal-here`), which is the greatest time before it (past). If no refusal applies, no arrival is refused, so
--- every number is from 1 to k (`numbered`). k is K, l are the arrivals, a is the arrival at i, r a refusal or a reference. Assumes nothing.
+-- Arrivals judged in turn. The element of `each` at i is its function of the arrivals before and the arrival at i (`each-at`). So the
+-- loop finds at i the refusal of a by the reference (`refusal-here`), which is the greatest time before it (past). If no refusal applies,
+-- no arrival is refused, so every number is from 1 to k (`numbered`). k is K, l are the arrivals, a is the arrival at i, r a refusal or a
+-- reference. Assumes nothing.
 use Prim.Native.Nat.{ℕ, zero, suc, _+_, _≤_, _<_}
 use native.Mathlib.Omega.{arith}
 use mathlib.Core.Path.{_≡_, refl, sym, ap, _∙_}
@@ -18,12 +19,14 @@ use Rattle.fragments.specs.Judge.{isUnfit, judgePiece, judgeAfter, judge
 use Rattle.fragments.specs.Private.{noPiece}
 
 -- what `eachAfter` gives at a place: of the arrivals `before` and those of l up to there, and the arrival there
-at-after : (f : List Piece → Piece → ℕ) (before l : List Piece) (i : ℕ) → i < length l → getD (eachAfter f before l) i 0 ≡ f (before ++ take i l) (getD l i noPiece)
+at-after : (f : List Piece → Piece → ℕ) (before l : List Piece) (i : ℕ) → i < length l
+    → getD (eachAfter f before l) i 0 ≡ f (before ++ take i l) (getD l i noPiece)
 unfolding eachAfter
 at-after f before [] i h = absurd (omega arith)
 at-after f before (a ∷ l) zero h = ap (λ (m : List Piece). f m a) (sym (append-nil before))
 at-after f before (a ∷ l) (suc i) h =
-    at-after f (before ++ (a ∷ [])) l i (omega arith) ∙ ap (λ (m : List Piece). f m (getD l i noPiece)) (append-assoc before (a ∷ []) (take i l))
+    at-after f (before ++ (a ∷ [])) l i (omega arith) ∙ ap (λ (m : List Piece). f m (getD l i noPiece))
+    (append-assoc before (a ∷ []) (take i l))
 
 pub each-at : (f : List Piece → Piece → ℕ) (l : List Piece) (i : ℕ) → i < length l → getD (each f l) i 0 ≡ f (take i l) (getD l i noPiece)
 unfolding each
@@ -46,10 +49,12 @@ module _ (l : List Piece) (reference i : ℕ) (a : Piece) (h : i < length l) (he
   past-next next e =
       e ∙ ap (λ (t : ℕ). nextReference t (a .time)) past
       ∙ sym (greatest-more (map arrivalOf (take i l)) (arrivalOf a))
-      ∙ ap greatestTime (sym (map-append arrivalOf (take i l) (a ∷ [])) ∙ ap (λ (b : Piece). map arrivalOf (take i l ++ (b ∷ []))) here ∙ ap (map arrivalOf) (sym (take-more noPiece l i h)))
+      ∙ ap greatestTime (sym (map-append arrivalOf (take i l) (a ∷ [])) ∙ ap (λ (b : Piece). map arrivalOf (take i l ++ (b ∷ []))) here
+      ∙ ap (map arrivalOf) (sym (take-more noPiece l i h)))
 
 -- before the first
-pub turn-start : (k : ℕ) (l : List Piece) → (0 ≡ greatestTime (map arrivalOf (take 0 l))) × (judgePieces k l ≡ firstRefusal (drop 0 (each (judgeAfter k) l)))
+pub turn-start : (k : ℕ) (l : List Piece) → (0 ≡ greatestTime (map arrivalOf (take 0 l)))
+    × (judgePieces k l ≡ firstRefusal (drop 0 (each (judgeAfter k) l)))
 unfolding judgePieces greatestTime
 turn-start k l = (refl, refl)
 
@@ -59,7 +64,9 @@ turn-start k l = (refl, refl)
 one-number : (k r : ℕ) (a : Piece) → judgePiece k r a ≡ 0 → (1 ≤ a .number) × (a .number ≤ k)
 unfolding judgePiece
 one-number k r a e =
-    let p = first-none (refusalIf (outside 1 k (a .number)) numberOutside) (refusalIf (isUnfit a) fragmentUnfit ∷ refusalIf (tooEarly r (a .time)) timeBack ∷ []) e in
+    let p =
+    first-none (refusalIf (outside 1 k (a .number)) numberOutside)
+    (refusalIf (isUnfit a) fragmentUnfit ∷ refusalIf (tooEarly r (a .time)) timeBack ∷ []) e in
     limit-none 1 k (a .number) numberOutside (omega arith) (p .0)
 
 -- every number lies in 1 to k
@@ -67,4 +74,5 @@ pub numbered : (k : ℕ) (l : List Piece) → judgePieces k l ≡ 0 → (j : ℕ
     → (1 ≤ getD l j noPiece .number) × (getD l j noPiece .number ≤ k)
 unfolding judgePieces judgeAfter
 numbered k l e j h =
-    one-number k (greatestTime (map arrivalOf (take j l))) (getD l j noPiece) (sym (each-at (judgeAfter k) l j h) ∙ each-none (each (judgeAfter k) l) e j)
+    one-number k (greatestTime (map arrivalOf (take j l))) (getD l j noPiece)
+    (sym (each-at (judgeAfter k) l j h) ∙ each-none (each (judgeAfter k) l) e j)

@@ -74,7 +74,8 @@ every-below (suc n) p h = rw (every-below n p (λ o g. h o (omega arith)), h n (
 pub complete-ends : (l : List Piece) (s r : ℕ) → Reach l s r → complete l s ≡ any (endsBy s r) l
 unfolding complete covered endsBy
 complete-ends l s r h =
-    any-same _ _ (λ (a : Piece). ap (λ (t : Bool). eqb (a .number) s && (isLast a && t)) (below-reach (λ (o : ℕ). any (hasOctet s o) l) r (h .covered) (h .uncovered) (pieceEnd a))) l
+    any-same _ _ (λ (a : Piece). ap (λ (t : Bool). eqb (a .number) s && (isLast a && t))
+    (below-reach (λ (o : ℕ). any (hasOctet s o) l) r (h .covered) (h .uncovered) (pieceEnd a))) l
 
 -- ---- the arrivals of lists
 
@@ -84,7 +85,13 @@ pieces-length [] ts ls ms os = refl
 pieces-length (n ∷ ns) ts ls ms os = ap suc (pieces-length ns (drop 1 ts) (drop 1 ls) (drop 1 ms) (drop 1 os))
 
 pub pieces-getD : (ns ts ls ms os : List ℕ) (i : ℕ) → i < length ns
-    → getD (piecesOf ns ts ls ms os) i noPiece ≡ record { number = getD ns i 0; time = getD ts i 0; length = getD ls i 0; more = getD ms i 0; offset = getD os i 0 }
+    → getD (piecesOf ns ts ls ms os) i noPiece ≡ record {
+      number = getD ns i 0;
+      time = getD ts i 0;
+      length = getD ls i 0;
+      more = getD ms i 0;
+      offset = getD os i 0;
+    }
 unfolding piecesOf
 pieces-getD [] ts ls ms os i h = absurd (omega arith)
 pieces-getD (n ∷ ns) ts ls ms os zero h = refl

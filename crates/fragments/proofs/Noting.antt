@@ -25,10 +25,13 @@ module _ (l : List Piece) where
 
   -- what is stored at y keeps what was noted elsewhere
   noted-more : (y v u i : ℕ) (marks wholes : List ℕ) → y < length marks → y < length wholes
-      → v ≡ cond (earlierSame l y) 1 0 → u ≡ cond (complete l (getD l y noPiece .number)) 1 0 → ((i ≡ y → ⊥) → NotedAt l marks wholes i) → NotedAt l (set marks y v) (set wholes y u) i
+      → v ≡ cond (earlierSame l y) 1 0 → u ≡ cond (complete l (getD l y noPiece .number)) 1 0 → ((i ≡ y → ⊥) → NotedAt l marks wholes i)
+      → NotedAt l (set marks y v) (set wholes y u) i
   noted-more y v u i marks wholes h g e d old = (
-    stored marks y i v h (λ (x : ℕ). x ≡ cond (earlierSame l i) 1 0) (λ q. e ∙ ap (λ (j : ℕ). cond (earlierSame l j) 1 0) (sym q)) (λ q. old q .0),
-    stored wholes y i u g (λ (x : ℕ). x ≡ cond (complete l (getD l i noPiece .number)) 1 0) (λ q. d ∙ ap (λ (j : ℕ). cond (complete l (getD l j noPiece .number)) 1 0) (sym q)) (λ q. old q .1),
+    stored marks y i v h (λ (x : ℕ). x ≡ cond (earlierSame l i) 1 0) (λ q. e ∙ ap (λ (j : ℕ). cond (earlierSame l j) 1 0) (sym q))
+        (λ q. old q .0),
+    stored wholes y i u g (λ (x : ℕ). x ≡ cond (complete l (getD l i noPiece .number)) 1 0)
+        (λ q. d ∙ ap (λ (j : ℕ). cond (complete l (getD l j noPiece .number)) 1 0) (sym q)) (λ q. old q .1),
   )
 
   module _ (s : ℕ) (run : List ℕ) where
@@ -36,7 +39,8 @@ module _ (l : List Piece) where
     noting-start n = record { ofMarks = n .ofMarks; ofWholes = n .ofWholes; before = n .at; here = λ k h. absurd (omega arith) }
 
     module _ (w : Run l s run) where
-      pub noting-next : (m y v u : ℕ) {marks wholes : List ℕ} → m < length run → y ≡ getD run m 0 → v ≡ cond (earlierSame l y) 1 0 → u ≡ cond (complete l s) 1 0
+      pub noting-next : (m y v u : ℕ) {marks wholes : List ℕ} → m < length run → y ≡ getD run m 0 → v ≡ cond (earlierSame l y) 1 0
+          → u ≡ cond (complete l s) 1 0
           → NotingTo s run m marks wholes → NotingTo s run (m + 1) (set marks y v) (set wholes y u)
       noting-next m y v u {marks} {wholes} h z e d n =
           let i = w .inside m h in
@@ -58,9 +62,11 @@ module _ (l : List Piece) where
               absurd (x (ap (λ (i : ℕ). getD run i 0) j ∙ sym z))
 
       pub noting-done : (m : ℕ) {marks wholes : List ℕ} → length run ≤ m → NotingTo s run m marks wholes → NotedTo l (s + 1) marks wholes
-      noting-done m {marks} {wholes} h n = record { ofMarks = n .ofMarks; ofWholes = n .ofWholes; at = λ i a b. go i a b (ltb (getD l i noPiece .number) s) refl }
+      noting-done m {marks} {wholes} h n =
+          record { ofMarks = n .ofMarks; ofWholes = n .ofWholes; at = λ i a b. go i a b (ltb (getD l i noPiece .number) s) refl }
         where
-          go : (i : ℕ) → i < length l → getD l i noPiece .number < s + 1 → (t : Bool) → ltb (getD l i noPiece .number) s ≡ t → NotedAt l marks wholes i
+          go : (i : ℕ) → i < length l → getD l i noPiece .number < s + 1 → (t : Bool) → ltb (getD l i noPiece .number) s ≡ t
+              → NotedAt l marks wholes i
           go i a b true e = n .before i a (ltb-true (getD l i noPiece .number) s e)
           go i a b false e =
               let c : getD l i noPiece .number ≡ s = omega (arith, ltb-false (getD l i noPiece .number) s e) in

@@ -16,7 +16,8 @@ use Rattle.fragments.specs.Private.{noPiece, NumbersWithin}
 use Rattle.fragments.proofs.Laws.{pieces-length, pieces-getD}
 
 -- an element after a store
-pub stored : (d : List ℕ) (p q v : ℕ) → p < length d → (P : ℕ → Type 0) → (q ≡ p → P v) → ((q ≡ p → ⊥) → P (getD d q 0)) → P (getD (set d p v) q 0)
+pub stored : (d : List ℕ) (p q v : ℕ) → p < length d → (P : ℕ → Type 0) → (q ≡ p → P v) → ((q ≡ p → ⊥) → P (getD d q 0))
+    → P (getD (set d p v) q 0)
 stored d p q v h P f g = go (eqb q p) refl
   where
     go : (t : Bool) → eqb q p ≡ t → P (getD (set d p v) q 0)
@@ -29,7 +30,8 @@ within-more k m numbers h n = record { at = λ (j : ℕ) (g : j < length numbers
 
 -- ---- the arrivals of the lists
 
-pub pieces-number : (ns ts ls ms os : List ℕ) (j : ℕ) → j < length (piecesOf ns ts ls ms os) → getD (piecesOf ns ts ls ms os) j noPiece .number ≡ getD ns j 0
+pub pieces-number : (ns ts ls ms os : List ℕ) (j : ℕ) → j < length (piecesOf ns ts ls ms os)
+    → getD (piecesOf ns ts ls ms os) j noPiece .number ≡ getD ns j 0
 pieces-number ns ts ls ms os j h =
     let e = pieces-length ns ts ls ms os in
     ap (λ (a : Piece). a .number) (pieces-getD ns ts ls ms os j (omega arith))

@@ -1,9 +1,9 @@
 -- The sorted places of a packet are a run: all places of its arrivals, by start, equal ones side by side. They are the packet's places
--- (`same-has`), so each is one of its arrivals (`run-own`), and each of its arrivals is among them (`run-all`). The places with one key rise
--- strictly, and such a list splits at an element in one way only (`split-one`). So before a place y in the run stand, of those with y's key, exactly
--- those that came before y (`prefix-same`). So an earlier arrival has y's number, offset and length exactly if one before it in the run has. As keys
--- rise, this is the one just before it (`neighbour`).
--- ns, ts, ls, ms and fs are the five lists, y is a place, m its index in the run, t a key, p and q are tests. Assumes nothing.
+-- (`same-has`), so each is one of its arrivals (`run-own`), and each of its arrivals is among them (`run-all`). The places with one key
+-- rise strictly, and such a list splits at an element in one way only (`split-one`). So before a place y in the run stand, of those with
+-- y's key, exactly those that came before y (`prefix-same`). So an earlier arrival has y's number, offset and length exactly if one
+-- before it in the run has. As keys rise, this is the one just before it (`neighbour`). ns, ts, ls, ms and fs are the five lists, y is a
+-- place, m its index in the run, t a key, p and q are tests. Assumes nothing.
 use Prim.Native.Nat.{ℕ, zero, suc, _+_, _*_, _-_, _≤_, _<_}
 use native.Mathlib.Numerals.{add-one}
 use native.Mathlib.Omega.{arith}
@@ -46,7 +46,8 @@ unfolding any passing
 pass-any p q [] = refl
 pass-any p q (x ∷ l) = go (pass-any p q l) (q x)
   where
-    go : any p (passing q l) ≡ any (λ (x : ℕ). q x && p x) l → (t : Bool) → any p (keptIf t x (passing q l)) ≡ ((t && p x) || any (λ (x : ℕ). q x && p x) l)
+    go : any p (passing q l) ≡ any (λ (x : ℕ). q x && p x) l → (t : Bool)
+        → any p (keptIf t x (passing q l)) ≡ ((t && p x) || any (λ (x : ℕ). q x && p x) l)
     go e true = ap (λ (t : Bool). p x || t) e
     go e false = e
 
@@ -187,7 +188,8 @@ key-eqb o l o′ l′ b d = go (eqb o o′) refl (eqb l l′) refl
     go true q true r =
         let e : o * 65536 + l ≡ o′ * 65536 + l′ = omega (arith, eqb-true o o′ q, eqb-true l l′ r) in
         eq-eqb (o * 65536 + l) (o′ * 65536 + l′) e
-    go true q false r = ne-eqb (o * 65536 + l) (o′ * 65536 + l′) (λ e. eqb-false l l′ r (let z : l ≡ l′ = omega (arith, e, eqb-true o o′ q) in z))
+    go true q false r =
+        ne-eqb (o * 65536 + l) (o′ * 65536 + l′) (λ e. eqb-false l l′ r (let z : l ≡ l′ = omega (arith, e, eqb-true o o′ q) in z))
     go false q z r = ne-eqb (o * 65536 + l) (o′ * 65536 + l′) (λ e. eqb-false o o′ q (let z : o ≡ o′ = omega (arith, e) in z))
 
 -- every element is below 65,536
@@ -212,23 +214,33 @@ module _ (ns ts ls ms fs : List ℕ) (short : Short ls) where
   number-of x h = ap (λ (a : Piece). a .number) (pieces-getD ns ts ls ms fs x h)
 
   -- two arrivals of one number and one key
-  same-one : (s x y : ℕ) → x < length ns → y < length ns → number y ≡ s → sameKey (getD pieces y noPiece) (getD pieces x noPiece) ≡ (eqb (number x) s && eqb (key x) (key y))
+  same-one : (s x y : ℕ) → x < length ns → y < length ns → number y ≡ s
+      → sameKey (getD pieces y noPiece) (getD pieces x noPiece) ≡ (eqb (number x) s && eqb (key x) (key y))
   unfolding pieceKey sameKey
   same-one s x y h g e =
-      rw (pieces-getD ns ts ls ms fs y g, pieces-getD ns ts ls ms fs x h, e, key-eqb (getD fs x 0) (getD ls x 0) (getD fs y 0) (getD ls y 0) (short .at x) (short .at y))
+      rw (
+        pieces-getD ns ts ls ms fs y g,
+        pieces-getD ns ts ls ms fs x h,
+        e,
+        key-eqb (getD fs x 0) (getD ls x 0) (getD fs y 0) (getD ls y 0) (short .at x) (short .at y),
+      )
 
   earlier-same : (s y : ℕ) → y < length ns → number y ≡ s → earlierSame pieces y ≡ any (λ (x : ℕ). eqb (key x) (key y)) (placesTo ns s y)
   earlier-same s y g e =
       any-take (sameKey (getD pieces y noPiece)) pieces y (omega (arith, pieces-length ns ts ls ms fs))
-      ∙ any-from (λ (x : ℕ). sameKey (getD pieces y noPiece) (getD pieces x noPiece)) (λ (x : ℕ). eqb (number x) s && eqb (key x) (key y)) 0 y (λ x h. same-one s x y (omega arith) g e)
+      ∙ any-from (λ (x : ℕ). sameKey (getD pieces y noPiece) (getD pieces x noPiece)) (λ (x : ℕ). eqb (number x) s && eqb (key x) (key y))
+      0 y (λ x h. same-one s x y (omega arith) g e)
       ∙ sym (pass-any (λ (x : ℕ). eqb (key x) (key y)) (λ (x : ℕ). eqb (number x) s) (upto y))
 
   module _ (s : ℕ) (run : List ℕ) (o : InOrder key (placesOf ns s) run) where
     run-own : (m : ℕ) → m < length run → (getD run m 0 < length ns) × (number (getD run m 0) ≡ s)
     run-own m h =
         let y : ℕ = getD run m 0 in
-        let a : has y (placesOf ns s) ≡ true = sym (same-has key run (placesOf ns s) (o .same) y) ∙ any-at (λ (x : ℕ). eqb x y) run m 0 h (eq-eqb y y refl) in
-        let w = any-find (λ (x : ℕ). eqb (number x) s && eqb x y) (upto (length ns)) (sym (pass-any (λ (x : ℕ). eqb x y) (λ (x : ℕ). eqb (number x) s) (upto (length ns))) ∙ a) in
+        let a : has y (placesOf ns s) ≡ true =
+        sym (same-has key run (placesOf ns s) (o .same) y) ∙ any-at (λ (x : ℕ). eqb x y) run m 0 h (eq-eqb y y refl) in
+        let w =
+        any-find (λ (x : ℕ). eqb (number x) s && eqb x y) (upto (length ns))
+        (sym (pass-any (λ (x : ℕ). eqb x y) (λ (x : ℕ). eqb (number x) s) (upto (length ns))) ∙ a) in
         let x : ℕ = getD (upto (length ns)) (w .0) 0 in
         let b = both (eqb (number x) s) (eqb x y) (w .1 .1) in
         let k : w .0 < length ns = omega (arith, w .1 .0, from-length 0 (length ns)) in
@@ -241,7 +253,8 @@ module _ (ns ts ls ms fs : List ℕ) (short : Short ls) where
         let t : (eqb (number i) s && eqb i i) ≡ true = ap₂ (λ (x y : Bool). x && y) (eq-eqb (number i) s e) (eq-eqb i i refl) in
         let a : has i (placesOf ns s) ≡ true =
         pass-any (λ (x : ℕ). eqb x i) (λ (x : ℕ). eqb (number x) s) (upto (length ns))
-        ∙ any-at (λ (x : ℕ). eqb (number x) s && eqb x i) (upto (length ns)) i 0 (omega (arith, from-length 0 (length ns))) (ap (λ (x : ℕ). eqb (number x) s && eqb x i) d ∙ t) in
+        ∙ any-at (λ (x : ℕ). eqb (number x) s && eqb x i) (upto (length ns)) i 0 (omega (arith, from-length 0 (length ns)))
+        (ap (λ (x : ℕ). eqb (number x) s && eqb x i) d ∙ t) in
         let w = any-find (λ (x : ℕ). eqb x i) run (same-has key run (placesOf ns s) (o .same) i ∙ a) in
         (w .0, (w .1 .0, eqb-true (getD run (w .0) 0) i (w .1 .1)))
 
@@ -255,19 +268,26 @@ module _ (ns ts ls ms fs : List ℕ) (short : Short ls) where
           let own = run-own m h in
           let n : ℕ = length ns in
           let j : n ≡ y + suc (n - suc y) = omega (arith, own .0) in
-          let u : upto n ≡ upto y ++ (y ∷ from (suc y) (n - suc y)) = ap (from 0) j ∙ from-split 0 y (n - suc y) ∙ ap (λ (b : ℕ). from 0 y ++ (b ∷ from (suc b) (n - suc y))) (let z : 0 + y ≡ y = omega arith in z) in
+          let u : upto n ≡ upto y ++ (y ∷ from (suc y) (n - suc y)) =
+          ap (from 0) j ∙ from-split 0 y (n - suc y) ∙ ap (λ (b : ℕ). from 0 y ++ (b ∷ from (suc b) (n - suc y)))
+          (let z : 0 + y ≡ y = omega arith in z) in
           let rest : List ℕ = atKey number s (from (suc y) (n - suc y)) in
-          let p : placesOf ns s ≡ placesTo ns s y ++ (y ∷ rest) = ap (atKey number s) u ∙ at-own number y s (upto y) (from (suc y) (n - suc y)) (own .1) in
-          let e : atKey key (key y) (placesOf ns s) ≡ atKey key (key y) (placesTo ns s y) ++ (y ∷ atKey key (key y) rest) = ap (atKey key (key y)) p ∙ at-own key y (key y) (placesTo ns s y) rest refl in
-          let d : atKey key (key y) run ≡ atKey key (key y) (take m run) ++ (y ∷ atKey key (key y) (drop (suc m) run)) = ap (atKey key (key y)) (split-at run m 0 h) ∙ at-own key y (key y) (take m run) (drop (suc m) run) refl in
-          split-one y (atKey key (key y) (take m run)) (atKey key (key y) (drop (suc m) run)) (atKey key (key y) (placesTo ns s y)) (atKey key (key y) rest)
+          let p : placesOf ns s ≡ placesTo ns s y ++ (y ∷ rest) =
+          ap (atKey number s) u ∙ at-own number y s (upto y) (from (suc y) (n - suc y)) (own .1) in
+          let e : atKey key (key y) (placesOf ns s) ≡ atKey key (key y) (placesTo ns s y) ++ (y ∷ atKey key (key y) rest) =
+          ap (atKey key (key y)) p ∙ at-own key y (key y) (placesTo ns s y) rest refl in
+          let d : atKey key (key y) run ≡ atKey key (key y) (take m run) ++ (y ∷ atKey key (key y) (drop (suc m) run)) =
+          ap (atKey key (key y)) (split-at run m 0 h) ∙ at-own key y (key y) (take m run) (drop (suc m) run) refl in
+          split-one y (atKey key (key y) (take m run)) (atKey key (key y) (drop (suc m) run)) (atKey key (key y) (placesTo ns s y))
+          (atKey key (key y) rest)
           (subst Strict e (strict-passing _ (placesOf ns s) (strict-passing _ (upto n) (strict-from 0 n))))
           (sym d ∙ o .same (key y) ∙ e)
 
       before-same : earlierSame pieces y ≡ any (λ (x : ℕ). eqb (key x) (key y)) (take m run)
       before-same =
           earlier-same s y (run-own m h .0) (run-own m h .1)
-          ∙ sym (any-key key (key y) (placesTo ns s y)) ∙ ap (any (λ (x : ℕ). eqb (key x) (key y))) (sym prefix-same) ∙ any-key key (key y) (take m run)
+          ∙ sym (any-key key (key y) (placesTo ns s y)) ∙ ap (any (λ (x : ℕ). eqb (key x) (key y))) (sym prefix-same)
+          ∙ any-key key (key y) (take m run)
 
     -- the first has none before it
     no-neighbour : (h : 0 < length run) → earlierSame pieces (getD run 0 0) ≡ false
@@ -282,19 +302,23 @@ module _ (ns ts ls ms fs : List ℕ) (short : Short ls) where
         ∙ any-more (λ (x : ℕ). eqb (key x) (key (getD run (m + 1) 0))) (take m run) (getD run m 0)
         ∙ go (any (λ (x : ℕ). eqb (key x) (key (getD run (m + 1) 0))) (take m run)) refl
       where
-        go : (b : Bool) → any (λ (x : ℕ). eqb (key x) (key (getD run (m + 1) 0))) (take m run) ≡ b → (b || eqb (key (getD run m 0)) (key (getD run (m + 1) 0))) ≡ eqb (key (getD run m 0)) (key (getD run (m + 1) 0))
+        go : (b : Bool) → any (λ (x : ℕ). eqb (key x) (key (getD run (m + 1) 0))) (take m run) ≡ b
+            → (b || eqb (key (getD run m 0)) (key (getD run (m + 1) 0))) ≡ eqb (key (getD run m 0)) (key (getD run (m + 1) 0))
         go false e = refl
         go true e =
             let w = any-find (λ (x : ℕ). eqb (key x) (key (getD run (m + 1) 0))) (take m run) e in
             let k : length (take m run) ≡ m = length-take-le m run (omega arith) in
             let i : w .0 < m = omega (arith, w .1 .0, k) in
-            let a : key (getD (take m run) (w .0) 0) ≡ key (getD run (m + 1) 0) = eqb-true (key (getD (take m run) (w .0) 0)) (key (getD run (m + 1) 0)) (w .1 .1) in
+            let a : key (getD (take m run) (w .0) 0) ≡ key (getD run (m + 1) 0) =
+            eqb-true (key (getD (take m run) (w .0) 0)) (key (getD run (m + 1) 0)) (w .1 .1) in
             let c : key (getD (take m run) (w .0) 0) ≡ key (getD run (w .0) 0) = ap key (getD-take m run (w .0) 0 i) in
             let lo = rising-at key run (o .rising) (w .0) m 0 (omega arith) (omega arith) in
             let hi = rising-at key run (o .rising) m (m + 1) 0 (omega arith) h in
-            sym (eq-eqb (key (getD run m 0)) (key (getD run (m + 1) 0)) (let z : key (getD run m 0) ≡ key (getD run (m + 1) 0) = omega arith in z))
+            sym (eq-eqb (key (getD run m 0)) (key (getD run (m + 1) 0))
+            (let z : key (getD run m 0) ≡ key (getD run (m + 1) 0) = omega arith in z))
 
-    start-rises : (x z : ℕ) → x < length ns → z < length ns → key x ≤ key z → pieceStart (getD pieces x noPiece) ≤ pieceStart (getD pieces z noPiece)
+    start-rises : (x z : ℕ) → x < length ns → z < length ns → key x ≤ key z
+        → pieceStart (getD pieces x noPiece) ≤ pieceStart (getD pieces z noPiece)
     unfolding pieceKey
     start-rises x z h g e =
         let a = ap pieceStart (pieces-getD ns ts ls ms fs x h) in
@@ -308,12 +332,17 @@ module _ (ns ts ls ms fs : List ℕ) (short : Short ls) where
           inside = λ m h. omega (arith, run-own m h .0);
           own = λ m h. number-of (getD run m 0) (run-own m h .0) ∙ run-own m h .1;
           all = λ i h e. let g : i < length ns = omega arith in run-all i g (sym (number-of i g) ∙ e);
-          rising = λ m k h g. let i : m < length run = omega arith in start-rises (getD run m 0) (getD run k 0) (run-own m i .0) (run-own k g .0) (rising-at key run (o .rising) m k 0 h g);
+          rising =
+              λ m k h g. let i : m < length run =
+              omega arith in start-rises (getD run m 0) (getD run k 0) (run-own m i .0) (run-own k g .0)
+              (rising-at key run (o .rising) m k 0 h g);
           first = no-neighbour;
           next = λ m h g.
               let i : m - 1 < length run = omega arith in
               let e : m - 1 + 1 ≡ m = omega arith in
               let d : m - 1 + 1 < length run = omega arith in
-              ap (λ (j : ℕ). earlierSame pieces (getD run j 0)) (sym e) ∙ neighbour (m - 1) d ∙ ap (λ (j : ℕ). eqb (key (getD run (m - 1) 0)) (key (getD run j 0))) e
-              ∙ sym (ap₂ (λ (x z : ℕ). eqb x z) (key-of (getD run (m - 1) 0) (run-own (m - 1) i .0)) (key-of (getD run m 0) (run-own m g .0)));
+              ap (λ (j : ℕ). earlierSame pieces (getD run j 0)) (sym e) ∙ neighbour (m - 1) d
+              ∙ ap (λ (j : ℕ). eqb (key (getD run (m - 1) 0)) (key (getD run j 0))) e
+              ∙ sym (ap₂ (λ (x z : ℕ). eqb x z) (key-of (getD run (m - 1) 0) (run-own (m - 1) i .0))
+              (key-of (getD run m 0) (run-own m g .0)));
         }

@@ -34,7 +34,8 @@ not-own : (s : ℕ) (a : Piece) → (s ≡ a .number → ⊥) → wholeOf s a �
 unfolding wholeOf
 not-own s a z = rw (ne-eqb (a .number) s (λ q. z (sym q)))
 
-pub seen-next : (l : List Piece) (i v : ℕ) (a : Piece) {d : List ℕ} → i < length l → a ≡ getD l i noPiece → 1 ≤ a .number → a .number ≤ sentMost
+pub seen-next : (l : List Piece) (i v : ℕ) (a : Piece) {d : List ℕ} → i < length l → a ≡ getD l i noPiece → 1 ≤ a .number
+    → a .number ≤ sentMost
     → v ≡ cond (isWhole a) 1 (getD d (a .number - 1) 0) → SeenTo l i d → SeenTo l (i + 1) (set d (a .number - 1) v)
 seen-next l i v a {d} h here lo hi e t = record {
   long = length-set d (a .number - 1) v ∙ t .long;
@@ -45,7 +46,9 @@ seen-next l i v a {d} h here lo hi e t = record {
 }
   where
     more : (s : ℕ) → any (wholeOf s) (take (i + 1) l) ≡ (any (wholeOf s) (take i l) || wholeOf s a)
-    more s = ap (any (wholeOf s)) (take-snoc l i noPiece h) ∙ any-more (wholeOf s) (take i l) (getD l i noPiece) ∙ ap (λ (b : Piece). any (wholeOf s) (take i l) || wholeOf s b) (sym here)
+    more s =
+        ap (any (wholeOf s)) (take-snoc l i noPiece h) ∙ any-more (wholeOf s) (take i l) (getD l i noPiece)
+        ∙ ap (λ (b : Piece). any (wholeOf s) (take i l) || wholeOf s b) (sym here)
 
     bits : (w o : Bool) → _≡_ {A = ℕ} (cond w 1 (cond o 1 0)) (cond (o || w) 1 0)
     bits true true = refl
@@ -61,4 +64,5 @@ seen-next l i v a {d} h here lo hi e t = record {
 
     other : (s : ℕ) → 1 ≤ s → s ≤ sentMost → (s ≡ a .number → ⊥) → getD d (s - 1) 0 ≡ cond (any (wholeOf s) (take (i + 1) l)) 1 0
     other s u w z =
-        t .at s u w ∙ sym (ap (λ (b : Bool). cond b 1 0) (more s ∙ ap (λ (b : Bool). any (wholeOf s) (take i l) || b) (not-own s a z) ∙ or-false (any (wholeOf s) (take i l))))
+        t .at s u w ∙ sym (ap (λ (b : Bool). cond b 1 0) (more s ∙ ap (λ (b : Bool). any (wholeOf s) (take i l) || b) (not-own s a z)
+        ∙ or-false (any (wholeOf s) (take i l))))

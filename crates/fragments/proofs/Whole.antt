@@ -1,8 +1,8 @@
--- If no arrival is a fragment, the flags are those of the answers of rfc4737. A copy is then an arrival whose number came before (`copy-whole`).
--- FragSeq# and NextExpFrag stay 0. So an arrival is reordered exactly if its number is below NextExp, and NextExp changes as in rfc4737
--- (`reordered-whole`, `after-whole`). By induction over the arrivals from the last, only NextExp is expected (`expected-whole`). So each flag is that
--- of the answer (`flag-whole`), and so are all of them.
--- l are the arrivals before, a is the next one, n is NextExp, c says that no arrival is a fragment and w that a is whole. Assumes nothing.
+-- If no arrival is a fragment, the flags are those of the answers of rfc4737. A copy is then an arrival whose number came before
+-- (`copy-whole`). FragSeq# and NextExpFrag stay 0. So an arrival is reordered exactly if its number is below NextExp, and NextExp changes
+-- as in rfc4737 (`reordered-whole`, `after-whole`). By induction over the arrivals from the last, only NextExp is expected
+-- (`expected-whole`). So each flag is that of the answer (`flag-whole`), and so are all of them. l are the arrivals before, a is the next
+-- one, n is NextExp, c says that no arrival is a fragment and w that a is whole. Assumes nothing.
 use Prim.Native.Nat.{ℕ, _+_}
 use native.Mathlib.Omega.{arith}
 use mathlib.Core.Bool.{Bool, true, false, cond, not, or-false, and-true, and-false}
@@ -52,7 +52,8 @@ pub expected-more : (l : List Piece) (a : Piece) → expected (l ++ (a ∷ [])) 
 unfolding expected firstAfter
 expected-more l a = ap (foldl expectedAfter atStart) (firsts-more-piece l a) ∙ go (isCopy l a)
   where
-    go : (t : Bool) → foldl expectedAfter atStart (noCopies l ++ cond t [] (a ∷ [])) ≡ cond t (foldl expectedAfter atStart (noCopies l)) (expectedAfter (foldl expectedAfter atStart (noCopies l)) a)
+    go : (t : Bool) → foldl expectedAfter atStart (noCopies l ++ cond t [] (a ∷ []))
+        ≡ cond t (foldl expectedAfter atStart (noCopies l)) (expectedAfter (foldl expectedAfter atStart (noCopies l)) a)
     go true = ap (foldl expectedAfter atStart) (append-nil (noCopies l))
     go false = fold-more expectedAfter atStart (noCopies l) a
 
@@ -71,14 +72,20 @@ nextOnly n = record { next = n; packet = 0; fragment = 0 }
 reordered-whole : (n : ℕ) (a : Piece) → isReorderedFragment (nextOnly n) a ≡ ltb (a .number) n
 unfolding isReorderedFragment
 reordered-whole n a =
-    rw (le-ltb (a .number) 0 (omega arith), le-ltb (a .offset) 0 (omega arith), and-false (eqb (a .number) 0), and-false (leb n (a .number)))
+    rw (
+      le-ltb (a .number) 0 (omega arith),
+      le-ltb (a .offset) 0 (omega arith),
+      and-false (eqb (a .number) 0),
+      and-false (leb n (a .number)),
+    )
     (or-false (ltb (a .number) n))
 
 after-whole : (n : ℕ) (a : Piece) → isLast a ≡ true → expectedAfter (nextOnly n) a ≡ nextOnly (nextAfter n (a .number))
 unfolding expectedAfter inOrderAfter nextAfter
 after-whole n a w = rw (reordered-whole n a, w) (go (leb n (a .number)) refl)
   where
-    go : (t : Bool) → leb n (a .number) ≡ t → cond (ltb (a .number) n) (nextOnly n) (nextOnly (a .number + 1)) ≡ nextOnly (cond t (a .number + 1) n)
+    go : (t : Bool) → leb n (a .number) ≡ t → cond (ltb (a .number) n) (nextOnly n) (nextOnly (a .number + 1))
+        ≡ nextOnly (cond t (a .number + 1) n)
     go true e = rw (le-ltb (a .number) n (leb-true n (a .number) e))
     go false e = rw (lt-ltb (a .number) n (leb-false n (a .number) e))
 
@@ -86,11 +93,15 @@ after-whole n a w = rw (reordered-whole n a, w) (go (leb n (a .number)) refl)
 baseNext : List Piece → ℕ
 baseNext l = nextExp (base.firsts (map arrivalOf l))
 
-baseNext-more : (l : List Piece) (a : Piece) → baseNext (l ++ (a ∷ [])) ≡ cond (has (a .number) (map arrivalOf l)) (baseNext l) (nextAfter (baseNext l) (a .number))
+baseNext-more : (l : List Piece) (a : Piece) → baseNext (l ++ (a ∷ []))
+    ≡ cond (has (a .number) (map arrivalOf l)) (baseNext l) (nextAfter (baseNext l) (a .number))
 unfolding baseNext withArrival
-baseNext-more l a = rw (map-append arrivalOf l (a ∷ []), firsts-more (map arrivalOf l) (arrivalOf a), has-firsts (a .number) (map arrivalOf l)) (go (has (a .number) (map arrivalOf l)))
+baseNext-more l a =
+    rw (map-append arrivalOf l (a ∷ []), firsts-more (map arrivalOf l) (arrivalOf a), has-firsts (a .number) (map arrivalOf l))
+    (go (has (a .number) (map arrivalOf l)))
   where
-    go : (t : Bool) → nextExp (cond t (base.firsts (map arrivalOf l)) (base.firsts (map arrivalOf l) ++ (arrivalOf a ∷ []))) ≡ cond t (nextExp (base.firsts (map arrivalOf l))) (nextAfter (nextExp (base.firsts (map arrivalOf l))) (a .number))
+    go : (t : Bool) → nextExp (cond t (base.firsts (map arrivalOf l)) (base.firsts (map arrivalOf l) ++ (arrivalOf a ∷ [])))
+        ≡ cond t (nextExp (base.firsts (map arrivalOf l))) (nextAfter (nextExp (base.firsts (map arrivalOf l))) (a .number))
     go true = refl
     go false = next-more (base.firsts (map arrivalOf l)) (arrivalOf a)
 
@@ -99,26 +110,31 @@ expected-whole : (l : List Piece) → cut l ≡ false → expected l ≡ nextOnl
 unfolding expected noCopies each eachAfter flatten baseNext base.firsts nextExp
 expected-whole = snoc-ind (λ (l : List Piece). cut l ≡ false → expected l ≡ nextOnly (baseNext l)) more (λ c. refl)
   where
-    go : (n : ℕ) (a : Piece) → isLast a ≡ true → (t : Bool) → cond t (nextOnly n) (expectedAfter (nextOnly n) a) ≡ nextOnly (cond t n (nextAfter n (a .number)))
+    go : (n : ℕ) (a : Piece) → isLast a ≡ true → (t : Bool) → cond t (nextOnly n) (expectedAfter (nextOnly n) a)
+        ≡ nextOnly (cond t n (nextAfter n (a .number)))
     go n a w true = refl
     go n a w false = after-whole n a w
 
-    more : (l : List Piece) (a : Piece) → (cut l ≡ false → expected l ≡ nextOnly (baseNext l)) → cut (l ++ (a ∷ [])) ≡ false → expected (l ++ (a ∷ [])) ≡ nextOnly (baseNext (l ++ (a ∷ [])))
+    more : (l : List Piece) (a : Piece) → (cut l ≡ false → expected l ≡ nextOnly (baseNext l)) → cut (l ++ (a ∷ [])) ≡ false
+        → expected (l ++ (a ∷ [])) ≡ nextOnly (baseNext (l ++ (a ∷ [])))
     more l a h c =
         let u = uncut l a c in
         rw (expected-more l a, h (u .0), copy-whole l a (u .1) (u .0), baseNext-more l a)
         (go (baseNext l) a (both (isLast a) (eqb (a .offset) 0) (u .1) .0) (has (a .number) (map arrivalOf l)))
 
 -- the flag of an arrival is that of the base's answer
-flag-whole : (l : List Piece) (a : Piece) (size : ℕ → ℕ) → cut l ≡ false → isWhole a ≡ true → flagAfter l a ≡ orderFlag (answerTo size (map arrivalOf l) (arrivalOf a))
+flag-whole : (l : List Piece) (a : Piece) (size : ℕ → ℕ) → cut l ≡ false → isWhole a ≡ true
+    → flagAfter l a ≡ orderFlag (answerTo size (map arrivalOf l) (arrivalOf a))
 unfolding flagAfter answerTo firstAnswer isInOrder inOrderAnswer reorderedAnswer baseNext
 flag-whole l a size c w =
-    rw (copy-whole l a w c, expected-whole l c, reordered-whole (baseNext l) a) (go (has (a .number) (map arrivalOf l)) (leb (baseNext l) (a .number)) refl)
+    rw (copy-whole l a w c, expected-whole l c, reordered-whole (baseNext l) a)
+    (go (has (a .number) (map arrivalOf l)) (leb (baseNext l) (a .number)) refl)
   where
     go : (t u : Bool) → leb (baseNext l) (a .number) ≡ u
         → cond t duplicateNumber (cond (ltb (a .number) (baseNext l)) reorderedAfterNumber inOrderNumber)
         ≡ orderFlag (cond t (Duplicate (record { first = base.firstRecord (a .number) (map arrivalOf l) }))
-        (cond u (inOrderAnswer (base.firsts (map arrivalOf l)) (arrivalOf a)) (reorderedAnswer size (base.firsts (map arrivalOf l)) (arrivalOf a) (discontinuity (base.firsts (map arrivalOf l)) (a .number)))))
+        (cond u (inOrderAnswer (base.firsts (map arrivalOf l)) (arrivalOf a))
+        (reorderedAnswer size (base.firsts (map arrivalOf l)) (arrivalOf a) (discontinuity (base.firsts (map arrivalOf l)) (a .number)))))
     go true u e = refl
     go false true e = rw (le-ltb (a .number) (baseNext l) (leb-true (baseNext l) (a .number) e))
     go false false e = rw (lt-ltb (a .number) (baseNext l) (leb-false (baseNext l) (a .number) e))
@@ -133,5 +149,11 @@ whole-flags l c size = snoc-ind Same more (λ c. refl) l c
     more : (l : List Piece) (a : Piece) → Same l → Same (l ++ (a ∷ []))
     more l a h c =
         let u = uncut l a c in
-        rw (each-more flagAfter l a, map-append arrivalOf l (a ∷ []), each-more (answerTo size) (map arrivalOf l) (arrivalOf a), h (u .0), flag-whole l a size (u .0) (u .1))
+        rw (
+          each-more flagAfter l a,
+          map-append arrivalOf l (a ∷ []),
+          each-more (answerTo size) (map arrivalOf l) (arrivalOf a),
+          h (u .0),
+          flag-whole l a size (u .0) (u .1),
+        )
         (sym (map-append orderFlag (each (answerTo size) (map arrivalOf l)) (answerTo size (map arrivalOf l) (arrivalOf a) ∷ [])))

@@ -19,8 +19,8 @@ isReorderedFragment e a =
     ltb (a .number) (e .next) || (ltb (a .number) (e .packet)
     || (leb (e .next) (a .number) && (eqb (a .number) (e .packet) && ltb (a .offset) (e .fragment))))
 
--- after an arrival in order: if more fragments are to come, FragSeq# becomes the number and NextExpFrag the offset plus 1; else NextExp becomes
--- the number plus 1, and FragSeq# and NextExpFrag become 0
+-- after an arrival in order: if more fragments are to come, FragSeq# becomes the number and NextExpFrag the offset plus 1; else NextExp
+-- becomes the number plus 1, and FragSeq# and NextExpFrag become 0
 unfoldable pub inOrderAfter : Expected → Piece → Expected
 inOrderAfter e a =
     cond (isLast a) (record { next = a .number + 1; packet = 0; fragment = 0 })
@@ -36,7 +36,8 @@ expected earlier = foldl expectedAfter atStart (noCopies earlier)
 
 -- the flag of an arrival, which is the number of a case: copy, reordered, or in order
 unfoldable pub flagAfter : List Piece → Piece → ℕ
-flagAfter earlier a = cond (isCopy earlier a) duplicateNumber (cond (isReorderedFragment (expected earlier) a) reorderedAfterNumber inOrderNumber)
+flagAfter earlier a =
+    cond (isCopy earlier a) duplicateNumber (cond (isReorderedFragment (expected earlier) a) reorderedAfterNumber inOrderNumber)
 
 -- the flags of the arrivals
 unfoldable pub flags : List Piece → List ℕ

@@ -46,8 +46,8 @@ module _ {ℓ} {A : Type ℓ} where
   any p [] = false
   any p (a ∷ l) = p a || any p l
 
--- whether arrival a is a copy of an earlier b: both have the same number, fragment offset and length. For two whole packets the number alone
--- decides
+-- whether arrival a is a copy of an earlier b: both have the same number, fragment offset and length. For two whole packets the number
+-- alone decides
 unfoldable pub copies : Piece → Piece → Bool
 copies a b = eqb (b .number) (a .number) && (isWhole a && isWhole b || eqb (b .offset) (a .offset) && eqb (b .length) (a .length))
 

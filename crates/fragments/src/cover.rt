@@ -61,7 +61,8 @@ fn ends_by(reach: u32, piece: Piece) -> bool
     piece_end(piece) <= reach
 }
 
-// Returns whether packet s is complete: a last fragment ends at its first octet that is not covered, or before. Starts with its last arrival.
+// Returns whether packet s is complete: a last fragment ends at its first octet that is not covered, or before. Starts with its last
+// arrival.
 fn ends_covered(
     numbers: &[u32],
     times: &[u64],

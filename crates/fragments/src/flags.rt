@@ -91,8 +91,8 @@ fn usable_of(copy: bool, whole: u8) -> u8
     whole
 }
 
-// Returns whether an arrival is a copy. `mark` is not 0 if an earlier arrival has its number, offset and length; `seen` is not 0 if an earlier
-// whole packet has its number.
+// Returns whether an arrival is a copy. `mark` is not 0 if an earlier arrival has its number, offset and length; `seen` is not 0 if an
+// earlier whole packet has its number.
 fn is_copy(piece: Piece, mark: u8, seen: u8) -> bool
     ensures { λ r. ⌜ r ≡ (not (eqb mark 0) || (isWhole piece && not (eqb seen 0))) ⌝ }
 {
@@ -125,10 +125,12 @@ pub(crate) fn fill_flags_and_used(
     flagged: &mut [u8],
     used: &mut [u8],
 )
-    requires { ⌜ Lists (now numbers) (now times) (now lengths) (now mores) (now offsets) × NumbersWithin sentMost (now numbers) × (length (now numbers) ≤ arrivalsMost)
+    requires { ⌜ Lists (now numbers) (now times) (now lengths) (now mores) (now offsets) × NumbersWithin sentMost (now numbers)
+        × (length (now numbers) ≤ arrivalsMost)
         × (length (now flagged) ≡ length (now numbers)) × (length (now used) ≡ length (now numbers))
         × Noted (piecesIn numbers times lengths mores offsets) (now flagged) (now used) ⌝ }
-    ensures { λ _. ⌜ (now (flagged .exit) ≡ flags (piecesIn (numbers .entry) (times .entry) (lengths .entry) (mores .entry) (offsets .entry)))
+    ensures { λ _. ⌜ (now (flagged .exit) ≡ flags (piecesIn (numbers .entry) (times .entry) (lengths .entry) (mores .entry)
+        (offsets .entry)))
         × (now (used .exit) ≡ usable (piecesIn (numbers .entry) (times .entry) (lengths .entry) (mores .entry) (offsets .entry))) ⌝ }
 {
     let mut seen = [0u8; MAX_PACKETS];

@@ -112,7 +112,8 @@ pub(crate) fn order_refusal(
     flagroom: usize,
     usedroom: usize,
 ) -> u32
-    ensures { λ r. ⌜ r ≡ orderRefusal k (now (numbers .entry)) (now (times .entry)) (now (lengths .entry)) (now (mores .entry)) (now (offsets .entry)) flagroom usedroom ⌝ }
+    ensures { λ r. ⌜ r ≡ orderRefusal k (now (numbers .entry)) (now (times .entry)) (now (lengths .entry)) (now (mores .entry))
+        (now (offsets .entry)) flagroom usedroom ⌝ }
 {
     if outside(1, SENT_MOST, k as u64) {
         return SENT_OUTSIDE;

@@ -1,5 +1,5 @@
-// Fragments (RFC 4737, Appendix B): the order flag of packets that may be fragmented on the way, and which arrivals are usable in the figures
-// of a sample. The call is total.
+// Fragments (RFC 4737, Appendix B): the order flag of packets that may be fragmented on the way, and which arrivals are usable in the
+// figures of a sample. The call is total.
 ghost use mathlib.Core.Path.{_≡_};
 ghost use Prim.Native.Nat.{_≤_};
 ghost use lib.ListN.{length};
@@ -59,8 +59,10 @@ fn order_accepted(
     requires { ⌜ (k ≤ sentMost) × Lists (now numbers) (now times) (now lengths) (now mores) (now offsets)
         × NumbersWithin k (now numbers) × (length (now numbers) ≤ arrivalsMost)
         × (length (now numbers) ≤ length (now flagged)) × (length (now numbers) ≤ length (now used)) ⌝ }
-    ensures { λ _. ⌜ (now (flagged .exit) ≡ over (flags (piecesIn (numbers .entry) (times .entry) (lengths .entry) (mores .entry) (offsets .entry))) (now (flagged .entry)))
-        × (now (used .exit) ≡ over (usable (piecesIn (numbers .entry) (times .entry) (lengths .entry) (mores .entry) (offsets .entry))) (now (used .entry))) ⌝ }
+    ensures { λ _. ⌜ (now (flagged .exit) ≡ over (flags (piecesIn (numbers .entry) (times .entry) (lengths .entry) (mores .entry)
+        (offsets .entry))) (now (flagged .entry)))
+        × (now (used .exit) ≡ over (usable (piecesIn (numbers .entry) (times .entry) (lengths .entry) (mores .entry) (offsets .entry)))
+        (now (used .entry))) ⌝ }
 {
     let n = numbers.len();
     let marks = &mut flagged[..n];
@@ -69,9 +71,9 @@ fn order_accepted(
     fill_flags_and_used(numbers, times, lengths, mores, offsets, marks, wholes);
 }
 
-// Fills the start of `flagged` with the order flags of the arrivals, and the start of `used` with 1 for each usable arrival and 0 for any other.
-// Returns the refusal, 0 for none. If the call is refused, both lists stay unchanged. Cost: O(A log A + K) for A arrivals of K packets; O(A + K)
-// if no packet has more than 16 arrivals.
+// Fills the start of `flagged` with the order flags of the arrivals, and the start of `used` with 1 for each usable arrival and 0 for any
+// other. Returns the refusal, 0 for none. If the call is refused, both lists stay unchanged. Cost: O(A log A + K) for A arrivals of K
+// packets; O(A + K) if no packet has more than 16 arrivals.
 pub fn order(
     k: u32,
     numbers: &[u32],
@@ -82,7 +84,8 @@ pub fn order(
     flagged: &mut [u8],
     used: &mut [u8],
 ) -> u32
-    ensures { λ r. ⌜ OrderedTo k (now (numbers .entry)) (now (times .entry)) (now (lengths .entry)) (now (mores .entry)) (now (offsets .entry)) (now (flagged .entry)) (now (used .entry)) r (now (flagged .exit)) (now (used .exit)) ⌝ }
+    ensures { λ r. ⌜ OrderedTo k (now (numbers .entry)) (now (times .entry)) (now (lengths .entry)) (now (mores .entry))
+        (now (offsets .entry)) (now (flagged .entry)) (now (used .entry)) r (now (flagged .exit)) (now (used .exit)) ⌝ }
     ensures whole { λ _. ⌜ WholeFlags (piecesIn (numbers .entry) (times .entry) (lengths .entry) (mores .entry) (offsets .entry)) ⌝ }
     ensures cases { λ _. ⌜ FlaggedAsGiven ⌝ }
 {

@@ -36,7 +36,8 @@ fn note_run(
     requires { ⌜ Lists (now numbers) (now times) (now lengths) (now mores) (now offsets)
         × Run (piecesIn numbers times lengths mores offsets) s (now run)
         × NotedTo (piecesIn numbers times lengths mores offsets) s (now marks) (now wholes) ⌝ }
-    ensures { λ _. ⌜ NotedTo (piecesIn (numbers .entry) (times .entry) (lengths .entry) (mores .entry) (offsets .entry)) (s + 1) (now (marks .exit)) (now (wholes .exit)) ⌝ }
+    ensures { λ _. ⌜ NotedTo (piecesIn (numbers .entry) (times .entry) (lengths .entry) (mores .entry) (offsets .entry)) (s + 1)
+        (now (marks .exit)) (now (wholes .exit)) ⌝ }
 {
     if run.len() == 0 {
         return;
@@ -73,7 +74,8 @@ fn note_packets(
         × NumbersWithin (length (now ends)) (now numbers) × (length (now ends) ≤ sentMost) × (length (now numbers) ≤ arrivalsMost)
         × (length (now places) ≡ length (now numbers)) × Grouped (now numbers) (now ends) (now places)
         × (length (now marks) ≡ length (now numbers)) × (length (now wholes) ≡ length (now numbers)) ⌝ }
-    ensures { λ _. ⌜ Noted (piecesIn (numbers .entry) (times .entry) (lengths .entry) (mores .entry) (offsets .entry)) (now (marks .exit)) (now (wholes .exit)) ⌝ }
+    ensures { λ _. ⌜ Noted (piecesIn (numbers .entry) (times .entry) (lengths .entry) (mores .entry) (offsets .entry)) (now (marks .exit))
+        (now (wholes .exit)) ⌝ }
 {
     let mut spare = [0u16; SPARE_LEN];
     let mut from = 0;
@@ -112,7 +114,8 @@ pub(crate) fn note_arrivals(
     requires { ⌜ (sent ≤ sentMost) × Lists (now numbers) (now times) (now lengths) (now mores) (now offsets)
         × NumbersWithin sent (now numbers) × (length (now numbers) ≤ arrivalsMost)
         × (length (now marks) ≡ length (now numbers)) × (length (now wholes) ≡ length (now numbers)) ⌝ }
-    ensures { λ _. ⌜ Noted (piecesIn (numbers .entry) (times .entry) (lengths .entry) (mores .entry) (offsets .entry)) (now (marks .exit)) (now (wholes .exit)) ⌝ }
+    ensures { λ _. ⌜ Noted (piecesIn (numbers .entry) (times .entry) (lengths .entry) (mores .entry) (offsets .entry)) (now (marks .exit))
+        (now (wholes .exit)) ⌝ }
 {
     let mut table = [0u16; MAX_PACKETS];
     let mut order = [0u16; MAX_PACKETS];

@@ -14,5 +14,8 @@ use Rattle.listing.specs.Lines.{lateTime, headerLine, recordLine, endLin
 use Rattle.listing.specs.Example.{listingOfCase, ExampleHolds}
 
 pub example-holds : ExampleHolds
-unfolding flatten digitsOf decimalOf has withArrival firsts recordFrom firstRecord eachAfter each count nextAfter nextExp isInOrder jumpSize placed firstAbove discontinuity extentFrom elapsed lateFrom sizeIn byteOffset largestN inOrderAnswer reorderedAnswer firstAnswer answerTo answers arrived lengthened ended runsAfter runs counts caseFigures measured arrivalsFrom p1 lateTime headerLine recordLine endLine recordLinesFrom recordLines listingOf listingOfCase
+unfolding flatten digitsOf decimalOf has withArrival firsts recordFrom firstRecord eachAfter each count nextAfter nextExp isInOrder
+    jumpSize placed firstAbove discontinuity extentFrom elapsed lateFrom sizeIn byteOffset largestN inOrderAnswer reorderedAnswer
+    firstAnswer answerTo answers arrived lengthened ended runsAfter runs counts caseFigures measured arrivalsFrom p1 lateTime headerLine
+    recordLine endLine recordLinesFrom recordLines listingOf listingOfCase
 example-holds = refl

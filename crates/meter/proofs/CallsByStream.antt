@@ -1,5 +1,5 @@
--- The account by the stream o of a call, if there is one: the bodies of its definitions, which ask `sideOf` for it, so that a proof can go by
--- the cases of o. Assumes nothing.
+-- The account by the stream o of a call, if there is one: the bodies of its definitions, which ask `sideOf` for it, so that a proof can
+-- go by the cases of o. Assumes nothing.
 use mathlib.Core.Option.{Option}
 use Rattle.meter.specs.Streams.{Side, onStream}
 use Rattle.meter.specs.Account.{Call, Reply, partAfter, replyIn, noReply, Account, freeIn, withPart}

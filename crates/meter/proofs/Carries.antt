@@ -83,7 +83,8 @@ other-part two h account = refl
 free-own : (s : Side) (account : Account) → freeIn account ≡ freeBeside (length (account s .window)) (length (account (other s) .window))
 free-own one account = refl
 free-own two account =
-    let e : length (account one .window) + length (account two .window) ≡ length (account two .window) + length (account one .window) = omega arith in
+    let e : length (account one .window) + length (account two .window) ≡ length (account two .window) + length (account one .window) =
+    omega arith in
     ap (λ (n : ℕ). windowPlaces - n) e
 
 -- how many jumps both keep together, the stream's own named first, and back
@@ -108,18 +109,22 @@ module _ (h : Part) (r : Receiver) (g : CarriesPart h r) where
   carried-fit =
       let w : length (h .window) ≤ mostKept = g .most in
       ap fit (g .state)
-      ∙ state-fit (h .sent) (g .low) (g .high) (h .accepted) (g .sound) (g .dropped) (h .window) (g .split) (heldBy r) (g .holds) (omega arith)
+      ∙ state-fit (h .sent) (g .low) (g .high) (h .accepted) (g .sound) (g .dropped) (h .window) (g .split) (heldBy r) (g .holds)
+      (omega arith)
 
   -- its step, where a new jump takes a place or not
   carried-step : (room : Bool) (a : Arrival) → stepWith room r (a .number) (a .time)
       ≡ record {
         outcome = outcomeIn (h .window) (h .sent) (h .accepted) a;
-        state = stateWith (h .sent) (accountWith (h .sent) (h .accepted) a) (foldl (withJump room) (heldBy r) (jumpIn (h .sent) (h .accepted) a));
+        state =
+            stateWith (h .sent) (accountWith (h .sent) (h .accepted) a)
+            (foldl (withJump room) (heldBy r) (jumpIn (h .sent) (h .accepted) a));
       }
   carried-step room a =
       let w : length (h .window) ≤ mostKept = g .most in
       ap (λ (q : Receiver). stepWith room q (a .number) (a .time)) (g .state)
-      ∙ step-agrees (h .sent) (g .low) (g .high) (h .accepted) a (g .sound) (g .dropped) (h .window) (g .split) (heldBy r) (g .holds) (omega arith) room
+      ∙ step-agrees (h .sent) (g .low) (g .high) (h .accepted) a (g .sound) (g .dropped) (h .window) (g .split) (heldBy r) (g .holds)
+      (omega arith) room
 
 -- ---- the neighbour
 
@@ -192,22 +197,26 @@ module _ (account : Account) (m : Meter) (g : Carries account m) where
     carries-step =
         ap₂ (λ (k f : ℕ). let x : StepAnswer = stepWith (takesPlace k f) (receiverOf s m) (a .number) (a .time) in
         record { outcome = x .outcome; state = withReceiver s (x .state) m }) (carried-kept _ _ (g .streams s)) carries-free
-        ∙ ap (λ (x : StepAnswer). record { outcome = x .outcome; state = withReceiver s (x .state) m }) (carried-step _ _ (g .streams s) room a)
+        ∙ ap (λ (x : StepAnswer). record { outcome = x .outcome; state = withReceiver s (x .state) m })
+        (carried-step _ _ (g .streams s) room a)
 
     -- what it keeps
     kept-then : KeptOf (g .streams s .dropped) (h .window) (heldBy (receiverOf s m)) (length (account (other s) .window))
         (jumpIn (h .sent) (h .accepted) a) (partThen .window) heldThen
     kept-then =
         rw (free-own s account)
-        (kept-arrival (g .streams s .dropped) (h .window) (heldBy (receiverOf s m)) (length (account (other s) .window)) (g .streams s .holds)
+        (kept-arrival (g .streams s .dropped) (h .window) (heldBy (receiverOf s m)) (length (account (other s) .window))
+        (g .streams s .holds)
         (g .streams s .most) (g .streams (other s) .most) (together-own s account (g .places)) (g .streams s .least)
         (rw (g .streams s .split .parts) (g .streams s .split .not-empty)) (h .sent) (h .accepted) a)
 
     -- its jumps are split by its window
     split-then : Split (partThen .accepted) (kept-then .dropped) (partThen .window)
     split-then =
-        let e : (g .streams s .dropped ++ h .window) ++ jumpIn (h .sent) (h .accepted) a ≡ jumps (firsts (accountWith (h .sent) (h .accepted) a)) =
-        ap (λ (l : List FirstArrival). l ++ jumpIn (h .sent) (h .accepted) a) (g .streams s .split .parts) ∙ sym (jumps-with (h .sent) (h .accepted) a) in
+        let e : (g .streams s .dropped ++ h .window) ++ jumpIn (h .sent) (h .accepted) a
+        ≡ jumps (firsts (accountWith (h .sent) (h .accepted) a)) =
+        ap (λ (l : List FirstArrival). l ++ jumpIn (h .sent) (h .accepted) a) (g .streams s .split .parts)
+        ∙ sym (jumps-with (h .sent) (h .accepted) a) in
         record {
           parts = kept-then .parts ∙ e;
           not-empty = rw e at (kept-then .not-empty);
@@ -239,7 +248,8 @@ module _ (account : Account) (m : Meter) (g : Carries account m) where
         let l : length (partThen .window) + length (account (other s) .window) ≤ windowPlaces = kept-then .together in
         subst (Holds (g .streams (other s) .dropped) (account (other s) .window)) (other-held s receiverThen m)
         (turned-frame (heldThen .places) (receiverOf s m .places) (t .stream .kept) (t .stream .dropped) (length (partThen .window))
-        (g .streams (other s) .dropped) (account (other s) .window) (kept-then .holds .long) (g .streams s .holds .long) (omega arith) (kept-then .frame)
+        (g .streams (other s) .dropped) (account (other s) .window) (kept-then .holds .long) (g .streams s .holds .long) (omega arith)
+        (kept-then .frame)
         (subst (Holds (g .streams (other s) .dropped) (account (other s) .window)) (sym (other-was s m)) (g .streams (other s) .holds)))
 
 -- a receiver with other places
@@ -253,7 +263,8 @@ other-stays one r m = refl
 other-stays two r m = refl
 
 -- a part is carried with other places, where they hold the same
-same-carried : (h : Part) (r : Receiver) (g : CarriesPart h r) (p : Places) → Holds (g .dropped) (h .window) (heldOf (r .stream) p) → CarriesPart h (withPlaces r p)
+same-carried : (h : Part) (r : Receiver) (g : CarriesPart h r) (p : Places) → Holds (g .dropped) (h .window) (heldOf (r .stream) p)
+    → CarriesPart h (withPlaces r p)
 unfolding stateWith
 same-carried h r g p o =
     record {
@@ -274,13 +285,15 @@ pub carries-after : (account : Account) (m : Meter) (g : Carries account m) (s :
 carries-after account m g s a =
     record {
       streams =
-          either (λ (t : Side). CarriesPart (withPart s (partThen account m g s a) account t) (receiverOf t (withReceiver s (receiverThen account m g s a) m))) s
+          either (λ (t : Side). CarriesPart (withPart s (partThen account m g s a) account t)
+          (receiverOf t (withReceiver s (receiverThen account m g s a) m))) s
           (rw (own-part s (partThen account m g s a) account, own-back s (receiverThen account m g s a) m) (own-carried account m g s a))
           (rw (other-part s (partThen account m g s a) account, other-stays s (receiverThen account m g s a) m)
           (same-carried _ _ (g .streams (other s)) _ (other-holds account m g s a)));
       places =
           own-together s (withPart s (partThen account m g s a) account)
-          (rw (own-part s (partThen account m g s a) account, other-part s (partThen account m g s a) account) (kept-then account m g s a .together));
+          (rw (own-part s (partThen account m g s a) account, other-part s (partThen account m g s a) account)
+          (kept-then account m g s a .together));
     }
 
 -- ---- fresh streams
@@ -307,8 +320,12 @@ unfolding newMeter madeFor
 new-carries = record { streams = fresh; places = omega arith }
   where
     fresh : (s : Side) → CarriesPart (freshPart 1) (receiverOf s newMeter)
-    fresh one = fresh-carried 1 (omega arith) (omega arith) (receiverOf one newMeter .places) (record { positions = refl; numbers = refl; times = refl })
-    fresh two = fresh-carried 1 (omega arith) (omega arith) (receiverOf two newMeter .places) (record { positions = refl; numbers = refl; times = refl })
+    fresh one =
+        fresh-carried 1 (omega arith) (omega arith) (receiverOf one newMeter .places)
+        (record { positions = refl; numbers = refl; times = refl })
+    fresh two =
+        fresh-carried 1 (omega arith) (omega arith) (receiverOf two newMeter .places)
+        (record { positions = refl; numbers = refl; times = refl })
 
 -- a stream that is started afresh
 started-own : (s : Side) (k : ℕ) (m : Meter) → AllPlaces (receiverOf s m .places) → 1 ≤ k → k ≤ sentMost

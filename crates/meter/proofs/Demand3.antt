@@ -67,7 +67,8 @@ module _ (account : Account) (m : Meter) (g : Carries account m) where
   unfolding partAfter
   arrival-carries n a =
       step-by m n (a .number) (a .time) (carries-fit account m g) (λ o d. Carries (accountFor o account (arrives n a)) (d .state)) g
-      (λ s. subst (λ (d : MeterStepAnswer). Carries (accountFor (some s) account (arrives n a)) (d .state)) (sym (carries-step account m g s a))
+      (λ s. subst (λ (d : MeterStepAnswer). Carries (accountFor (some s) account (arrives n a)) (d .state))
+      (sym (carries-step account m g s a))
       (carries-after account m g s a))
 
   start-on : (s : Side) (k : ℕ) → startOn s m k
@@ -76,7 +77,8 @@ module _ (account : Account) (m : Meter) (g : Carries account m) where
   start-on s k = go (outside 1 sentMost k)
     where
       go : (t : Bool)
-          → cond {A = MeterStartAnswer} (eqb (refusalIf t sentOutside) 0) (record { refusal = 0; state = withStream s (streamIn (madeFor (cond t 1 k))) m })
+          → cond {A = MeterStartAnswer} (eqb (refusalIf t sentOutside) 0)
+          (record { refusal = 0; state = withStream s (streamIn (madeFor (cond t 1 k))) m })
           (notStarted (refusalIf t sentOutside) m)
           ≡ cond t (notStarted sentOutside m) (record { refusal = 0; state = withStream s (streamIn (madeFor k)) m })
       go true = refl
@@ -89,7 +91,8 @@ module _ (account : Account) (m : Meter) (g : Carries account m) where
       (λ s. ap (λ (d : MeterStartAnswer). started (d .refusal)) (start-on s k) ∙ go s (outside 1 sentMost k))
     where
       go : (s : Side) (t : Bool)
-          → started (cond {A = MeterStartAnswer} t (notStarted sentOutside m) (record { refusal = 0; state = withStream s (streamIn (madeFor k)) m }) .refusal)
+          → started (cond {A = MeterStartAnswer} t (notStarted sentOutside m)
+          (record { refusal = 0; state = withStream s (streamIn (madeFor k)) m }) .refusal)
           ≡ started (refusalIf t sentOutside)
       go s true = refl
       go s false = refl
@@ -103,7 +106,8 @@ module _ (account : Account) (m : Meter) (g : Carries account m) where
     where
       go : (s : Side) (t : Bool) → outside 1 sentMost k ≡ t
           → Carries (withPart s (cond t (account s) (freshPart k)) account)
-          (cond {A = MeterStartAnswer} t (notStarted sentOutside m) (record { refusal = 0; state = withStream s (streamIn (madeFor k)) m }) .state)
+          (cond {A = MeterStartAnswer} t (notStarted sentOutside m)
+          (record { refusal = 0; state = withStream s (streamIn (madeFor k)) m }) .state)
       go s true e = subst (λ (acc : Account). Carries acc m) (sym (same-part s account)) g
       go s false e = let w = between 1 sentMost k e in carries-started account m g s k (w .0) (w .1)
 
@@ -122,12 +126,15 @@ pub calls-carry : (calls : List Call) → Carries (meterAccountOf calls) (meterA
 unfolding meterAccountOf meterAfter accountAfter
 calls-carry = snoc-ind (λ (calls : List Call). Carries (meterAccountOf calls) (meterAfter calls)) more new-carries
   where
-    more : (calls : List Call) (c : Call) → Carries (meterAccountOf calls) (meterAfter calls) → Carries (meterAccountOf (calls ++ (c ∷ []))) (meterAfter (calls ++ (c ∷ [])))
+    more : (calls : List Call) (c : Call) → Carries (meterAccountOf calls) (meterAfter calls)
+        → Carries (meterAccountOf (calls ++ (c ∷ []))) (meterAfter (calls ++ (c ∷ [])))
     more calls c g =
-        let a : meterAccountOf (calls ++ (c ∷ [])) ≡ accountFor (sideOf (streamNumberOf c)) (meterAccountOf calls) c = fold-more _ _ calls c in
+        let a : meterAccountOf (calls ++ (c ∷ [])) ≡ accountFor (sideOf (streamNumberOf c)) (meterAccountOf calls) c =
+        fold-more _ _ calls c in
         let b : meterAfter (calls ++ (c ∷ [])) ≡ metAfter (meterAfter calls) c = fold-more _ _ calls c in
         subst (λ (acc : Account). Carries acc (meterAfter (calls ++ (c ∷ [])))) (sym a)
-        (subst (Carries (accountFor (sideOf (streamNumberOf c)) (meterAccountOf calls) c)) (sym b) (call-carries (meterAccountOf calls) (meterAfter calls) g c))
+        (subst (Carries (accountFor (sideOf (streamNumberOf c)) (meterAccountOf calls) c)) (sym b)
+        (call-carries (meterAccountOf calls) (meterAfter calls) g c))
 
 -- each call is replied to as the account says
 pub reply-agrees : (earlier : List Call) (c : Call) → meterReply earlier c ≡ accountReply earlier c
@@ -154,7 +161,8 @@ noted-agrees earlier n a s e =
     let account = meterAccountOf earlier in
     let m = meterAfter earlier in
     let g = calls-carry earlier in
-    ap (λ (d : MeterStepAnswer). d .outcome .noted) (sym (step-fit m n (a .number) (a .time) s e (carries-fit account m g)) ∙ carries-step account m g s a)
+    ap (λ (d : MeterStepAnswer). d .outcome .noted) (sym (step-fit m n (a .number) (a .time) s e (carries-fit account m g))
+    ∙ carries-step account m g s a)
 
 -- what a stream holds after the calls
 stream-agrees : (s : Side) (calls : List Call) → Agrees s calls
@@ -162,9 +170,12 @@ unfolding counts stateWith
 stream-agrees s calls =
     let h : Part = meterAccountOf calls s in
     let g : CarriesPart h (receiverOf s (meterAfter calls)) = calls-carry calls .streams s in
-    let arrived-eq : streamNumbers s calls .arrived ≡ arrived (answersIn (h .accepted)) = ap (λ (r : Receiver). r .stream .arrived) (g .state) ∙ sym (arrived-in (h .accepted)) in
-    let duplicates-eq : streamNumbers s calls .duplicates ≡ count isDuplicate (answersIn (h .accepted)) = ap (λ (r : Receiver). r .stream .duplicates) (g .state) in
-    let inorder-eq : streamNumbers s calls .inorder ≡ count isInOrderAnswer (answersIn (h .accepted)) = ap (λ (r : Receiver). r .stream .inorder) (g .state) in
+    let arrived-eq : streamNumbers s calls .arrived ≡ arrived (answersIn (h .accepted)) =
+    ap (λ (r : Receiver). r .stream .arrived) (g .state) ∙ sym (arrived-in (h .accepted)) in
+    let duplicates-eq : streamNumbers s calls .duplicates ≡ count isDuplicate (answersIn (h .accepted)) =
+    ap (λ (r : Receiver). r .stream .duplicates) (g .state) in
+    let inorder-eq : streamNumbers s calls .inorder ≡ count isInOrderAnswer (answersIn (h .accepted)) =
+    ap (λ (r : Receiver). r .stream .inorder) (g .state) in
     let reordered-eq = in-order-or-reordered (answersIn (h .accepted)) in
     let accepted-eq = accepted-count (h .accepted) in
     let first-eq = arrived-in (h .accepted) in
@@ -203,7 +214,8 @@ demand3 calls =
       reordered = λ earlier n a later split s e z d q.
           let g : CarriesPart (meterAccountOf earlier s) (receiverOf s (meterAfter earlier)) = calls-carry earlier .streams s in
           subst (Answered (meterAccountOf earlier s .window) (meterAccountOf earlier s .accepted) a d) (sym (noted-agrees earlier n a s e))
-          (late-answered (meterAccountOf earlier s .sent) (meterAccountOf earlier s .accepted) (g .dropped) (meterAccountOf earlier s .window) (g .split) a z d q);
+          (late-answered (meterAccountOf earlier s .sent) (meterAccountOf earlier s .accepted) (g .dropped)
+          (meterAccountOf earlier s .window) (g .split) a z d q);
       streams = λ s. stream-agrees s calls;
       places = calls-carry calls .places;
     }

@@ -1,10 +1,11 @@
 -- Independence of the streams, by induction over the calls. Without the neighbour: the K and the accepted arrivals of a stream's part do
 -- not depend on the free places (`same-after`), so they are those of its own calls alone (`same-alone`), and with them all that the meter
 -- holds of the stream but the kept jumps (`known-alone`); a flag leaves out extent and late time, and so does not depend on the window
--- (`flag-window`). Through the free places: they count at a jump only (`free-counts`), so the part is a fold over the stream's trace, its own
--- calls with what it meets at each (`part-trace`), and so are the replies (`replies-trace`): where two lists of calls have the same calls and
--- meet the same, they have the same trace (`trace-path`), and the replies are the same. Here s is the stream, c the next call, h and g are
--- parts, f and e numbers of free places, ws and vs windows, and t is the outcome of a test or an element of a trace. Assumes nothing.
+-- (`flag-window`). Through the free places: they count at a jump only (`free-counts`), so the part is a fold over the stream's trace, its
+-- own calls with what it meets at each (`part-trace`), and so are the replies (`replies-trace`): where two lists of calls have the same
+-- calls and meet the same, they have the same trace (`trace-path`), and the replies are the same. Here s is the stream, c the next call,
+-- h and g are parts, f and e numbers of free places, ws and vs windows, and t is the outcome of a test or an element of a trace. Assumes
+-- nothing.
 use Prim.Native.Nat.{ℕ, suc, _-_}
 use mathlib.Core.Path.{_≡_, refl, sym, ap, ap₂, _∙_}
 use mathlib.Core.Bool.{Bool, true, false, cond}
@@ -51,15 +52,18 @@ own-more {ℓ} : {B : Type ℓ} (s : Side) (f : List Call → Call → B) (calls
 unfolding ofOwn
 own-more s f calls c =
     ap flatten (each-more (λ (earlier : List Call) (c : Call). cond (isOn s c) (f earlier c ∷ []) []) calls c)
-    ∙ flatten-more (each (λ (earlier : List Call) (c : Call). cond (isOn s c) (f earlier c ∷ []) []) calls) (cond (isOn s c) (f calls c ∷ []) [])
+    ∙ flatten-more (each (λ (earlier : List Call) (c : Call). cond (isOn s c) (f earlier c ∷ []) []) calls)
+    (cond (isOn s c) (f calls c ∷ []) [])
 
 -- a stream's part of the account, under one call more
 part-more : (s : Side) (calls : List Call) (c : Call)
-    → meterAccountOf (calls ++ (c ∷ [])) s ≡ cond (isOn s c) (partAfter (freeIn (meterAccountOf calls)) (meterAccountOf calls s) c) (meterAccountOf calls s)
+    → meterAccountOf (calls ++ (c ∷ [])) s ≡ cond (isOn s c) (partAfter (freeIn (meterAccountOf calls)) (meterAccountOf calls s) c)
+    (meterAccountOf calls s)
 unfolding meterAccountOf accountAfter
 part-more s calls c = ap (λ (account : Account). account s) (fold-more _ _ calls c) ∙ go s (sideOf (streamNumberOf c))
   where
-    go : (s : Side) (o : Option Side) → accountFor o (meterAccountOf calls) c s ≡ cond (isSide s o) (partAfter (freeIn (meterAccountOf calls)) (meterAccountOf calls s) c) (meterAccountOf calls s)
+    go : (s : Side) (o : Option Side) → accountFor o (meterAccountOf calls) c s
+        ≡ cond (isSide s o) (partAfter (freeIn (meterAccountOf calls)) (meterAccountOf calls s) c) (meterAccountOf calls s)
     go one none = refl
     go two none = refl
     go one (some one) = refl
@@ -107,15 +111,18 @@ flag-window ws vs k account a = go (eqb (accountRefusal k account a) 0)
     form (answer.InOrder d) = refl
     form (answer.Reordered d) = late (inWindow ws account (a .number)) (inWindow vs account (a .number))
       where
-        late : (t u : Bool) → flag 0 (cond t (Exact (trueFigures d)) (Beyond (beyondFigures ws account a))) ≡ flag 0 (cond u (Exact (trueFigures d)) (Beyond (beyondFigures vs account a)))
+        late : (t u : Bool) → flag 0 (cond t (Exact (trueFigures d)) (Beyond (beyondFigures ws account a)))
+            ≡ flag 0 (cond u (Exact (trueFigures d)) (Beyond (beyondFigures vs account a)))
         late true true = refl
         late true false = refl
         late false true = refl
         late false false = refl
 
     go : (t : Bool)
-        → flagOf (said (cond {A = Outcome} t (acceptedOutcome (inForm ws account a (answerIn account a))) (refusedOutcome (accountRefusal k account a))))
-        ≡ flagOf (said (cond {A = Outcome} t (acceptedOutcome (inForm vs account a (answerIn account a))) (refusedOutcome (accountRefusal k account a))))
+        → flagOf (said (cond {A = Outcome} t (acceptedOutcome (inForm ws account a (answerIn account a)))
+        (refusedOutcome (accountRefusal k account a))))
+        ≡ flagOf (said (cond {A = Outcome} t (acceptedOutcome (inForm vs account a (answerIn account a)))
+        (refusedOutcome (accountRefusal k account a))))
     go true = form (answerIn account a)
     go false = refl
 
@@ -129,31 +136,37 @@ flag-same h g (starts n k) q = refl
 -- the account of a stream is that of its own calls
 same-alone : (s : Side) (calls : List Call) → SameArrivals (meterAccountOf calls s) (meterAccountOf (ownCalls s calls) s)
 unfolding ofOwn each eachAfter flatten
-same-alone s = snoc-ind (λ (calls : List Call). SameArrivals (meterAccountOf calls s) (meterAccountOf (ownCalls s calls) s)) more (record { sent = refl; accepted = refl })
+same-alone s =
+    snoc-ind (λ (calls : List Call). SameArrivals (meterAccountOf calls s) (meterAccountOf (ownCalls s calls) s)) more
+    (record { sent = refl; accepted = refl })
   where
     more : (calls : List Call) (c : Call) → SameArrivals (meterAccountOf calls s) (meterAccountOf (ownCalls s calls) s)
         → SameArrivals (meterAccountOf (calls ++ (c ∷ [])) s) (meterAccountOf (ownCalls s (calls ++ (c ∷ []))) s)
     more calls c q = rw (part-more s calls c, own-more s (λ (earlier : List Call) (c : Call). c) calls c) (go (isOn s c) refl)
       where
         go : (t : Bool) → isOn s c ≡ t
-            → SameArrivals (cond t (partAfter (freeIn (meterAccountOf calls)) (meterAccountOf calls s) c) (meterAccountOf calls s)) (meterAccountOf (ownCalls s calls ++ cond t (c ∷ []) []) s)
+            → SameArrivals (cond t (partAfter (freeIn (meterAccountOf calls)) (meterAccountOf calls s) c) (meterAccountOf calls s))
+            (meterAccountOf (ownCalls s calls ++ cond t (c ∷ []) []) s)
         go true e = rw (part-more s (ownCalls s calls) c, e) (same-after _ _ _ _ c q)
         go false e = rw append-nil q
 
 -- so are its flags
 flags-alone : (s : Side) (calls : List Call) → map flagOf (ownReplies s calls) ≡ map flagOf (each meterReply (ownCalls s calls))
 unfolding ofOwn each eachAfter flatten
-flags-alone s = snoc-ind (λ (calls : List Call). map flagOf (ownReplies s calls) ≡ map flagOf (each meterReply (ownCalls s calls))) more refl
+flags-alone s =
+    snoc-ind (λ (calls : List Call). map flagOf (ownReplies s calls) ≡ map flagOf (each meterReply (ownCalls s calls))) more refl
   where
     more : (calls : List Call) (c : Call) → map flagOf (ownReplies s calls) ≡ map flagOf (each meterReply (ownCalls s calls))
         → map flagOf (ownReplies s (calls ++ (c ∷ []))) ≡ map flagOf (each meterReply (ownCalls s (calls ++ (c ∷ []))))
     more calls c q = rw (own-more s meterReply calls c, own-more s (λ (earlier : List Call) (c : Call). c) calls c) (go (isOn s c) refl)
       where
         go : (t : Bool) → isOn s c ≡ t
-            → map flagOf (ownReplies s calls ++ cond t (meterReply calls c ∷ []) []) ≡ map flagOf (each meterReply (ownCalls s calls ++ cond t (c ∷ []) []))
+            → map flagOf (ownReplies s calls ++ cond t (meterReply calls c ∷ []) [])
+            ≡ map flagOf (each meterReply (ownCalls s calls ++ cond t (c ∷ []) []))
         go true e =
             let f : flagOf (meterReply calls c) ≡ flagOf (meterReply (ownCalls s calls) c) =
-            ap flagOf (reply-own s calls c e) ∙ flag-same _ _ c (same-alone s calls) ∙ ap flagOf (sym (reply-own s (ownCalls s calls) c e)) in
+            ap flagOf (reply-own s calls c e) ∙ flag-same _ _ c (same-alone s calls)
+            ∙ ap flagOf (sym (reply-own s (ownCalls s calls) c e)) in
             map-append flagOf (ownReplies s calls) (meterReply calls c ∷ [])
             ∙ ap₂ (λ (l : List Flag) (x : Flag). l ++ (x ∷ [])) q f
             ∙ sym (map-append flagOf (each meterReply (ownCalls s calls)) (meterReply (ownCalls s calls) c ∷ []))
@@ -179,7 +192,8 @@ jumps-alone s calls =
     let g = demand3 calls .streams s in
     g .kept ∙ g .last
     ∙ ap (λ (ws : List FirstArrival). drop (length (jumpsOf s calls) - length ws) (jumpsOf s calls)) (sym (g .kept))
-    ∙ ap (λ (l : List Arrival). drop (length (jumps (firsts l)) - length (keptAfter s calls)) (jumps (firsts l))) (same-alone s calls .accepted)
+    ∙ ap (λ (l : List Arrival). drop (length (jumps (firsts l)) - length (keptAfter s calls)) (jumps (firsts l)))
+    (same-alone s calls .accepted)
 
 alone : (s : Side) (calls : List Call) → Alone s calls
 unfolding stateWith
@@ -187,13 +201,22 @@ alone s calls =
     record {
       flags = flags-alone s calls;
       jumps = jumps-alone s calls;
-      runs = known-alone (λ (r : Receiver). r .stream .runs) (λ (k : ℕ) (l : List Arrival). runs (answersIn l)) (λ k account h. refl) s calls;
-      arrived = known-alone (λ (r : Receiver). r .stream .arrived) (λ (k : ℕ) (l : List Arrival). length (firsts l)) (λ k account h. refl) s calls;
-      duplicates = known-alone (λ (r : Receiver). r .stream .duplicates) (λ (k : ℕ) (l : List Arrival). count isDuplicate (answersIn l)) (λ k account h. refl) s calls;
-      inorder = known-alone (λ (r : Receiver). r .stream .inorder) (λ (k : ℕ) (l : List Arrival). count isInOrderAnswer (answersIn l)) (λ k account h. refl) s calls;
+      runs =
+          known-alone (λ (r : Receiver). r .stream .runs) (λ (k : ℕ) (l : List Arrival). runs (answersIn l)) (λ k account h. refl) s calls;
+      arrived =
+          known-alone (λ (r : Receiver). r .stream .arrived) (λ (k : ℕ) (l : List Arrival). length (firsts l)) (λ k account h. refl) s
+          calls;
+      duplicates =
+          known-alone (λ (r : Receiver). r .stream .duplicates) (λ (k : ℕ) (l : List Arrival). count isDuplicate (answersIn l))
+          (λ k account h. refl) s calls;
+      inorder =
+          known-alone (λ (r : Receiver). r .stream .inorder) (λ (k : ℕ) (l : List Arrival). count isInOrderAnswer (answersIn l))
+          (λ k account h. refl) s calls;
       sent = known-alone (λ (r : Receiver). r .stream .sent) (λ (k : ℕ) (l : List Arrival). k) (λ k account h. refl) s calls;
-      next = known-alone (λ (r : Receiver). r .stream .next) (λ (k : ℕ) (l : List Arrival). nextExp (firsts l)) (λ k account h. refl) s calls;
-      greatest = known-alone (λ (r : Receiver). r .stream .greatest) (λ (k : ℕ) (l : List Arrival). greatestTime l) (λ k account h. refl) s calls;
+      next =
+          known-alone (λ (r : Receiver). r .stream .next) (λ (k : ℕ) (l : List Arrival). nextExp (firsts l)) (λ k account h. refl) s calls;
+      greatest =
+          known-alone (λ (r : Receiver). r .stream .greatest) (λ (k : ℕ) (l : List Arrival). greatestTime l) (λ k account h. refl) s calls;
       marks = known-alone (λ (r : Receiver). r .marks) (λ (k : ℕ) (l : List Arrival). marksOf (firsts l)) (λ k account h. refl) s calls;
     }
 
@@ -222,7 +245,8 @@ free-counts s calls (arrives n a) =
     let own : ℕ = length (h .window) in
     ap (λ (ws : List FirstArrival). record { sent = h .sent; accepted = accountWith (h .sent) (h .accepted) a; window = ws })
     (jump-cases
-    (λ (l : List FirstArrival). foldl (keptWith (takesPlace own free)) (h .window) l ≡ foldl (keptWith (takesPlace own (metFree (freeAt free l)))) (h .window) l)
+    (λ (l : List FirstArrival). foldl (keptWith (takesPlace own free)) (h .window) l
+    ≡ foldl (keptWith (takesPlace own (metFree (freeAt free l)))) (h .window) l)
     refl (λ p. refl) (h .sent) (h .accepted) a)
 free-counts s calls (starts n k) = refl
 
@@ -265,7 +289,8 @@ replies-trace s = snoc-ind (λ (calls : List Call). ownReplies s calls ≡ each 
         go : (t : Bool) → isOn s c ≡ t → ownReplies s calls ++ cond t (meterReply calls c ∷ []) []
             ≡ each replyFrom (trace s calls ++ cond t (met s calls c ∷ []) [])
         go true e =
-            ap₂ (λ (l : List Reply) (r : Reply). l ++ (r ∷ [])) q (reply-own s calls c e ∙ ap (λ (h : Part). replyIn h c) (part-trace s calls))
+            ap₂ (λ (l : List Reply) (r : Reply). l ++ (r ∷ [])) q
+            (reply-own s calls c e ∙ ap (λ (h : Part). replyIn h c) (part-trace s calls))
             ∙ sym (each-more replyFrom (trace s calls) (met s calls c))
         go false e = rw (append-nil, append-nil) q
 
@@ -273,7 +298,9 @@ replies-trace s = snoc-ind (λ (calls : List Call). ownReplies s calls ≡ each 
 own-map {ℓ κ} : {A : Type ℓ} {B : Type κ} (g : A → B) (s : Side) (f : List Call → Call → A) (calls : List Call)
     → map g (ofOwn s f calls) ≡ ofOwn s (λ (earlier : List Call) (c : Call). g (f earlier c)) calls
 unfolding ofOwn each eachAfter flatten
-own-map {A} {B} g s f = snoc-ind (λ (calls : List Call). map g (ofOwn s f calls) ≡ ofOwn s (λ (earlier : List Call) (c : Call). g (f earlier c)) calls) more refl
+own-map {A} {B} g s f =
+    snoc-ind (λ (calls : List Call). map g (ofOwn s f calls) ≡ ofOwn s (λ (earlier : List Call) (c : Call). g (f earlier c)) calls) more
+    refl
   where
     more : (calls : List Call) (c : Call) → map g (ofOwn s f calls) ≡ ofOwn s (λ (earlier : List Call) (c : Call). g (f earlier c)) calls
         → map g (ofOwn s f (calls ++ (c ∷ []))) ≡ ofOwn s (λ (earlier : List Call) (c : Call). g (f earlier c)) (calls ++ (c ∷ []))
@@ -288,7 +315,8 @@ own-map {A} {B} g s f = snoc-ind (λ (calls : List Call). map g (ofOwn s f calls
         go false = rw (append-nil, append-nil) q
 
 -- lists of pairs are equal by their parts
-pairs-path : (l m : List Met) → map (λ (t : Met). t .0) l ≡ map (λ (t : Met). t .0) m → map (λ (t : Met). t .1) l ≡ map (λ (t : Met). t .1) m → l ≡ m
+pairs-path : (l m : List Met) → map (λ (t : Met). t .0) l ≡ map (λ (t : Met). t .0) m
+    → map (λ (t : Met). t .1) l ≡ map (λ (t : Met). t .1) m → l ≡ m
 pairs-path [] [] e f = refl
 pairs-path [] (y ∷ m) e f = let z : 0 ≡ suc (length (map (λ (t : Met). t .0) m)) = ap length e in absurd (omega arith)
 pairs-path (x ∷ l) [] e f = let z : suc (length (map (λ (t : Met). t .0) l)) ≡ 0 = ap length e in absurd (omega arith)
@@ -298,7 +326,8 @@ pairs-path (x ∷ l) (y ∷ m) e f =
     ap₂ {C = List Met} (λ t l. t ∷ l) (λ i. (a i, b i)) (pairs-path l m (ap (drop 1) e) (ap (drop 1) f))
 
 -- so traces are
-trace-path : (s : Side) (calls others : List Call) → ownCalls s calls ≡ ownCalls s others → ofOwn s (meets s) calls ≡ ofOwn s (meets s) others
+trace-path : (s : Side) (calls others : List Call) → ownCalls s calls ≡ ownCalls s others
+    → ofOwn s (meets s) calls ≡ ofOwn s (meets s) others
     → trace s calls ≡ trace s others
 trace-path s calls others e f =
     pairs-path (trace s calls) (trace s others)
@@ -309,5 +338,6 @@ pub independence : Independence
 independence =
     record {
       alone = alone;
-      free = λ s calls others e f. replies-trace s calls ∙ ap (each replyFrom) (trace-path s calls others e f) ∙ sym (replies-trace s others);
+      free =
+          λ s calls others e f. replies-trace s calls ∙ ap (each replyFrom) (trace-path s calls others e f) ∙ sym (replies-trace s others);
     }

@@ -45,7 +45,8 @@ takes-none own beside h e = go (ltb own mostKept) refl
 
 -- what is kept of some jumps after new ones: those dropped and those kept are all of them, the places hold them, and no place
 -- after the kept ones is written
-pub record KeptOf (ds ws : List FirstArrival) (j : Held) (beside : ℕ) (new : List FirstArrival) (ws′ : List FirstArrival) (j′ : Held) : Type 0 where
+pub record KeptOf (ds ws : List FirstArrival) (j : Held) (beside : ℕ) (new : List FirstArrival) (ws′ : List FirstArrival)
+    (j′ : Held) : Type 0 where
   pub dropped : List FirstArrival
   pub parts : dropped ++ ws′ ≡ (ds ++ ws) ++ new
   pub holds : Holds dropped ws′ j′

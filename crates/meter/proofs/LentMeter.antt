@@ -1,5 +1,5 @@
--- A meter as a struct that is lent (the receiver's LentMembers): both streams are passed by value, and the marks of each and the three arrays
--- of the places are lent.
+-- A meter as a struct that is lent (the receiver's LentMembers): both streams are passed by value, and the marks of each and the three
+-- arrays of the places are lent.
 --     lendable     the meter, with its members
 -- Assumes `Given`.
 use mathlib.Core.Path.{_≡_, refl}
@@ -85,8 +85,22 @@ in-places k d w e = record {
 
 abbrev pub ms : List (Lent R′.mir)
 ms =
-    record { width = w64; way = record { at = λ o. (o + 0) + 48; path = field 0 ∷ field 1 ∷ []; walks = λ t b o. fld t refl (fld t refl (stop t)) } }
-    ∷ record { width = w64; way = record { at = λ o. (o + 560) + 48; path = field 1 ∷ field 1 ∷ []; walks = λ t b o. fld t refl (fld t refl (stop t)) } }
+    record {
+      width = w64;
+      way = record {
+        at = λ o. (o + 0) + 48;
+        path = field 0 ∷ field 1 ∷ [];
+        walks = λ t b o. fld t refl (fld t refl (stop t));
+      };
+    }
+    ∷ record {
+      width = w64;
+      way = record {
+        at = λ o. (o + 560) + 48;
+        path = field 1 ∷ field 1 ∷ [];
+        walks = λ t b o. fld t refl (fld t refl (stop t));
+      };
+    }
     ∷ in-places 0 0 w16 refl ∷ in-places 1 128 w16 refl ∷ in-places 2 256 w64 refl ∷ []
 
 abbrev pub made : Numbers vs → Lists ms → Meter
@@ -105,13 +119,15 @@ apart 𝓤 H A W h b o =
     cells-out W fullShare [] places-tys b (o + 1120) (places-vals (h .places)) $ move ! (4 ∷ []) $
     cells-out W fullShare [] state-tys b (o + 0) (state-vals (h .first)) $ move ! (7 ∷ []) $
     cells-out W fullShare [] state-tys b (o + 560) (state-vals (h .second)) $
-    -- the second stream; its marks; the way back to them; the same of the first; the positions; the numbers; the times; both other ways back
+    -- the second stream; its marks; the way back to them; the same of the first; the positions; the numbers; the times; both other ways
+    -- back
     nothing ! $ move ! (1 ∷ 0 ∷ []) $ fjoin ! $ move ! (3 ∷ 0 ∷ []) $ fjoin ! $ frame ! $
     -- the second marks; the way back; the first marks; the way back; the positions; the numbers; the times; both other ways back
     nothing ! $ move ! (7 ∷ 0 ∷ []) $ fjoin ! $ move ! (6 ∷ 0 ∷ []) $ fjoin ! $ move ! (5 ∷ 0 ∷ []) $ fjoin ! $ move ! (1 ∷ 0 ∷ []) $
     fjoin ! $ move ! (2 ∷ 0 ∷ []) $ fjoin ! $ frame ! $
     each ! (Back 𝓤 H A R.the-type R′.the-laws vs ms made b o) (λ x.
-    assume ! (‵ (Streams vs (x .0) b o) ⊛ ‵ (Arrays ms (x .1) b o)) $ split ! $ fsplit ! $ move ! (1 ∷ []) $ fsplit ! $ move ! (1 ∷ []) $ drop ! $
+    assume ! (‵ (Streams vs (x .0) b o) ⊛ ‵ (Arrays ms (x .1) b o)) $ split ! $ fsplit ! $ move ! (1 ∷ []) $ fsplit ! $ move ! (1 ∷ []) $
+    drop ! $
     -- the second stream; the first; the arrays; the ways back to the second stream's state, the first one's, the places, and the meter
     move ! (2 ∷ []) $ fsplit ! $ move ! (1 ∷ []) $ fsplit ! $ move ! (1 ∷ []) $ fsplit ! $ move ! (1 ∷ []) $ fsplit ! $
     move ! (1 ∷ []) $ fsplit ! $ move ! (1 ∷ []) $ drop ! $
@@ -163,7 +179,8 @@ lendable = record {
       (store-raw t 0 refl (LL.lawful F.the-type F′.the-laws 𝓤 H A W .typed (a .first) _ (LL.owed B.the-type B′.the-laws a _ is .1 .0) .0)) $
       assigns t (of-opd t (load t (found-in t k-at (fld t refl (stop t))) (look-in t 2 (sub t 2 refl (all-of t)))))
       (found-in t one-at (hop t (look t 1 refl) (fld t refl (fld t refl (stop t)))))
-      (store-raw t 4 refl (LL.lawful F.the-type F′.the-laws 𝓤 H A W .typed (a .second) _ (LL.owed B.the-type B′.the-laws a _ is .1 .1 .0) .0)) $
+      (store-raw t 4 refl (LL.lawful F.the-type F′.the-laws 𝓤 H A W .typed (a .second) _
+      (LL.owed B.the-type B′.the-laws a _ is .1 .1 .0) .0)) $
       assigns t (of-opd t (load t (found-in t k-at (fld t refl (stop t))) (look-in t 2 (sub t 0 refl (all-of t))))) (found t zero-at)
       (init t 3 refl (LL.lawful S.the-type S′.the-laws 𝓤 H A W .typed (a .outcome) _ (LL.owed B.the-type B′.the-laws a _ is .0) .0)) $
       move t (4 ∷ 5 ∷ []) $ fjoin t $ move t (1 ∷ 0 ∷ []) $ fjoin t $ move t (1 ∷ []) $ s);

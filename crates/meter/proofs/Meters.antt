@@ -1,11 +1,10 @@
 -- The rule of a meter case by case, as the code meets it: where the tests before are known, the definition computes to the case. Each
 -- stream of a fit meter keeps at most 48 jumps, so beside its neighbour it can keep 16 or more, and a new jump takes a place exactly while
--- it keeps fewer than it can (`room-beside`); so the receiver's step that keeps at most that many is the step on the stream (`step-kept`). A
--- refused call leaves an equal meter (`step-refused`, `start-refused`): either the meter itself is handed back, or a receiver that the
--- refused step left equal is put back where it was.
--- Here m is the meter, n the number of a stream, s the stream, o the stream if there is one, k is K, r a receiver or what `fresh` gave, x
--- the step's answer, own and beside are the jumps that a stream and its neighbour keep, and t and u are outcomes of tests.
--- Assumes nothing.
+-- it keeps fewer than it can (`room-beside`); so the receiver's step that keeps at most that many is the step on the stream
+-- (`step-kept`). A refused call leaves an equal meter (`step-refused`, `start-refused`): either the meter itself is handed back, or a
+-- receiver that the refused step left equal is put back where it was. Here m is the meter, n the number of a stream, s the stream, o the
+-- stream if there is one, k is K, r a receiver or what `fresh` gave, x the step's answer, own and beside are the jumps that a stream and
+-- its neighbour keep, and t and u are outcomes of tests. Assumes nothing.
 use Prim.Native.Nat.{ℕ, zero, suc, _+_, _-_, _≤_, _<_, min, max}
 use mathlib.Core.Path.{_≡_, refl, sym, ap, subst, _∙_}
 use mathlib.Core.Bool.{Bool, true, false, cond, _&&_, true≢false}
@@ -98,7 +97,9 @@ module _ (m : Meter) where
   -- a meter is fit exactly if they keep few jumps and both are fit as receivers
   pub fit-parts : (few && (fit (receiverOf one m) && fit (receiverOf two m))) ≡ meterFit m
   unfolding meterFit every fitOnMeter
-  fit-parts = sym (spread (leb (keptIn one m) mostKept) (leb (keptIn two m) mostKept) (leb (keptIn one m + keptIn two m) shared) (fit (receiverOf one m)) (fit (receiverOf two m)))
+  fit-parts =
+      sym (spread (leb (keptIn one m) mostKept) (leb (keptIn two m) mostKept) (leb (keptIn one m + keptIn two m) shared)
+      (fit (receiverOf one m)) (fit (receiverOf two m)))
 
   -- the neighbour first
   fit-beside : (s : Side) → (few && (fit (receiverOf (other s) m) && fit (receiverOf s m))) ≡ meterFit m
@@ -111,12 +112,14 @@ module _ (m : Meter) where
   few-each e two = leb-true _ _ (and-true (leb (keptIn two m) mostKept) _ (and-true (leb (keptIn one m) mostKept) _ e .1) .0)
 
   -- the receivers of both, whatever the marks
-  pub fit-one : fit (whole (m .first .stream) [] (oldestFirst false (m .places .positions)) (oldestFirst false (m .places .numbers)) (oldestFirst false (m .places .times)))
+  pub fit-one : fit (whole (m .first .stream) [] (oldestFirst false (m .places .positions)) (oldestFirst false (m .places .numbers))
+      (oldestFirst false (m .places .times)))
       ≡ fit (receiverOf one m)
   unfolding fit oldestFirst
   fit-one = refl
 
-  pub fit-two : fit (whole (m .second .stream) [] (oldestFirst true (m .places .positions)) (oldestFirst true (m .places .numbers)) (oldestFirst true (m .places .times)))
+  pub fit-two : fit (whole (m .second .stream) [] (oldestFirst true (m .places .positions)) (oldestFirst true (m .places .numbers))
+      (oldestFirst true (m .places .times)))
       ≡ fit (receiverOf two m)
   unfolding fit oldestFirst
   fit-two = refl
@@ -169,7 +172,8 @@ step-kept s m number time most x few e known =
 
 -- a meter of parts in which stream 2 was written, its places counted from the last down
 pub second-put : (m : Meter) (s : Stream) (marks : List ℕ) (p : Places)
-    → wholeMeter (m .first .stream) s (m .first .marks) marks p ≡ withReceiver two (record { stream = s; marks = marks; places = facing two p }) m
+    → wholeMeter (m .first .stream) s (m .first .marks) marks p
+    ≡ withReceiver two (record { stream = s; marks = marks; places = facing two p }) m
 second-put m s marks p = sym (ap (λ (q : Places). wholeMeter (m .first .stream) s (m .first .marks) marks q) (facing-back p))
 
 -- ---- the cases of a step
@@ -202,28 +206,30 @@ module _ (m : Meter) (n number time : ℕ) where
   unfit-refused s e = rw e (ap (λ (x : Meter). record { outcome = refusedOutcome stateUnfit; state = x }) (put-back s m))
 
   -- where few jumps are kept and the neighbour is fit, the step is the stream's, fit or not
-  module _ (s : Side) (e : sideOf n ≡ some s) (k : fewKept (keptIn one m) (keptIn two m) ≡ true) (b : fit (receiverOf (other s) m) ≡ true) where
-    own-fit : fit (receiverOf s m) ≡ meterFit m
-    own-fit = rw (k, b) at (fit-beside m s)
+  module _ (s : Side) (e : sideOf n ≡ some s) (k : fewKept (keptIn one m) (keptIn two m) ≡ true) (b : fit (receiverOf (other s) m) ≡ true)
+    where
+      own-fit : fit (receiverOf s m) ≡ meterFit m
+      own-fit = rw (k, b) at (fit-beside m s)
 
-    pub step-own : stepOn s m number time ≡ meterStep m n number time
-    step-own = go (fit (receiverOf s m)) refl
-      where
-        go : (t : Bool) → fit (receiverOf s m) ≡ t → stepOn s m number time ≡ meterStep m n number time
-        go true q = step-fit s e (sym own-fit ∙ q)
-        go false q = unfit-refused s q ∙ step-unfit s e (sym own-fit ∙ q)
+      pub step-own : stepOn s m number time ≡ meterStep m n number time
+      step-own = go (fit (receiverOf s m)) refl
+        where
+          go : (t : Bool) → fit (receiverOf s m) ≡ t → stepOn s m number time ≡ meterStep m n number time
+          go true q = step-fit s e (sym own-fit ∙ q)
+          go false q = unfit-refused s q ∙ step-unfit s e (sym own-fit ∙ q)
 
-    -- the step on its parts: x is the receiver's, and m′ the meter with what it leaves
-    pub stepped : (most : ℕ) (x : StepAnswer) (m′ : Meter) → most ≡ min mostKept (shared - keptIn (other s) m)
-        → x ≡ stepWithin most (receiverOf s m) number time → m′ ≡ withReceiver s (x .state) m
-        → _≡_ {A = MeterStepAnswer} (record { outcome = x .outcome; state = m′ }) (meterStep m n number time)
-    stepped most x m′ q known w =
-        ap (λ (y : Meter). record { outcome = x .outcome; state = y }) w
-        ∙ step-kept s m number time most x (few-each m k (other s)) q known
-        ∙ step-own
+      -- the step on its parts: x is the receiver's, and m′ the meter with what it leaves
+      pub stepped : (most : ℕ) (x : StepAnswer) (m′ : Meter) → most ≡ min mostKept (shared - keptIn (other s) m)
+          → x ≡ stepWithin most (receiverOf s m) number time → m′ ≡ withReceiver s (x .state) m
+          → _≡_ {A = MeterStepAnswer} (record { outcome = x .outcome; state = m′ }) (meterStep m n number time)
+      stepped most x m′ q known w =
+          ap (λ (y : Meter). record { outcome = x .outcome; state = y }) w
+          ∙ step-kept s m number time most x (few-each m k (other s)) q known
+          ∙ step-own
 
   -- too many jumps are kept
-  pub step-many : (s : Side) → sideOf n ≡ some s → fewKept (keptIn one m) (keptIn two m) ≡ false → notStepped stateUnfit m ≡ meterStep m n number time
+  pub step-many : (s : Side) → sideOf n ≡ some s → fewKept (keptIn one m) (keptIn two m) ≡ false
+      → notStepped stateUnfit m ≡ meterStep m n number time
   step-many s e k = step-unfit s e (sym (rw k at (fit-parts m)))
 
   -- the neighbour is unfit
@@ -238,7 +244,8 @@ module _ (m : Meter) (n number time : ℕ) where
   on-leaves : (s : Side) → Leaves (stepOn s m number time)
   unfolding stepOn
   on-leaves s h =
-      ap (λ (r : Receiver). withReceiver s r m) (refused-equal (takesPlace (keptIn s m) (free m)) (receiverOf s m) number time h) ∙ put-back s m
+      ap (λ (r : Receiver). withReceiver s r m) (refused-equal (takesPlace (keptIn s m) (free m)) (receiverOf s m) number time h)
+      ∙ put-back s m
 
   pub step-refused : (meterStep m n number time .outcome .refusal ≡ 0 → ⊥) → meterStep m n number time .state ≡ m
   step-refused = go (sideOf n) refl (meterFit m) refl
@@ -280,7 +287,11 @@ module _ (m : Meter) (n k : ℕ) where
 
     -- or not
     pub start-done : outside 1 sentMost k ≡ false
-        → _≡_ {A = MeterStartAnswer} (record { refusal = 0; state = withStream s (record { stream = freshStream k; marks = replicate markWords 0 }) m }) (meterStart m n k)
+        → _≡_ {A = MeterStartAnswer} (record {
+          refusal = 0;
+          state = withStream s
+              (record { stream = freshStream k; marks = replicate markWords 0 }) m;
+        }) (meterStart m n k)
     unfolding meterStart startOn freshOf madeFor
     start-done h = rw (e, f, h)
 
@@ -293,7 +304,8 @@ module _ (m : Meter) (n k : ℕ) where
   on-start-leaves s = fresh (freshOf k) (eqb (freshOf k .refusal) 0)
     where
       fresh : (r : FreshAnswer) (t : Bool)
-          → StartLeaves (cond {A = MeterStartAnswer} t (record { refusal = 0; state = withStream s (streamIn (r .state)) m }) (notStarted (r .refusal) m))
+          → StartLeaves (cond {A = MeterStartAnswer} t (record { refusal = 0; state = withStream s (streamIn (r .state)) m })
+          (notStarted (r .refusal) m))
       fresh r true h = absurd (h refl)
       fresh r false h = refl
 

@@ -67,7 +67,8 @@ turned-frame i j kept dropped n ds ws li lj few frame h =
     }
   where
     turned : (a b : List ℕ) (k : ℕ) → length a ≡ windowPlaces → length b ≡ windowPlaces → k < kept
-        → getD a (windowPlaces - suc (0 + k)) 0 ≡ getD b (windowPlaces - suc (0 + k)) 0 → getD (reverse a) (0 + k) 0 ≡ getD (reverse b) (0 + k) 0
+        → getD a (windowPlaces - suc (0 + k)) 0 ≡ getD b (windowPlaces - suc (0 + k)) 0
+        → getD (reverse a) (0 + k) 0 ≡ getD (reverse b) (0 + k) 0
     turned a b k la lb l e =
         getD-reverse a (0 + k) (rw la (omega arith))
         ∙ ap (λ (m : ℕ). getD a (m - suc (0 + k)) 0) la
@@ -77,7 +78,8 @@ turned-frame i j kept dropped n ds ws li lj few frame h =
 
     same : (k : ℕ) → k < kept → placeAt (facing two i) (0 + k) ≡ placeAt (facing two j) (0 + k)
     same k l =
-        let f : placeAt i (windowPlaces - suc (0 + k)) ≡ placeAt j (windowPlaces - suc (0 + k)) = frame (windowPlaces - suc (0 + k)) (omega arith) in
+        let f : placeAt i (windowPlaces - suc (0 + k)) ≡ placeAt j (windowPlaces - suc (0 + k)) =
+        frame (windowPlaces - suc (0 + k)) (omega arith) in
         placed-path _ _
         (turned (i .positions) (j .positions) k (li .positions) (lj .positions) l (ap (λ (p : FirstArrival). p .position) f))
         (turned (i .numbers) (j .numbers) k (li .numbers) (lj .numbers) l (ap (λ (p : FirstArrival). p .number) f))

@@ -208,7 +208,8 @@ fn is_fit<'a>(
     numbers: &'a [u16; Receiver::WINDOW],
     times: &'a [u64; Receiver::WINDOW],
 ) -> bool
-    ensures { λ r. ⌜ ((marks₁ marks₂ : List ℕ) → r ≡ meterFit (wholeMeter first second marks₁ marks₂ (placesOf (now (positions .entry)) (now (numbers .entry)) (now (times .entry))))) ⌝ }
+    ensures { λ r. ⌜ ((marks₁ marks₂ : List ℕ) → r ≡ meterFit
+        (wholeMeter first second marks₁ marks₂ (placesOf (now (positions .entry)) (now (numbers .entry)) (now (times .entry))))) ⌝ }
 {
     if !few(first.kept, second.kept) {
         return false;
@@ -259,8 +260,10 @@ fn advance<'a>(
     number: u32,
     time: u64,
 ) -> StreamsStep
-    ensures { λ a. ⌜ meterAnswerOf a (now (marks1 .exit)) (now (marks2 .exit)) (placesOf (now (positions .exit)) (now (numbers .exit)) (now (times .exit)))
-        ≡ meterStep (wholeMeter first second (now (marks1 .entry)) (now (marks2 .entry)) (placesOf (now (positions .entry)) (now (numbers .entry)) (now (times .entry)))) stream number time ⌝ }
+    ensures { λ a. ⌜ meterAnswerOf a (now (marks1 .exit)) (now (marks2 .exit))
+        (placesOf (now (positions .exit)) (now (numbers .exit)) (now (times .exit)))
+        ≡ meterStep (wholeMeter first second (now (marks1 .entry)) (now (marks2 .entry))
+        (placesOf (now (positions .entry)) (now (numbers .entry)) (now (times .entry)))) stream number time ⌝ }
 {
     if outside(1, 2, stream as u64) {
         return answered(refusal::NO_STREAM, first, second);
@@ -322,8 +325,10 @@ fn restart<'a>(
     stream: u32,
     k: u32,
 ) -> StreamsStep
-    ensures { λ a. ⌜ meterAnswerOf a (now (marks1 .exit)) (now (marks2 .exit)) (placesOf (now (positions .exit)) (now (numbers .exit)) (now (times .exit)))
-        ≡ startAsStep (meterStart (wholeMeter first second (now (marks1 .entry)) (now (marks2 .entry)) (placesOf (now (positions .entry)) (now (numbers .entry)) (now (times .entry)))) stream k) ⌝ }
+    ensures { λ a. ⌜ meterAnswerOf a (now (marks1 .exit)) (now (marks2 .exit))
+        (placesOf (now (positions .exit)) (now (numbers .exit)) (now (times .exit)))
+        ≡ startAsStep (meterStart (wholeMeter first second (now (marks1 .entry)) (now (marks2 .entry))
+        (placesOf (now (positions .entry)) (now (numbers .entry)) (now (times .entry)))) stream k) ⌝ }
 {
     if outside(1, 2, stream as u64) {
         return answered(refusal::NO_STREAM, first, second);
@@ -356,7 +361,8 @@ fn turn<'a>(
     number: u32,
     time: u64,
 ) -> StreamsStep
-    ensures { λ a. ⌜ meterAnswerOf a (now (marks1 .exit)) (now (marks2 .exit)) (placesOf (now (positions .exit)) (now (numbers .exit)) (now (times .exit)))
+    ensures { λ a. ⌜ meterAnswerOf a (now (marks1 .exit)) (now (marks2 .exit))
+        (placesOf (now (positions .exit)) (now (numbers .exit)) (now (times .exit)))
         ≡ cond starts
         (startAsStep (meterStart (wholeMeter first second (now (marks1 .entry)) (now (marks2 .entry)) (placesOf (now (positions .entry)) (now (numbers .entry)) (now (times .entry)))) stream number))
         (meterStep (wholeMeter first second (now (marks1 .entry)) (now (marks2 .entry)) (placesOf (now (positions .entry)) (now (numbers .entry)) (now (times .entry)))) stream number time) ⌝ }

@@ -1,7 +1,7 @@
 -- A sample may have the imported arrivals. What holds for every arrival holds for every sorted one, by induction over the insertions
--- (`order-all`), so the numbers stay from 1 to K. Whole microseconds do not go back if receive times do not (`since-rising`). So each time is at
--- or after the reference, and none is refused (`judge-none`, by induction). With these lists only the label can be refused (`label-alone`). l
--- are arrivals and a is one, os the records, k is K, b is what is subtracted from their times. Assumes nothing.
+-- (`order-all`), so the numbers stay from 1 to K. Whole microseconds do not go back if receive times do not (`since-rising`). So each
+-- time is at or after the reference, and none is refused (`judge-none`, by induction). With these lists only the label can be refused
+-- (`label-alone`). l are arrivals and a is one, os the records, k is K, b is what is subtracted from their times. Assumes nothing.
 use Prim.Native.Nat.{ℕ, zero, suc, _-_, _≤_, zero-le}
 use native.Mathlib.Omega.{arith}
 use mathlib.Core.Bool.{Bool, true, false, cond}
@@ -48,7 +48,8 @@ module _ (P : Arrival → Type 0) where
   unfolding inOrder
   order-all l = snoc-ind (λ (l : List Arrival). All P l → All P (inTimeOrder l)) more (λ h. tt) l
     where
-      more : (l : List Arrival) (a : Arrival) → (All P l → All P (inTimeOrder l)) → All P (l ++ (a ∷ [])) → All P (inTimeOrder (l ++ (a ∷ [])))
+      more : (l : List Arrival) (a : Arrival) → (All P l → All P (inTimeOrder l)) → All P (l ++ (a ∷ []))
+          → All P (inTimeOrder (l ++ (a ∷ [])))
       more l a f h = rw (order-more timeOf l a) (insert-all a (inTimeOrder l) (all-right P l (a ∷ []) h .0) (f (all-left P l (a ∷ []) h)))
 
 -- ---- in microseconds
@@ -89,8 +90,12 @@ unfolding judge judgeOne tooEarly
 judge-none k reference [] h n r = refl
 judge-none k reference (a ∷ l) h n r =
     let b : reference - a .time ≤ backMost = omega (arith, n .0) in
-    rw
-    (not-outside 1 k (a .number) (h .0 .0) (h .0 .1), le-ltb backMost (reference - a .time) b, reference-on reference (a .time) (n .0), judge-none k (a .time) l (h .1) (r .0) (r .1))
+    rw (
+      not-outside 1 k (a .number) (h .0 .0) (h .0 .1),
+      le-ltb backMost (reference - a .time) b,
+      reference-on reference (a .time) (n .0),
+      judge-none k (a .time) l (h .1) (r .0) (r .1),
+    )
 
 before-zero : (l : List Arrival) → NotBelow timeOf 0 l
 before-zero [] = tt
@@ -106,7 +111,8 @@ imported-length : (os : List ℕ) → length (importedArrivals os) ≡ length (r
 unfolding importedArrivals
 imported-length os = smallest-length (inTimeOrder (recordsArrivals os)) ∙ order-length timeOf (recordsArrivals os)
 
-accepted : (k : ℕ) (os : List ℕ) → recordsRefusal k os ≡ 0 → refusalOfLists k (numbersOf (importedArrivals os)) (timesOf (importedArrivals os)) ≡ 0
+accepted : (k : ℕ) (os : List ℕ) → recordsRefusal k os ≡ 0 → refusalOfLists k (numbersOf (importedArrivals os))
+    (timesOf (importedArrivals os)) ≡ 0
 accepted k os e =
     let n = none-refused k os e in
     let l : List Arrival = importedArrivals os in
@@ -121,7 +127,8 @@ label-alone : (label sizes numbers times : List ℕ) → refusalOfLists (length 
     → sampleRefusal label sizes numbers times ≡ firstRefusal (judgeLabel (length label) ∷ judgeOctets label ∷ [])
 unfolding sampleRefusal
 label-alone label sizes numbers times e =
-    ap (λ (x : ℕ). firstRefusal (judgeLabel (length label) ∷ judgeOctets label ∷ x ∷ [])) e ∙ last (judgeLabel (length label)) (judgeOctets label)
+    ap (λ (x : ℕ). firstRefusal (judgeLabel (length label) ∷ judgeOctets label ∷ x ∷ [])) e
+    ∙ last (judgeLabel (length label)) (judgeOctets label)
   where
     one : (r : ℕ) → firstRefusal (r ∷ 0 ∷ []) ≡ firstRefusal (r ∷ [])
     one zero = refl

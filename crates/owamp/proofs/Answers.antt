@@ -1,9 +1,8 @@
--- The answers of the importer: K or the records are refused, a list is too short (8), or both lists are filled. In each case the first refusal
--- is known, and with it the answer and the lists (`answered`). If nothing is refused, K, the number of arrivals and their numbers are within
--- their limits (`none-refused`), so lists of 4,096 always have room (`import-room`). The times filled in are sorted, so none is before the first
--- (`filled-first`), which the conversion needs.
--- k is K, os are the records, r is a refusal, n the number of arrivals, l the sorted arrivals; numbers′ and times′ are the lists after the call,
--- d is the list of times as filled. Assumes nothing.
+-- The answers of the importer: K or the records are refused, a list is too short (8), or both lists are filled. In each case the first
+-- refusal is known, and with it the answer and the lists (`answered`). If nothing is refused, K, the number of arrivals and their numbers
+-- are within their limits (`none-refused`), so lists of 4,096 always have room (`import-room`). The times filled in are sorted, so none
+-- is before the first (`filled-first`), which the conversion needs. k is K, os are the records, r is a refusal, n the number of arrivals,
+-- l the sorted arrivals; numbers′ and times′ are the lists after the call, d is the list of times as filled. Assumes nothing.
 use Prim.Native.Nat.{ℕ, zero, suc, _≤_, _<_}
 use native.Mathlib.Omega.{arith}
 use mathlib.Core.Bool.{_||_, or-true}
@@ -59,29 +58,36 @@ module _ (k : ℕ) (os numbers times : List ℕ) where
   answered n e f g h = record { refusal = sym e; arrivals = f; filledNumbers = g; filledTimes = h }
 
   -- the records or K are refused
-  pub import-refused : (r : ℕ) → r ≡ recordsRefusal k os → (r ≡ 0 → ⊥) → RecordsImportedFrom k os numbers times (record { refusal = r; arrivals = 0 }) numbers times
+  pub import-refused : (r : ℕ) → r ≡ recordsRefusal k os → (r ≡ 0 → ⊥)
+      → RecordsImportedFrom k os numbers times (record { refusal = r; arrivals = 0 }) numbers times
   unfolding importRefusal
   import-refused zero e n = absurd (n refl)
   import-refused (suc r) e n =
-      answered 0 (ap (λ (x : ℕ). firstRefusal (x ∷ refusalIf (ltb (length numbers) (length (recordsArrivals os)) || ltb (length times) (length (recordsArrivals os))) outputShort ∷ [])) (sym e)) refl refl refl
+      answered 0 (ap (λ (x : ℕ). firstRefusal (x ∷ refusalIf
+      (ltb (length numbers) (length (recordsArrivals os)) || ltb (length times) (length (recordsArrivals os))) outputShort ∷ [])) (sym e))
+      refl refl refl
 
   -- a list is too short
   module _ {n : ℕ} (e : recordsRefusal k os ≡ 0) (c : n ≡ length (recordsArrivals os)) where
-    pub import-short-numbers : length numbers < n → RecordsImportedFrom k os numbers times (record { refusal = outputShort; arrivals = 0 }) numbers times
+    pub import-short-numbers : length numbers < n → RecordsImportedFrom k os numbers times
+        (record { refusal = outputShort; arrivals = 0 }) numbers times
     unfolding importRefusal
     import-short-numbers h =
         let g : length numbers < length (recordsArrivals os) = omega arith in
         answered 0 (simp (e, lt-ltb _ _ g)) refl refl refl
 
-    pub import-short-times : length times < n → RecordsImportedFrom k os numbers times (record { refusal = outputShort; arrivals = 0 }) numbers times
+    pub import-short-times : length times < n → RecordsImportedFrom k os numbers times (record { refusal = outputShort; arrivals = 0 })
+        numbers times
     unfolding importRefusal
     import-short-times h =
         let g : length times < length (recordsArrivals os) = omega arith in
         answered 0 (simp (e, lt-ltb _ _ g, or-true)) refl refl refl
 
   -- the lists are filled
-  pub import-filled : (n : ℕ) {numbers′ times′ : List ℕ} → recordsRefusal k os ≡ 0 → n ≡ length (recordsArrivals os) → n ≤ length numbers → n ≤ length times
-      → numbers′ ≡ over (numbersOf (inTimeOrder (recordsArrivals os))) numbers → times′ ≡ over (timesOf (fromSmallest (inTimeOrder (recordsArrivals os)))) times
+  pub import-filled : (n : ℕ) {numbers′ times′ : List ℕ} → recordsRefusal k os ≡ 0 → n ≡ length (recordsArrivals os) → n ≤ length numbers
+      → n ≤ length times
+      → numbers′ ≡ over (numbersOf (inTimeOrder (recordsArrivals os))) numbers
+      → times′ ≡ over (timesOf (fromSmallest (inTimeOrder (recordsArrivals os)))) times
       → RecordsImportedFrom k os numbers times (record { refusal = 0; arrivals = n }) numbers′ times′
   unfolding importRefusal importedArrivals
   import-filled n e c h g f t =
@@ -92,7 +98,8 @@ module _ (k : ℕ) (os numbers times : List ℕ) where
       answered n (simp (e, le-ltb _ _ a, le-ltb _ _ b)) (c ∙ sym m) (f ∙ ap (λ (x : List ℕ). over x numbers) (smallest-numbers l)) t
 
 -- where there are places for 4,096 arrivals, the refusal is that of K and the records
-pub import-room : (k numbers times : ℕ) (os : List ℕ) → arrivalsMost ≤ numbers → arrivalsMost ≤ times → importRefusal k numbers times os ≡ recordsRefusal k os
+pub import-room : (k numbers times : ℕ) (os : List ℕ) → arrivalsMost ≤ numbers → arrivalsMost ≤ times
+    → importRefusal k numbers times os ≡ recordsRefusal k os
 unfolding importRefusal
 import-room k numbers times os n t = go (recordsRefusal k os) refl
   where
@@ -109,11 +116,15 @@ rising-first l r k h =
     omega (arith, at 0, at k, rising-at timeOf l r 0 k noArrival (omega arith) h)
 
 -- none of the recorded times, as they were filled, is before the first
-pub filled-first : (os old : List ℕ) {d : List ℕ} → d ≡ over (timesOf (inTimeOrder (recordsArrivals os))) old → (i : ℕ) → i < length (recordsArrivals os) → getD d 0 0 ≤ getD d i 0
+pub filled-first : (os old : List ℕ) {d : List ℕ} → d ≡ over (timesOf (inTimeOrder (recordsArrivals os))) old → (i : ℕ)
+    → i < length (recordsArrivals os) → getD d 0 0 ≤ getD d i 0
 filled-first os old {d} e i h =
     let l : List Arrival = inTimeOrder (recordsArrivals os) in
-    let m : length (timesOf l) ≡ length (recordsArrivals os) = length-map l (λ (a : Arrival). a .time) ∙ order-length timeOf (recordsArrivals os) in
-    let p : getD d 0 0 ≡ getD (timesOf l) 0 0 = ap (λ (x : List ℕ). getD x 0 0) e ∙ List·getD-append (timesOf l) (drop (length (timesOf l)) old) 0 0 (omega arith) in
-    let q : getD d i 0 ≡ getD (timesOf l) i 0 = ap (λ (x : List ℕ). getD x i 0) e ∙ List·getD-append (timesOf l) (drop (length (timesOf l)) old) 0 i (omega arith) in
+    let m : length (timesOf l) ≡ length (recordsArrivals os) =
+    length-map l (λ (a : Arrival). a .time) ∙ order-length timeOf (recordsArrivals os) in
+    let p : getD d 0 0 ≡ getD (timesOf l) 0 0 =
+    ap (λ (x : List ℕ). getD x 0 0) e ∙ List·getD-append (timesOf l) (drop (length (timesOf l)) old) 0 0 (omega arith) in
+    let q : getD d i 0 ≡ getD (timesOf l) i 0 =
+    ap (λ (x : List ℕ). getD x i 0) e ∙ List·getD-append (timesOf l) (drop (length (timesOf l)) old) 0 i (omega arith) in
     let r = rising-first l (in-order timeOf (recordsArrivals os) .rising) i (omega (arith, order-length timeOf (recordsArrivals os))) in
     omega arith

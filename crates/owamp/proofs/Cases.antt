@@ -12,7 +12,8 @@ use Rattle.owamp.specs.Calls.{importedArrivals, recordOctets}
 use Rattle.owamp.specs.Cases.{RecordsReadAsGiven, RecordsWrittenAsGiven}
 
 pub read-as-given : RecordsReadAsGiven
-unfolding microseconds takenOff importedArrivals beOctets recordsArrivals itemsIn recordIn beValue passing inOrder insert fromSmallest recordsRefusal judgeNumbers judgeNumber outside
+unfolding microseconds takenOff importedArrivals beOctets recordsArrivals itemsIn recordIn beValue passing inOrder insert fromSmallest
+    recordsRefusal judgeNumbers judgeNumber outside
 read-as-given = record { times = refl; refusals = refl; arrivals = refl }
 
 pub written-as-given : RecordsWrittenAsGiven

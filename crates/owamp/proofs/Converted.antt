@@ -1,9 +1,8 @@
--- Recorded times turned into whole microseconds since the smallest. `after` are the first n times in microseconds, minus the base. A turn of the
--- loop reads the original time at i (`after-read`), so it stores the element of `after` (`after-at`). No difference is negative, since
--- microseconds keep the order and no time is before the first (`after-least`). If the times are sorted, the first is the smallest, so the loop
--- leaves the times of `fromSmallest` (`times-converted`).
--- old are the times before, d the times at the head of the loop, base and b what is subtracted, t is a time in microseconds, s a recorded one; l
--- are arrivals and a is one. Assumes nothing.
+-- Recorded times turned into whole microseconds since the smallest. `after` are the first n times in microseconds, minus the base. A turn
+-- of the loop reads the original time at i (`after-read`), so it stores the element of `after` (`after-at`). No difference is negative,
+-- since microseconds keep the order and no time is before the first (`after-least`). If the times are sorted, the first is the smallest,
+-- so the loop leaves the times of `fromSmallest` (`times-converted`). old are the times before, d the times at the head of the loop, base
+-- and b what is subtracted, t is a time in microseconds, s a recorded one; l are arrivals and a is one. Assumes nothing.
 use Prim.Native.Nat.{ℕ, _+_, _-_, _≤_, _<_}
 use native.Mathlib.Omega.{arith}
 use mathlib.Core.List.{List, [], _∷_, _++_, map}
@@ -92,6 +91,7 @@ times-converted l n old {d} {d′} r e f g =
     let u : length ys ≡ length (timesOf l) = length-map (fromSmallest l) (λ (a : Arrival). a .time) ∙ smallest-length l ∙ sym m in
     let v : drop (length ys) (over (timesOf l) old) ≡ drop (length ys) old = over-drop (timesOf l) old (length ys) (omega arith) in
     g ∙ ap (λ (x : List ℕ). over (map (λ (s : ℕ). microseconds s - microseconds (getD x 0 0)) (take n x)) x) f
-    ∙ ap (λ (x : List ℕ). over (map (λ (s : ℕ). microseconds s - microseconds (getD (over (timesOf l) old) 0 0)) x) (over (timesOf l) old)) t
+    ∙ ap (λ (x : List ℕ). over (map (λ (s : ℕ). microseconds s - microseconds (getD (over (timesOf l) old) 0 0)) x)
+    (over (timesOf l) old)) t
     ∙ ap (λ (x : List ℕ). over x (over (timesOf l) old)) (first-times l old r)
     ∙ ap (λ (x : List ℕ). ys ++ x) v

@@ -1,8 +1,7 @@
--- The records in turn. Record i + 1 begins at offset 25 * i (`number-stands`, `time-stands`). The receive time is the seconds and the fraction,
--- one after the other. The arrivals among the first i + 1 records are those among the first i and, if it is one, the next (`passing-take`). If
--- no number is refused, every number is from 1 to K (`numbers-all`).
--- os are the octets of the records, i is an index of a record, a the arrival of a record, l are records, v, s and f are numbers read, z is the
--- value read after the end. Assumes nothing.
+-- The records in turn. Record i + 1 begins at offset 25 * i (`number-stands`, `time-stands`). The receive time is the seconds and the
+-- fraction, one after the other. The arrivals among the first i + 1 records are those among the first i and, if it is one, the next
+-- (`passing-take`). If no number is refused, every number is from 1 to K (`numbers-all`). os are the octets of the records, i is an index
+-- of a record, a the arrival of a record, l are records, v, s and f are numbers read, z is the value read after the end. Assumes nothing.
 use Prim.Native.Nat.{ℕ, _+_, _-_, _*_, _^_, _≤_, _<_}
 use native.Mathlib.Numerals.{add-one}
 use native.Mathlib.Omega.{arith}
@@ -52,12 +51,14 @@ module _ (os : List ℕ) (i : ℕ) (h : i < recordCount os) where
       ap (λ (n : ℕ). recordIn (part (recordWidth * i) n os)) e ∙ sym (items-getD recordWidth recordIn (recordCount os) os i noArrival h)
 
   -- the packet number where it stands
-  pub number-stands : {v : ℕ} → v ≡ beValue (part 0 4 (taken (recordWidth * i) recordWidth os)) → v + 1 ≡ getD (recordsIn os) i noArrival .number
+  pub number-stands : {v : ℕ} → v ≡ beValue (part 0 4 (taken (recordWidth * i) recordWidth os))
+      → v + 1 ≡ getD (recordsIn os) i noArrival .number
   unfolding recordIn one
   number-stands e = ap (λ (n : ℕ). n + 1) e ∙ ap (λ (a : Arrival). a .number) one-read
 
   -- the receive time where it stands: the seconds and the fraction
-  pub time-stands : {s f : ℕ} → s ≡ beValue (part 16 4 (taken (recordWidth * i) recordWidth os)) → f ≡ beValue (part 20 4 (taken (recordWidth * i) recordWidth os))
+  pub time-stands : {s f : ℕ} → s ≡ beValue (part 16 4 (taken (recordWidth * i) recordWidth os))
+      → f ≡ beValue (part 20 4 (taken (recordWidth * i) recordWidth os))
       → s * fractions + f ≡ getD (recordsIn os) i noArrival .time
   unfolding recordIn one
   time-stands {s} {f} e g =
@@ -69,7 +70,8 @@ module _ (os : List ℕ) (i : ℕ) (h : i < recordCount os) where
       ∙ ap (λ (a : Arrival). a .time) one-read
 
 -- four octets of a record are a number below 2 to the 32
-pub four-below : (os : List ℕ) (i at : ℕ) {v : ℕ} → Octets os → v ≡ beValue (part at 4 (taken (recordWidth * i) recordWidth os)) → v < fractions
+pub four-below : (os : List ℕ) (i at : ℕ) {v : ℕ} → Octets os → v ≡ beValue (part at 4 (taken (recordWidth * i) recordWidth os))
+    → v < fractions
 four-below os i at o e =
     let l : List ℕ = taken (recordWidth * i) recordWidth os in
     rw e (value-part 4 at 4 l (below-part 256 (recordWidth * i) (recordWidth * i + recordWidth - recordWidth * i) os o) (omega arith))
@@ -77,11 +79,13 @@ four-below os i at o e =
 -- ---- what passes, under one record more
 
 module _ {ℓ} {A : Type ℓ} (p : A → Bool) where
-  pub passing-take : (l : List A) (i : ℕ) (z : A) → i < length l → passing p (take (i + 1) l) ≡ passing p (take i l) ++ keptIf (p (getD l i z)) (getD l i z) []
+  pub passing-take : (l : List A) (i : ℕ) (z : A) → i < length l
+      → passing p (take (i + 1) l) ≡ passing p (take i l) ++ keptIf (p (getD l i z)) (getD l i z) []
   unfolding passing
   passing-take l i z h = ap (passing p) (take-snoc l i z h) ∙ passing-append p (take i l) (getD l i z ∷ [])
 
-  pub passing-drop : (l : List A) (i : ℕ) (z : A) → i < length l → passing p (drop i l) ≡ keptIf (p (getD l i z)) (getD l i z) (passing p (drop (i + 1) l))
+  pub passing-drop : (l : List A) (i : ℕ) (z : A) → i < length l
+      → passing p (drop i l) ≡ keptIf (p (getD l i z)) (getD l i z) (passing p (drop (i + 1) l))
   unfolding passing
   passing-drop l i z h = rw add-one (ap (passing p) (drop-cons l i z h))
 

@@ -1,9 +1,8 @@
--- The writer. A record is seven numbers written one after the other into 25 octets, which is one put of all of them (`record-put`, by `chain` for
--- each after the first). The first refusal of a file is its own or that of its times (`own-refusal`, `times-refusal`). Written and read again
--- (`read-again`): if nothing is refused, the buffer begins with the records and the file is accepted. So its numbers are from 1 to K, and
--- `records-again` gives what is read.
--- a to g are octets and d₁ to d₇ the buffer after each put, s and f are the seconds and the fraction of time t; y is the layout of a file, r a
--- refusal, l are arrivals, k is K. Assumes nothing.
+-- The writer. A record is seven numbers written one after the other into 25 octets, which is one put of all of them (`record-put`, by
+-- `chain` for each after the first). The first refusal of a file is its own or that of its times (`own-refusal`, `times-refusal`).
+-- Written and read again (`read-again`): if nothing is refused, the buffer begins with the records and the file is accepted. So its
+-- numbers are from 1 to K, and `records-again` gives what is read. a to g are octets and d₁ to d₇ the buffer after each put, s and f are
+-- the seconds and the fraction of time t; y is the layout of a file, r a refusal, l are arrivals, k is K. Assumes nothing.
 use Prim.Native.Nat.{ℕ, zero, suc, _+_, _-_, _≤_, _<_}
 use native.Mathlib.Omega.{arith}
 use mathlib.Core.List.{List, [], _∷_, _++_, append-assoc}
@@ -35,7 +34,8 @@ use Rattle.owamp.proofs.RoundTrips.{records-again, arrivals-read, stamp
 -- ---- one record into 25 octets
 
 -- the next w octets
-chain : (at w : ℕ) (xs : List ℕ) (v : ℕ) (old : List ℕ) {d d′ : List ℕ} → length xs ≡ at → at + w ≤ length old → d ≡ put 0 xs old → d′ ≡ put at (beOctets w v) d
+chain : (at w : ℕ) (xs : List ℕ) (v : ℕ) (old : List ℕ) {d d′ : List ℕ} → length xs ≡ at → at + w ≤ length old → d ≡ put 0 xs old
+    → d′ ≡ put at (beOctets w v) d
     → d′ ≡ put 0 (xs ++ beOctets w v) old
 chain at w xs v old e h p q =
     let l : length (beOctets w v) ≡ w = octets-length w v in
@@ -43,12 +43,14 @@ chain at w xs v old e h p q =
 
 -- their number
 longer : (at w : ℕ) (xs : List ℕ) (v : ℕ) → length xs ≡ at → length (xs ++ beOctets w v) ≡ at + w
-longer at w xs v e = length-append xs (beOctets w v) ∙ (let l = octets-length w v in let q : length xs + length (beOctets w v) ≡ at + w = omega arith in q)
+longer at w xs v e =
+    length-append xs (beOctets w v) ∙ (let l = octets-length w v in let q : length xs + length (beOctets w v) ≡ at + w = omega arith in q)
 
 -- the seven numbers of a record
 pub record-put : (n t : ℕ) (old : List ℕ) {d₁ d₂ d₃ d₄ d₅ d₆ d₇ : List ℕ} {s f : ℕ} → length old ≡ recordWidth
     → d₁ ≡ put 0 (beOctets 4 (n - 1)) old → d₂ ≡ put 4 (beOctets 2 1) d₁ → d₃ ≡ put 6 (beOctets 2 1) d₂ → d₄ ≡ put 8 (beOctets 8 0) d₃
-    → s ≡ writtenSeconds t → d₅ ≡ put 16 (beOctets 4 s) d₄ → f ≡ writtenFraction t → d₆ ≡ put 20 (beOctets 4 f) d₅ → d₇ ≡ put 24 (beOctets 1 255) d₆
+    → s ≡ writtenSeconds t → d₅ ≡ put 16 (beOctets 4 s) d₄ → f ≡ writtenFraction t → d₆ ≡ put 20 (beOctets 4 f) d₅
+    → d₇ ≡ put 24 (beOctets 1 255) d₆
     → d₇ ≡ put 0 (recordOctets (record { number = n; time = t })) old
 unfolding recordOctets
 record-put n t old {s = s} {f = f} l p₁ p₂ p₃ p₄ es p₅ ef p₆ p₇ =
@@ -70,7 +72,8 @@ record-put n t old {s = s} {f = f} l p₁ p₂ p₃ p₄ es p₅ ef p₆ p₇ =
     (chain 8 8 c 0 old lc (omega arith)
     (chain 6 2 b 1 old lb (omega arith)
     (chain 4 2 a 1 old la (omega arith) p₁ p₂) p₃) p₄) p₅) p₆) p₇
-    ∙ ap (λ (x : List ℕ). put 0 x old) (let r : g ++ beOctets 1 255 ≡ recordOctets (record { number = n; time = t }) = simp (append-assoc, es, ef) in r)
+    ∙ ap (λ (x : List ℕ). put 0 x old) (let r : g ++ beOctets 1 255
+    ≡ recordOctets (record { number = n; time = t }) = simp (append-assoc, es, ef) in r)
 
 -- ---- the file
 
@@ -99,7 +102,8 @@ module _ (file : List ℕ) where
 -- ---- read again
 
 -- numbers that lie in 1 to K
-numbers-within : (k : ℕ) (l : List Arrival) → ((i : ℕ) → i < length l → (1 ≤ getD l i noArrival .number) × (getD l i noArrival .number ≤ k)) → judgeNumbers k l ≡ 0
+numbers-within : (k : ℕ) (l : List Arrival) → ((i : ℕ) → i < length l → (1 ≤ getD l i noArrival .number)
+    × (getD l i noArrival .number ≤ k)) → judgeNumbers k l ≡ 0
 unfolding judgeNumbers judgeNumber
 numbers-within k [] h = refl
 numbers-within k (a ∷ l) h =
@@ -118,7 +122,8 @@ read-again file o out out′ numbers times numbers′ times′ written read w z 
     let m = accepted-limits file (sampleOf (decode file)) d o in
     let j : judgeNumbers k l ≡ 0 = numbers-within k l (number-within file (sampleOf (decode file)) d o noArrival) in
     let t = output-read (exportRefusal file) rs out w z in
-    let g : RecordsImportedFrom k rs numbers times read numbers′ times′ = subst (λ (x : List ℕ). RecordsImportedFrom k x numbers times read numbers′ times′) t i in
+    let g : RecordsImportedFrom k rs numbers times read numbers′ times′ =
+    subst (λ (x : List ℕ). RecordsImportedFrom k x numbers times read numbers′ times′) t i in
     let a = records-again k l (m .sentSome) (m .sentFits) (m .arrivalsFit) j (p₂ .0) r in
     let c : length (recordsArrivals rs) ≡ length l = ap length (arrivals-read k l (m .sentFits) j (p₂ .0)) ∙ length-map l stamped in
     let b : importRefusal k (length numbers) (length times) rs ≡ 0 = simp (a .0, c, le-ltb _ _ hn, le-ltb _ _ ht) in
@@ -127,5 +132,6 @@ read-again file o out out′ numbers times numbers′ times′ written read w z 
     sym (length-map (importedArrivals rs) (λ (x : Arrival). x .number)) ∙ ap length (a .1) ∙ length-map l (λ (x : Arrival). x .number) in
     let y : read .arrivals ≡ length l = g .arrivals ∙ ap (λ (r : ℕ). ifNone r (length (importedArrivals rs)) 0) x ∙ n in (
       (λ v. record { refusal = x v; arrivals = y v }),
-      g .filledNumbers ∙ ap (λ (r : ℕ). ifNone r (over (numbersOf (importedArrivals rs)) numbers) numbers) x ∙ ap (λ (x : List ℕ). over x numbers) (a .1),
+      g .filledNumbers ∙ ap (λ (r : ℕ). ifNone r (over (numbersOf (importedArrivals rs)) numbers) numbers) x
+          ∙ ap (λ (x : List ℕ). over x numbers) (a .1),
     )

@@ -45,9 +45,15 @@ importTable =
     -- none arrived
     (receivedRecord 0 0 ++ receivedRecord 1 0, [])
     -- in the order of the receive times, with a lost record between; one and a half seconds, and a quarter
-    ∷ (receivedRecord 1 6442450944 ++ (receivedRecord 7 0 ++ receivedRecord 0 1073741824), record { number = 1; time = 0 } ∷ record { number = 2; time = 1250000 } ∷ [])
+    ∷ (
+      receivedRecord 1 6442450944 ++ (receivedRecord 7 0 ++ receivedRecord 0 1073741824),
+      record { number = 1; time = 0 } ∷ record { number = 2; time = 1250000 } ∷ [],
+    )
     -- equal times in file order; times that differ by less than a microsecond in the order of the times
-    ∷ (receivedRecord 2 5 ++ (receivedRecord 1 5 ++ receivedRecord 0 4), record { number = 1; time = 0 } ∷ record { number = 3; time = 0 } ∷ record { number = 2; time = 0 } ∷ [])
+    ∷ (
+      receivedRecord 2 5 ++ (receivedRecord 1 5 ++ receivedRecord 0 4),
+      record { number = 1; time = 0 } ∷ record { number = 3; time = 0 } ∷ record { number = 2; time = 0 } ∷ [],
+    )
     -- the smallest time is subtracted after rounding: 4,294 and 4,295 fractions are 0 and 1 microseconds
     ∷ (receivedRecord 0 4294 ++ receivedRecord 1 4295, record { number = 1; time = 0 } ∷ record { number = 2; time = 1 } ∷ [])
     ∷ []
@@ -56,9 +62,11 @@ importTable =
 pub record RecordsReadAsGiven : Type 0 where
   pub times : map (λ (c : ℕ × (ℕ × ℕ)). (microseconds (c .0), takenOff (c .0))) timeTable ≡ map (λ (c : ℕ × (ℕ × ℕ)). c .1) timeTable
   -- the refusal of each K with its records
-  pub refusals : map (λ (c : (ℕ × List ℕ) × ℕ). recordsRefusal (c .0 .0) (c .0 .1)) refusalTable ≡ map (λ (c : (ℕ × List ℕ) × ℕ). c .1) refusalTable
+  pub refusals : map (λ (c : (ℕ × List ℕ) × ℕ). recordsRefusal (c .0 .0) (c .0 .1)) refusalTable
+      ≡ map (λ (c : (ℕ × List ℕ) × ℕ). c .1) refusalTable
   -- the arrivals imported from the octets
-  pub arrivals : map (λ (c : List ℕ × List Arrival). importedArrivals (c .0)) importTable ≡ map (λ (c : List ℕ × List Arrival). c .1) importTable
+  pub arrivals : map (λ (c : List ℕ × List Arrival). importedArrivals (c .0)) importTable
+      ≡ map (λ (c : List ℕ × List Arrival). c .1) importTable
 
 -- ---- what is written
 

@@ -1,5 +1,5 @@
--- Receive times and whole microseconds. A receive time has 32 bits of seconds and 32 bits of fraction. Here it is one number of 64 bits, which
--- counts units of 2^-32 seconds. Assumes nothing.
+-- Receive times and whole microseconds. A receive time has 32 bits of seconds and 32 bits of fraction. Here it is one number of 64 bits,
+-- which counts units of 2^-32 seconds. Assumes nothing.
 use Prim.Native.Nat.{ℕ, _+_, _-_, _*_, _/_, _%_, _<_, min}
 use mathlib.Core.List.{List, [], _∷_, foldl, map}
 use mathlib.Core.Path.{_≡_}

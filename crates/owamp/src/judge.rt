@@ -53,7 +53,8 @@ fn first_of(first: u32, second: u32) -> u32
 
 // Counts the arrivals among records and finds the first that is refused with 6. Skips lost records.
 pub(crate) fn judge_arrivals(records: &[u8], k: u64) -> Judged
-    ensures { λ r. ⌜ (r .arrivals ≡ length (recordsArrivals (now (records .entry)))) × (r .refusal ≡ judgeNumbers k (recordsArrivals (now (records .entry)))) ⌝ }
+    ensures { λ r. ⌜ (r .arrivals ≡ length (recordsArrivals (now (records .entry))))
+        × (r .refusal ≡ judgeNumbers k (recordsArrivals (now (records .entry)))) ⌝ }
 {
     let count = records.len() / WIDTH;
     let mut arrivals = 0;
@@ -73,7 +74,8 @@ pub(crate) fn judge_arrivals(records: &[u8], k: u64) -> Judged
 
 // Returns the first refusal that applies to K and records: 15, 4, 5, 6; 0 if none does. `judged` is the result of `judge_arrivals`.
 pub(crate) fn records_refusal(records: &[u8], k: u32, judged: Judged) -> u32
-    requires { ⌜ (judged .arrivals ≡ length (recordsArrivals (now records))) × (judged .refusal ≡ judgeNumbers k (recordsArrivals (now records))) ⌝ }
+    requires { ⌜ (judged .arrivals ≡ length (recordsArrivals (now records)))
+        × (judged .refusal ≡ judgeNumbers k (recordsArrivals (now records))) ⌝ }
     ensures { λ r. ⌜ r ≡ recordsRefusal k (now (records .entry)) ⌝ }
 {
     if records.len() % WIDTH != 0 {

@@ -40,7 +40,8 @@ pub struct RecordsImport {
 // Imports the records of K sent packets: fills the start of both lists with the arrivals, sorted by receive time. If the import is refused,
 // both lists stay unchanged. Cost: O(A) if the records are in order or reversed, O(A log A) at most.
 pub fn import(records: &[u8], k: u32, numbers: &mut [u32], times: &mut [u64]) -> RecordsImport
-    ensures { λ r. ⌜ RecordsImportedFrom k (now (records .entry)) (now (numbers .entry)) (now (times .entry)) r (now (numbers .exit)) (now (times .exit)) ⌝ }
+    ensures { λ r. ⌜ RecordsImportedFrom k (now (records .entry)) (now (numbers .entry)) (now (times .entry)) r (now (numbers .exit))
+        (now (times .exit)) ⌝ }
     ensures order { λ _. ⌜ OnlyOne timeOf (recordsArrivals (now (records .entry))) ⌝ }
     ensures clock { λ _. ⌜ RoundedDown ⌝ }
     ensures accepted { λ _. ⌜ AcceptedLists k (now (records .entry)) ⌝ }

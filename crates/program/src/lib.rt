@@ -1,5 +1,5 @@
-// What the programs of the command share: writing to standard output, reading a file, and the arguments. Contracts can say nothing about what
-// a program reads and writes, so these functions promise only that they end. Only programs use this crate.
+// What the programs of the command share: writing to standard output, reading a file, and the arguments. Contracts can say nothing about
+// what a program reads and writes, so these functions promise only that they end. Only programs use this crate.
 ghost use Prim.Native.Nat.{_≤_};
 ghost use lib.ListN.{length};
 use libc::STDIN_FILENO;

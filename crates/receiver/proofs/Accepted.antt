@@ -42,7 +42,8 @@ pub record AccountLimits (k : ℕ) (account : List Arrival) : Type 0 where
   pub short : length account ≤ arrivalsMost
 
 -- an accepted arrival keeps it so
-limits-more : (k : ℕ) (account : List Arrival) (a : Arrival) → AccountLimits k account → AcceptedArrival k account a → AccountLimits k (account ++ (a ∷ []))
+limits-more : (k : ℕ) (account : List Arrival) (a : Arrival) → AccountLimits k account → AcceptedArrival k account a
+    → AccountLimits k (account ++ (a ∷ []))
 limits-more k account a h g =
     let l : length (account ++ (a ∷ [])) ≡ length account + 1 = length-append account (a ∷ []) in
     let room = g .room in

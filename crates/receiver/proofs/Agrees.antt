@@ -58,7 +58,8 @@ module _ (account : List Arrival) (a : Arrival) where
   answersIn-more = answers-more (λ _. 0) account a
 
   countIn-more : (p : Answer → Bool)
-      → count p (answersIn (account ++ (a ∷ []))) ≡ cond (p (answerIn account a)) (count p (answersIn account) + 1) (count p (answersIn account))
+      → count p (answersIn (account ++ (a ∷ []))) ≡ cond (p (answerIn account a)) (count p (answersIn account) + 1)
+      (count p (answersIn account))
   countIn-more p = rw answersIn-more (count-more p (answersIn account) (answerIn account a))
 
   runsIn-more : runs (answersIn (account ++ (a ∷ []))) ≡ runsAfter (runs (answersIn account)) (answerIn account a)
@@ -98,7 +99,8 @@ unfolding jumpAfter isJump isInOrder
 no-jump fs a h = rw (lt-leb _ _ h)
 
 -- there is no new jump or one
-pub jump-cases : (P : List FirstArrival → Type 0) → P [] → ((p : FirstArrival) → P (p ∷ [])) → (k : ℕ) (account : List Arrival) (a : Arrival) → P (jumpIn k account a)
+pub jump-cases : (P : List FirstArrival → Type 0) → P [] → ((p : FirstArrival) → P (p ∷ []))
+    → (k : ℕ) (account : List Arrival) (a : Arrival) → P (jumpIn k account a)
 unfolding jumpIn jumpAfter
 jump-cases P none one k account a = go (eqb (accountRefusal k account a) 0) (has (a .number) account) (isJump (firsts account) (a .number))
   where
@@ -115,7 +117,8 @@ unfolding jumpIn accountWith
 jumps-with k account a = go (eqb (accountRefusal k account a) 0) (has (a .number) account) refl
   where
     go : (t u : Bool) → has (a .number) account ≡ u
-        → jumps (firsts (cond t (account ++ (a ∷ [])) account)) ≡ jumps (firsts account) ++ cond t (cond u [] (jumpAfter (firsts account) a)) []
+        → jumps (firsts (cond t (account ++ (a ∷ [])) account)) ≡ jumps (firsts account)
+        ++ cond t (cond u [] (jumpAfter (firsts account) a)) []
     go false u e = sym (append-nil _)
     go true true e = ap jumps (firsts-duplicate account a e) ∙ sym (append-nil _)
     go true false e = ap jumps (firsts-first account a e) ∙ jumps-more (firsts account) a
@@ -178,7 +181,8 @@ module _ (k : ℕ) (account : List Arrival) (a : Arrival) (ds ws : List FirstArr
       search : WindowSearch account ds ws (a .number)
       search = search-late account ds ws sp (a .number) (n .low) e g
 
-      formed : inForm ws account a (answerIn account a) ≡ lateForm ws account a (inWindow ws account (a .number)) (discontinuity (firsts account) (a .number))
+      formed : inForm ws account a (answerIn account a) ≡ lateForm ws account a (inWindow ws account (a .number))
+          (discontinuity (firsts account) (a .number))
       formed = ap (inForm ws account a) (answer-late account a e g) ∙ form-late ws account a (discontinuity (firsts account) (a .number))
 
       said : (d : FirstArrival) (t : Bool) → ltb (a .number) (lastNumber ds) ≡ not t → firstAbove (a .number) ws ≡ some d
@@ -214,7 +218,17 @@ stream-path : (r s : Stream)
     → r .dropped ≡ s .dropped
     → r ≡ s
 stream-path r s e1 e2 e3 e4 e5 e6 e7 e8 e9 =
-    λ i. record { sent = e1 i; arrived = e2 i; duplicates = e3 i; inorder = e4 i; next = e5 i; kept = e8 i; greatest = e6 i; runs = e7 i; dropped = e9 i }
+    λ i. record {
+      sent = e1 i;
+      arrived = e2 i;
+      duplicates = e3 i;
+      inorder = e4 i;
+      next = e5 i;
+      kept = e8 i;
+      greatest = e6 i;
+      runs = e7 i;
+      dropped = e9 i;
+    }
 
 -- states are equal by their parts
 state-path : (r s : Receiver) → r .stream ≡ s .stream → r .marks ≡ s .marks → r .places ≡ s .places → r ≡ s
@@ -279,111 +293,119 @@ module _ (room : Bool) (h : Held) (k : ℕ) (account : List Arrival) (a : Arriva
 -- ---- any arrival
 
 module _ (k : ℕ) (low : 1 ≤ k) (high : k ≤ sentMost) (account : List Arrival) (a : Arrival) (sound : AccountLimits k account)
-    (ds ws : List FirstArrival) (sp : Split account ds ws) (h : Held) (o : Holds ds ws h) (few : length ws ≤ windowPlaces) (room : Bool) where
-  refusal-agrees : stepRefusal (stateWith k account h) (a .number) (a .time) ≡ accountRefusal k account a
-  unfolding stepRefusal accountRefusal stateWith
-  refusal-agrees = rw (state-fit k low high account sound ds ws sp h o few, accepted-count)
+    (ds ws : List FirstArrival) (sp : Split account ds ws) (h : Held) (o : Holds ds ws h) (few : length ws ≤ windowPlaces) (room : Bool)
+  where
+    refusal-agrees : stepRefusal (stateWith k account h) (a .number) (a .time) ≡ accountRefusal k account a
+    unfolding stepRefusal accountRefusal stateWith
+    refusal-agrees = rw (state-fit k low high account sound ds ws sp h o few, accepted-count)
 
-  -- a packet is marked exactly if it is among the arrivals of the account
-  mark-agrees : OfPackets k a → markAt (marksOf (firsts account)) (a .number) ≡ has (a .number) account
-  mark-agrees n =
-      marked-is-arrived (firsts account)
-      (all-firsts _ account (all-weaken (λ (b : Arrival) (w : OfPackets k b). record { low = w .low; high = omega arith }) account (sound .numbered))) (a .number) (n .low)
-      ∙ has-firsts (a .number) account
+    -- a packet is marked exactly if it is among the arrivals of the account
+    mark-agrees : OfPackets k a → markAt (marksOf (firsts account)) (a .number) ≡ has (a .number) account
+    mark-agrees n =
+        marked-is-arrived (firsts account)
+        (all-firsts _ account (all-weaken (λ (b : Arrival) (w : OfPackets k b). record { low = w .low; high = omega arith }) account
+        (sound .numbered))) (a .number) (n .low)
+        ∙ has-firsts (a .number) account
 
-  -- the state before, and what the account notes of an arrival that is added
-  abbrev before : Receiver
-  before = stateWith k account h
+    -- the state before, and what the account notes of an arrival that is added
+    abbrev before : Receiver
+    before = stateWith k account h
 
-  abbrev noted : ReceiverAnswer
-  noted = inForm ws account a (answerIn account a)
+    abbrev noted : ReceiverAnswer
+    noted = inForm ws account a (answerIn account a)
 
-  -- an arrival that is not refused is noted so
-  looked-agrees : AcceptedArrival k account a → unrefusedOutcome before (a .number) (a .time) ≡ acceptedOutcome noted
-  unfolding unrefusedOutcome firstOutcome stateWith inForm inOrderAnswer jumpSize
-  looked-agrees n = go (has (a .number) account) refl
-    where
-      looked : Bool → Outcome
-      looked t = cond t (acceptedOutcome Duplicate) (firstOutcome before (a .number) (a .time))
+    -- an arrival that is not refused is noted so
+    looked-agrees : AcceptedArrival k account a → unrefusedOutcome before (a .number) (a .time) ≡ acceptedOutcome noted
+    unfolding unrefusedOutcome firstOutcome stateWith inForm inOrderAnswer jumpSize
+    looked-agrees n = go (has (a .number) account) refl
+      where
+        looked : Bool → Outcome
+        looked t = cond t (acceptedOutcome Duplicate) (firstOutcome before (a .number) (a .time))
 
-      order : (t : Bool) → leb (nextExp (firsts account)) (a .number) ≡ t → has (a .number) account ≡ false
-          → firstOutcome before (a .number) (a .time) ≡ acceptedOutcome noted
-      order true t e = rw t (sym (ap (λ (b : Answer). acceptedOutcome (inForm ws account a b)) (answer-in-order account a e (leb-true _ _ t))))
-      order false t e =
-          rw (t, o .kept) (late-agrees k account a ds ws sp (before .stream) refl (o .dropped) (n .numbered) e (leb-false _ _ t))
+        order : (t : Bool) → leb (nextExp (firsts account)) (a .number) ≡ t → has (a .number) account ≡ false
+            → firstOutcome before (a .number) (a .time) ≡ acceptedOutcome noted
+        order true t e =
+            rw t (sym (ap (λ (b : Answer). acceptedOutcome (inForm ws account a b)) (answer-in-order account a e (leb-true _ _ t))))
+        order false t e =
+            rw (t, o .kept) (late-agrees k account a ds ws sp (before .stream) refl (o .dropped) (n .numbered) e (leb-false _ _ t))
 
-      go : (t : Bool) → has (a .number) account ≡ t → unrefusedOutcome before (a .number) (a .time) ≡ acceptedOutcome noted
-      go true e =
-          ap looked (mark-agrees (n .numbered) ∙ e) ∙ sym (ap (λ (b : Answer). acceptedOutcome (inForm ws account a b)) (answer-again account a e))
-      go false e = ap looked (mark-agrees (n .numbered) ∙ e) ∙ order (leb (nextExp (firsts account)) (a .number)) refl e
+        go : (t : Bool) → has (a .number) account ≡ t → unrefusedOutcome before (a .number) (a .time) ≡ acceptedOutcome noted
+        go true e =
+            ap looked (mark-agrees (n .numbered) ∙ e) ∙ sym (ap (λ (b : Answer). acceptedOutcome (inForm ws account a b))
+            (answer-again account a e))
+        go false e = ap looked (mark-agrees (n .numbered) ∙ e) ∙ order (leb (nextExp (firsts account)) (a .number)) refl e
 
-  -- what is noted of a reordered packet makes one state
-  late-noted : (t : Bool) (d : Option FirstArrival) → notedState room before (a .number) (a .time) (lateForm ws account a t d) ≡ reorderedState before (a .number) (a .time)
-  unfolding notedState lateForm
-  late-noted true d = refl
-  late-noted false d = refl
+    -- what is noted of a reordered packet makes one state
+    late-noted : (t : Bool) (d : Option FirstArrival) → notedState room before (a .number) (a .time) (lateForm ws account a t d)
+        ≡ reorderedState before (a .number) (a .time)
+    unfolding notedState lateForm
+    late-noted true d = refl
+    late-noted false d = refl
 
-  -- the state after an answer
-  abbrev after : Answer → Receiver
-  after b = notedState room before (a .number) (a .time) (inForm ws account a b)
+    -- the state after an answer
+    abbrev after : Answer → Receiver
+    after b = notedState room before (a .number) (a .time) (inForm ws account a b)
 
-  -- of a first arrival
-  first-agrees : has (a .number) account ≡ false
-      → after (answerIn account a) ≡ stateWith k (account ++ (a ∷ [])) (foldl (withJump room) h (jumpAfter (firsts account) a))
-  unfolding notedState inForm inOrderAnswer jumpSize
-  first-agrees e = order (leb (nextExp (firsts account)) (a .number)) refl
-    where
-      order : (t : Bool) → leb (nextExp (firsts account)) (a .number) ≡ t
-          → after (answerIn account a) ≡ stateWith k (account ++ (a ∷ [])) (foldl (withJump room) h (jumpAfter (firsts account) a))
-      order true t = ap after (answer-in-order account a e (leb-true _ _ t)) ∙ in-order-state room h k account a e (leb-true _ _ t)
-      order false t =
-          ap after (answer-late account a e (leb-false _ _ t))
-          ∙ ap (notedState room before (a .number) (a .time)) (form-late ws account a (discontinuity (firsts account) (a .number)))
-          ∙ late-noted (inWindow ws account (a .number)) (discontinuity (firsts account) (a .number))
-          ∙ late-state room h k account a e (leb-false _ _ t)
-          ∙ ap (λ (js : List FirstArrival). stateWith k (account ++ (a ∷ [])) (foldl (withJump room) h js)) (sym (no-jump (firsts account) a (leb-false _ _ t)))
+    -- of a first arrival
+    first-agrees : has (a .number) account ≡ false
+        → after (answerIn account a) ≡ stateWith k (account ++ (a ∷ [])) (foldl (withJump room) h (jumpAfter (firsts account) a))
+    unfolding notedState inForm inOrderAnswer jumpSize
+    first-agrees e = order (leb (nextExp (firsts account)) (a .number)) refl
+      where
+        order : (t : Bool) → leb (nextExp (firsts account)) (a .number) ≡ t
+            → after (answerIn account a) ≡ stateWith k (account ++ (a ∷ [])) (foldl (withJump room) h (jumpAfter (firsts account) a))
+        order true t = ap after (answer-in-order account a e (leb-true _ _ t)) ∙ in-order-state room h k account a e (leb-true _ _ t)
+        order false t =
+            ap after (answer-late account a e (leb-false _ _ t))
+            ∙ ap (notedState room before (a .number) (a .time)) (form-late ws account a (discontinuity (firsts account) (a .number)))
+            ∙ late-noted (inWindow ws account (a .number)) (discontinuity (firsts account) (a .number))
+            ∙ late-state room h k account a e (leb-false _ _ t)
+            ∙ ap (λ (js : List FirstArrival). stateWith k (account ++ (a ∷ [])) (foldl (withJump room) h js))
+            (sym (no-jump (firsts account) a (leb-false _ _ t)))
 
-  -- of any arrival
-  noted-agrees : after (answerIn account a)
-      ≡ stateWith k (account ++ (a ∷ [])) (foldl (withJump room) h (cond (has (a .number) account) [] (jumpAfter (firsts account) a)))
-  unfolding inForm
-  noted-agrees = go (has (a .number) account) refl
-    where
-      go : (t : Bool) → has (a .number) account ≡ t → after (answerIn account a)
-          ≡ stateWith k (account ++ (a ∷ [])) (foldl (withJump room) h (cond t [] (jumpAfter (firsts account) a)))
-      go true e = ap after (answer-again account a e) ∙ duplicate-state room h k account a e
-      go false e = first-agrees e
+    -- of any arrival
+    noted-agrees : after (answerIn account a)
+        ≡ stateWith k (account ++ (a ∷ [])) (foldl (withJump room) h (cond (has (a .number) account) [] (jumpAfter (firsts account) a)))
+    unfolding inForm
+    noted-agrees = go (has (a .number) account) refl
+      where
+        go : (t : Bool) → has (a .number) account ≡ t → after (answerIn account a)
+            ≡ stateWith k (account ++ (a ∷ [])) (foldl (withJump room) h (cond t [] (jumpAfter (firsts account) a)))
+        go true e = ap after (answer-again account a e) ∙ duplicate-state room h k account a e
+        go false e = first-agrees e
 
-  -- what is said
-  outcome-agrees : outcomeOf before (a .number) (a .time) ≡ outcomeIn ws k account a
-  unfolding outcomeOf outcomeIn
-  outcome-agrees = go (eqb (accountRefusal k account a) 0) refl
-    where
-      go : (t : Bool) → eqb (accountRefusal k account a) 0 ≡ t → outcomeOf before (a .number) (a .time) ≡ outcomeIn ws k account a
-      go true t = rw (refusal-agrees, t) (looked-agrees (accepted-arrival k account a (eqb-true _ _ t)))
-      go false t = rw (refusal-agrees, t)
+    -- what is said
+    outcome-agrees : outcomeOf before (a .number) (a .time) ≡ outcomeIn ws k account a
+    unfolding outcomeOf outcomeIn
+    outcome-agrees = go (eqb (accountRefusal k account a) 0) refl
+      where
+        go : (t : Bool) → eqb (accountRefusal k account a) 0 ≡ t → outcomeOf before (a .number) (a .time) ≡ outcomeIn ws k account a
+        go true t = rw (refusal-agrees, t) (looked-agrees (accepted-arrival k account a (eqb-true _ _ t)))
+        go false t = rw (refusal-agrees, t)
 
-  -- the state after what is said
-  state-agrees : cond (eqb (outcomeIn ws k account a .refusal) 0) (notedState room before (a .number) (a .time) (outcomeIn ws k account a .noted)) before
-      ≡ stateWith k (accountWith k account a) (foldl (withJump room) h (jumpIn k account a))
-  unfolding outcomeIn accountWith jumpIn
-  state-agrees = go (eqb (accountRefusal k account a) 0) refl
-    where
-      go : (t : Bool) → eqb (accountRefusal k account a) 0 ≡ t
-          → cond (eqb (outcomeIn ws k account a .refusal) 0) (notedState room before (a .number) (a .time) (outcomeIn ws k account a .noted)) before
-          ≡ stateWith k (accountWith k account a) (foldl (withJump room) h (jumpIn k account a))
-      go true t = rw t noted-agrees
-      go false t = simp t
+    -- the state after what is said
+    state-agrees : cond (eqb (outcomeIn ws k account a .refusal) 0)
+        (notedState room before (a .number) (a .time) (outcomeIn ws k account a .noted)) before
+        ≡ stateWith k (accountWith k account a) (foldl (withJump room) h (jumpIn k account a))
+    unfolding outcomeIn accountWith jumpIn
+    state-agrees = go (eqb (accountRefusal k account a) 0) refl
+      where
+        go : (t : Bool) → eqb (accountRefusal k account a) 0 ≡ t
+            → cond (eqb (outcomeIn ws k account a .refusal) 0)
+            (notedState room before (a .number) (a .time) (outcomeIn ws k account a .noted)) before
+            ≡ stateWith k (accountWith k account a) (foldl (withJump room) h (jumpIn k account a))
+        go true t = rw t noted-agrees
+        go false t = simp t
 
-  pub step-agrees : stepWith room before (a .number) (a .time)
-      ≡ record {
-        outcome = outcomeIn ws k account a;
-        state = stateWith k (accountWith k account a) (foldl (withJump room) h (jumpIn k account a));
-      }
-  unfolding stepWith
-  step-agrees =
-      ap (λ (o : Outcome). record {
-        outcome = o;
-        state = cond (eqb (o .refusal) 0) (notedState room before (a .number) (a .time) (o .noted)) before;
-      }) outcome-agrees
-      ∙ ap (λ (s : Receiver). record { outcome = outcomeIn ws k account a; state = s }) state-agrees
+    pub step-agrees : stepWith room before (a .number) (a .time)
+        ≡ record {
+          outcome = outcomeIn ws k account a;
+          state = stateWith k (accountWith k account a) (foldl (withJump room) h (jumpIn k account a));
+        }
+    unfolding stepWith
+    step-agrees =
+        ap (λ (o : Outcome). record {
+          outcome = o;
+          state = cond (eqb (o .refusal) 0) (notedState room before (a .number) (a .time) (o .noted)) before;
+        }) outcome-agrees
+        ∙ ap (λ (s : Receiver). record { outcome = outcomeIn ws k account a; state = s }) state-agrees

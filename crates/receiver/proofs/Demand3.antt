@@ -53,27 +53,31 @@ unfolding accountRefusal judgeOne
 refusal-fit k account a = go (eqb (length account) arrivalsMost) (outside 1 k (a .number)) (tooEarly (greatestTime account) (a .time))
   where
     go : (t u v : Bool)
-        → eqb (firstRefusal (refusalIf t stateFull ∷ firstRefusal (refusalIf u numberOutside ∷ refusalIf v timeBack ∷ []) ∷ [])) stateUnfit ≡ false
+        → eqb (firstRefusal (refusalIf t stateFull ∷ firstRefusal (refusalIf u numberOutside ∷ refusalIf v timeBack ∷ []) ∷ []))
+        stateUnfit ≡ false
     go true u v = refl
     go false true v = refl
     go false false true = refl
     go false false false = refl
 
 -- the account never says 10
-pub outcome-fit : (ws : List FirstArrival) (k : ℕ) (account : List Arrival) (a : Arrival) → eqb (outcomeIn ws k account a .refusal) stateUnfit ≡ false
+pub outcome-fit : (ws : List FirstArrival) (k : ℕ) (account : List Arrival) (a : Arrival)
+    → eqb (outcomeIn ws k account a .refusal) stateUnfit ≡ false
 unfolding outcomeIn
 outcome-fit ws k account a = go (eqb (accountRefusal k account a) 0)
   where
     go : (t : Bool)
         → eqb
-        (cond {A = Outcome} t (acceptedOutcome (inForm ws account a (answerIn account a))) (refusedOutcome (accountRefusal k account a)) .refusal)
+        (cond {A = Outcome} t (acceptedOutcome (inForm ws account a (answerIn account a)))
+        (refusedOutcome (accountRefusal k account a)) .refusal)
         stateUnfit
         ≡ false
     go true = refl
     go false = refusal-fit k account a
 
 -- what the account says of an arrival that is added
-outcome-added : (ws : List FirstArrival) (k : ℕ) (account : List Arrival) (a : Arrival) → accountRefusal k account a ≡ 0 → outcomeIn ws k account a .noted ≡ inForm ws account a (answerIn account a)
+outcome-added : (ws : List FirstArrival) (k : ℕ) (account : List Arrival) (a : Arrival) → accountRefusal k account a ≡ 0
+    → outcomeIn ws k account a .noted ≡ inForm ws account a (answerIn account a)
 unfolding outcomeIn
 outcome-added ws k account a e = rw e
 
@@ -176,7 +180,8 @@ window-few account = simp length-drop (omega arith)
 held-with : (k : ℕ) (account : List Arrival) (a : Arrival)
     → foldl (withJump (ltb (heldIn account .kept) windowPlaces)) (heldIn account) (jumpIn k account a) ≡ heldIn (accountWith k account a)
 held-with k account a =
-    jump-cases (λ (l : List FirstArrival). foldl (withJump (ltb (heldIn account .kept) windowPlaces)) (heldIn account) l ≡ heldFrom (jumps (firsts account) ++ l))
+    jump-cases (λ (l : List FirstArrival). foldl (withJump (ltb (heldIn account .kept) windowPlaces)) (heldIn account) l
+    ≡ heldFrom (jumps (firsts account) ++ l))
     (rw append-nil) (λ p. sym (held-more (jumps (firsts account)) p)) k account a
     ∙ sym (ap heldFrom (jumps-with k account a))
 
@@ -227,9 +232,12 @@ module _ (k : ℕ) (low : 1 ≤ k) (high : k ≤ sentMost) where
   demand3 fed =
       let account = accountOf k fed in
       let s = state-after fed in
-      let arrived-eq : stateAfter k fed .stream .arrived ≡ arrived (answersIn account) = ap (λ (r : Receiver). r .stream .arrived) s ∙ sym (arrived-in account) in
-      let duplicates-eq : stateAfter k fed .stream .duplicates ≡ count isDuplicate (answersIn account) = ap (λ (r : Receiver). r .stream .duplicates) s in
-      let inorder-eq : stateAfter k fed .stream .inorder ≡ count isInOrderAnswer (answersIn account) = ap (λ (r : Receiver). r .stream .inorder) s in
+      let arrived-eq : stateAfter k fed .stream .arrived ≡ arrived (answersIn account) =
+      ap (λ (r : Receiver). r .stream .arrived) s ∙ sym (arrived-in account) in
+      let duplicates-eq : stateAfter k fed .stream .duplicates ≡ count isDuplicate (answersIn account) =
+      ap (λ (r : Receiver). r .stream .duplicates) s in
+      let inorder-eq : stateAfter k fed .stream .inorder ≡ count isInOrderAnswer (answersIn account) =
+      ap (λ (r : Receiver). r .stream .inorder) s in
       let reordered-eq = in-order-or-reordered (answersIn account) in
       let accepted-eq = accepted-count account in
       let first-eq = arrived-in account in
@@ -239,8 +247,10 @@ module _ (k : ℕ) (low : 1 ≤ k) (high : k ≤ sentMost) where
             count-each (λ (s : Outcome). eqb (s .refusal) stateUnfit) (outcomeAfter k)
             (λ earlier a. rw outcome-after (outcome-fit (windowIn (accountOf k earlier)) k (accountOf k earlier) a)) fed;
         reordered = λ earlier a later split e d q.
-            subst (Answered (windowIn (accountOf k earlier)) (accountOf k earlier) a d) (ap (λ (s : Outcome). s .noted) (sym (outcome-after earlier a)))
-            (late-answered k (accountOf k earlier) (droppedIn (accountOf k earlier)) (windowIn (accountOf k earlier)) (split-window (accountOf k earlier)) a e d q);
+            subst (Answered (windowIn (accountOf k earlier)) (accountOf k earlier) a d)
+            (ap (λ (s : Outcome). s .noted) (sym (outcome-after earlier a)))
+            (late-answered k (accountOf k earlier) (droppedIn (accountOf k earlier)) (windowIn (accountOf k earlier))
+            (split-window (accountOf k earlier)) a e d q);
         arrived = arrived-eq;
         duplicates = duplicates-eq;
         inorder = inorder-eq;

@@ -7,8 +7,8 @@
 --     field-back     once κ is over, the field's cell comes back at the reference's last value
 --     map-same       an array that is a field is the list of its elements
 -- The kit's law `at-fields` gives the cell as its fields and the way back, and `lay-out` and `lay-in` lay the fields out as entries, by
--- induction on their types τs. Here q is a share, (b, o) where the struct or a field lies, e where the fields before end, vs and us are values,
--- i is the entry after the fields, x a field's value, which is y as its type has it, and γ the name under which it is lent.
+-- induction on their types τs. Here q is a share, (b, o) where the struct or a field lies, e where the fields before end, vs and us are
+-- values, i is the entry after the fields, x a field's value, which is y as its type has it, and γ the name under which it is lent.
 -- Assumes `Given`.
 use mathlib.Core.Path.{_≡_, refl, ap, sym, subst}
 use Prim.Native.Nat.{ℕ, zero, _+_}

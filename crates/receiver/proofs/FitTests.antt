@@ -90,7 +90,8 @@ module _ (s : Stream) (places : Places) where
   -- the positions, numbers and times of n fit places pass, each by itself
   fit-apart : every (map (jumpFit s) (placesFrom places 0 n)) ≡ true
       → (firstPass (within 1 (s .arrived)) (places .positions) n ≡ true)
-      × ((firstPass (within 1 (s .sent)) (places .numbers) n ≡ true) × (firstPass (λ (t : ℕ). leb t (s .greatest)) (places .times) n ≡ true))
+      × ((firstPass (within 1 (s .sent)) (places .numbers) n ≡ true)
+      × (firstPass (λ (t : ℕ). leb t (s .greatest)) (places .times) n ≡ true))
   unfolding placeAt
   fit-apart e = (
     pass-all _ _ n (λ k h. both (le-leb _ _ (each-fit e k h .position-low)) (le-leb _ _ (each-fit e k h .position-high))),
@@ -126,7 +127,8 @@ module _ (s : Stream) (places : Places) where
 
   -- where all else is fit, the times decide
   pub times-decide : s .kept ≤ windowPlaces → s .dropped ≤ s .sent → firstPass (within 1 (s .arrived)) (places .positions) n ≡ true
-      → firstPass (within 1 (s .sent)) (places .numbers) n ≡ true → (b : Bool) → b ≡ firstPass (λ (t : ℕ). leb t (s .greatest)) (places .times) n
+      → firstPass (within 1 (s .sent)) (places .numbers) n ≡ true → (b : Bool)
+      → b ≡ firstPass (λ (t : ℕ). leb t (s .greatest)) (places .times) n
       → b ≡ placesFit s places
   unfolding keptOf
   times-decide k d a m true e =

@@ -1,10 +1,10 @@
 -- What is held of the jumps (`Holds`): the places hold the list of those kept, and the dropped number is that of the last of those
--- dropped. Lists of places are compared place by place (`places-same`). Jumps laid in the places are read back (`laid-kept`), and the places
--- after them stay as they were (`laid-after`). So `Holds` is kept up under any new jump: with room it goes after the kept ones
--- (`holds-appended`), and without the oldest is dropped, and its number is the dropped one (`holds-shifted`). By the receiver's own rule the
--- last 64 jumps are held (`held-last`), by induction on the next jump: while fewer are kept none is dropped, and from then on each drops one.
--- Here ds and ws are the dropped and the kept jumps, js all jumps, ks those laid, h is what is held, p the new jump, q the oldest kept one;
--- xs are the values written to one array. Assumes nothing.
+-- dropped. Lists of places are compared place by place (`places-same`). Jumps laid in the places are read back (`laid-kept`), and the
+-- places after them stay as they were (`laid-after`). So `Holds` is kept up under any new jump: with room it goes after the kept ones
+-- (`holds-appended`), and without the oldest is dropped, and its number is the dropped one (`holds-shifted`). By the receiver's own rule
+-- the last 64 jumps are held (`held-last`), by induction on the next jump: while fewer are kept none is dropped, and from then on each
+-- drops one. Here ds and ws are the dropped and the kept jumps, js all jumps, ks those laid, h is what is held, p the new jump, q the
+-- oldest kept one; xs are the values written to one array. Assumes nothing.
 use Prim.Native.Nat.{ℕ, zero, suc, _+_, _-_, _≤_, _<_}
 use mathlib.Core.Path.{_≡_, refl, sym, ap, ap₂, _∙_}
 use mathlib.Core.Bool.{Bool, true, false}
@@ -32,7 +32,8 @@ length-places l at zero = refl
 length-places l at (suc n) = ap suc (length-places l (suc at) n)
 
 -- the places from one on hold what those from another on hold, if each holds what the other does
-pub places-same : (l m : Places) (at to n : ℕ) → ((k : ℕ) → k < n → placeAt l (at + k) ≡ placeAt m (to + k)) → placesFrom l at n ≡ placesFrom m to n
+pub places-same : (l m : Places) (at to n : ℕ) → ((k : ℕ) → k < n → placeAt l (at + k) ≡ placeAt m (to + k))
+    → placesFrom l at n ≡ placesFrom m to n
 unfolding placesFrom
 places-same l m at to zero h = refl
 places-same l m at to (suc n) h =
@@ -122,9 +123,15 @@ module _ (room : Bool) (ds ws : List FirstArrival) (h : Held) (p : FirstArrival)
       let ks : List FirstArrival = keptWith room (keptOf h) p in
       let n : length ks ≤ windowPlaces = rw (o .kept) few in
       record {
-        positions = over-length (map (λ (p : FirstArrival). p .position) ks) (h .places .positions) (rw (length-map ks (λ (p : FirstArrival). p .position), o .long .positions) n) ∙ o .long .positions;
-        numbers = over-length (map (λ (p : FirstArrival). p .number) ks) (h .places .numbers) (rw (length-map ks (λ (p : FirstArrival). p .number), o .long .numbers) n) ∙ o .long .numbers;
-        times = over-length (map (λ (p : FirstArrival). p .time) ks) (h .places .times) (rw (length-map ks (λ (p : FirstArrival). p .time), o .long .times) n) ∙ o .long .times;
+        positions =
+            over-length (map (λ (p : FirstArrival). p .position) ks) (h .places .positions)
+            (rw (length-map ks (λ (p : FirstArrival). p .position), o .long .positions) n) ∙ o .long .positions;
+        numbers =
+            over-length (map (λ (p : FirstArrival). p .number) ks) (h .places .numbers)
+            (rw (length-map ks (λ (p : FirstArrival). p .number), o .long .numbers) n) ∙ o .long .numbers;
+        times =
+            over-length (map (λ (p : FirstArrival). p .time) ks) (h .places .times)
+            (rw (length-map ks (λ (p : FirstArrival). p .time), o .long .times) n) ∙ o .long .times;
       }
 
   -- and those after the kept ones hold what they held
@@ -133,7 +140,8 @@ module _ (room : Bool) (ds ws : List FirstArrival) (h : Held) (p : FirstArrival)
   jump-frame k le = laid-after (keptWith room (keptOf h) p) (h .places) k (rw (o .kept) le)
 
 -- with room none is dropped
-pub holds-appended : (ds ws : List FirstArrival) (h : Held) (p : FirstArrival) → Holds ds ws h → length ws < windowPlaces → Holds ds (ws ++ (p ∷ [])) (withJump true h p)
+pub holds-appended : (ds ws : List FirstArrival) (h : Held) (p : FirstArrival) → Holds ds ws h → length ws < windowPlaces
+    → Holds ds (ws ++ (p ∷ [])) (withJump true h p)
 unfolding withJump keptWith
 holds-appended ds ws h p o lt =
     let n : length (ws ++ (p ∷ [])) ≡ length ws + 1 = length-append ws (p ∷ []) in
@@ -141,7 +149,8 @@ holds-appended ds ws h p o lt =
     record { long = long-then true ds ws h p o few; kept = kept-then true ds ws h p o; dropped = o .dropped }
 
 -- without room the oldest is
-pub holds-shifted : (ds : List FirstArrival) (q : FirstArrival) (ws : List FirstArrival) (h : Held) (p : FirstArrival) → Holds ds (q ∷ ws) h → length (q ∷ ws) ≤ windowPlaces
+pub holds-shifted : (ds : List FirstArrival) (q : FirstArrival) (ws : List FirstArrival) (h : Held) (p : FirstArrival)
+    → Holds ds (q ∷ ws) h → length (q ∷ ws) ≤ windowPlaces
     → Holds (ds ++ (q ∷ [])) (ws ++ (p ∷ [])) (withJump false h p)
 unfolding withJump keptWith
 holds-shifted ds q ws h p o le =
@@ -170,7 +179,8 @@ noneHeld =
 unfoldable pub heldFrom : List FirstArrival → Held
 heldFrom js = foldl (λ (h : Held) (p : FirstArrival). withJump (ltb (h .kept) windowPlaces) h p) noneHeld js
 
-pub held-more : (js : List FirstArrival) (p : FirstArrival) → heldFrom (js ++ (p ∷ [])) ≡ withJump (ltb (heldFrom js .kept) windowPlaces) (heldFrom js) p
+pub held-more : (js : List FirstArrival) (p : FirstArrival) → heldFrom (js ++ (p ∷ []))
+    ≡ withJump (ltb (heldFrom js .kept) windowPlaces) (heldFrom js) p
 unfolding heldFrom
 held-more js p = fold-more (λ (h : Held) (p : FirstArrival). withJump (ltb (h .kept) windowPlaces) h p) noneHeld js p
 
@@ -178,11 +188,14 @@ held-more js p = fold-more (λ (h : Held) (p : FirstArrival). withJump (ltb (h .
 abbrev HoldsLast : List FirstArrival → Held → Type 0
 HoldsLast js h = Holds (take (length js - windowPlaces) js) (drop (length js - windowPlaces) js) h
 
-holds-more : (js : List FirstArrival) (h : Held) (p : FirstArrival) → HoldsLast js h → HoldsLast (js ++ (p ∷ [])) (withJump (ltb (h .kept) windowPlaces) h p)
+holds-more : (js : List FirstArrival) (h : Held) (p : FirstArrival) → HoldsLast js h
+    → HoldsLast (js ++ (p ∷ [])) (withJump (ltb (h .kept) windowPlaces) h p)
 holds-more js h p o = go (ltb (h .kept) windowPlaces) refl
   where
     c : h .kept ≡ length js - (length js - windowPlaces)
-    c = holds-count (take (length js - windowPlaces) js) (drop (length js - windowPlaces) js) h o ∙ length-drop (length js - windowPlaces) js
+    c =
+        holds-count (take (length js - windowPlaces) js) (drop (length js - windowPlaces) js) h o
+        ∙ length-drop (length js - windowPlaces) js
 
     l : length (js ++ (p ∷ [])) ≡ length js + 1
     l = length-append js (p ∷ [])

@@ -1,7 +1,7 @@
--- A function over a struct that is lent to it, which calls one over the struct's members and returns the outcome: a walk of its MIR, by hand,
--- once for every such struct, callee and list of numbers. The borrow is opened and the struct's cell is taken apart. The streams are copied,
--- and the arrays are lent to the callee for a lifetime of that call. They come back at their last values. The numbers that the callee gives
--- back are stored, the cell is put together, and the borrow is closed at the struct that they make with the arrays.
+-- A function over a struct that is lent to it, which calls one over the struct's members and returns the outcome: a walk of its MIR, by
+-- hand, once for every such struct, callee and list of numbers. The borrow is opened and the struct's cell is taken apart. The streams
+-- are copied, and the arrays are lent to the callee for a lifetime of that call. They come back at their last values. The numbers that
+-- the callee gives back are stored, the cell is put together, and the borrow is closed at the struct that they make with the arrays.
 --     Lendable     such a struct R, with its members, and what the callee gives back, B
 --     ended        the callee's signature; ws are the widths of the numbers
 --     on-members   the function; σ is the type to which its reference refers, as the MIR names it
@@ -220,11 +220,13 @@ module _ {M : Type 1} (𝓤 : URA M) (H : Heap 𝓤) (A : Atoms 𝓤) (W : Given
       alloc1 ! (λ l₀. alloc1 ! (λ l₁. N.allocs-all ! ws (λ bs. alloc1 ! (λ l₂. G.allocs-locals ! τs (λ gs.
       params1 ! $ pass1 ! (init ! 4 refl (tt, tt)) $ move ! (3 ∷ []) $ N.passes-all ! ws bs ns fits _ $
       let two : G.From 𝓤 H _ (at ws 1) τs gs =
-      G.further 𝓤 H _ _ _ τs gs (G.further 𝓤 H _ _ _ τs gs (past-numbers 𝓤 H ws bs _ 1 τs gs (G.further 𝓤 H _ _ 0 τs gs (G.first 𝓤 H τs gs)))) in
+      G.further 𝓤 H _ _ _ τs gs (G.further 𝓤 H _ _ _ τs gs (past-numbers 𝓤 H ws bs _ 1 τs gs
+      (G.further 𝓤 H _ _ 0 τs gs (G.first 𝓤 H τs gs)))) in
       move ! (8 ∷ 9 ∷ 10 ∷ []) $ opens-struct ! tt (X .R) (X .R-laws) h b o (λ was.
-      -- the context: the struct's cell; the open borrow; what observes it, and what holds it; the numbers; the other locals; what the callee
-      -- gives back, the reference, and the result, each with what frees it
-      use1 W (‵ (Streams (X .vs) ss b o) ⊛ ‵ (Arrays (X .ms) (X .lists-in h) b o) ⊛ raw (every 𝓤 (To b o))) (X .apart 𝓤 H A W h b o) $ split3 ! $
+      -- the context: the struct's cell; the open borrow; what observes it, and what holds it; the numbers; the other locals; what the
+      -- callee gives back, the reference, and the result, each with what frees it
+      use1 W (‵ (Streams (X .vs) ss b o) ⊛ ‵ (Arrays (X .ms) (X .lists-in h) b o) ⊛ raw (every 𝓤 (To b o))) (X .apart 𝓤 H A W h b o) $
+      split3 ! $
       move ! (10 ∷ 7 ∷ 0 ∷ []) $ G.takes b o (tyRef (named 0) mut σ) l₁ refl ! (X .vs) (X .ms) ss (X .fit-in h was) gs (at ws 1) two $
       -- the context: the reference; the locals; the streams; the arrays; the way back; the open borrow, with its two; the numbers; what the
       -- callee gives back; what frees that, and the reference; the result. The arrays are lent for α
@@ -234,7 +236,8 @@ module _ {M : Type 1} (𝓤 : URA M) (H : Heap 𝓤) (A : Atoms 𝓤) (W : Given
       G.owns-streams (α ∷ [], tt) (arrays (X .ms) (N.slots ws)) _ _ ! (X .vs) ss (X .fit-in h was) $
       -- what the callee asks; the loans; and the others as before. The call
       nothing ! $ move ! (3 ∷ 0 ∷ []) $ join ! $ join ! $
-      use0 W (raw (c (α ∷ [], tt) (handed X ws (α ∷ [], tt) h ns b o γs) .requires (ghosts (α ∷ [], tt) (handed X ws (α ∷ [], tt) h ns b o γs))))
+      use0 W (raw (c (α ∷ [], tt) (handed X ws (α ∷ [], tt) h ns b o γs) .requires
+      (ghosts (α ∷ [], tt) (handed X ws (α ∷ [], tt) h ns b o γs))))
       (asks (α ∷ [], tt) (handed X ws (α ∷ [], tt) h ns b o γs)) $ move ! (1 ∷ 0 ∷ []) $ join ! $
       use1 W (raw (Callee .pre (to-callee b o h ns α γs))) (id⊢ 𝓤 _) $ move ! (0 ∷ 9 ∷ 3 ∷ []) $
       calls-from ! fm (raw (Callee .pre (to-callee b o h ns α γs))) (row-passed b o h ns)
@@ -244,7 +247,9 @@ module _ {M : Type 1} (𝓤 : URA M) (H : Heap 𝓤) (A : Atoms 𝓤) (W : Given
       (λ a e. Q h ns (X .outcome a) (left X ws (α ∷ [], tt) a e)) (told (α ∷ [], tt) h ns b o γs) (λ a f e is.
       -- the lifetime is ended, and the arrays come back, at xs
       use1 W (‵ (flft (α ∷ []) fullShare) ⊛ ‵ ftrue) (id⊢ 𝓤 _) $ split ! $ lft-end ! tt $
-      let f′ = G.past-streams (α ∷ [], tt) (arrays (X .ms) (N.slots ws)) (lent b o (α ∷ [], tt) (N.slots ws) (N.given (α ∷ [], tt) ws ns) (X .ms) (X .lists-in h) γs) (X .vs) ss f in
+      let f′ =
+      G.past-streams (α ∷ [], tt) (arrays (X .ms) (N.slots ws))
+      (lent b o (α ∷ [], tt) (N.slots ws) (N.given (α ∷ [], tt) ws ns) (X .ms) (X .lists-in h) γs) (X .vs) ss f in
       let xs : Lists (X .ms) = G.last b o (α ∷ [], tt) (N.slots ws) (N.given (α ∷ [], tt) ws ns) (X .ms) (X .lists-in h) γs f′ in
       move ! (2 ∷ []) $ G.forgets-streams (α ∷ [], tt) (arrays (X .ms) (N.slots ws)) _ ! (X .vs) ss f $
       move ! (1 ∷ 5 ∷ 0 ∷ []) $ G.backs b o α (N.slots ws) _ ! tt (X .ms) (X .lists-in h) γs f′ (λ ix.
@@ -253,7 +258,8 @@ module _ {M : Type 1} (𝓤 : URA M) (H : Heap 𝓤) (A : Atoms 𝓤) (W : Given
       -- callee gives back; what frees that, and the reference; the result. What the callee gave is written out, and its numbers are stored
       let whole : Is (row (X .B)) a (LL.vals (X .B) (X .B-laws) a) =
       subst (λ (us : List Val). Is (row (X .B)) a us) (LL.tells (X .B) (X .B-laws) a _ is) is in
-      land ! (N.found ! (N.after 𝓤 H ws bs _ 0)) (init ! 9 refl (N.alone (row (X .B) .mir) v (LL.lawful (X .B) (X .B-laws) 𝓤 H A W .typed a _ is))) $
+      land ! (N.found ! (N.after 𝓤 H ws bs _ 0)) (init ! 9 refl
+      (N.alone (row (X .B) .mir) v (LL.lawful (X .B) (X .B-laws) 𝓤 H A W .typed a _ is))) $
       rewrite ! 9 (λ (u : Val). ‵ (fat fullShare (lone (row (X .B) .mir)) l₂ 0 u)) (ap only (LL.tells (X .B) (X .B-laws) a _ is)) refl $
       move ! (3 ∷ 4 ∷ 9 ∷ 12 ∷ []) $
       X .stores ! b o (at ws 0) l₀ l₁ l₂ (tyRef (named 0) mut σ) refl refl (N.after 𝓤 H ws bs _ 0) a whole ss $
@@ -265,8 +271,8 @@ module _ {M : Type 1} (𝓤 : URA M) (H : Heap 𝓤) (A : Atoms 𝓤) (W : Given
       (sem 𝓤 H A (cellAt fullShare (row (X .R) .mir) (LL.vals (X .R) (X .R-laws) h′) b o))) $
       owned ! (row (X .R)) (Is (row (X .R))) (LL.makes (X .R) (X .R-plain) 𝓤 H A) h′ _ (X .made-is _ _ (X .numbers-are a whole) ix) $
       move ! (1 ∷ 0 ∷ 7 ∷ 8 ∷ 9 ∷ []) $ closes ! tt (row (X .R)) h′ (LL.vals (X .R) (X .R-laws) h′) b o $
-      -- the context: what observes the struct; the borrow; the token; the reference; what the callee gave back; the result; the numbers; the
-      -- locals; what frees what the callee gave back, the reference, and the result
+      -- the context: what observes the struct; the borrow; the token; the reference; what the callee gave back; the result; the numbers;
+      -- the locals; what frees what the callee gave back, the reference, and the result
       returns ! (look ! 5 refl) $ forget ! 3 refl $ forget ! 4 refl $ forget ! 5 refl $
       move ! (5 ∷ 10 ∷ []) $ free1 ! $ move ! (3 ∷ 8 ∷ []) $ free1 ! $ move ! (4 ∷ []) $ N.frees-all ! ws bs ns _ $
       move ! (3 ∷ 5 ∷ []) $ free1 ! $ move ! (3 ∷ []) $ G.frees-locals ! τs gs _ $ keep ! (0 ∷ 2 ∷ []) $

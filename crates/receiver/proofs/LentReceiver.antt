@@ -1,4 +1,5 @@
--- A receiver as a struct that is lent (LentMembers): its stream is passed by value, and its marks and the three arrays of its places are lent.
+-- A receiver as a struct that is lent (LentMembers): its stream is passed by value, and its marks and the three arrays of its places are
+-- lent.
 --     lendable                                    the receiver, with its members
 --     stream-tys, places-tys, places-vals         the types in memory of a stream and of the places, and the machine values of these
 -- Assumes `Given`.
@@ -137,7 +138,8 @@ lendable = record {
       step (λ s. move t (1 ∷ []) $ fsplit t $
       assigns t (of-opd t (load t (found-in t k-at (fld t refl (stop t))) (look-in t 3 (sub t 1 refl (all-of t)))))
       (found-in t one-at (hop t (look t 2 refl) (fld t refl (stop t))))
-      (store-raw t 0 refl (LL.lawful F.the-type F′.the-laws 𝓤 H A W .typed (a .stream) _ (LL.owed B.the-type B′.the-laws a _ is .1 .0) .0)) $
+      (store-raw t 0 refl (LL.lawful F.the-type F′.the-laws 𝓤 H A W .typed (a .stream) _
+      (LL.owed B.the-type B′.the-laws a _ is .1 .0) .0)) $
       assigns t (of-opd t (load t (found-in t k-at (fld t refl (stop t))) (look-in t 3 (sub t 0 refl (all-of t))))) (found t zero-at)
       (init t 4 refl (LL.lawful S.the-type S′.the-laws 𝓤 H A W .typed (a .outcome) _ (LL.owed B.the-type B′.the-laws a _ is .0) .0)) $
       fjoin t $ move t (1 ∷ []) $ s);

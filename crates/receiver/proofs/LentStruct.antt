@@ -168,6 +168,7 @@ pub lends : {M : Type 1} {𝓤 : URA M} {H : Heap 𝓤} {A : Atoms 𝓤} {K : Ty
     → Seq K W (Left 𝓤 H A R S ws Q κs qs a h ∷ Γ) (lands C Λ E d v rest q))
     → Seq K W (Lent 𝓤 H A R S ws Q κs qs a ∷ Γ) (runs C Λ E (seq (call k xs d) rest) q)
 lends {𝓤 = 𝓤} {H = H} {A = A} {W = W} t fm R S ws Q κs qs a given os k =
-    calls-from t fm (Lent 𝓤 H A R S ws Q κs qs a) (args 𝓤 H A R S ws Q κs a) (λ v. mean 𝓤 H A (Back 𝓤 H A R S ws Q κs qs a v)) given os (λ v.
+    calls-from t fm (Lent 𝓤 H A R S ws Q κs qs a) (args 𝓤 H A R S ws Q κs a) (λ v. mean 𝓤 H A (Back 𝓤 H A R S ws Q κs qs a v)) given os
+    (λ v.
     use1 W (Back 𝓤 H A R S ws Q κs qs a v) (id⊢ 𝓤 _) $ await t tt $ pick t (λ s. pick t (λ h. split t $
     heard t (Q (a .0 .now) (taken κs ws (a .1)) s h × Is S s (v ∷ [])) (λ e. k v s h (e .0) (e .1)))))

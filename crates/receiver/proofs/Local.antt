@@ -28,7 +28,8 @@ module _ {M : Type 1} (𝓤 : URA M) (H : Heap 𝓤) (A : Atoms 𝓤) (W : Given
   unfolding partOf
   laid pure is =
       qed W (‵ (fat fullShare (lone (row R .mir)) b 0 (LL.val R L h)) ∷ []) ∵
-      use1 W (‵ (cellAt fullShare (row R .mir) (LL.val R L h ∷ []) b 0)) (W .laws .at-raw fullShare (lone (row R .mir)) b 0 (LL.val R L h)) $
+      use1 W (‵ (cellAt fullShare (row R .mir) (LL.val R L h ∷ []) b 0))
+      (W .laws .at-raw fullShare (lone (row R .mir)) b 0 (LL.val R L h)) $
       owned ! (row R) (Is (row R)) (LL.makes R pure 𝓤 H A) h _ is $ move ! (1 ∷ 0 ∷ []) $ fjoin ! $
       fpack ! (List Val) (λ us. fsep (cellAt fullShare (row R .mir) us b 0) (row R .own h us)) (LL.val R L h ∷ []) $
       done !
@@ -41,4 +42,5 @@ module _ {M : Type 1} (𝓤 : URA M) (H : Heap 𝓤) (A : Atoms 𝓤) (W : Given
       qed W (‵ (mem (row R) .lies h b 0) ∷ []) ∵ fpick ! (λ vs. fsplit ! $
       spelt ! (row R) (Is (row R)) (shows 𝓤 H A (row R)) (LL.vals R L)
       (LL.tells R L) fullShare h vs b 0 $
-      use1 W (‵ (fat fullShare (lone (row R .mir)) b 0 (LL.val R L h))) (W .laws .raw-at fullShare (lone (row R .mir)) b 0 (LL.val R L h)) $ frame ! $ done !)
+      use1 W (‵ (fat fullShare (lone (row R .mir)) b 0 (LL.val R L h))) (W .laws .raw-at fullShare (lone (row R .mir)) b 0 (LL.val R L h))
+      $ frame ! $ done !)

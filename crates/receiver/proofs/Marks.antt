@@ -120,7 +120,9 @@ length-marks = snoc-ind (λ (fs : List Arrival). length (marksOf fs) ≡ markWor
 -- a packet is marked exactly if it is among the arrivals
 pub marked-is-arrived : (fs : List Arrival) → All (OfPackets sentMost) fs → (s : ℕ) → 1 ≤ s → markAt (marksOf fs) s ≡ has s fs
 unfolding marksOf has
-marked-is-arrived = snoc-ind (λ (fs : List Arrival). All (OfPackets sentMost) fs → (s : ℕ) → 1 ≤ s → markAt (marksOf fs) s ≡ has s fs) more (λ h s l. marked-none s)
+marked-is-arrived =
+    snoc-ind (λ (fs : List Arrival). All (OfPackets sentMost) fs → (s : ℕ) → 1 ≤ s → markAt (marksOf fs) s ≡ has s fs) more
+    (λ h s l. marked-none s)
   where
     more : (fs : List Arrival) (a : Arrival)
         → (All (OfPackets sentMost) fs → (s : ℕ) → 1 ≤ s → markAt (marksOf fs) s ≡ has s fs)

@@ -323,7 +323,8 @@ module _ {M : Type 1} {𝓤 : URA M} {H : Heap 𝓤} {A′ : Atoms 𝓤} {K : Ty
 
     pub takes : {Γ : List (Item 𝓤)} → K → (vs : List (Way τ F′.mir)) (ms : List (Lent τ)) (ss : Numbers vs) → Fit vs ss
         → (bs : Blocks (local-tys vs ms)) (i : ℕ) → From 𝓤 H E i (local-tys vs ms) bs → {rest : Code}
-        → Step K W (‵ (pointer b o ρ l) ∷ ‵ (Held (local-tys vs ms) bs (machine b o vs ms ss)) ∷ ‵ (Streams vs ss b o) ∷ Γ) (runs C Λ E rest q)
+        → Step K W (‵ (pointer b o ρ l) ∷ ‵ (Held (local-tys vs ms) bs (machine b o vs ms ss)) ∷ ‵ (Streams vs ss b o) ∷ Γ)
+        (runs C Λ E rest q)
         (‵ (pointer b o ρ l) ∷ ‵ (Room (local-tys vs ms) bs) ∷ ‵ (Streams vs ss b o) ∷ Γ) (runs C Λ E (copied vs ms i rest) q)
     takes t [] ms ss is bs i at = takes-arrays t ms bs i at
     takes t (v ∷ vs) ms ss is bs i at = step (λ s. move t (2 ∷ []) $ fsplit t $ move t (3 ∷ []) $ fsplit t $ fsplit t $
@@ -350,7 +351,8 @@ module _ {M : Type 1} {𝓤 : URA M} {H : Heap 𝓤} {A′ : Atoms 𝓤} {K : Ty
   module _ {τ : Ty} (b o α : ℕ) (ts : List (Slot 1)) (y : Denots (typesAt ts (α ∷ [], tt))) where
     pub backs : {Γ : List (Item 𝓤)} {G : Goal 𝓤 H} → K → Soaks G → (ms : List (Lent τ)) (xs : Lists ms) (γs : Names ms)
         → (f : Fins (α ∷ [], tt) (arrays ms ts) (all yes (arrays ms ts)) (lent b o (α ∷ [], tt) ts y ms xs γs))
-        → (Are ms (last b o (α ∷ [], tt) ts y ms xs γs f) → Seq K W (‵ (fdead (α ∷ [])) ∷ ‵ (Arrays ms (last b o (α ∷ [], tt) ts y ms xs γs f) b o) ∷ Γ) G)
+        → (Are ms (last b o (α ∷ [], tt) ts y ms xs γs f) → Seq K W
+        (‵ (fdead (α ∷ [])) ∷ ‵ (Arrays ms (last b o (α ∷ [], tt) ts y ms xs γs f) b o) ∷ Γ) G)
         → Seq K W (‵ (fdead (α ∷ [])) ∷ ‵ (Loans ms γs α b o)
         ∷ ‵ (lastsOf (α ∷ [], tt) (arrays ms ts) (all yes (arrays ms ts)) (lent b o (α ∷ [], tt) ts y ms xs γs) f) ∷ Γ) G
     backs t z [] xs γs f k = move t (2 ∷ []) $ drop t $ k tt

@@ -101,7 +101,13 @@ module _ (c : ℕ) where
     beyond-moved : beyondFigures (movedPlaces kept) (moved c account) (movedOne c a) ≡ beyondFigures kept account a
     unfolding beyondFigures latenessFrom
     beyond-moved =
-        rw (firsts-moved c account, length-map (firsts account) (movedOne c), head-moved kept, extent-moved c (length (firsts account) + 1) (head? kept), late-moved c (a .time) (head? kept))
+        rw (
+          firsts-moved c account,
+          length-map (firsts account) (movedOne c),
+          head-moved kept,
+          extent-moved c (length (firsts account) + 1) (head? kept),
+          late-moved c (a .time) (head? kept),
+        )
 
     -- an answer in the receiver's forms
     form-moved : (b : Answer) → inForm (movedPlaces kept) (moved c account) (movedOne c a) b ≡ inForm kept account a b
@@ -124,7 +130,8 @@ module _ (c : ℕ) where
       same : (earlier : List Arrival) (a : Arrival) → accountOutcome k (moved c earlier) (movedOne c a) ≡ accountOutcome k earlier a
       same earlier a =
           ap (λ (account : List Arrival). outcomeIn (windowIn account) k account (movedOne c a)) (account-moved k earlier)
-          ∙ ap (λ (kept : List FirstArrival). outcomeIn kept k (moved c (accountOf k earlier)) (movedOne c a)) (window-moved (accountOf k earlier))
+          ∙ ap (λ (kept : List FirstArrival). outcomeIn kept k (moved c (accountOf k earlier)) (movedOne c a))
+          (window-moved (accountOf k earlier))
           ∙ outcome-moved (windowIn (accountOf k earlier)) (accountOf k earlier) a k
 
 -- as `fresh` carries it: of the receiver that it hands back

@@ -49,15 +49,18 @@ module _ (l : List ℕ) (size : length l ≡ windowPlaces) where
   read-at false i p h e = ap (λ (n : ℕ). getD l n 0) e
 
 -- a value set from the last down
-turned-set : (l : List ℕ) → length l ≡ windowPlaces → (i v : ℕ) → i < windowPlaces → reverse (set l (windowPlaces - 1 - i) v) ≡ set (reverse l) i v
+turned-set : (l : List ℕ) → length l ≡ windowPlaces → (i v : ℕ) → i < windowPlaces
+    → reverse (set l (windowPlaces - 1 - i) v) ≡ set (reverse l) i v
 turned-set l size i v h =
     let long : length (set l (windowPlaces - 1 - i) v) ≡ windowPlaces = length-set l (windowPlaces - 1 - i) v ∙ size in
     let a : length (reverse (set l (windowPlaces - 1 - i) v)) ≡ windowPlaces = length-reverse (set l (windowPlaces - 1 - i) v) ∙ long in
     let r : length (reverse l) ≡ windowPlaces = length-reverse l ∙ size in
     let b : length (set (reverse l) i v) ≡ windowPlaces = length-set (reverse l) i v ∙ r in
-    ext-getD 0 (reverse (set l (windowPlaces - 1 - i) v)) (set (reverse l) i v) (omega (arith, a, b)) (λ k g. at long r k (omega (arith, a)) (eqb k i) refl)
+    ext-getD 0 (reverse (set l (windowPlaces - 1 - i) v)) (set (reverse l) i v) (omega (arith, a, b))
+    (λ k g. at long r k (omega (arith, a)) (eqb k i) refl)
   where
-    at : length (set l (windowPlaces - 1 - i) v) ≡ windowPlaces → length (reverse l) ≡ windowPlaces → (k : ℕ) → k < windowPlaces → (t : Bool) → eqb k i ≡ t
+    at : length (set l (windowPlaces - 1 - i) v) ≡ windowPlaces → length (reverse l) ≡ windowPlaces → (k : ℕ) → k < windowPlaces
+        → (t : Bool) → eqb k i ≡ t
         → getD (reverse (set l (windowPlaces - 1 - i) v)) k 0 ≡ getD (set (reverse l) i v) k 0
     at long r k g true q =
         let same : k ≡ i = eqb-true _ _ q in

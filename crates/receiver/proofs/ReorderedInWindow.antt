@@ -76,7 +76,8 @@ search-late account ds ws sp s low new late = go ws refl
         sym (sp .parts) ∙ ap (λ (l : List FirstArrival). ds ++ l) e in
         let rise = subst (Ordered Rises) parts (jumps-rise (firsts account)) in
         let first = rw parts at (found .first) in
-        let inside = all-right (Within (firsts account)) ds (o ∷ later) (subst (All (Within (firsts account))) parts (jumps-within (firsts account))) in
+        let inside =
+        all-right (Within (firsts account)) ds (o ∷ later) (subst (All (Within (firsts account))) parts (jumps-within (firsts account))) in
         record {
           at = found .at;
           is = found .is;

@@ -23,7 +23,8 @@ use Rattle.receiver.specs.Private.{FirstAbove}
 use Rattle.receiver.proofs.Fits.{every-true}
 
 -- the places from one on, with that one first
-places-cons : (places : Places) (n at : ℕ) → at < n → placesFrom places at (n - at) ≡ placeAt places at ∷ placesFrom places (at + 1) (n - (at + 1))
+places-cons : (places : Places) (n at : ℕ) → at < n → placesFrom places at (n - at) ≡ placeAt places at
+    ∷ placesFrom places (at + 1) (n - (at + 1))
 unfolding placesFrom
 places-cons places n at h =
     let e : n - at ≡ suc (n - (at + 1)) = omega arith in

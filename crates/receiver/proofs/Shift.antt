@@ -1,7 +1,7 @@
 -- Places that move by one, from the first on: after i of them the list is `shifted i`, of which the first i hold what stood after each, and
 -- the others what they held. A turn sets the place i to what stands at i + 1, which has not moved yet (`shifted-at`), and that is
--- `shifted (i + 1)` (`shifted-next`). After n of them the place n is set to the new value v, and the list is pushed (`pushed-last`). l is the
--- list before, t the list now. Assumes nothing.
+-- `shifted (i + 1)` (`shifted-next`). After n of them the place n is set to the new value v, and the list is pushed (`pushed-last`). l is
+-- the list before, t the list now. Assumes nothing.
 use Prim.Native.Nat.{ℕ, suc, _+_, _<_, _≤_}
 use mathlib.Core.Bool.{Bool, false}
 use mathlib.Core.List.{List, [], _∷_, _++_}
@@ -96,4 +96,5 @@ module _ (down : Bool) (l₀ : List ℕ) (long : length l₀ ≡ windowPlaces) (
   pub moved-last : (l : List ℕ) (i end v : ℕ) → i ≡ n → end ≡ placeFrom down n → Moved down l₀ l i
       → oldestFirst down (set l end v) ≡ pushed false (n + 1) (oldestFirst down l₀) v
   moved-last l i end v e a m =
-      write-at l (m .size) down n end v few a ∙ pushed-last (oldestFirst down l₀) n enough (n + 1) (add-one n) i (oldestFirst down l) e (m .held) v
+      write-at l (m .size) down n end v few a ∙ pushed-last (oldestFirst down l₀) n enough (n + 1) (add-one n) i (oldestFirst down l) e
+      (m .held) v

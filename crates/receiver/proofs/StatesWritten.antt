@@ -94,7 +94,8 @@ pub in-order-numbers : (most : ℕ) → 1 ≤ most → (s : Stream) (positions n
       runs = lengthened (s .runs);
       dropped = cond (eqb size 0) (s .dropped) (cond (ltb (s .kept) most) (s .dropped) (getD numbers 0 0));
     })
-    (inOrderStream s (heldAfter (ltb (s .kept) most) (heldOf s (placesOf positions numbers times)) size (placedAt s number time)) number time)
+    (inOrderStream s (heldAfter (ltb (s .kept) most) (heldOf s (placesOf positions numbers times)) size (placedAt s number time)) number
+    time)
 unfolding inOrderStream
 in-order-numbers most least s positions numbers times size number time =
     let h : Held = heldOf s (placesOf positions numbers times) in
@@ -191,7 +192,8 @@ module _ (most : ℕ) (s g : Stream) (marks positions numbers times : List ℕ) 
       new : FirstArrival
       new = placedAt s number time
 
-      laid-values : (f : FirstArrival → ℕ) (xs : List ℕ) → length xs ≡ windowPlaces → ((at : ℕ) → f (placeAt (before .places) at) ≡ getD xs at 0)
+      laid-values : (f : FirstArrival → ℕ) (xs : List ℕ) → length xs ≡ windowPlaces
+          → ((at : ℕ) → f (placeAt (before .places) at) ≡ getD xs at 0)
           → pushed room (s .kept) xs (f new) ≡ over (map f (keptWith room (keptOf before) new)) xs
       laid-values f xs l read =
           let le : s .kept ≤ length xs = rw l (fits .0) in

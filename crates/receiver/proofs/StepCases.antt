@@ -1,8 +1,8 @@
 -- What is said of an arrival, case by case, and the step that it makes: in each case the tests of the definition are known, so that it
 -- computes. Where no refusal is due, each of those in the list is not, so the state is fit and the number lies in 1 to K
 -- (`accepted-facts`); and then a kept place is one of the 64, with a position of at most the packet's (`after-place`).
--- Here r is the state, s its numbers, h what it holds of the jumps, a the arrival, o what is said of it, p the oldest kept jump of a greater number, q the
--- oldest kept one, l the extent and late time from a jump. Assumes nothing.
+-- Here r is the state, s its numbers, h what it holds of the jumps, a the arrival, o what is said of it, p the oldest kept jump of a
+-- greater number, q the oldest kept one, l the extent and late time from a jump. Assumes nothing.
 use Prim.Native.Nat.{ℕ, zero, suc, _+_, _-_, _<_, _≤_}
 use mathlib.Core.Bool.{Bool, true, false, not}
 use mathlib.Core.List.{List, [], _∷_, head?}

@@ -28,7 +28,8 @@ last-more ds p = foldl-append _ 0 ds (p ∷ [])
 
 -- none of rising jumps has a number above the last one's
 last-highest : (ds : List FirstArrival) → Ordered Rises ds → All (λ (p : FirstArrival). p .number ≤ lastNumber ds) ds
-last-highest = snoc-ind (λ (ds : List FirstArrival). Ordered Rises ds → All (λ (p : FirstArrival). p .number ≤ lastNumber ds) ds) more (λ h. tt)
+last-highest =
+    snoc-ind (λ (ds : List FirstArrival). Ordered Rises ds → All (λ (p : FirstArrival). p .number ≤ lastNumber ds) ds) more (λ h. tt)
   where
     more : (ds : List FirstArrival) (q : FirstArrival)
         → (Ordered Rises ds → All (λ (p : FirstArrival). p .number ≤ lastNumber ds) ds)
@@ -96,7 +97,8 @@ module _ (s : ℕ) (dropped : List FirstArrival) (o : FirstArrival) (later : Lis
   from-dropped p e =
       let same : p ≡ d = cc (rw e at (firstAbove-append s dropped (o ∷ later))) in
       let m = firstAbove-member s dropped d (e ∙ ap some same) in
-      let after : All (Rises d) (o ∷ later) = all-member (λ (a : FirstArrival). All (Rises a) (o ∷ later)) (m .0) (ordered-across Rises dropped (o ∷ later) rise) in
+      let after : All (Rises d) (o ∷ later) =
+      all-member (λ (a : FirstArrival). All (Rises a) (o ∷ later)) (m .0) (ordered-across Rises dropped (o ∷ later) rise) in
       let above : s < o .number = let r : Rises d o = after .0 in let a : s < d .number = m .1 in omega arith in
       record {
         apart = after-stands d (o ∷ later) after;
@@ -116,6 +118,8 @@ module _ (s : ℕ) (dropped : List FirstArrival) (o : FirstArrival) (later : Lis
   pub discontinuity-in-window : lastNumber dropped ≤ s → IsKept s (o ∷ later) d
   discontinuity-in-window h =
       let low = last-highest dropped (ordered-left Rises dropped (o ∷ later) rise) in
-      let below : All (λ (p : FirstArrival). p .number ≤ s) dropped = all-weaken (λ (p : FirstArrival) (k : p .number ≤ lastNumber dropped). omega arith) dropped low in
-      let e : firstAbove s (o ∷ later) ≡ some d = sym (rw (firstAbove-none s dropped below) at (firstAbove-append s dropped (o ∷ later))) ∙ found in
+      let below : All (λ (p : FirstArrival). p .number ≤ s) dropped =
+      all-weaken (λ (p : FirstArrival) (k : p .number ≤ lastNumber dropped). omega arith) dropped low in
+      let e : firstAbove s (o ∷ later) ≡ some d =
+      sym (rw (firstAbove-none s dropped below) at (firstAbove-append s dropped (o ∷ later))) ∙ found in
       record { among = member-stands d (o ∷ later) (firstAbove-member s (o ∷ later) d e .0); is = e }

@@ -19,5 +19,11 @@ use Rattle.receiver.specs.Demand3.{stateAfter, outcomeAfter}
 use Rattle.receiver.specs.WindowCases.{evensFrom, computed, outcomeDue, case1, case2, case3, windowCases, WindowCasesHold}
 
 pub window-cases-hold : WindowCasesHold
-unfolding flatten has withArrival firsts recordFrom firstRecord eachAfter each nextAfter nextExp isInOrder jumpSize isJump placed jumpAfter jumps firstAbove discontinuity extentFrom lateFrom byteOffset largestN inOrderAnswer reorderedAnswer firstAnswer answerTo lengthened ended tooEarly nextReference greatestTime elapsed outside judgeOne markAt withMark placeAt placesFrom keptOf keptWith laid withJump heldAfter every streamFit jumpFit placesFit fit freshStream madeFor freshOf stepRefusal latenessFrom reorderedOutcome firstOutcome unrefusedOutcome outcomeOf duplicateStream inOrderStream reorderedStream inOrderState notedState stepWith accountRefusal accountWith accountOf answerIn windowIn standsIn isIn inWindow beyondFigures inForm outcomeIn stateAfter outcomeAfter evensFrom computed outcomeDue case1 case2 case3 windowCases
+unfolding flatten has withArrival firsts recordFrom firstRecord eachAfter each nextAfter nextExp isInOrder jumpSize isJump placed
+    jumpAfter jumps firstAbove discontinuity extentFrom lateFrom byteOffset largestN inOrderAnswer reorderedAnswer firstAnswer answerTo
+    lengthened ended tooEarly nextReference greatestTime elapsed outside judgeOne markAt withMark placeAt placesFrom keptOf keptWith laid
+    withJump heldAfter every streamFit jumpFit placesFit fit freshStream madeFor freshOf stepRefusal latenessFrom reorderedOutcome
+    firstOutcome unrefusedOutcome outcomeOf duplicateStream inOrderStream reorderedStream inOrderState notedState stepWith accountRefusal
+    accountWith accountOf answerIn windowIn standsIn isIn inWindow beyondFigures inForm outcomeIn stateAfter outcomeAfter evensFrom
+    computed outcomeDue case1 case2 case3 windowCases
 window-cases-hold = refl

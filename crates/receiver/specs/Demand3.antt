@@ -39,7 +39,8 @@ unfoldable pub receiverOutcomes : ℕ → List Arrival → List Outcome
 receiverOutcomes k fed = each (outcomeAfter k) fed
 
 -- how a reordered packet a is answered over a window and an account: so it is noted, and d has its true figures
-pub record Answered (kept : List FirstArrival) (account : List Arrival) (a : Arrival) (d : ReorderedFigures) (noted : ReceiverAnswer) : Type 0 where
+pub record Answered (kept : List FirstArrival) (account : List Arrival) (a : Arrival) (d : ReorderedFigures)
+    (noted : ReceiverAnswer) : Type 0 where
   -- its discontinuity is in the window: exact, with the true figures
   pub exact : inWindow kept account (a .number) ≡ true → noted ≡ Exact (trueFigures d)
   -- it is not: beyond the window,

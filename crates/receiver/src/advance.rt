@@ -43,7 +43,8 @@ pub(crate) fn advance_within<'a>(
 ) -> StreamStep
     requires { ⌜ ((1 ≤ most) × (most ≤ windowPlaces)) × Full (now positions) (now numbers) (now times) ⌝ }
     ensures { λ a. ⌜ stepAnswerBy down a (now (marks .exit)) (now (positions .exit)) (now (numbers .exit)) (now (times .exit))
-        ≡ stepWith (ltb (s .kept) most) (wholeBy down s (now (marks .entry)) (now (positions .entry)) (now (numbers .entry)) (now (times .entry))) number time ⌝ }
+        ≡ stepWith (ltb (s .kept) most) (wholeBy down s (now (marks .entry)) (now (positions .entry)) (now (numbers .entry))
+        (now (times .entry))) number time ⌝ }
 {
     let outcome = decide(s, down, marks, positions, numbers, times, number, time);
     if outcome.refusal != 0 {

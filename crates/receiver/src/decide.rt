@@ -37,7 +37,8 @@ fn step_refusal<'a>(
     time: u64,
 ) -> u32
     requires { ⌜ Full (now positions) (now numbers) (now times) ⌝ }
-    ensures { λ r. ⌜ r ≡ stepRefusal (wholeBy down s [] (now (positions .entry)) (now (numbers .entry)) (now (times .entry))) number time ⌝ }
+    ensures { λ r. ⌜ r ≡ stepRefusal (wholeBy down s [] (now (positions .entry)) (now (numbers .entry)) (now (times .entry))) number
+        time ⌝ }
 {
     if !stream_fit(s) {
         return refusal::STATE_UNFIT;
@@ -60,8 +61,10 @@ fn lateness_from<'a>(
     position: u32,
     time: u64,
 ) -> Lateness
-    requires { ⌜ (i < windowPlaces) × ((getD (oldestFirst down (now positions)) i 0 ≤ position) × ((length (now positions) ≡ windowPlaces) × (length (now times) ≡ windowPlaces))) ⌝ }
-    ensures { λ r. ⌜ ((s : ℕ) → r ≡ latenessFrom position time (some (record { position = getD (oldestFirst down (now (positions .entry))) i 0; number = s; time = getD (oldestFirst down (now (times .entry))) i 0 }))) ⌝ }
+    requires { ⌜ (i < windowPlaces) × ((getD (oldestFirst down (now positions)) i 0 ≤ position)
+        × ((length (now positions) ≡ windowPlaces) × (length (now times) ≡ windowPlaces))) ⌝ }
+    ensures { λ r. ⌜ ((s : ℕ) → r ≡ latenessFrom position time
+        (some (record { position = getD (oldestFirst down (now (positions .entry))) i 0; number = s; time = getD (oldestFirst down (now (times .entry))) i 0 }))) ⌝ }
 {
     let at = place(down, i);
     Lateness {
@@ -80,8 +83,10 @@ fn late_outcome<'a>(
     number: u32,
     time: u64,
 ) -> Outcome
-    requires { ⌜ Unrefused (wholeBy down s [] (now positions) (now numbers) (now times)) number × Full (now positions) (now numbers) (now times) ⌝ }
-    ensures { λ r. ⌜ r ≡ lateOutcome s (placesBy down (now (positions .entry)) (now (numbers .entry)) (now (times .entry))) (record { number = number; time = time }) ⌝ }
+    requires { ⌜ Unrefused (wholeBy down s [] (now positions) (now numbers) (now times)) number
+        × Full (now positions) (now numbers) (now times) ⌝ }
+    ensures { λ r. ⌜ r ≡ lateOutcome s (placesBy down (now (positions .entry)) (now (numbers .entry)) (now (times .entry)))
+        (record { number = number; time = time }) ⌝ }
 {
     let found = place_above(numbers, down, s.kept, number);
     if s.kept as usize <= found {
@@ -116,7 +121,8 @@ pub(crate) fn decide<'a>(
     time: u64,
 ) -> Outcome
     requires { ⌜ Full (now positions) (now numbers) (now times) ⌝ }
-    ensures { λ r. ⌜ r ≡ outcomeOf (wholeBy down s (now (marks .entry)) (now (positions .entry)) (now (numbers .entry)) (now (times .entry))) number time ⌝ }
+    ensures { λ r. ⌜ r ≡ outcomeOf (wholeBy down s (now (marks .entry)) (now (positions .entry)) (now (numbers .entry))
+        (now (times .entry))) number time ⌝ }
 {
     let refusal = step_refusal(s, down, positions, numbers, times, number, time);
     if refusal != 0 {

@@ -86,7 +86,8 @@ fn put_last<'a>(
     time: u64,
 )
     requires { ⌜ (last < windowPlaces) × Full (now positions) (now numbers) (now times) ⌝ }
-    ensures { λ _. ⌜ (oldestFirst down (now (positions .exit)) ≡ pushed false (last + 1) (oldestFirst down (now (positions .entry))) position)
+    ensures { λ _. ⌜ (oldestFirst down (now (positions .exit))
+        ≡ pushed false (last + 1) (oldestFirst down (now (positions .entry))) position)
         × ((oldestFirst down (now (numbers .exit)) ≡ pushed false (last + 1) (oldestFirst down (now (numbers .entry))) number)
         × (oldestFirst down (now (times .exit)) ≡ pushed false (last + 1) (oldestFirst down (now (times .entry))) time)) ⌝ }
 {
@@ -119,7 +120,8 @@ pub(crate) fn push<'a>(
     time: u64,
 )
     requires { ⌜ (kept ≤ windowPlaces) × (((1 ≤ most) × (most ≤ windowPlaces)) × Full (now positions) (now numbers) (now times)) ⌝ }
-    ensures { λ _. ⌜ (oldestFirst down (now (positions .exit)) ≡ pushed (ltb kept most) kept (oldestFirst down (now (positions .entry))) position)
+    ensures { λ _. ⌜ (oldestFirst down (now (positions .exit))
+        ≡ pushed (ltb kept most) kept (oldestFirst down (now (positions .entry))) position)
         × ((oldestFirst down (now (numbers .exit)) ≡ pushed (ltb kept most) kept (oldestFirst down (now (numbers .entry))) number)
         × (oldestFirst down (now (times .exit)) ≡ pushed (ltb kept most) kept (oldestFirst down (now (times .entry))) time)) ⌝ }
 {

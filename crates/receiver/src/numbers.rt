@@ -51,7 +51,8 @@ pub(crate) fn after_in_order(
     time: u64,
 ) -> Stream
     requires { ⌜ StreamFit s × ((number ≤ sentMost) × ((1 ≤ most) × (length (now numbers) ≡ windowPlaces))) ⌝ }
-    ensures { λ r. ⌜ ((positions times : List ℕ) → r ≡ inOrderStream s (heldAfter (ltb (s .kept) most) (heldOf s (placesOf positions (oldestFirst down (now (numbers .entry))) times)) size (placedAt s number time)) number time) ⌝ }
+    ensures { λ r. ⌜ ((positions times : List ℕ) → r ≡ inOrderStream s
+        (heldAfter (ltb (s .kept) most) (heldOf s (placesOf positions (oldestFirst down (now (numbers .entry))) times)) size (placedAt s number time)) number time) ⌝ }
 {
     let runs = lengthened(s.runs);
     Stream {

@@ -64,7 +64,8 @@ pub fn advance<'a>(
     time: u64,
 ) -> StreamStep
     ensures { λ a. ⌜ stepAnswerBy down a (now (marks .exit)) (now (positions .exit)) (now (numbers .exit)) (now (times .exit))
-        ≡ stepWithin most (wholeBy down s (now (marks .entry)) (now (positions .entry)) (now (numbers .entry)) (now (times .entry))) number time ⌝ }
+        ≡ stepWithin most (wholeBy down s (now (marks .entry)) (now (positions .entry)) (now (numbers .entry)) (now (times .entry)))
+        number time ⌝ }
 {
     let _positions = counted16(positions);
     let _numbers = counted16(numbers);

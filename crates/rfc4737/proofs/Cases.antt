@@ -15,7 +15,11 @@ use Rattle.rfc4737.specs.Judge.{arrivalsFrom}
 use Rattle.rfc4737.specs.Cases.{CasesHold, Case, closes, caseFigures, measured, everyTen, withGaps, tallied, p1, p2, p3, p4, p5, p6, p7, p8, p9, p10, p11, workedCases, quotientTable}
 
 figures : map measured workedCases ≡ map (λ (c : Case). c .given) workedCases
-unfolding flatten has withArrival firsts recordFrom firstRecord eachAfter each count nextAfter nextExp isInOrder jumpSize placed firstAbove discontinuity extentFrom elapsed lateFrom sizeIn byteOffset largestN inOrderAnswer reorderedAnswer firstAnswer answerTo answers belongsTo positionOf discoverer discontinuitiesTo discontinuities earlier neighbour gapOver gapOf gaps arrived lengthened ended runsAfter runs counts tallyPlace oneMoreAt tallyAfter tally isNReordered share ratios closes caseFigures measured arrivalsFrom everyTen withGaps tallied p1 p2 p3 p4 p5 p6 p7 p8 p9 p10 p11 workedCases
+unfolding flatten has withArrival firsts recordFrom firstRecord eachAfter each count nextAfter nextExp isInOrder jumpSize placed
+    firstAbove discontinuity extentFrom elapsed lateFrom sizeIn byteOffset largestN inOrderAnswer reorderedAnswer firstAnswer answerTo
+    answers belongsTo positionOf discoverer discontinuitiesTo discontinuities earlier neighbour gapOver gapOf gaps arrived lengthened
+    ended runsAfter runs counts tallyPlace oneMoreAt tallyAfter tally isNReordered share ratios closes caseFigures measured arrivalsFrom
+    everyTen withGaps tallied p1 p2 p3 p4 p5 p6 p7 p8 p9 p10 p11 workedCases
 figures = refl
 
 pub cases-hold : CasesHold

@@ -27,7 +27,8 @@ use Rattle.rfc4737.proofs.Packets.{OfPackets}
 use Rattle.rfc4737.proofs.Times.{reference-above}
 use Rattle.rfc4737.proofs.Pairs.{arrivals-length, arrivals-getD}
 
--- ---- a loop over a list l of arrivals, `a` the one at i: before it the whole is as what is left, `judge k 0 l ≡ judge k reference (drop i l)`
+-- ---- a loop over a list l of arrivals, `a` the one at i: before it the whole is as what is left, `judge k 0 l ≡ judge k reference (drop
+-- i l)`
 
 module _ (k : ℕ) (l : List Arrival) (reference i : ℕ) (z a : Arrival) (h : i < length l) (here : a ≡ getD l i z)
     (inv : judge k 0 l ≡ judge k reference (drop i l)) where

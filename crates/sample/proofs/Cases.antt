@@ -12,7 +12,8 @@ use Rattle.sample.specs.Decode.{countAt, arrivalIn, sampleIn, sectionSta
 use Rattle.sample.specs.Cases.{refusalCases, RefusalsInOrder}
 
 computed : map (λ (c : List ℕ × ℕ). decodedRefusal (decode (c .0))) refusalCases ≡ map (λ (c : List ℕ × ℕ). c .1) refusalCases
-unfolding beValue beOctets outside section arrivalOctets itemOctets itemsIn fileOf tooEarly nextReference arrivalsFrom judgeOne judge someUnshown countAt arrivalIn sampleIn sectionStage fileRefusal decode
+unfolding beValue beOctets outside section arrivalOctets itemOctets itemsIn fileOf tooEarly nextReference arrivalsFrom judgeOne judge
+    someUnshown countAt arrivalIn sampleIn sectionStage fileRefusal decode
 computed = refl
 
 pub in-order : RefusalsInOrder

@@ -251,7 +251,14 @@ filled-fit label sent arrivals l p s a =
     let o = length-replicate arrivals again in
     record {
       judged = within-limits (record { label = replicate label shownLeast; sizes = replicate sent 0; arrivals = replicate arrivals again })
-          (record { labelFits = omega arith; shown = spaces-shown label; sentSome = omega arith; sentFits = omega arith; arrivalsFit = omega arith; judged = again-judged (length (replicate sent 0)) arrivals (omega arith) });
+          (record {
+            labelFits = omega arith;
+            shown = spaces-shown label;
+            sentSome = omega arith;
+            sentFits = omega arith;
+            arrivalsFit = omega arith;
+            judged = again-judged (length (replicate sent 0)) arrivals (omega arith);
+          });
       sizes = zeros-below (2 ^ 16) sent (omega arith);
       times = again-below (2 ^ 64) arrivals (omega arith);
     }

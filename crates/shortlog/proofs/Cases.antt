@@ -12,5 +12,6 @@ use Rattle.textlog.specs.Decode.{isDecimalMark, inRange, fractionIn, timeIn, li
 use Rattle.shortlog.specs.Cases.{ShortLogsAsGiven}
 
 pub as-given : ShortLogsAsGiven
-unfolding digit isDecimalMark digitCount inRange fractionIn timeIn lineIn decodeLine outside decimalValue lines arrivalsOfLines judgeLines judgeDecoded judgeOne tooEarly nextReference numberFound greatestOf inTurn
+unfolding digit isDecimalMark digitCount inRange fractionIn timeIn lineIn decodeLine outside decimalValue lines arrivalsOfLines judgeLines
+    judgeDecoded judgeOne tooEarly nextReference numberFound greatestOf inTurn
 as-given = record { judged = refl; eight = refl; ten = refl }

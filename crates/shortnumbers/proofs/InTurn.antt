@@ -27,7 +27,8 @@ module _ {A : Type 0} (greatest : List A → ℕ) (full : ℕ → A → A) where
   at-after before (a ∷ l) (suc i) z h =
       let b : A = full (greatest before) a in
       at-after (before ++ (b ∷ [])) l i z (omega arith)
-      ∙ ap (λ (x : List A). full (greatest x) (getD l i z)) (append-assoc before (b ∷ []) (take i (inTurn greatest full (before ++ (b ∷ [])) l)))
+      ∙ ap (λ (x : List A). full (greatest x) (getD l i z)) (append-assoc before (b ∷ [])
+      (take i (inTurn greatest full (before ++ (b ∷ [])) l)))
 
   -- each is found from the greatest of those before it
   pub turn-at : (l : List A) (i : ℕ) (z : A) → i < length l
@@ -41,11 +42,13 @@ module _ {A : Type 0} (greatest : List A → ℕ) (full : ℕ → A → A) where
     unfolding inTurn
     true-after before [] keeps = refl
     true-after before (a ∷ l) keeps =
-        let here : full (greatest before) (short a) ≡ a = finds (greatest before) a (subst (λ (x : List A). distance (greatest x) a) (append-nil before) (keeps [] a l refl)) in
+        let here : full (greatest before) (short a) ≡ a =
+        finds (greatest before) a (subst (λ (x : List A). distance (greatest x) a) (append-nil before) (keeps [] a l refl)) in
         ap (λ (b : A). b ∷ inTurn greatest full (before ++ (b ∷ [])) (map short l)) here
         ∙ ap (λ (x : List A). a ∷ x) (true-after (before ++ (a ∷ [])) l
         (λ earlier b later e.
-        subst (λ (x : List A). distance (greatest x) b) (sym (append-assoc before (a ∷ []) earlier)) (keeps (a ∷ earlier) b later (ap (λ (x : List A). a ∷ x) e))))
+        subst (λ (x : List A). distance (greatest x) b) (sym (append-assoc before (a ∷ []) earlier))
+        (keeps (a ∷ earlier) b later (ap (λ (x : List A). a ∷ x) e))))
 
     -- elements that keep their distance are found from their short ones
     pub turn-true : (l : List A) → EachKeeps greatest distance l → inTurn greatest full [] (map short l) ≡ l

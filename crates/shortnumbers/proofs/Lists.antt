@@ -66,7 +66,8 @@ module _ (r : ℕ) (shorts : List ℕ) (g i n : ℕ) (lt : i < length shorts) (s
 
 module _ (r k : ℕ) (shorts times numbers : List ℕ) where
   -- something of K and the lists is refused
-  pub filled-refused : (refusal : ℕ) → refusal ≡ refusalOfLists k (numbersFound r shorts) times → (refusal ≡ 0 → ⊥) → FilledTo r k shorts times numbers refusal numbers
+  pub filled-refused : (refusal : ℕ) → refusal ≡ refusalOfLists k (numbersFound r shorts) times → (refusal ≡ 0 → ⊥)
+      → FilledTo r k shorts times numbers refusal numbers
   unfolding fillRefusal
   filled-refused zero e n = absurd (n refl)
   filled-refused (suc x) e n =
@@ -76,7 +77,8 @@ module _ (r k : ℕ) (shorts times numbers : List ℕ) where
       }
 
   -- the list is too short
-  pub filled-short : refusalOfLists k (numbersFound r shorts) times ≡ 0 → length numbers < length shorts → FilledTo r k shorts times numbers outputShort numbers
+  pub filled-short : refusalOfLists k (numbersFound r shorts) times ≡ 0 → length numbers < length shorts
+      → FilledTo r k shorts times numbers outputShort numbers
   unfolding fillRefusal
   filled-short e h = record { refusal = rw (e, lt-ltb (length numbers) (length shorts) h); filled = refl }
 

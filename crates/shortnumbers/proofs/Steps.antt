@@ -53,7 +53,8 @@ same-unfit : (s : Receiver) (m n t : ℕ) → sentMost + 1 < s .stream .next →
 same-unfit s m n t h = unfit-step s m t (unfit s h) ∙ sym (unfit-step s n t (unfit s h))
 
 -- the step with the number found from g, which is NextExp less 1 in a fit state
-pub step-found : (r : ℕ) (s : Receiver) (short time g n : ℕ) → (s .stream .next ≤ sentMost + 1 → g ≡ greatestBy s) → n ≡ numberFound r g short
+pub step-found : (r : ℕ) (s : Receiver) (short time g n : ℕ) → (s .stream .next ≤ sentMost + 1 → g ≡ greatestBy s)
+    → n ≡ numberFound r g short
     → stepOf s n time ≡ shortStep r s short time
 unfolding shortStep
 step-found r s short time g n e f = go (ltb (sentMost + 1) (s .stream .next)) refl
@@ -78,7 +79,9 @@ greatest-more l a = ap (foldl max 0) (map-append (λ (b : Arrival). b .number) l
 -- a packet that has arrived is at most the greatest
 has-most : (s : ℕ) (l : List Arrival) → has s l ≡ true → s ≤ greatestOf (numbersOf l)
 unfolding has
-has-most s = snoc-ind (λ (l : List Arrival). has s l ≡ true → s ≤ greatestOf (numbersOf l)) more (λ e. absurd (let z : _≡_ {A = ℕ} 0 1 = cc in omega arith))
+has-most s =
+    snoc-ind (λ (l : List Arrival). has s l ≡ true → s ≤ greatestOf (numbersOf l)) more
+    (λ e. absurd (let z : _≡_ {A = ℕ} 0 1 = cc in omega arith))
   where
     go : (g n : ℕ) (t u : Bool) → (t || u) ≡ true → (t ≡ true → s ≤ g) → (u ≡ true → n ≡ s) → s ≤ max g n
     go g n true u e h k = omega (arith, h refl)
@@ -88,7 +91,8 @@ has-most s = snoc-ind (λ (l : List Arrival). has s l ≡ true → s ≤ greates
         → s ≤ greatestOf (numbersOf (l ++ (a ∷ [])))
     more l a h e =
         rw (greatest-more l a)
-        (go (greatestOf (numbersOf l)) (a .number) (has s l) (eqb (a .number) s) (sym (has-more s l a) ∙ e) h (λ q. eqb-true (a .number) s q))
+        (go (greatestOf (numbersOf l)) (a .number) (has s l) (eqb (a .number) s) (sym (has-more s l a) ∙ e) h
+        (λ q. eqb-true (a .number) s q))
 
 -- NextExp after a number
 after-max : (g s : ℕ) → nextAfter (g + 1) s ≡ max g s + 1
@@ -113,7 +117,8 @@ next-greatest = snoc-ind (λ (l : List Arrival). nextExp (firsts l) ≡ greatest
         → nextExp (firsts (l ++ (a ∷ []))) ≡ greatestOf (numbersOf (l ++ (a ∷ []))) + 1
     more l a e =
         ap nextExp (firsts-more l a)
-        ∙ go (firsts l) a (greatestOf (numbersOf l)) e (has (a .number) (firsts l)) refl (λ q. has-most (a .number) l (sym (has-firsts (a .number) l) ∙ q))
+        ∙ go (firsts l) a (greatestOf (numbersOf l)) e (has (a .number) (firsts l)) refl
+        (λ q. has-most (a .number) l (sym (has-firsts (a .number) l) ∙ q))
         ∙ ap (λ (n : ℕ). n + 1) (sym (greatest-more l a))
 
 -- ---- a run
@@ -147,7 +152,8 @@ module _ (r k : ℕ) (low : 1 ≤ k) (high : k ≤ sentMost) where
 
   -- what is said from there on
   outcomes-from : (done before shorts : List Arrival) → shortStateAfter r k done ≡ stateAfter k before
-      → eachAfter (shortOutcomeAfter r k) done shorts ≡ eachAfter (outcomeAfter k) before (inTurn (greatestAccepted k) (withFound r) before shorts)
+      → eachAfter (shortOutcomeAfter r k) done shorts ≡ eachAfter (outcomeAfter k) before
+      (inTurn (greatestAccepted k) (withFound r) before shorts)
   unfolding eachAfter inTurn shortOutcomeAfter outcomeAfter
   outcomes-from done before [] e = refl
   outcomes-from done before (a ∷ l) e =

@@ -32,6 +32,7 @@ shortCases =
 -- what is found is what the tables say
 pub record FoundAsGiven : Type 0 where
   -- each number is found as its case says
-  pub one : map (λ (c : ShortCase). numberFound (rangeOf (c .width)) (c .greatest) (c .short)) shortCases ≡ map (λ (c : ShortCase). c .number) shortCases
+  pub one : map (λ (c : ShortCase). numberFound (rangeOf (c .width)) (c .greatest) (c .short)) shortCases
+      ≡ map (λ (c : ShortCase). c .number) shortCases
   -- 100, 200, 255, 256, 259, then 254 late, then 346, by their lowest 8 bits
   pub list : numbersFound (rangeOf 8) (100 ∷ 200 ∷ 255 ∷ 0 ∷ 3 ∷ 254 ∷ 90 ∷ []) ≡ (100 ∷ 200 ∷ 255 ∷ 256 ∷ 259 ∷ 254 ∷ 346 ∷ [])

@@ -45,7 +45,8 @@ abbrev pub Demand2Reads : ℕ → Type 0
 Demand2Reads r =
     (shorts times label sizes : List ℕ) → Below (2 ^ 16) sizes → Below (2 ^ 64) times
     → sampleRefusal label sizes (numbersFound r shorts) times ≡ 0
-    → decode (fileOf (sampleFrom label sizes (numbersFound r shorts) times)) ≡ accepted (sampleFrom label sizes (numbersFound r shorts) times)
+    → decode (fileOf (sampleFrom label sizes (numbersFound r shorts) times))
+    ≡ accepted (sampleFrom label sizes (numbersFound r shorts) times)
 
 -- all of it, once over the width
 pub record ListsOfWidth (w : ℕ) : Type 0 where

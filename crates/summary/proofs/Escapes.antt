@@ -1,6 +1,6 @@
 -- A label in a JSON string, octet by octet: the next octet is appended (`escaped-next`), and after the last the whole label is written
--- (`escaped-all`). The label of a file has at most 64 octets (`label-short`). l are the octets of a label, i is the number of octets written.
--- Assumes nothing.
+-- (`escaped-all`). The label of a file has at most 64 octets (`label-short`). l are the octets of a label, i is the number of octets
+-- written. Assumes nothing.
 use Prim.Native.Nat.{ℕ, _+_, _<_, _≤_}
 use native.Mathlib.Omega.{arith}
 use mathlib.Core.Path.{_≡_, refl, ap}

@@ -55,7 +55,8 @@ percent-some none part whole h = sym (simp (ne-eqb whole 0 h))
 -- ---- a text
 
 -- the refusal and the text may each be replaced by an equal one
-pub output-of : {own own′ : ℕ} {xs ys old new : List ℕ} {r : WriteAnswer} → own ≡ own′ → xs ≡ ys → Output own xs old r new → Output own′ ys old r new
+pub output-of : {own own′ : ℕ} {xs ys old new : List ℕ} {r : WriteAnswer} → own ≡ own′ → xs ≡ ys → Output own xs old r new
+    → Output own′ ys old r new
 output-of {own} {own′} {xs} {ys} {old} {new} {r} e f w =
     subst (λ (n : ℕ). Output n ys old r new) e (subst (λ (l : List ℕ). Output own l old r new) f w)
 

@@ -1,7 +1,7 @@
 -- The lines of a section, one after the other (`lines-next`). The line of a record is determined by its gap as a number (`gap-line`). After
--- `metrics::record_gaps` a list of zeros holds the numbers of all gaps (`gap-list`): it is long enough for any sample, and the entries after
--- the last record stay 0 (`over-zeros`). l are the answers, n is a record or the number of lines written, d the decoded file, y its layout.
--- Assumes nothing.
+-- `metrics::record_gaps` a list of zeros holds the numbers of all gaps (`gap-list`): it is long enough for any sample, and the entries
+-- after the last record stay 0 (`over-zeros`). l are the answers, n is a record or the number of lines written, d the decoded file, y its
+-- layout. Assumes nothing.
 use Prim.Native.Nat.{ℕ, zero, suc, _+_, _-_, _≤_}
 use native.Mathlib.Numerals.{add-one}
 use native.Mathlib.Omega.{arith}

@@ -15,8 +15,8 @@ use Rattle.buffering.specs.Least.{leastSize}
 use Rattle.summary.specs.declared.figures.Figures.{Figures}
 use Rattle.summary.specs.declared.figures.Sizes.{Sizes}
 
--- K; the first arrivals, the copies, the reordered packets; the 1-reordered and 3-reordered packets; the total of disorder; whether packets were
--- lost, and whether the clock steps back
+-- K; the first arrivals, the copies, the reordered packets; the 1-reordered and 3-reordered packets; the total of disorder; whether
+-- packets were lost, and whether the clock steps back
 unfoldable pub figuresOf : Decoded → Figures
 figuresOf d =
     record {

@@ -46,8 +46,8 @@ unfoldable pub percent : (none : List ℕ) → ℕ → ℕ → List ℕ
 percent none part whole =
     cond (eqb whole 0) none (joined (decimalOf (tenths part whole / 10) ∷ ascii "." ∷ decimalOf (tenths part whole % 10) ∷ []))
 
--- `part`, `whole` and `part` of `whole` in percent: `name` stands before `part`, `of` before `whole`, `share` before the percent, and `after`
--- at the end
+-- `part`, `whole` and `part` of `whole` in percent: `name` stands before `part`, `of` before `whole`, `share` before the percent, and
+-- `after` at the end
 unfoldable pub ratio : (name of share none after : List ℕ) → (part whole : ℕ) → List ℕ
 ratio name of share none after part whole =
     joined (between name part of ∷ between [] whole share ∷ percent none part whole ∷ after ∷ [])

@@ -1,5 +1,5 @@
-// Writes the figures of a whole sample that its summary leaves out. Each function writes at an offset of a buffer that has room, and returns
-// the offset after what it wrote.
+// Writes the figures of a whole sample that its summary leaves out. Each function writes at an offset of a buffer that has room, and
+// returns the offset after what it wrote.
 ghost use mathlib.Core.Path.{_≡_};
 ghost use Prim.Native.Nat.{_+_, _-_, _*_, _≤_};
 ghost use lib.ListN.{length, getD};
@@ -86,7 +86,8 @@ fn write_line(
     n: u32,
 ) -> usize
     requires { ⌜ (at + 47 ≤ length (now out)) × (1 ≤ n) × (n ≤ mostOf kind) × GapList (answersOf (decode (now file))) (now gaps) ⌝ }
-    ensures { λ r. ⌜ Written at r (sectionLine kind (answersOf (decode (now (file .entry)))) n) (now (out .entry)) (now (out .exit)) × (r ≤ at + 47) ⌝ }
+    ensures { λ r. ⌜ Written at r (sectionLine kind (answersOf (decode (now (file .entry)))) n) (now (out .entry)) (now (out .exit))
+        × (r ≤ at + 47) ⌝ }
 {
     match kind {
         Kind::Extent => write_nonzero(out, at, n, packets_with(file, n as usize)),
@@ -129,7 +130,8 @@ fn write_section(
 ) -> usize
     requires { ⌜ (at + (length (now head) + 47 * count) ≤ length (now out)) × (count ≤ mostOf kind)
         × GapList (answersOf (decode (now file))) (now gaps) ⌝ }
-    ensures { λ r. ⌜ Written at r (section (now (head .entry)) kind (answersOf (decode (now (file .entry)))) count) (now (out .entry)) (now (out .exit))
+    ensures { λ r. ⌜ Written at r (section (now (head .entry)) kind (answersOf (decode (now (file .entry)))) count) (now (out .entry))
+        (now (out .exit))
         × (r ≤ at + (length (now (head .entry)) + 47 * count)) ⌝ }
 {
     let one = write_word(out, at, head);
@@ -163,7 +165,8 @@ fn write_runs(out: &mut [u8], at: usize, closed: u32, squares: u32, current: u32
 // Writes the tally of extents and the numbers of n-reordered packets.
 fn write_counts(out: &mut [u8], at: usize, file: &[u8], gaps: &[u32; MAX_RECORDS]) -> usize
     requires { ⌜ (at + 5400 ≤ length (now out)) × GapList (answersOf (decode (now file))) (now gaps) ⌝ }
-    ensures { λ r. ⌜ Written at r (countLines (answersOf (decode (now (file .entry))))) (now (out .entry)) (now (out .exit)) × (r ≤ at + 5400) ⌝ }
+    ensures { λ r. ⌜ Written at r (countLines (answersOf (decode (now (file .entry))))) (now (out .entry)) (now (out .exit))
+        × (r ≤ at + 5400) ⌝ }
 {
     let one = write_section(
         out,
@@ -189,7 +192,8 @@ fn write_counts(out: &mut [u8], at: usize, file: &[u8], gaps: &[u32; MAX_RECORDS
 // Writes all figures that the summary leaves out.
 pub(crate) fn write_more(file: &[u8], layout: Layout, out: &mut [u8], at: usize) -> usize
     requires { ⌜ FileLayout (decode (now file)) layout × (at ≤ 2048) × (200704 ≤ length (now out)) ⌝ }
-    ensures { λ r. ⌜ Written at r (moreText (answersOf (decode (now (file .entry)))) (layout .arrivals)) (now (out .entry)) (now (out .exit)) × (r ≤ 200704) ⌝ }
+    ensures { λ r. ⌜ Written at r (moreText (answersOf (decode (now (file .entry)))) (layout .arrivals)) (now (out .entry))
+        (now (out .exit)) × (r ≤ 200704) ⌝ }
 {
     let counts = metrics::counts(file).counts;
     let runs = counts.runs;

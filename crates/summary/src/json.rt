@@ -1,4 +1,5 @@
-// Writes the summary as one JSON object. Each function writes at an offset of a buffer that has room, and returns the offset after what it wrote.
+// Writes the summary as one JSON object. Each function writes at an offset of a buffer that has room, and returns the offset after what
+// it wrote.
 ghost use mathlib.Core.Path.{_≡_};
 ghost use Prim.Native.Nat.{_+_, _*_, _≤_};
 ghost use mathlib.Core.Bool.{cond, _||_};
@@ -44,7 +45,8 @@ fn write_octet(out: &mut [u8], at: usize, octet: u8) -> usize
 // Writes a label, with a backslash before each quote and backslash.
 fn write_label(out: &mut [u8], start: usize, label: &[u8]) -> usize
     requires { ⌜ start + 2 * length (now label) ≤ length (now out) ⌝ }
-    ensures { λ r. ⌜ Written start r (escaped (now (label .entry))) (now (out .entry)) (now (out .exit)) × (r ≤ start + 2 * length (now (label .entry))) ⌝ }
+    ensures { λ r. ⌜ Written start r (escaped (now (label .entry))) (now (out .entry)) (now (out .exit))
+        × (r ≤ start + 2 * length (now (label .entry))) ⌝ }
 {
     let mut at = start;
     let mut i = 0;
@@ -58,7 +60,8 @@ fn write_label(out: &mut [u8], start: usize, label: &[u8]) -> usize
 // Writes a member with a number.
 fn write_member(out: &mut [u8], at: usize, name: &[u8], number: u64) -> usize
     requires { ⌜ at + (length (now name) + 20) ≤ length (now out) ⌝ }
-    ensures { λ r. ⌜ Written at r (numberMember (now (name .entry)) number) (now (out .entry)) (now (out .exit)) × (r ≤ at + (length (now (name .entry)) + 20)) ⌝ }
+    ensures { λ r. ⌜ Written at r (numberMember (now (name .entry)) number) (now (out .entry)) (now (out .exit))
+        × (r ≤ at + (length (now (name .entry)) + 20)) ⌝ }
 {
     let one = write_word(out, at, name);
     write_number(out, one, number)
@@ -78,7 +81,8 @@ fn write_bool(out: &mut [u8], at: usize, flag: bool) -> usize
 // Writes a member with true or false.
 fn write_flag(out: &mut [u8], at: usize, name: &[u8], flag: bool) -> usize
     requires { ⌜ at + (length (now name) + 5) ≤ length (now out) ⌝ }
-    ensures { λ r. ⌜ Written at r (flagMember (now (name .entry)) flag) (now (out .entry)) (now (out .exit)) × (r ≤ at + (length (now (name .entry)) + 5)) ⌝ }
+    ensures { λ r. ⌜ Written at r (flagMember (now (name .entry)) flag) (now (out .entry)) (now (out .exit))
+        × (r ≤ at + (length (now (name .entry)) + 5)) ⌝ }
 {
     let one = write_word(out, at, name);
     write_bool(out, one, flag)
@@ -107,7 +111,8 @@ fn write_counts(out: &mut [u8], at: usize, sent: u32, arrived: u32, copies: u32)
 // Writes the object with the least sizes for a share.
 fn write_sizes(out: &mut [u8], at: usize, start: &[u8], share: u32, sizes: Sizes) -> usize
     requires { ⌜ at + (length (now start) + 131) ≤ length (now out) ⌝ }
-    ensures { λ r. ⌜ Written at r (sizesObject (now (start .entry)) share sizes) (now (out .entry)) (now (out .exit)) × (r ≤ at + (length (now (start .entry)) + 131)) ⌝ }
+    ensures { λ r. ⌜ Written at r (sizesObject (now (start .entry)) share sizes) (now (out .entry)) (now (out .exit))
+        × (r ≤ at + (length (now (start .entry)) + 131)) ⌝ }
 {
     let one = write_between(out, at, start, share as u64, b",\"waiting_time_us\":");
     let two = write_between(out, one, b"", sizes.time, b",\"packets_held\":");
@@ -118,7 +123,8 @@ fn write_sizes(out: &mut [u8], at: usize, start: &[u8], share: u32, sizes: Sizes
 // Finds the least sizes for `share` percent of the first arrivals, and writes their object.
 fn write_row(out: &mut [u8], at: usize, file: &[u8], start: &[u8], share: u32) -> usize
     requires { ⌜ (at + (length (now start) + 131) ≤ length (now out)) × (1 ≤ share) × (share ≤ 100) ⌝ }
-    ensures { λ r. ⌜ Written at r (sizesObject (now (start .entry)) share (sizesFor (answersOf (decode (now (file .entry)))) share)) (now (out .entry)) (now (out .exit))
+    ensures { λ r. ⌜ Written at r (sizesObject (now (start .entry)) share (sizesFor (answersOf (decode (now (file .entry)))) share))
+        (now (out .entry)) (now (out .exit))
         × (r ≤ at + (length (now (start .entry)) + 131)) ⌝ }
 {
     let sizes = sizes_for(file, share);
@@ -128,7 +134,8 @@ fn write_row(out: &mut [u8], at: usize, file: &[u8], start: &[u8], share: u32) -
 // Writes the array of the least sizes.
 fn write_needs(out: &mut [u8], at: usize, file: &[u8]) -> usize
     requires { ⌜ at + 780 ≤ length (now out) ⌝ }
-    ensures { λ r. ⌜ Written at r (sizesMember (answersOf (decode (now (file .entry))))) (now (out .entry)) (now (out .exit)) × (r ≤ at + 780) ⌝ }
+    ensures { λ r. ⌜ Written at r (sizesMember (answersOf (decode (now (file .entry))))) (now (out .entry)) (now (out .exit))
+        × (r ≤ at + 780) ⌝ }
 {
     let one = write_row(out, at, file, b",\"least_sizes\":[{\"share_percent\":", 50);
     let two = write_row(out, one, file, b",{\"share_percent\":", 90);
@@ -176,7 +183,8 @@ fn write_ratios(
     arrived: u32,
 ) -> usize
     requires { ⌜ at + 400 ≤ length (now out) ⌝ }
-    ensures { λ r. ⌜ Written at r (ratioMembers reordered reordered1 reordered3 arrived) (now (out .entry)) (now (out .exit)) × (r ≤ at + 400) ⌝ }
+    ensures { λ r. ⌜ Written at r (ratioMembers reordered reordered1 reordered3 arrived) (now (out .entry)) (now (out .exit))
+        × (r ≤ at + 400) ⌝ }
 {
     let one = write_share(out, at, b",\"reordered\":{\"packets\":", reordered, arrived);
     let two = write_share(

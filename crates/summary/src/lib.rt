@@ -1,5 +1,5 @@
-// The summary of a sample, as text and as JSON: its counts, the least buffers of a receiver that restores order, and its ratios. `write_all`
-// adds the other figures of the whole sample.
+// The summary of a sample, as text and as JSON: its counts, the least buffers of a receiver that restores order, and its ratios.
+// `write_all` adds the other figures of the whole sample.
 ghost use Prim.Native.Nat.{_≤_};
 ghost use lib.ListN.{length};
 ghost use Rattle.sample.specs.Decode.{decode};
@@ -81,8 +81,8 @@ pub fn write_json(file: &[u8], out: &mut [u8]) -> WriteAnswer
     hand_over(layout.refusal, &text[..n], out)
 }
 
-// Writes a label as the first member of a JSON object to the start of `out`; LABEL_OCTETS octets have room for any label of at most 64 octets.
-// A longer label is refused with 3. If `out` is too short, it is refused with 8. In both cases `out` stays unchanged.
+// Writes a label as the first member of a JSON object to the start of `out`; LABEL_OCTETS octets have room for any label of at most 64
+// octets. A longer label is refused with 3. If `out` is too short, it is refused with 8. In both cases `out` stays unchanged.
 pub fn write_json_label(label: &[u8], out: &mut [u8]) -> WriteAnswer
     ensures { λ r. ⌜ LabelTo (now (label .entry)) (now (out .entry)) r (now (out .exit)) ⌝ }
     ensures room { λ _. ⌜ (length (now (label .entry)) ≤ labelMost → length (labelMember (now (label .entry))) ≤ labelOctets) ⌝ }
@@ -98,8 +98,9 @@ pub fn write_json_label(label: &[u8], out: &mut [u8]) -> WriteAnswer
     hand_over(NONE, &text[..n], out)
 }
 
-// Writes the summary of a sample and the other figures of the whole sample. Refusals are those of `write`; ALL_OCTETS octets have room for any
-// text. Cost: that of `write`, a pass over the file for each extent to 100 and each n to 10, and O(A + K) for the gaps of all records.
+// Writes the summary of a sample and the other figures of the whole sample. Refusals are those of `write`; ALL_OCTETS octets have room
+// for any text. Cost: that of `write`, a pass over the file for each extent to 100 and each n to 10, and O(A + K) for the gaps of all
+// records.
 pub fn write_all(file: &[u8], out: &mut [u8]) -> WriteAnswer
     ensures { λ r. ⌜ AllTo (decode (now (file .entry))) (now (out .entry)) r (now (out .exit)) ⌝ }
     ensures room { λ _. ⌜ length (allText (decode (now (file .entry)))) ≤ allOctets ⌝ }

@@ -52,7 +52,8 @@ fn write_sizes(out: &mut [u8], at: usize, share: &[u8], sizes: Sizes) -> usize
 // Finds the least sizes for `share` percent of the first arrivals, and writes their row of the table.
 fn write_row(out: &mut [u8], at: usize, file: &[u8], name: &[u8], share: u32) -> usize
     requires { ⌜ (at + (length (now name) + 174) ≤ length (now out)) × (1 ≤ share) × (share ≤ 100) ⌝ }
-    ensures { λ r. ⌜ Written at r (sizesLine (now (name .entry)) (sizesFor (answersOf (decode (now (file .entry)))) share)) (now (out .entry)) (now (out .exit))
+    ensures { λ r. ⌜ Written at r (sizesLine (now (name .entry)) (sizesFor (answersOf (decode (now (file .entry)))) share))
+        (now (out .entry)) (now (out .exit))
         × (r ≤ at + (length (now (name .entry)) + 174)) ⌝ }
 {
     let sizes = sizes_for(file, share);
@@ -62,7 +63,8 @@ fn write_row(out: &mut [u8], at: usize, file: &[u8], name: &[u8], share: u32) ->
 // Writes the rows of the table of the least sizes.
 fn write_rows(out: &mut [u8], at: usize, file: &[u8]) -> usize
     requires { ⌜ at + 915 ≤ length (now out) ⌝ }
-    ensures { λ r. ⌜ Written at r (rowLines (answersOf (decode (now (file .entry))))) (now (out .entry)) (now (out .exit)) × (r ≤ at + 915) ⌝ }
+    ensures { λ r. ⌜ Written at r (rowLines (answersOf (decode (now (file .entry))))) (now (out .entry)) (now (out .exit))
+        × (r ≤ at + 915) ⌝ }
 {
     let one = write_row(out, at, file, b"     50 %", 50);
     let two = write_row(out, one, file, b"     90 %", 90);
@@ -74,7 +76,8 @@ fn write_rows(out: &mut [u8], at: usize, file: &[u8]) -> usize
 // Writes the table of the least sizes.
 fn write_needs(out: &mut [u8], at: usize, file: &[u8]) -> usize
     requires { ⌜ at + 1200 ≤ length (now out) ⌝ }
-    ensures { λ r. ⌜ Written at r (needsLines (answersOf (decode (now (file .entry))))) (now (out .entry)) (now (out .exit)) × (r ≤ at + 1200) ⌝ }
+    ensures { λ r. ⌜ Written at r (needsLines (answersOf (decode (now (file .entry))))) (now (out .entry)) (now (out .exit))
+        × (r ≤ at + 1200) ⌝ }
 {
     let one = write_word(
         out,
@@ -92,7 +95,8 @@ fn write_needs(out: &mut [u8], at: usize, file: &[u8]) -> usize
 // Writes a line if `due`, else nothing.
 fn write_if(out: &mut [u8], at: usize, due: bool, line: &[u8]) -> usize
     requires { ⌜ at + length (now line) ≤ length (now out) ⌝ }
-    ensures { λ r. ⌜ Written at r (lineIf due (now (line .entry))) (now (out .entry)) (now (out .exit)) × (r ≤ at + length (now (line .entry))) ⌝ }
+    ensures { λ r. ⌜ Written at r (lineIf due (now (line .entry))) (now (out .entry)) (now (out .exit))
+        × (r ≤ at + length (now (line .entry))) ⌝ }
 {
     if due {
         return write_word(out, at, line);
@@ -129,7 +133,8 @@ fn write_ratios(
     arrived: u32,
 ) -> usize
     requires { ⌜ at + 330 ≤ length (now out) ⌝ }
-    ensures { λ r. ⌜ Written at r (ratioLines reordered reordered1 reordered3 arrived) (now (out .entry)) (now (out .exit)) × (r ≤ at + 330) ⌝ }
+    ensures { λ r. ⌜ Written at r (ratioLines reordered reordered1 reordered3 arrived) (now (out .entry)) (now (out .exit))
+        × (r ≤ at + 330) ⌝ }
 {
     let one = write_share(out, at, b"\nReordered (late): ", reordered, arrived);
     let two = write_share(out, one, b"1-reordered: ", reordered1, arrived);

@@ -73,7 +73,8 @@ pub(crate) fn write_milliseconds(out: &mut [u8], at: usize, time: u64) -> usize
 // Writes `part` of `whole` in percent with one decimal, or `none` if `whole` is 0.
 pub(crate) fn write_percent(out: &mut [u8], at: usize, none: &[u8], part: u32, whole: u32) -> usize
     requires { ⌜ at + (length (now none) + 41) ≤ length (now out) ⌝ }
-    ensures { λ r. ⌜ Written at r (percent (now (none .entry)) part whole) (now (out .entry)) (now (out .exit)) × (r ≤ at + (length (now (none .entry)) + 41)) ⌝ }
+    ensures { λ r. ⌜ Written at r (percent (now (none .entry)) part whole) (now (out .entry)) (now (out .exit))
+        × (r ≤ at + (length (now (none .entry)) + 41)) ⌝ }
 {
     if whole == 0 {
         return write_word(out, at, none);
@@ -84,8 +85,8 @@ pub(crate) fn write_percent(out: &mut [u8], at: usize, none: &[u8], part: u32, w
     write_number(out, tenth, tenths % 10)
 }
 
-// Writes `part`, `whole` and `part` of `whole` in percent. `name` stands before `part`, `of` before `whole`, `share` before the percent, and
-// `after` at the end. `none` replaces the percent if `whole` is 0.
+// Writes `part`, `whole` and `part` of `whole` in percent. `name` stands before `part`, `of` before `whole`, `share` before the percent,
+// and `after` at the end. `none` replaces the percent if `whole` is 0.
 pub(crate) fn write_ratio(
     out: &mut [u8],
     at: usize,

@@ -1,10 +1,10 @@
--- The answer of the call. If the file is refused (`swept-refused`), or with 8 if the table or a list is too short (`swept-short`), the decoded
--- file counts as refused, so nothing is set. Else all lists have room (`wide`), and with the table cleared the pass can begin (`ready`). The
--- pass changes only the start of the table, so the table, cleared again, is zeros over what it was (`table-after`). The lists begin with the
--- figures of all answers. So at each record they have the figures of the answer of `metrics::answer` (`at-list`), and their first entries are
--- the figures of the answers in the report (`first-list`): both engines agree (`swept`).
--- d is the decoded file, y its layout, e says so, own says that it is accepted; old is the caller's memory before, table the cleared table, new
--- the memory after the pass, f says that it is filled; table′ is the table cleared again, and after the memory then. Assumes nothing.
+-- The answer of the call. If the file is refused (`swept-refused`), or with 8 if the table or a list is too short (`swept-short`), the
+-- decoded file counts as refused, so nothing is set. Else all lists have room (`wide`), and with the table cleared the pass can begin
+-- (`ready`). The pass changes only the start of the table, so the table, cleared again, is zeros over what it was (`table-after`). The
+-- lists begin with the figures of all answers. So at each record they have the figures of the answer of `metrics::answer` (`at-list`),
+-- and their first entries are the figures of the answers in the report (`first-list`): both engines agree (`swept`). d is the decoded
+-- file, y its layout, e says so, own says that it is accepted; old is the caller's memory before, table the cleared table, new the memory
+-- after the pass, f says that it is filled; table′ is the table cleared again, and after the memory then. Assumes nothing.
 use mathlib.Core.Path.{_≡_, refl, sym, ap, _∙_}
 use mathlib.Core.Bool.{Bool, true, false}
 use mathlib.Core.List.{List, _++_, map}
@@ -48,7 +48,8 @@ agree-refused d y new n = (
 )
 
 -- with its own refusal
-pub swept-refused : (d : Decoded) (y : Layout) → y ≡ layoutOf d → (y .refusal ≡ 0 → ⊥) → (old : Lent) → SweptTo d old y old × (EnginesAgree d y old × ReportAgrees d y old)
+pub swept-refused : (d : Decoded) (y : Layout) → y ≡ layoutOf d → (y .refusal ≡ 0 → ⊥) → (old : Lent) → SweptTo d old y old
+    × (EnginesAgree d y old × ReportAgrees d y old)
 unfolding unlessShort answers Rattle.rfc4737.specs.Arrivals.each Rattle.rfc4737.specs.Arrivals.eachAfter
 swept-refused (refused r) y e n old = (
   record { layout = e; table = refl; flags = refl; positions = refl; extents = refl; lates = refl },
@@ -58,17 +59,20 @@ swept-refused (accepted s) y e n old = absurd (n (ap (λ (y : Layout). y .refusa
 
 module _ (d : Decoded) (y : Layout) (e : y ≡ layoutOf d) (own : d ≡ accepted (sampleOf d)) (old : Lent) where
   -- too short by the counts of the layout
-  short-is : (b : Bool) → b ≡ lentShort (y .arrivals) (length (old .table)) (length (old .flags)) (length (old .positions)) (length (old .extents)) (length (old .lates))
+  short-is : (b : Bool) → b ≡ lentShort (y .arrivals) (length (old .table)) (length (old .flags)) (length (old .positions))
+      (length (old .extents)) (length (old .lates))
       → lentShortFor d old ≡ b
   short-is b h = sym (h ∙ rw e)
 
-  into-short : true ≡ lentShort (y .arrivals) (length (old .table)) (length (old .flags)) (length (old .positions)) (length (old .extents)) (length (old .lates))
+  into-short : true ≡ lentShort (y .arrivals) (length (old .table)) (length (old .flags)) (length (old .positions))
+      (length (old .extents)) (length (old .lates))
       → unlessShort (lentShortFor d old) d ≡ refused 8
   unfolding unlessShort
   into-short h = ap (λ (b : Bool). unlessShort b d) (short-is true h) ∙ ap (unlessShort true) own
 
   -- by 8
-  pub swept-short : true ≡ lentShort (y .arrivals) (length (old .table)) (length (old .flags)) (length (old .positions)) (length (old .extents)) (length (old .lates))
+  pub swept-short : true ≡ lentShort (y .arrivals) (length (old .table)) (length (old .flags)) (length (old .positions))
+      (length (old .extents)) (length (old .lates))
       → (r : Layout) → r ≡ layoutOf (refused 8) → SweptTo d old r old × (EnginesAgree d r old × ReportAgrees d r old)
   unfolding answers Rattle.rfc4737.specs.Arrivals.each Rattle.rfc4737.specs.Arrivals.eachAfter
   swept-short h r q =
@@ -78,7 +82,8 @@ module _ (d : Decoded) (y : Layout) (e : y ≡ layoutOf d) (own : d ≡ accepted
       )
 
   -- no list is short
-  module _ (h : false ≡ lentShort (y .arrivals) (length (old .table)) (length (old .flags)) (length (old .positions)) (length (old .extents)) (length (old .lates))) where
+  module _ (h : false ≡ lentShort (y .arrivals) (length (old .table)) (length (old .flags)) (length (old .positions))
+      (length (old .extents)) (length (old .lates))) where
     -- then the sample is swept
     into : unlessShort (lentShortFor d old) d ≡ accepted (sampleOf d)
     unfolding unlessShort
@@ -93,7 +98,12 @@ module _ (d : Decoded) (y : Layout) (e : y ≡ layoutOf d) (own : d ≡ accepted
         let p = neither (ltb (length (old .positions)) (y .arrivals)) _ (f .1) in
         let e = neither (ltb (length (old .extents)) (y .arrivals)) _ (p .1) in (
           ltb-false _ _ (t .0),
-          record { flags = ltb-false _ _ (f .0); positions = ltb-false _ _ (p .0); extents = ltb-false _ _ (e .0); lates = ltb-false _ _ (e .1) },
+          record {
+            flags = ltb-false _ _ (f .0);
+            positions = ltb-false _ _ (p .0);
+            extents = ltb-false _ _ (e .0);
+            lates = ltb-false _ _ (e .1);
+          },
         )
 
     module _ (laid : FileLayout d y) (table : List ℕ) (clear : table ≡ over (replicate tablePlaces 0) (old .table)) where
@@ -105,8 +115,17 @@ module _ (d : Decoded) (y : Layout) (e : y ≡ layoutOf d) (own : d ≡ accepted
       ready =
           record {
             file = laid;
-            table = omega (arith, ap length clear, over-length (replicate tablePlaces 0) (old .table) (omega (arith, zeros-length, wide .0)), wide .0);
-            zeros = λ k g. ap (λ (l : List ℕ). getD l k 0) clear ∙ List·getD-append (replicate tablePlaces 0) (drop (length (replicate {A = ℕ} tablePlaces 0)) (old .table)) 0 k (omega (arith, zeros-length)) ∙ getD-replicate tablePlaces k 0 0 g;
+            table =
+                omega (
+                  arith,
+                  ap length clear,
+                  over-length (replicate tablePlaces 0) (old .table) (omega (arith, zeros-length, wide .0)),
+                  wide .0,
+                );
+            zeros =
+                λ k g. ap (λ (l : List ℕ). getD l k 0) clear
+                ∙ List·getD-append (replicate tablePlaces 0) (drop (length (replicate {A = ℕ} tablePlaces 0)) (old .table)) 0 k
+                (omega (arith, zeros-length)) ∙ getD-replicate tablePlaces k 0 0 g;
             lists = wide .1;
           }
 
@@ -120,16 +139,20 @@ module _ (d : Decoded) (y : Layout) (e : y ≡ layoutOf d) (own : d ≡ accepted
         table-after =
             clear′
             ∙ ap (λ (n : ℕ). replicate tablePlaces 0 ++ drop n (new .table)) zeros-length
-            ∙ ap (λ (l : List ℕ). replicate tablePlaces 0 ++ l) (f .table ∙ ap (drop tablePlaces) clear ∙ drop-at (replicate tablePlaces 0) (drop (length (replicate {A = ℕ} tablePlaces 0)) (old .table)) tablePlaces zeros-length)
+            ∙ ap (λ (l : List ℕ). replicate tablePlaces 0 ++ l)
+            (f .table ∙ ap (drop tablePlaces) clear ∙ drop-at (replicate tablePlaces 0)
+            (drop (length (replicate {A = ℕ} tablePlaces 0)) (old .table)) tablePlaces zeros-length)
 
         -- what stands in a list at a record
-        at-list : (g : Answer → ℕ) → g (Answer.InOrder (record { position = 0; jump = 0 })) ≡ 0 → (l l′ : List ℕ) → l′ ≡ over (map g (answersOf d)) l
+        at-list : (g : Answer → ℕ) → g (Answer.InOrder (record { position = 0; jump = 0 })) ≡ 0 → (l l′ : List ℕ)
+            → l′ ≡ over (map g (answersOf d)) l
             → (asked : ℕ) → recordAnswer d asked .refusal ≡ 0 → atRecord 0 l′ asked ≡ g (recordAnswer d asked .answer)
         unfolding recordAnswer atRecord
         at-list g z l l′ q zero i = absurd (omega (arith, asked-within d 1 (length (sampleArrivals d)) zero i))
         at-list g z l l′ q (suc i) inside =
             let k = asked-within d 1 (length (sampleArrivals d)) (suc i) inside in
-            let n : i < length (map g (answersOf d)) = omega (arith, k, length-map (answersOf d) g, length-answers (sizeOf d) (sampleArrivals d)) in
+            let n : i < length (map g (answersOf d)) =
+            omega (arith, k, length-map (answersOf d) g, length-answers (sizeOf d) (sampleArrivals d)) in
             ap (λ (m : List ℕ). getD m i 0) q
             ∙ List·getD-append (map g (answersOf d)) (drop (length (map g (answersOf d))) l) 0 i n
             ∙ ap (λ (m : ℕ). getD (map g (answersOf d)) i m) (sym z)
@@ -181,7 +204,12 @@ module _ (d : Decoded) (y : Layout) (e : y ≡ layoutOf d) (own : d ≡ accepted
 -- ---- the rows of records
 
 row-figures : (a : Answer)
-    → figuresOf a ≡ record { flag = getD (rowOf a) 0 0; position = getD (rowOf a) 1 0; extent = getD (rowOf a) 3 0; late = getD (rowOf a) 4 0 }
+    → figuresOf a ≡ record {
+      flag = getD (rowOf a) 0 0;
+      position = getD (rowOf a) 1 0;
+      extent = getD (rowOf a) 3 0;
+      late = getD (rowOf a) 4 0;
+    }
 unfolding figuresOf rowOf
 row-figures (Answer.InOrder d) = refl
 row-figures (Answer.Reordered d) = refl

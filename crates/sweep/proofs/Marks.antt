@@ -1,10 +1,10 @@
 -- The mark of a packet after the next arrival, and the values at the record of a jump. A packet below NextExp that has not arrived has a
--- discontinuity, which has a record (`skipping-jump`); a packet from NextExp on has none, and its mark is 0 (`mark-ahead`). A copy changes no
--- mark (`mark-copy`). A first arrival marks its own packet as arrived and is the discontinuity of the packets that it skips; all other marks
--- stay (`mark-more`, by cases: packet s is its own, has arrived, is below NextExp, or is skipped). The position of a first arrival is its index
--- among the first arrivals plus 1, and the list of positions has it at its record (`position-at`, by `listed-at` of metrics). Last, one value
--- stored at consecutive indices is a splice (`skip-next`), with the values of `skipped-at`.
--- l are the arrivals, a is the next one, s a packet, fs first arrivals, p an index among them or the arrival there, k what is known of a
+-- discontinuity, which has a record (`skipping-jump`); a packet from NextExp on has none, and its mark is 0 (`mark-ahead`). A copy
+-- changes no mark (`mark-copy`). A first arrival marks its own packet as arrived and is the discontinuity of the packets that it skips;
+-- all other marks stay (`mark-more`, by cases: packet s is its own, has arrived, is below NextExp, or is skipped). The position of a
+-- first arrival is its index among the first arrivals plus 1, and the list of positions has it at its record (`position-at`, by
+-- `listed-at` of metrics). Last, one value stored at consecutive indices is a splice (`skip-next`), with the values of `skipped-at`. l
+-- are the arrivals, a is the next one, s a packet, fs first arrivals, p an index among them or the arrival there, k what is known of a
 -- discontinuity. Assumes nothing.
 use mathlib.Core.Path.{_≡_, refl, sym, ap, _∙_}
 use mathlib.Core.Bool.{Bool, true, false, cond, _&&_, true≢false, or-true}
@@ -119,7 +119,8 @@ mark-copy l a s arrived = go (has s l) refl
     go false e =
         let other : a .number ≡ s → ⊥ = λ q. true≢false (sym arrived ∙ rw q e) in
         let new : has s (l ++ (a ∷ [])) ≡ false = has-more s l a ∙ rw (e, ne-eqb (a .number) s other) in
-        mark-new (l ++ (a ∷ [])) s new ∙ ap (λ (fs : List Arrival). recordOf (l ++ (a ∷ [])) (discontinuity fs s)) (firsts-duplicate l a arrived) ∙ kept (discontinuity (firsts l) s) ∙ sym (mark-new l s e)
+        mark-new (l ++ (a ∷ [])) s new ∙ ap (λ (fs : List Arrival). recordOf (l ++ (a ∷ [])) (discontinuity fs s))
+        (firsts-duplicate l a arrived) ∙ kept (discontinuity (firsts l) s) ∙ sym (mark-new l s e)
 
 module _ (l : List Arrival) (a : Arrival) (new : has (a .number) l ≡ false) where
   -- what stands at packet s under a first arrival: at its own packet that it has arrived, at those that it skips its record
@@ -129,7 +130,8 @@ module _ (l : List Arrival) (a : Arrival) (new : has (a .number) l ≡ false) wh
   unfolding recordOf
   mark-more s low = go (eqb (a .number) s) refl
     where
-      rest : (a .number ≡ s → ⊥) → (t : Bool) → has s l ≡ t → (u : Bool) → leb (nextExp (firsts l)) s ≡ u → (v : Bool) → ltb s (a .number) ≡ v
+      rest : (a .number ≡ s → ⊥) → (t : Bool) → has s l ≡ t → (u : Bool) → leb (nextExp (firsts l)) s ≡ u → (v : Bool)
+          → ltb s (a .number) ≡ v
           → markOf (l ++ (a ∷ [])) s ≡ cond (u && v) (length l + 1) (markOf l s)
       rest other true e true q v r = absurd (true≢false (sym e ∙ ahead-new s l (leb-true _ _ q)))
       rest other true e false q v r = mark-arrived (l ++ (a ∷ [])) s (has-more s l a ∙ rw e) ∙ sym (mark-arrived l s e)
@@ -155,7 +157,8 @@ module _ (l : List Arrival) (a : Arrival) (new : has (a .number) l ≡ false) wh
           mark-ahead (l ++ (a ∷ [])) s low ahead ∙ sym (mark-ahead l s low (leb-true _ _ q))
 
       go : (t : Bool) → eqb (a .number) s ≡ t
-          → markOf (l ++ (a ∷ [])) s ≡ cond t arrivedMark (cond (leb (nextExp (firsts l)) s && ltb s (a .number)) (length l + 1) (markOf l s))
+          → markOf (l ++ (a ∷ [])) s ≡ cond t arrivedMark (cond (leb (nextExp (firsts l)) s && ltb s (a .number)) (length l + 1)
+          (markOf l s))
       go true q = mark-arrived (l ++ (a ∷ [])) s (has-more s l a ∙ rw q (or-true (has s l)))
       go false q = rest (eqb-false _ _ q) (has s l) refl (leb (nextExp (firsts l)) s) refl (ltb s (a .number)) refl
 
@@ -207,7 +210,8 @@ module _ (from to value : ℕ) (old : List ℕ) (up : from ≤ to) (room : to �
     skip-next h =
         let m : from + (k - from) ≡ k = omega arith in
         let n : k - from + 1 ≡ k + 1 - from = omega arith in
-        rw (m, n) at (copy-next from run old (k - from) 0 (omega (arith, run-length)) (omega arith) e (sym (getD-replicate (to - from) (k - from) value 0 (omega arith))))
+        rw (m, n) at (copy-next from run old (k - from) 0 (omega (arith, run-length)) (omega arith) e
+        (sym (getD-replicate (to - from) (k - from) value 0 (omega arith))))
 
     -- after the last place
     pub skip-done : to ≤ k → table ≡ splice from run old
@@ -236,7 +240,9 @@ module _ (from to value : ℕ) (old : List ℕ) (up : from ≤ to) (room : to �
           ∙ List·getD-append run _ 0 (k - from) (omega (arith, run-length)) ∙ getD-replicate (to - from) (k - from) value 0 (omega arith)
       go true e false q =
           let h : to ≤ k = ltb-false _ _ q in
-          sym (from-place to (splice from run old) h) ∙ ap (λ (m : List ℕ). getD m (k - to) 0) (skipped-past to (omega arith)) ∙ from-place to old h
+          sym (from-place to (splice from run old) h) ∙ ap (λ (m : List ℕ). getD m (k - to) 0) (skipped-past to (omega arith))
+          ∙ from-place to old h
       go false e u q =
           let h : k < from = leb-false _ _ e in
-          sym (getD-take from (splice from run old) k 0 h) ∙ ap (λ (m : List ℕ). getD m k 0) (splice-take from run old from (omega arith) (omega arith)) ∙ getD-take from old k 0 h
+          sym (getD-take from (splice from run old) k 0 h) ∙ ap (λ (m : List ℕ). getD m k 0)
+          (splice-take from run old from (omega arith) (omega arith)) ∙ getD-take from old k 0 h

@@ -1,7 +1,7 @@
--- Moving the clock does not change the sweep. The answer and the memory after it depend only on the layout, on the start of the table and on
--- the answers (`alike`). These are the same for the moved sample: the answers by rfc4737's `answers-moved`, and the number of arrivals. So is
--- whether the table or a list is too short. c is the amount, s the sample, d and e are two decoded files, y is the call's answer. Assumes
--- nothing.
+-- Moving the clock does not change the sweep. The answer and the memory after it depend only on the layout, on the start of the table and
+-- on the answers (`alike`). These are the same for the moved sample: the answers by rfc4737's `answers-moved`, and the number of
+-- arrivals. So is whether the table or a list is too short. c is the amount, s the sample, d and e are two decoded files, y is the call's
+-- answer. Assumes nothing.
 use Prim.Native.Nat.{ℕ}
 use mathlib.Core.Path.{_≡_, refl, sym, ap, subst, _∙_}
 use mathlib.Core.Bool.{Bool, true, false}
@@ -62,14 +62,18 @@ module _ (c : ℕ) (s : Sample) where
       }
 
   same : (old : Lent)
-      → Same (unlessShort (lentShortFor (accepted (movedSample c s)) old) (accepted (movedSample c s))) (unlessShort (lentShortFor (accepted s) old) (accepted s))
+      → Same (unlessShort (lentShortFor (accepted (movedSample c s)) old) (accepted (movedSample c s)))
+      (unlessShort (lentShortFor (accepted s) old) (accepted s))
   same old =
-      subst (λ (short : Bool). Same (unlessShort short (accepted (movedSample c s))) (unlessShort (lentShortFor (accepted s) old) (accepted s)))
-      (ap (λ (n : ℕ). lentShort n (length (old .table)) (length (old .flags)) (length (old .positions)) (length (old .extents)) (length (old .lates))) (sym many))
+      subst (λ (short : Bool). Same (unlessShort short (accepted (movedSample c s)))
+      (unlessShort (lentShortFor (accepted s) old) (accepted s)))
+      (ap (λ (n : ℕ). lentShort n (length (old .table)) (length (old .flags)) (length (old .positions)) (length (old .extents))
+      (length (old .lates))) (sym many))
       (same-short (lentShortFor (accepted s) old))
 
 -- as `sweep` carries it, of a file of octets
 pub sweep-moved : (file : List ℕ) → Octets file → SweepMoved file
 sweep-moved file o s c e t old new y =
-    subst (λ (p : Decoded × Decoded). SweptTo (p .0) old y new ↔ SweptTo (p .1) old y new) (λ i. (sym (moved-accepted file o s c e t) i, sym e i))
+    subst (λ (p : Decoded × Decoded). SweptTo (p .0) old y new ↔ SweptTo (p .1) old y new)
+    (λ i. (sym (moved-accepted file o s c e t) i, sym e i))
     (alike (same c s old), alike (back (same c s old)))

@@ -1,6 +1,7 @@
 -- The pass on plain values: the caller's memory after the first i records. `LentAfter` says that the lists begin with the figures of these
 -- records and are unchanged after them, and that the table is as these records left it. `lent-next` is the next record, and after the last
--- `lent-end` gives the contract of the pass. d is the decoded file, y its layout, old and new are the memory before and now. Assumes nothing.
+-- `lent-end` gives the contract of the pass. d is the decoded file, y its layout, old and new are the memory before and now. Assumes
+-- nothing.
 use mathlib.Core.Path.{_≡_, refl, sym, ap, subst, _∙_}
 use mathlib.Core.List.{List, [], _∷_, _++_, map, map-append}
 use Prim.Native.Nat.{ℕ, _+_, _-_, _≤_, _<_}
@@ -73,56 +74,78 @@ module _ (d : Decoded) (y : Layout) (i : ℕ) (most : i ≤ y .arrivals) (h : Fi
           ap (map f) (answers-take (sizeOf d) noArrival (sampleArrivals d) i (inside-laid d y i (record { file = h; inside = inside })))
           ∙ map-append f (answersTo d i) (answerAt d i ∷ [])
 
-module _ (d : Decoded) (y : Layout) (i : ℕ) (old new : Lent) (state : State) (r : SweepReady d y old) (t : LentAfter d y i old new state) where
-  -- the lengths stay
-  pub flags-length : length (new .flags) ≡ length (old .flags)
-  flags-length = listed-length d y i (t .most) (r .file) _ (old .flags) (new .flags) (r .lists .flags) (t .filled .flags)
+module _ (d : Decoded) (y : Layout) (i : ℕ) (old new : Lent) (state : State) (r : SweepReady d y old) (t : LentAfter d y i old new state)
+  where
+    -- the lengths stay
+    pub flags-length : length (new .flags) ≡ length (old .flags)
+    flags-length = listed-length d y i (t .most) (r .file) _ (old .flags) (new .flags) (r .lists .flags) (t .filled .flags)
 
-  pub positions-length : length (new .positions) ≡ length (old .positions)
-  positions-length = listed-length d y i (t .most) (r .file) _ (old .positions) (new .positions) (r .lists .positions) (t .filled .positions)
+    pub positions-length : length (new .positions) ≡ length (old .positions)
+    positions-length =
+        listed-length d y i (t .most) (r .file) _ (old .positions) (new .positions) (r .lists .positions) (t .filled .positions)
 
-  pub extents-length : length (new .extents) ≡ length (old .extents)
-  extents-length = listed-length d y i (t .most) (r .file) _ (old .extents) (new .extents) (r .lists .extents) (t .filled .extents)
+    pub extents-length : length (new .extents) ≡ length (old .extents)
+    extents-length = listed-length d y i (t .most) (r .file) _ (old .extents) (new .extents) (r .lists .extents) (t .filled .extents)
 
-  pub lates-length : length (new .lates) ≡ length (old .lates)
-  lates-length = listed-length d y i (t .most) (r .file) _ (old .lates) (new .lates) (r .lists .lates) (t .filled .lates)
+    pub lates-length : length (new .lates) ≡ length (old .lates)
+    lates-length = listed-length d y i (t .most) (r .file) _ (old .lates) (new .lates) (r .lists .lates) (t .filled .lates)
 
-  module _ (inside : i < y .arrivals) where
-    -- there is room for one record more
-    pub lent-room : Room (i + 1) (new .flags) (new .positions) (new .extents) (new .lates)
-    lent-room =
-        record {
-          flags = omega (arith, flags-length, r .lists .flags);
-          positions = omega (arith, positions-length, r .lists .positions);
-          extents = omega (arith, extents-length, r .lists .extents);
-          lates = omega (arith, lates-length, r .lists .lates);
-        }
+    module _ (inside : i < y .arrivals) where
+      -- there is room for one record more
+      pub lent-room : Room (i + 1) (new .flags) (new .positions) (new .extents) (new .lates)
+      lent-room =
+          record {
+            flags = omega (arith, flags-length, r .lists .flags);
+            positions = omega (arith, positions-length, r .lists .positions);
+            extents = omega (arith, extents-length, r .lists .extents);
+            lates = omega (arith, lates-length, r .lists .lates);
+          }
 
-    -- the list of positions has those of the records before
-    pub lent-positioned : take i (new .positions) ≡ positionsOf (answersTo d i)
-    lent-positioned = over-first (positionsOf (answersTo d i)) _ (sym (listed-count d y i (t .most) (r .file) _)) (t .filled .positions) .1
+      -- the list of positions has those of the records before
+      pub lent-positioned : take i (new .positions) ≡ positionsOf (answersTo d i)
+      lent-positioned =
+          over-first (positionsOf (answersTo d i)) _ (sym (listed-count d y i (t .most) (r .file) _)) (t .filled .positions) .1
 
-    -- under one record more
-    pub lent-next : (next : Lent) (state′ : State) → TableAfter (before d (i + 1)) (next .table) state′ → drop tablePlaces (next .table) ≡ drop tablePlaces (new .table)
-        → Put i (figuresOf (answerAt d i)) (new .flags) (new .positions) (new .extents) (new .lates) (next .flags) (next .positions) (next .extents) (next .lates)
-        → LentAfter d y (i + 1) old next state′
-    lent-next next state′ h e p =
-        let g = t .filled in
-        record {
-          most = omega arith;
-          held = h;
-          filled =
-              record {
-                table = e ∙ g .table;
-                tableLength = omega (arith, ap length (e ∙ g .table), length-drop tablePlaces (next .table), length-drop tablePlaces (old .table), h .room, r .table);
-                flags = p .flags ∙ listed-next d y i (t .most) (r .file) (λ (a : Answer). figuresOf a .flag) inside (old .flags) (new .flags) (r .lists .flags) (g .flags);
-                positions = p .positions ∙ listed-next d y i (t .most) (r .file) (λ (a : Answer). figuresOf a .position) inside (old .positions) (new .positions) (r .lists .positions) (g .positions);
-                extents = p .extents ∙ listed-next d y i (t .most) (r .file) (λ (a : Answer). figuresOf a .extent) inside (old .extents) (new .extents) (r .lists .extents) (g .extents);
-                lates = p .lates ∙ listed-next d y i (t .most) (r .file) (λ (a : Answer). figuresOf a .late) inside (old .lates) (new .lates) (r .lists .lates) (g .lates);
-              };
-        }
+      -- under one record more
+      pub lent-next : (next : Lent) (state′ : State) → TableAfter (before d (i + 1)) (next .table) state′
+          → drop tablePlaces (next .table) ≡ drop tablePlaces (new .table)
+          → Put i (figuresOf (answerAt d i)) (new .flags) (new .positions) (new .extents) (new .lates) (next .flags) (next .positions)
+          (next .extents) (next .lates)
+          → LentAfter d y (i + 1) old next state′
+      lent-next next state′ h e p =
+          let g = t .filled in
+          record {
+            most = omega arith;
+            held = h;
+            filled =
+                record {
+                  table = e ∙ g .table;
+                  tableLength =
+                      omega (
+                        arith,
+                        ap length (e ∙ g .table),
+                        length-drop tablePlaces (next .table),
+                        length-drop tablePlaces (old .table),
+                        h .room,
+                        r .table,
+                      );
+                  flags =
+                      p .flags ∙ listed-next d y i (t .most) (r .file) (λ (a : Answer). figuresOf a .flag) inside (old .flags)
+                      (new .flags) (r .lists .flags) (g .flags);
+                  positions =
+                      p .positions ∙ listed-next d y i (t .most) (r .file) (λ (a : Answer). figuresOf a .position) inside (old .positions)
+                      (new .positions) (r .lists .positions) (g .positions);
+                  extents =
+                      p .extents ∙ listed-next d y i (t .most) (r .file) (λ (a : Answer). figuresOf a .extent) inside (old .extents)
+                      (new .extents) (r .lists .extents) (g .extents);
+                  lates =
+                      p .lates ∙ listed-next d y i (t .most) (r .file) (λ (a : Answer). figuresOf a .late) inside (old .lates)
+                      (new .lates) (r .lists .lates) (g .lates);
+                };
+          }
 
-  -- after all
-  pub lent-end : y .arrivals ≤ i → FilledWith (answersOf d) old new
-  lent-end all =
-      subst (λ (l : List Arrival). FilledWith (answers (sizeOf d) l) old new) (take-all i (sampleArrivals d) (omega (arith, arrivals-laid d y (r .file)))) (t .filled)
+    -- after all
+    pub lent-end : y .arrivals ≤ i → FilledWith (answersOf d) old new
+    lent-end all =
+        subst (λ (l : List Arrival). FilledWith (answers (sizeOf d) l) old new)
+        (take-all i (sampleArrivals d) (omega (arith, arrivals-laid d y (r .file)))) (t .filled)

@@ -1,12 +1,12 @@
--- The figures of record i + 1, and the table after it, from the mark of its packet. A packet that has arrived has the mark 4,097; any other has
--- 0 or a record, which is at most 4,096. So the mark tells a copy from a first arrival (`is-copy`, `is-new`). The mark of a reordered packet is
--- the record of its discontinuity. The file has its time there (`jump-time`), and the list of positions its position (`jump-position`); these
--- give the late time and the extent (`figures-late`). A copy leaves the table unchanged (`held-copy`). After a first arrival `mark-more` gives
--- the mark of each packet (`held-new`). If it is reordered, only its own mark changes (`held-late`); if it is in order, the packets that it
--- skips were filled before (`held-in-order`).
--- d is the decoded file, y its layout, i the number of records before; number and mark are those of record i + 1, k says so; h says on which
--- side of 4,096 the mark is, late that the number is below NextExp, t that the table is that of the records before; s is any packet, at index
--- s - 1, and table′ the table after the record. Assumes nothing.
+-- The figures of record i + 1, and the table after it, from the mark of its packet. A packet that has arrived has the mark 4,097; any
+-- other has 0 or a record, which is at most 4,096. So the mark tells a copy from a first arrival (`is-copy`, `is-new`). The mark of a
+-- reordered packet is the record of its discontinuity. The file has its time there (`jump-time`), and the list of positions its position
+-- (`jump-position`); these give the late time and the extent (`figures-late`). A copy leaves the table unchanged (`held-copy`). After a
+-- first arrival `mark-more` gives the mark of each packet (`held-new`). If it is reordered, only its own mark changes (`held-late`); if
+-- it is in order, the packets that it skips were filled before (`held-in-order`). d is the decoded file, y its layout, i the number of
+-- records before; number and mark are those of record i + 1, k says so; h says on which side of 4,096 the mark is, late that the number
+-- is below NextExp, t that the table is that of the records before; s is any packet, at index s - 1, and table′ the table after the
+-- record. Assumes nothing.
 use mathlib.Core.Path.{_≡_, refl, sym, ap, _∙_}
 use mathlib.Core.Bool.{Bool, true, false, cond, _&&_}
 use mathlib.Core.List.{List, [], _∷_, _++_}
@@ -68,7 +68,17 @@ ltb-pred a b h g = go (ltb a b) refl
 module _ (d : Decoded) (y : Layout) (i number mark : ℕ) (state : State) (k : KnownRecord d y i number mark state) where
   -- there are few first arrivals
   pub few : (state .count ≤ i) × (i < arrivalsMost) × (1 ≤ state .next)
-  few = omega (arith, k .count, k .next, length-firsts (before d i), before-length d y i (k .has), k .has .inside, k .has .file .few, next-positive (firsts (before d i)))
+  few =
+      omega (
+        arith,
+        k .count,
+        k .next,
+        length-firsts (before d i),
+        before-length d y i (k .has),
+        k .has .inside,
+        k .has .file .few,
+        next-positive (firsts (before d i)),
+      )
 
   -- a mark of at most 4,096 is at a packet that has not arrived
   is-new : mark ≤ arrivalsMost → has (arrivalAt d i .number) (before d i) ≡ false
@@ -95,13 +105,15 @@ module _ (d : Decoded) (y : Layout) (i number mark : ℕ) (state : State) (k : K
       omega (arith, r, mark-is h late, before-length d y i (k .has))
 
   -- the place of its discontinuity among the first arrivals
-  place-inside : (h : mark ≤ arrivalsMost) (late : number < state .next) → at-jump h late .place .position - 1 < length (firsts (before d i))
+  place-inside : (h : mark ≤ arrivalsMost) (late : number < state .next)
+      → at-jump h late .place .position - 1 < length (firsts (before d i))
   place-inside h late = omega (arith, at-jump h late .low, at-jump h late .high)
 
   -- where its record is the mark
   mark-at : (h : mark ≤ arrivalsMost) (late : number < state .next)
       → mark ≡ firstRecord (getD (firsts (before d i)) (at-jump h late .place .position - 1) noArrival .number) (before d i)
-  mark-at h late = mark-is h late ∙ ap (λ (n : ℕ). firstRecord n (before d i)) (sym (ap (λ (a : Arrival). a .number) (at-jump h late .stands)))
+  mark-at h late =
+      mark-is h late ∙ ap (λ (n : ℕ). firstRecord n (before d i)) (sym (ap (λ (a : Arrival). a .number) (at-jump h late .stands)))
 
   -- at which its time stands in the file
   jump-time : (h : mark ≤ arrivalsMost) (late : number < state .next) → arrivalAt d (mark - 1) .time ≡ at-jump h late .place .time
@@ -148,7 +160,8 @@ module _ (d : Decoded) (y : Layout) (i number mark : ℕ) (state : State) (k : K
         ∙ rw (← k .count, ← jump-position h late, ← jump-time h late, ← e, ← f))
 
   -- of a packet in order
-  pub figures-in-order : mark ≤ arrivalsMost → state .next ≤ number → record { flag = 0; position = state .count + 1; extent = 0; late = 0 } ≡ figuresOf (answerAt d i)
+  pub figures-in-order : mark ≤ arrivalsMost → state .next ≤ number
+      → record { flag = 0; position = state .count + 1; extent = 0; late = 0 } ≡ figuresOf (answerAt d i)
   unfolding figuresOf inOrderAnswer
   figures-in-order h ahead =
       sym (ap figuresOf
@@ -166,7 +179,8 @@ module _ (d : Decoded) (y : Layout) (i number mark : ℕ) (state : State) (k : K
       go : (t : Bool) → has s (before d i) ≡ t → (u : Bool) → leb (nextExp (firsts (before d i))) s ≡ u → t ≡ true
       go true q u r = refl
       go false q true r =
-          let e : mark ≡ 0 = k .stands ∙ ap (markOf (before d i)) (k .is) ∙ mark-ahead (before d i) s (omega (arith, k .is, k .low)) (leb-true _ _ r) in
+          let e : mark ≡ 0 =
+          k .stands ∙ ap (markOf (before d i)) (k .is) ∙ mark-ahead (before d i) s (omega (arith, k .is, k .low)) (leb-true _ _ r) in
           absurd (omega arith)
       go false q false r =
           let j = skipping-jump (before d i) s (omega (arith, k .is, k .low)) q (leb-false _ _ r) in
@@ -186,7 +200,8 @@ module _ (d : Decoded) (y : Layout) (i number mark : ℕ) (state : State) (k : K
     pub held-copy : arrivalsMost < mark → TableAfter (before d (i + 1)) table state
     held-copy h =
         let arrived = is-copy h in
-        let same : firsts (before d i ++ (arrivalAt d i ∷ [])) ≡ firsts (before d i) = firsts-duplicate (before d i) (arrivalAt d i) arrived in
+        let same : firsts (before d i ++ (arrivalAt d i ∷ [])) ≡ firsts (before d i) =
+        firsts-duplicate (before d i) (arrivalAt d i) arrived in
         rw (before-more d y i (k .has))
         (record {
           room = t .room;
@@ -197,7 +212,8 @@ module _ (d : Decoded) (y : Layout) (i number mark : ℕ) (state : State) (k : K
 
     -- after a first arrival: at its packet that it has arrived, at those that it skips its record, all else as it was
     held-new : mark ≤ arrivalsMost → (table′ : List ℕ) → length table′ ≡ length table
-        → ((s : ℕ) → 1 ≤ s → s ≤ tablePlaces → getD table′ (s - 1) 0 ≡ cond (eqb number s) arrivedMark (cond (leb (state .next) s && ltb s number) (i + 1) (getD table (s - 1) 0)))
+        → ((s : ℕ) → 1 ≤ s → s ≤ tablePlaces → getD table′ (s - 1) 0
+        ≡ cond (eqb number s) arrivedMark (cond (leb (state .next) s && ltb s number) (i + 1) (getD table (s - 1) 0)))
         → (next : ℕ) → next ≡ nextAfter (state .next) number
         → TableAfter (before d (i + 1)) table′ (record { count = state .count + 1; next = next })
     held-new h table′ same at next e =
@@ -206,9 +222,13 @@ module _ (d : Decoded) (y : Layout) (i number mark : ℕ) (state : State) (k : K
         (record {
           room = omega (arith, same, t .room);
           at = λ s low high. at s low high
-              ∙ rw (t .at s low high, k .is, t .next) (sym (rw (before-length d y i (k .has)) at (mark-more (before d i) (arrivalAt d i) new s low)));
-          count = rw (firsts-first (before d i) (arrivalAt d i) new, length-append (firsts (before d i)) (arrivalAt d i ∷ [])) (ap (λ (n : ℕ). n + 1) (t .count));
-          next = rw (firsts-first (before d i) (arrivalAt d i) new, next-more (firsts (before d i)) (arrivalAt d i)) (e ∙ rw (t .next, k .is));
+              ∙ rw (t .at s low high, k .is, t .next) (sym (rw (before-length d y i (k .has)) at
+              (mark-more (before d i) (arrivalAt d i) new s low)));
+          count =
+              rw (firsts-first (before d i) (arrivalAt d i) new, length-append (firsts (before d i)) (arrivalAt d i ∷ []))
+              (ap (λ (n : ℕ). n + 1) (t .count));
+          next =
+              rw (firsts-first (before d i) (arrivalAt d i) new, next-more (firsts (before d i)) (arrivalAt d i)) (e ∙ rw (t .next, k .is));
         })
 
     -- one that is reordered
@@ -216,11 +236,13 @@ module _ (d : Decoded) (y : Layout) (i number mark : ℕ) (state : State) (k : K
         → TableAfter (before d (i + 1)) (set table (number - 1) arrivedMark) (record { count = state .count + 1; next = state .next })
     unfolding nextAfter
     held-late h late =
-        held-new h (set table (number - 1) arrivedMark) (length-set table (number - 1) arrivedMark) (λ s low high. go s low high (eqb number s) refl)
+        held-new h (set table (number - 1) arrivedMark) (length-set table (number - 1) arrivedMark)
+        (λ s low high. go s low high (eqb number s) refl)
         (state .next) (rw (lt-leb (state .next) number late))
       where
         go : (s : ℕ) → 1 ≤ s → s ≤ tablePlaces → (b : Bool) → eqb number s ≡ b
-            → getD (set table (number - 1) arrivedMark) (s - 1) 0 ≡ cond b arrivedMark (cond (leb (state .next) s && ltb s number) (i + 1) (getD table (s - 1) 0))
+            → getD (set table (number - 1) arrivedMark) (s - 1) 0
+            ≡ cond b arrivedMark (cond (leb (state .next) s && ltb s number) (i + 1) (getD table (s - 1) 0))
         go s low high true q =
             let e : number ≡ s = eqb-true number s q in
             rw e (getD-set-same table (s - 1) arrivedMark 0 (omega (arith, t .room)))
@@ -241,21 +263,25 @@ module _ (d : Decoded) (y : Layout) (i number mark : ℕ) (state : State) (k : K
     rest-late = drop-set-lt tablePlaces table (number - 1) arrivedMark (omega (arith, k .low, k .high))
 
     -- one that is in order: its record is put at those that it skips
-    module _ (ahead : state .next ≤ number) (filled : List ℕ) (f : filled ≡ splice (state .next - 1) (replicate (number - 1 - (state .next - 1)) (i + 1)) table) where
+    module _ (ahead : state .next ≤ number) (filled : List ℕ)
+        (f : filled ≡ splice (state .next - 1) (replicate (number - 1 - (state .next - 1)) (i + 1)) table) where
       inside : (state .next - 1 ≤ number - 1) × (number - 1 < length table)
       inside = omega (arith, k .low, k .high, t .room)
 
       same : length filled ≡ length table
       same = ap length f ∙ skipped-length _ _ _ table (inside .0) (omega (arith, inside .1))
 
-      pub held-in-order : mark ≤ arrivalsMost → TableAfter (before d (i + 1)) (set filled (number - 1) arrivedMark) (record { count = state .count + 1; next = number + 1 })
+      pub held-in-order : mark ≤ arrivalsMost → TableAfter (before d (i + 1)) (set filled (number - 1) arrivedMark)
+          (record { count = state .count + 1; next = number + 1 })
       unfolding nextAfter
       held-in-order h =
-          held-new h (set filled (number - 1) arrivedMark) (length-set filled (number - 1) arrivedMark ∙ same) (λ s low high. go s low high (eqb number s) refl)
+          held-new h (set filled (number - 1) arrivedMark) (length-set filled (number - 1) arrivedMark ∙ same)
+          (λ s low high. go s low high (eqb number s) refl)
           (number + 1) (rw (le-leb (state .next) number ahead))
         where
           go : (s : ℕ) → 1 ≤ s → s ≤ tablePlaces → (b : Bool) → eqb number s ≡ b
-              → getD (set filled (number - 1) arrivedMark) (s - 1) 0 ≡ cond b arrivedMark (cond (leb (state .next) s && ltb s number) (i + 1) (getD table (s - 1) 0))
+              → getD (set filled (number - 1) arrivedMark) (s - 1) 0
+              ≡ cond b arrivedMark (cond (leb (state .next) s && ltb s number) (i + 1) (getD table (s - 1) 0))
           go s low high true q =
               let e : number ≡ s = eqb-true number s q in
               rw e (getD-set-same filled (s - 1) arrivedMark 0 (omega (arith, t .room, same)))

@@ -107,7 +107,12 @@ pub record ReportAgrees (d : Decoded) (answer : Layout) (new : Lent) : Type 0 wh
 -- the rows of `metrics::record_rows` agree, too: a record's figures are the first, second, fourth and fifth number of its row
 pub record RowsAgree : Type 0 where
   pub figures : (a : Answer)
-      → figuresOf a ≡ record { flag = getD (rowOf a) 0 0; position = getD (rowOf a) 1 0; extent = getD (rowOf a) 3 0; late = getD (rowOf a) 4 0 }
+      → figuresOf a ≡ record {
+        flag = getD (rowOf a) 0 0;
+        position = getD (rowOf a) 1 0;
+        extent = getD (rowOf a) 3 0;
+        late = getD (rowOf a) 4 0;
+      }
 
 -- ---- moving the clock
 

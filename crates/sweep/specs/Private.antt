@@ -30,8 +30,8 @@ unfoldable pub recordOf : List Arrival → Option FirstArrival → ℕ
 recordOf earlier none = 0
 recordOf earlier (some p) = firstRecord (p .number) earlier
 
--- the mark of packet s after some arrivals: `arrivedMark` if it has arrived, else the record of its discontinuity, the jump that skipped it;
--- 0 if no jump has
+-- the mark of packet s after some arrivals: `arrivedMark` if it has arrived, else the record of its discontinuity, the jump that skipped
+-- it; 0 if no jump has
 unfoldable pub markOf : List Arrival → ℕ → ℕ
 markOf earlier s = cond (has s earlier) arrivedMark (recordOf earlier (discontinuity (firsts earlier) s))
 

@@ -1,5 +1,5 @@
-// The second engine: one pass over the arrivals of a checked sample, with a table by packet number. It fills the caller's lists with the flag,
-// position, extent and late time of every record. Cost: O(A + K).
+// The second engine: one pass over the arrivals of a checked sample, with a table by packet number. It fills the caller's lists with the
+// flag, position, extent and late time of every record. Cost: O(A + K).
 ghost use mathlib.Core.Path.{_≡_};
 ghost use Rattle.sample.specs.Decode.{decode};
 ghost use Rattle.sweep.specs.Calls.{lentShort, lent, SweptTo, EnginesAgree, ReportAgrees, SweepMoved, RowsAgree};
@@ -15,8 +15,8 @@ use sample::refused_layout;
 use table::PACKET_TABLE_LEN;
 use table::clear;
 
-// The figures of a record: the number of its answer's case, its position, its extent, and the amount of its late time. Figures that it lacks
-// are 0.
+// The figures of a record: the number of its answer's case, its position, its extent, and the amount of its late time. Figures that it
+// lacks are 0.
 pub struct Figures {
     pub flag: u8,
     pub position: u32,

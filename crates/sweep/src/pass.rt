@@ -83,8 +83,8 @@ fn put_figures(
     lates[place] = f.late;
 }
 
-// Passes record i + 1: stores its figures in the lists and updates the table. Cost of all records: O(A + K). Each case stores its own figures
-// and returns, so that the compiler uses a branch and keeps the addresses of the lists in registers.
+// Passes record i + 1: stores its figures in the lists and updates the table. Cost of all records: O(A + K). Each case stores its own
+// figures and returns, so that the compiler uses a branch and keeps the addresses of the lists in registers.
 fn pass_record(
     file: &[u8],
     layout: Layout,
@@ -97,10 +97,12 @@ fn pass_record(
     state: State,
 ) -> State
     requires { ⌜ HasRecord (decode (now file)) layout i × TableAfter (before (decode (now file)) i) (now table) state
-        × Room (i + 1) (now flags) (now positions) (now extents) (now lates) × (take i (now positions) ≡ positionsOf (answersTo (decode (now file)) i)) ⌝ }
+        × Room (i + 1) (now flags) (now positions) (now extents) (now lates)
+        × (take i (now positions) ≡ positionsOf (answersTo (decode (now file)) i)) ⌝ }
     ensures { λ r. ⌜ TableAfter (before (decode (now (file .entry))) (i + 1)) (now (table .exit)) r
         × (drop tablePlaces (now (table .exit)) ≡ drop tablePlaces (now (table .entry)))
-        × Put i (figuresOf (answerAt (decode (now (file .entry))) i)) (now (flags .entry)) (now (positions .entry)) (now (extents .entry)) (now (lates .entry))
+        × Put i (figuresOf (answerAt (decode (now (file .entry))) i)) (now (flags .entry)) (now (positions .entry)) (now (extents .entry))
+        (now (lates .entry))
         (now (flags .exit)) (now (positions .exit)) (now (extents .exit)) (now (lates .exit)) ⌝ }
 {
     let arrival = arrival_at(file, layout, i as usize);

@@ -1,5 +1,5 @@
-// The table by packet number. At index s - 1 it has ARRIVED if packet s has arrived, else the record of the jump that skipped it, or 0 if no
-// jump has. Each index is written at most four times.
+// The table by packet number. At index s - 1 it has ARRIVED if packet s has arrived, else the record of the jump that skipped it, or 0 if
+// no jump has. Each index is written at most four times.
 ghost use mathlib.Core.Path.{_≡_};
 ghost use Prim.Native.Nat.{_-_, _≤_};
 ghost use lib.ListN.{length, replicate};

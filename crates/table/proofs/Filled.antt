@@ -1,6 +1,6 @@
--- The rows of the table: a list of 32,768 numbers has room for the rows of any sample (`rows-wide`), so `record_rows` fills it and the row of
--- each record is at its index (`rows-known`). Hence the premises of the loop hold (`table-ready`).
--- d is the decoded file, y its layout, old the list before. Assumes nothing.
+-- The rows of the table: a list of 32,768 numbers has room for the rows of any sample (`rows-wide`), so `record_rows` fills it and the
+-- row of each record is at its index (`rows-known`). Hence the premises of the loop hold (`table-ready`). d is the decoded file, y its
+-- layout, old the list before. Assumes nothing.
 use Prim.Native.Nat.{ℕ, suc, _+_, _-_, _*_, _/_, _≤_, _<_}
 use native.Mathlib.Omega.{arith}
 use mathlib.Core.Path.{_≡_, refl, sym, ap, subst, _∙_}
@@ -48,7 +48,8 @@ module _ (d : Decoded) (y : Layout) (old : List ℕ) (e : y ≡ layoutOf d) (few
     go : (d : Decoded) → i < length (sampleArrivals d) → recordRefusal d (suc i) ≡ 0
     go (refused r) h = absurd (omega (arith, h))
     go (accepted s) h =
-        ap (λ (t : Bool). firstRefusal (0 ∷ refusalIf t 9 ∷ [])) (not-outside 1 (length (s .arrivals)) (suc i) (omega arith) (omega (arith, h)))
+        ap (λ (t : Bool). firstRefusal (0 ∷ refusalIf t 9 ∷ []))
+        (not-outside 1 (length (s .arrivals)) (suc i) (omega arith) (omega (arith, h)))
 
   pub rows-known : RowsTell → {rows : List ℕ} → rows ≡ over (rowsOf (answersOf d)) old → RowsKnown d y rows
   unfolding rowAt

@@ -60,7 +60,8 @@ module _ (json : Bool) (d : Decoded) where
       let e : suc b - 1 ≡ b = omega arith in
       let f : low + (high - low) ≡ high = omega arith in
       let p : partText json d (suc b) ≡ recordsFrom json d low (high - low) =
-      sym (part-records (suc b) (λ z. omega (arith, z)) h) ∙ ap (λ (k : ℕ). recordsFrom json d (blockStart d k) (high - blockStart d k)) e in
+      sym (part-records (suc b) (λ z. omega (arith, z)) h) ∙ ap (λ (k : ℕ). recordsFrom json d (blockStart d k) (high - blockStart d k))
+      e in
       ap (λ (l : List ℕ). l ++ partText json d (suc b)) (parts-to b (omega (arith, h)))
       ∙ ap (λ (l : List ℕ). (start ++ recordsFrom json d 0 low) ++ l) p
       ∙ append-assoc start (recordsFrom json d 0 low) (recordsFrom json d low (high - low))

@@ -1,7 +1,7 @@
 -- Joined, the pieces that the private functions write are the texts of Text: those of a record (`record-pieces`), those after the records
 -- (`end-pieces`), and the label before them (`label-written`). Joining two lists of pieces and appending gives their joined append
--- (`joined-join`); the rest is computed, case by case. ps and qs are pieces, i is the index of a record from 0, a its arrival, x its answer.
--- Assumes nothing.
+-- (`joined-join`); the rest is computed, case by case. ps and qs are pieces, i is the index of a record from 0, a its arrival, x its
+-- answer. Assumes nothing.
 use Prim.Native.Nat.{ℕ, _+_, _≤_}
 use native.Mathlib.Omega.{arith}
 use mathlib.Core.Path.{_≡_, refl, sym, ap, ap₂, _∙_}

@@ -32,8 +32,8 @@ fn refused(refusal: u32) -> WriteAnswer
     WriteAnswer { refusal, length: 0 }
 }
 
-// Writes a part of a sample's table to the start of `out` if it has room for it. The first `put_part` only finds the length of the part, since
-// a refused call must leave `out` unchanged.
+// Writes a part of a sample's table to the start of `out` if it has room for it. The first `put_part` only finds the length of the part,
+// since a refused call must leave `out` unchanged.
 fn write_part(file: &[u8], json: bool, part: u32, out: &mut [u8]) -> WriteAnswer
     ensures { λ r. ⌜ PartTo json (decode (now (file .entry))) part (now (out .entry)) r (now (out .exit))
         × (length (partText json (decode (now (file .entry))) part) ≤ partOctets) × PartsJoin json (decode (now (file .entry))) ⌝ }

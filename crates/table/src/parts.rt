@@ -51,7 +51,8 @@ pub(crate) fn write_value(
     number: u64,
 ) -> usize
     requires { ⌜ (length (now named) ≤ 36) × (length (now plain) ≤ 36) × (at + 56 ≤ length (now out)) ⌝ }
-    ensures { λ r. ⌜ Written at r (cond json (now (named .entry)) (now (plain .entry)) ++ decimalOf number) (now (out .entry)) (now (out .exit))
+    ensures { λ r. ⌜ Written at r (cond json (now (named .entry)) (now (plain .entry)) ++ decimalOf number) (now (out .entry))
+        (now (out .exit))
         × (r ≤ at + 56) ⌝ }
 {
     let digits = write_either(out, at, json, named, plain);

@@ -1,7 +1,7 @@
 -- The step of a struct that a function holds in a local: a walk of its MIR, by hand, once for every struct, list of numbers, and callee
--- `#step` that steps a struct lent to it. The struct is copied into the local, which is lent for a lifetime that the walk makes. The callee is
--- called, the lifetime is ended, and the local comes back at the state that the callee leaves. It is copied out, and `#both` puts it beside
--- what the callee says.
+-- `#step` that steps a struct lent to it. The struct is copied into the local, which is lent for a lifetime that the walk makes. The
+-- callee is called, the lifetime is ended, and the local comes back at the state that the callee leaves. It is copied out, and `#both`
+-- puts it beside what the callee says.
 --     R, S, F      the types of the struct, of what the callee says, and of the answer; ws the widths of the numbers
 --     held         the function; τ is the type to which its reference refers, as the MIR names it
 --     Says         what the callee ensures
@@ -46,7 +46,8 @@ use Rattle.receiver.proofs.Local.{laid, lifted}
 abbrev at : List Width → ℕ → ℕ
 at ws k = suc (suc (past ws k))
 
--- the function: _1 is the struct; after the numbers stand the local, what is said, the reference to the local, and the struct after the step
+-- the function: _1 is the struct; after the numbers stand the local, what is said, the reference to the local, and the struct after the
+-- step
 abbrev pub held : Declared → (S F : RattleType) → List Width → Ty → Name → Name → Fn
 held R S F ws τ #step #both = record {
   lifetimes = 0;
@@ -91,7 +92,8 @@ module _ {M : Type 1} (𝓤 : URA M) (H : Heap 𝓤) (A : Atoms 𝓤) (W : Given
 
   -- the five statements, in turn, from the struct h and the numbers ns
   pub walk : (h : R .D) (ns : Numbers ws) → Is (row R) h (LL.val R L h ∷ []) → Fit ws ns → (Post : Val → SProp 𝓤)
-      → ((d : F .Denot) (v : Val) → Is F d (v ∷ []) → (s : S .Denot) (h′ : R .D) → Says h ns s h′ → d ≡ answer s h′ → ent 𝓤 (emp 𝓤) (Post v))
+      → ((d : F .Denot) (v : Val) → Is F d (v ∷ []) → (s : S .Denot) (h′ : R .D) → Says h ns s h′ → d ≡ answer s h′
+      → ent 𝓤 (emp 𝓤) (Post v))
       → ent 𝓤 (emp 𝓤) (WpFn 𝓤 H (𝓣 .C) (𝓣 .Λ) (held R S F ws τ #step #both) (LL.val R L h ∷ values ws ns) Post)
   walk h ns was fits Post exits =
       let fm = fmOf 𝓤 H (W .laws) 𝓣 in
@@ -127,7 +129,8 @@ module _ {M : Type 1} (𝓤 : URA M) (H : Heap 𝓤) (A : Atoms 𝓤) (W : Given
       assigns ! (of-opd ! (load ! (found ! (after 𝓤 H ws bs _ 0)) (look ! 0 refl))) (found ! (after 𝓤 H ws bs _ 3))
       (init ! 2 refl (typed h′ is₂)) $
       gives ! fm F (λ d. d ≡ answer s h′) (v₁ ∷ LL.val R L h′ ∷ []) (both-gives s v₁ is₁ h′ is₂)
-      (and-then ! (load ! (found ! (after 𝓤 H ws bs _ 1)) (look ! 7 refl)) (and-then ! (load ! (found ! (after 𝓤 H ws bs _ 3)) (look ! 3 refl))
+      (and-then ! (load ! (found ! (after 𝓤 H ws bs _ 1)) (look ! 7 refl))
+      (and-then ! (load ! (found ! (after 𝓤 H ws bs _ 3)) (look ! 3 refl))
       (no-more !))) (λ v₂ d e₂ is₃.
       land ! (from ! (stop !)) (init ! 11 refl (alone (F .mir) v₂ (F-lawful .typed d _ is₃))) $
       returns ! (look ! 11 refl) $ forget ! 0 refl $ forget ! 2 refl $ forget ! 4 refl $ forget ! 6 refl $

@@ -101,7 +101,10 @@ module _ {M : Type 1} (𝓤 : URA M) (H : Heap 𝓤) (A : Atoms 𝓤) (W : Given
     (run : Routine → Fun 𝓤) (𝓣 : Tables 𝓤 H) (τ : Ty) (#step : Name) where
   -- what is had of each parameter at exit is given up
   goes : AllGo 𝓤 H A W 0 (f.signature .params) (f.ended .kept) stayed
-  goes = (goes-none 𝓤 H A W 0 (λ _. R.the-row) yes (λ κs x f. refl), (goes-none 𝓤 H A W 0 (λ _. u32) yes (λ κs x f. refl), (goes-none 𝓤 H A W 0 (λ _. u64) yes (λ κs x f. refl), tt)))
+  goes = (
+    goes-none 𝓤 H A W 0 (λ _. R.the-row) yes (λ κs x f. refl),
+    (goes-none 𝓤 H A W 0 (λ _. u32) yes (λ κs x f. refl), (goes-none 𝓤 H A W 0 (λ _. u64) yes (λ κs x f. refl), tt)),
+  )
 
   -- the MIR meets the contract: the walk, at all that is passed
   pub meets : Triple 𝓤 (𝓣 .C #step) (Step 𝓤 H A at-mem run)
@@ -118,7 +121,8 @@ module _ {M : Type 1} (𝓤 : URA M) (H : Heap 𝓤) (A : Atoms 𝓤) (W : Given
       (qed W (‵ ftrue ∷ ‵ (owns (R.the-row ∷ u32 ∷ u64 ∷ []) a _) ∷ []) ∵ keep ! [] $ by !
       (walk 𝓤 H A W 𝓣 R.the-type R′.the-laws R′.the-plain S.the-row F.the-row (LL.lawful S.the-type S′.the-laws 𝓤 H A W)
       (LL.lawful F.the-type F′.the-laws 𝓤 H A W) (w32 ∷ w64 ∷ []) Says answer τ #step #both
-      (λ κs qs b known. lent-gives 𝓤 H A R.the-row S.the-row (w32 ∷ w64 ∷ []) Says W (𝓣 .C) (fmOf 𝓤 H (W .laws) 𝓣) (step.clauses 𝓤 H A at-mem run)
+      (λ κs qs b known. lent-gives 𝓤 H A R.the-row S.the-row (w32 ∷ w64 ∷ []) Says W (𝓣 .C) (fmOf 𝓤 H (W .laws) 𝓣)
+      (step.clauses 𝓤 H A at-mem run)
       #step known-step κs qs b known tt (id⊢ 𝓤 _) (λ s e. id⊢ 𝓤 _)) both-gives
       (a .0) (a .1) (are .0) (are .1 .0 .1, (are .1 .1 .0 .1, tt))
       _ (λ d v is s h′ e₁ e₂. exits 𝓤 H A W at-mem run (a .0) (a .1 .0) (a .1 .1 .0) (are .0) (are .1 .0 .1) (are .1 .1 .0 .1) d v is

@@ -12,7 +12,8 @@ use Rattle.textlog.specs.Decode.{isDecimalMark, inRange, fractionIn, tim
 use Rattle.textlog.specs.Cases.{LinesReadAsGiven, LinesWrittenAsGiven}
 
 pub read-as-given : LinesReadAsGiven
-unfolding digit isDecimalMark digitCount inRange fractionIn timeIn lineIn decodeLine outside decimalValue lines judgeLines judgeDecoded judgeOne tooEarly nextReference
+unfolding digit isDecimalMark digitCount inRange fractionIn timeIn lineIn decodeLine outside decimalValue lines judgeLines judgeDecoded
+    judgeOne tooEarly nextReference
 read-as-given = record { decoded = refl; judged = refl }
 
 pub written-as-given : LinesWrittenAsGiven

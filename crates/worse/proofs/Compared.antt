@@ -1,8 +1,8 @@
 -- The comparison of two decoded files a and b. The refusal of both is the first file's, or the second's if the first has none
 -- (`first-refused`, `second-refusal`). If there is a refusal, the link is `Refused`; else the test of both ratios gives it
 -- (`compared-refused`, `compared`). The link of the comparison chooses label, start and place (`linked`).
--- r is the refusal, z says that there is none, x is a comparison and l its link, p and q are the places of the two files, t is the result of
--- the test. Assumes nothing.
+-- r is the refusal, z says that there is none, x is a comparison and l its link, p and q are the places of the two files, t is the result
+-- of the test. Assumes nothing.
 use Prim.Native.Nat.{ℕ, zero, suc, _<_}
 use native.Mathlib.Omega.{arith}
 use mathlib.Core.Bool.{Bool, cond}

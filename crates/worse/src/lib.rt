@@ -1,5 +1,5 @@
-// Finds which of two samples has the greater reordered ratio, and its label as a part of that sample. Ratios are compared exactly, as fractions
-// of whole numbers.
+// Finds which of two samples has the greater reordered ratio, and its label as a part of that sample. Ratios are compared exactly, as
+// fractions of whole numbers.
 
 ghost use mathlib.Core.Path.{_≡_};
 ghost use denote.Ref.{now};

@@ -1,6 +1,6 @@
--- `checker::check` meets its contract. If the sample is refused, the listing is not read (`checked-refused`). Else the verdict is `Agrees` if
--- `same` says so (`checked-same`); if not, the octets that agree give the wrong line (`checked-wrong`). The claims that the contract carries
--- are laws. Assumes nothing.
+-- `checker::check` meets its contract. If the sample is refused, the listing is not read (`checked-refused`). Else the verdict is
+-- `Agrees` if `same` says so (`checked-same`); if not, the octets that agree give the wrong line (`checked-wrong`). The claims that the
+-- contract carries are laws. Assumes nothing.
 use borrow.Author.Needs.{needs}
 use denote.Ref.{now}
 use Rattle.sample.specs.Decode.{decode}
@@ -36,8 +36,10 @@ wrong-line-requires c κs =
 
 returns-3 : tie.Need-returns-3
 returns-3 c =
-    let l = c .before .before .before .before in
-    (checked-wrong _ _ _ (l .agreement .ensures .0) (c .before .before .if1 .left) (c .before .if2 .left) _ (c .wrong-line .ensures), carries l)
+    let l = c .before .before .before .before in (
+      checked-wrong _ _ _ (l .agreement .ensures .0) (c .before .before .if1 .left) (c .before .if2 .left) _ (c .wrong-line .ensures),
+      carries l,
+    )
 
 pub check-spec : {M : Type 1} → statement M
 check-spec =

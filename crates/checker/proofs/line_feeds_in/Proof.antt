@@ -1,5 +1,5 @@
--- `checker::line_feeds_in` meets its contract. The loop's invariant: `count` is the number of line feeds among the first i octets, at most i
--- (`feeds-next` for the next octet). The measure is the number of octets left. Assumes nothing.
+-- `checker::line_feeds_in` meets its contract. The loop's invariant: `count` is the number of line feeds among the first i octets, at
+-- most i (`feeds-next` for the next octet). The measure is the number of octets left. Assumes nothing.
 use Prim.Native.Nat.{_+_, _-_, _≤_}
 use native.Mathlib.Omega.{arith}
 use mathlib.Core.Path.{_≡_, refl, ap, _∙_}

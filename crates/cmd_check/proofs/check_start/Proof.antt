@@ -1,5 +1,5 @@
--- `cmd_check::check_start` meets its contract: the verdict on the start is that on the whole listing, since one octet more than any report has
--- decides (`StartDecides`, which the contract of `checker::check` carries). Assumes nothing.
+-- `cmd_check::check_start` meets its contract: the verdict on the start is that on the whole listing, since one octet more than any
+-- report has decides (`StartDecides`, which the contract of `checker::check` carries). Assumes nothing.
 use borrow.Author.Needs.{needs}
 use native.Mathlib.Omega.{arith}
 use mathlib.Core.Path.{ap, _∙_}

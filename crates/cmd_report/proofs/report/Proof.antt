@@ -1,5 +1,6 @@
--- `cmd_report::report` meets its contract: the text of a refused input is the line of its refusal (`text-refused`), which is short. The text of an
--- accepted input is its report (`text-accepted`, `listed-text`), which has room by the contract of `metrics::listing`. Assumes nothing.
+-- `cmd_report::report` meets its contract: the text of a refused input is the line of its refusal (`text-refused`), which is short. The
+-- text of an accepted input is its report (`text-accepted`, `listed-text`), which has room by the contract of `metrics::listing`. Assumes
+-- nothing.
 use mathlib.Core.Path.{_≡_, sym, ap, _∙_}
 use Prim.Native.Nat.{_^_, _<_}
 use native.Mathlib.Omega.{arith}
@@ -22,7 +23,8 @@ returns c =
     let found = c .before .before .before .before .before in
     let r = found .check .result .refusal in
     let fits : r < 2 ^ 32 = omega arith in
-    rw (text-refused _ (own found) (c .before .before .before .before .if1 .taken)) (c .before .before .refuse .ensures, omega (arith, refused-octets r fits))
+    rw (text-refused _ (own found) (c .before .before .before .before .if1 .taken))
+    (c .before .before .refuse .ensures, omega (arith, refused-octets r fits))
 
 returns-2 : tie.Need-returns-2
 returns-2 c =

@@ -1,5 +1,5 @@
--- `cmd_summary::summarize` meets its contract: the text of a refused input is the line of its refusal (`shown-refused`), that of an accepted input
--- its summary (`shown-accepted`). Assumes nothing.
+-- `cmd_summary::summarize` meets its contract: the text of a refused input is the line of its refusal (`shown-refused`), that of an
+-- accepted input its summary (`shown-accepted`). Assumes nothing.
 use mathlib.Core.Path.{_≡_, sym, ap, _∙_}
 use denote.Ref.{now}
 use Rattle.sample.specs.Decode.{decode, decodedRefusal}

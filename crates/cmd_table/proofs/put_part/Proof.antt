@@ -1,6 +1,6 @@
--- `cmd_table::put_part` meets its contract: the part of an accepted input is that of its table (`shown-accepted`); of a refused input it is the
--- line of its refusal (`shown-line`) or empty (`shown-empty`). The parts are the whole (`shown-join`). `found` is the place after the check, s the
--- start. Assumes nothing.
+-- `cmd_table::put_part` meets its contract: the part of an accepted input is that of its table (`shown-accepted`); of a refused input it
+-- is the line of its refusal (`shown-line`) or empty (`shown-empty`). The parts are the whole (`shown-join`). `found` is the place after
+-- the check, s the start. Assumes nothing.
 use native.Mathlib.Omega.{arith}
 use mathlib.Core.Path.{_≡_, ap, _∙_}
 use denote.Ref.{now}

@@ -1,5 +1,5 @@
--- `cmd_table::refuse` meets its contract: the line has at most 19 octets, so it fits. p is the place after it is written, s the start. Assumes
--- nothing.
+-- `cmd_table::refuse` meets its contract: the line has at most 19 octets, so it fits. p is the place after it is written, s the start.
+-- Assumes nothing.
 use Prim.Native.Nat.{_+_, _≤_, _<_, _^_}
 use native.Mathlib.Omega.{arith}
 use mathlib.Core.Path.{refl, _∙_}

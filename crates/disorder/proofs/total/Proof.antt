@@ -22,8 +22,13 @@ disorder-of-requires c κs = found c
 returns : tie.Need-returns
 unfolding sampleDisorder
 returns c =
-    let h = found (c .before) in
-    (rw (h .laid, c .disorder-of .ensures), (sums-offsets _ _ h, (offsets-count-pairs, (wrong-least, disorder-moved _ (λ i. c .before .before .shared-slice-known .given i .fits)))))
+    let h = found (c .before) in (
+      rw (h .laid, c .disorder-of .ensures),
+      (
+        sums-offsets _ _ h,
+        (offsets-count-pairs, (wrong-least, disorder-moved _ (λ i. c .before .before .shared-slice-known .given i .fits))),
+      ),
+    )
 
 pub total-spec : {M : Type 1} → statement M
 total-spec = tie.close (tie.spec (λ c κs. search needs) disorder-of-requires returns)

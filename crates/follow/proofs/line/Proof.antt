@@ -11,8 +11,10 @@ returns c =
     let written = c .before .before .write-line .ensures in
     let step = c .before .before .before .before .before .before in
     let read = step .before .read-line .ensures in
-    let state = step .before .before .before .before .args .state in
-    (line-short state read (step .step-line .ensures) (written .0) _ (c .if1 .taken), line-room state read (step .step-line .ensures) (written .0) (written .1))
+    let state = step .before .before .before .before .args .state in (
+      line-short state read (step .step-line .ensures) (written .0) _ (c .if1 .taken),
+      line-room state read (step .step-line .ensures) (written .0) (written .1),
+    )
 
 slice-aggregate-put-octets : tie.Need-slice-aggregate-put-octets
 slice-aggregate-put-octets c = stands (c .before .before .before .before .write-line .ensures .0) .0

@@ -1,6 +1,6 @@
 -- `fragments::order_accepted` meets its contract: at the start of both lists, one entry for each arrival, the values replace the notes of
--- `note_arrivals`. After them the lists stay unchanged (`filled`). Numbers up to K are from 1 to 4,096, as K is at most 4,096 (`within-more`).
--- Assumes nothing.
+-- `note_arrivals`. After them the lists stay unchanged (`filled`). Numbers up to K are from 1 to 4,096, as K is at most 4,096
+-- (`within-more`). Assumes nothing.
 use native.Mathlib.Omega.{arith}
 use Prim.Native.Nat.{ℕ, _≤_}
 use mathlib.Core.List.{List, _++_}
@@ -59,28 +59,38 @@ fill-flags-and-used-requires : tie.Need-fill-flags-and-used-requires
 fill-flags-and-used-requires c κs =
     let n = c .before .before .before .before .note-arrivals in
     let s = noting (c .before .before .before .before .before) in
-    let q = s .pre in
-    (q .1, within-more _ _ _ (q .0) (q .2), q .3, n .kept .1 .1 .1 .1 .1 .1 .0 ∙ ofMarks s, n .kept .1 .1 .1 .1 .1 .1 .1 .0 ∙ ofWholes s, n .ensures)
+    let q = s .pre in (
+      q .1,
+      within-more _ _ _ (q .0) (q .2),
+      q .3,
+      n .kept .1 .1 .1 .1 .1 .1 .0 ∙ ofMarks s,
+      n .kept .1 .1 .1 .1 .1 .1 .1 .0 ∙ ofWholes s,
+      n .ensures,
+    )
 
 returns : tie.Need-returns
 returns c =
     let f = c .before .before .before .before .fill-flags-and-used in
     let s = noting (noted c .before) in (
-      filled (length (now (s .args .numbers))) _ (flags (pieces s)) (now (s .args .flagged)) (flags-many (pieces s) ∙ counted s) (f .ensures .0),
-      filled (length (now (s .args .numbers))) _ (usable (pieces s)) (now (s .args .used)) (usable-many (pieces s) ∙ counted s) (f .ensures .1),
+      filled (length (now (s .args .numbers))) _ (flags (pieces s)) (now (s .args .flagged)) (flags-many (pieces s) ∙ counted s)
+          (f .ensures .0),
+      filled (length (now (s .args .numbers))) _ (usable (pieces s)) (now (s .args .used)) (usable-many (pieces s) ∙ counted s)
+          (f .ensures .1),
     )
 
 same-length : tie.Need-same-length
 same-length c =
     let f = c .before .before .before .before .fill-flags-and-used in
     let s = noting (noted c .before) in
-    kept (length (now (s .args .numbers))) (f .last .1 .1 .1 .1 .1 .0) (now (s .args .flagged)) (s .pre .4) (ap length (f .ensures .0) ∙ flags-many (pieces s) ∙ counted s)
+    kept (length (now (s .args .numbers))) (f .last .1 .1 .1 .1 .1 .0) (now (s .args .flagged)) (s .pre .4)
+    (ap length (f .ensures .0) ∙ flags-many (pieces s) ∙ counted s)
 
 same-length-2 : tie.Need-same-length-2
 same-length-2 c =
     let f = c .before .before .before .before .fill-flags-and-used in
     let s = noting (noted c .before) in
-    kept (length (now (s .args .numbers))) (f .last .1 .1 .1 .1 .1 .1 .0) (now (s .args .used)) (s .pre .5) (ap length (f .ensures .1) ∙ usable-many (pieces s) ∙ counted s)
+    kept (length (now (s .args .numbers))) (f .last .1 .1 .1 .1 .1 .1 .0) (now (s .args .used)) (s .pre .5)
+    (ap length (f .ensures .1) ∙ usable-many (pieces s) ∙ counted s)
 
 pub order-accepted-spec : {M : Type 1} → statement M
 order-accepted-spec =

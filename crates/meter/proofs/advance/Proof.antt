@@ -27,7 +27,11 @@ meterAt c =
     (placesOf (c .args .positions .now) (c .args .numbers .now) (c .args .times .now))
 
 -- a refusal leaves the parts as they were
-as-refused : (m : Meter) (k : ℕ) (a : StreamsStep) → a ≡ record { outcome = refusedOutcome k; first = m .first .stream; second = m .second .stream }
+as-refused : (m : Meter) (k : ℕ) (a : StreamsStep) → a ≡ record {
+  outcome = refusedOutcome k;
+  first = m .first .stream;
+  second = m .second .stream;
+}
     → meterAnswerOf a (m .first .marks) (m .second .marks) (m .places) ≡ notStepped k m
 as-refused m k a e = ap (λ (b : StreamsStep). meterAnswerOf b (m .first .marks) (m .second .marks) (m .places)) e
 

@@ -16,14 +16,17 @@ use Rattle.meter.proofs.is_fit.Tie as tie
 -- the meter of the parts, with any marks
 abbrev meterAt : tie.Start → List ℕ → List ℕ → Meter
 meterAt c marks₁ marks₂ =
-    wholeMeter (c .args .first) (c .args .second) marks₁ marks₂ (placesOf (c .args .positions .now) (c .args .numbers .now) (c .args .times .now))
+    wholeMeter (c .args .first) (c .args .second) marks₁ marks₂
+    (placesOf (c .args .positions .now) (c .args .numbers .now) (c .args .times .now))
 
 -- past the first test they keep few jumps
 few-known : (c : tie.Else1) → fewKept (c .before .before .args .first .kept) (c .before .before .args .second .kept) ≡ true
 few-known c = sym (c .before .few .ensures) ∙ not-false _ (c .if1 .left)
 
 returns : tie.Need-returns
-returns c = λ marks₁ marks₂. rw (sym (c .before .few .ensures) ∙ not-true _ (c .if1 .taken)) at (fit-parts (meterAt (c .before .before) marks₁ marks₂))
+returns c =
+    λ marks₁ marks₂. rw (sym (c .before .few .ensures) ∙ not-true _ (c .if1 .taken)) at
+    (fit-parts (meterAt (c .before .before) marks₁ marks₂))
 
 returns-2 : tie.Need-returns-2
 returns-2 c = λ marks₁ marks₂.
@@ -35,7 +38,11 @@ returns-3 c = λ marks₁ marks₂.
     let m = meterAt (c .before .before .before .before .before) marks₁ marks₂ in
     c .is-fit2 .ensures
     ∙ fit-two m
-    ∙ rw (few-known (c .before .before .before), sym (fit-one m) ∙ sym (c .before .before .is-fit .ensures) ∙ not-false _ (c .before .if2 .left)) at (fit-parts m)
+    ∙ rw (
+      few-known (c .before .before .before),
+      sym (fit-one m) ∙ sym (c .before .before .is-fit .ensures)
+          ∙ not-false _ (c .before .if2 .left),
+    ) at (fit-parts m)
 
 pub is-fit-spec : {M : Type 1} → statement M
 is-fit-spec =

@@ -33,12 +33,17 @@ meterAt c =
     (placesOf (c .args .positions .now) (c .args .numbers .now) (c .args .times .now))
 
 -- a refusal leaves the parts as they were
-as-refused : (m : Meter) (k : ℕ) (a : StreamsStep) → a ≡ record { outcome = refusedOutcome k; first = m .first .stream; second = m .second .stream }
+as-refused : (m : Meter) (k : ℕ) (a : StreamsStep) → a ≡ record {
+  outcome = refusedOutcome k;
+  first = m .first .stream;
+  second = m .second .stream;
+}
     → meterAnswerOf a (m .first .marks) (m .second .marks) (m .places) ≡ startAsStep (notStarted k m)
 as-refused m k a e = ap (λ (b : StreamsStep). meterAnswerOf b (m .first .marks) (m .second .marks) (m .places)) e
 
 -- a stream x that is fresh, with marks that are clear: of stream 1, and of stream 2
-module _ (m : Meter) (k : ℕ) (a : StreamsStep) (x : Stream) (marks : List ℕ) (fresh : x ≡ freshStream k) (clear : marks ≡ replicate markWords 0) where
+module _ (m : Meter) (k : ℕ) (a : StreamsStep) (x : Stream) (marks : List ℕ) (fresh : x ≡ freshStream k)
+    (clear : marks ≡ replicate markWords 0) where
   first-fresh : a ≡ record { outcome = refusedOutcome 0; first = x; second = m .second .stream }
       → _≡_ {A = MeterStepAnswer} (meterAnswerOf a marks (m .second .marks) (m .places))
       (startAsStep (record { refusal = 0; state = withStream one (record { stream = freshStream k; marks = replicate markWords 0 }) m }))
@@ -90,7 +95,8 @@ returns-4 c =
     let e = c .before .before .before .before .before .before .before in
     let m = meterAt (entry e) in
     first-fresh m _ _ _ _ (c .before .fresh-stream .ensures) (c .before .before .clear .ensures) (c .answered4 .ensures)
-    ∙ ap startAsStep (start-done m _ _ one (side-one _ (c .before .before .before .before .if4 .taken)) (fit-known e) (sym (c .before .before .before .before .before .before .outside2 .ensures) ∙ c .before .before .before .before .before .if3 .left))
+    ∙ ap startAsStep (start-done m _ _ one (side-one _ (c .before .before .before .before .if4 .taken)) (fit-known e)
+    (sym (c .before .before .before .before .before .before .outside2 .ensures) ∙ c .before .before .before .before .before .if3 .left))
 
 returns-5 : tie.Need-returns-5
 returns-5 c =
@@ -99,7 +105,8 @@ returns-5 c =
     let w = between 1 2 _ (on-stream (stream-test e)) in
     let n : entry e .args .stream ≡ 2 = omega (arith, w .0, w .1, c .before .before .before .before .if4 .left) in
     second-fresh m _ _ _ _ (c .before .fresh-stream2 .ensures) (c .before .before .clear2 .ensures) (c .answered5 .ensures)
-    ∙ ap startAsStep (start-done m _ _ two (side-two _ n) (fit-known e) (sym (c .before .before .before .before .before .before .outside2 .ensures) ∙ c .before .before .before .before .before .if3 .left))
+    ∙ ap startAsStep (start-done m _ _ two (side-two _ n) (fit-known e)
+    (sym (c .before .before .before .before .before .before .outside2 .ensures) ∙ c .before .before .before .before .before .if3 .left))
 
 pub restart-spec : {M : Type 1} → statement M
 restart-spec =

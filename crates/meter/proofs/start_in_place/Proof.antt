@@ -1,5 +1,5 @@
--- `meter::start_in_place` meets its contract: it is the function of the receiver's LentMembers over a meter that calls `restart`, whose answer is the start's, and a refused
--- start leaves an equal meter (`start-refused`). Assumes nothing.
+-- `meter::start_in_place` meets its contract: it is the function of the receiver's LentMembers over a meter that calls `restart`, whose
+-- answer is the start's, and a refused start leaves an equal meter (`start-refused`). Assumes nothing.
 use mathlib.Core.Path.{_≡_, ap, _∙_}
 use Prim.Native.Nat.{ℕ}
 use mathlib.Core.List.{[], _∷_}
@@ -24,7 +24,8 @@ use Rattle.meter.proofs.start_in_place.Statement as stated
 use Rattle.meter.proofs.start_in_place.Code as code
 
 -- an answer that is the start's is as the contract says
-as-start : (h : Meter) (stream k : ℕ) (d : MeterStepAnswer) → d ≡ startAsStep (meterStart h stream k) → AsMeterStart h stream k (d .outcome) (d .state)
+as-start : (h : Meter) (stream k : ℕ) (d : MeterStepAnswer) → d ≡ startAsStep (meterStart h stream k)
+    → AsMeterStart h stream k (d .outcome) (d .state)
 as-start h stream k d e = (
   ap (λ (p : MeterStepAnswer). p .outcome) e,
   ap (λ (p : MeterStepAnswer). p .state) e,

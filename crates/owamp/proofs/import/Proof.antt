@@ -1,6 +1,7 @@
--- `owamp::import` meets its contract: `records_refusal` gives the refusal of K and the records. If there is none (`none`), a list that is shorter
--- than the number of arrivals is refused with 8. Else `fill_arrivals` leaves the sorted arrivals, so `to_microseconds` may subtract the first
--- time, which is the smallest (`times-converted`). Beside each answer stand the theorems that the contract carries (`carried`). Assumes nothing.
+-- `owamp::import` meets its contract: `records_refusal` gives the refusal of K and the records. If there is none (`none`), a list that is
+-- shorter than the number of arrivals is refused with 8. Else `fill_arrivals` leaves the sorted arrivals, so `to_microseconds` may
+-- subtract the first time, which is the smallest (`times-converted`). Beside each answer stand the theorems that the contract carries
+-- (`carried`). Assumes nothing.
 use borrow.Author.Needs.{needs}
 use native.Mathlib.Omega.{arith}
 use Prim.Native.Nat.{ℕ}
@@ -52,24 +53,35 @@ many c = c .before .before .judge-arrivals .ensures .0
 returns : tie.Need-returns
 returns c =
     let a = c .before .before .before .before .before .before .args in
-    let os = now (a .records) in
-    (import-refused (a .k) os (now (a .numbers)) (now (a .times)) (c .before .records-refusal .result) (c .before .records-refusal .ensures) (c .if1 .taken), carried (a .k) os)
+    let os = now (a .records) in (
+      import-refused (a .k) os (now (a .numbers)) (now (a .times)) (c .before .records-refusal .result)
+          (c .before .records-refusal .ensures) (c .if1 .taken),
+      carried (a .k) os,
+    )
 
 returns-2 : tie.Need-returns-2
 returns-2 c =
-    let e = c .before in
-    (import-short-numbers _ (records e) (now (start e .args .numbers)) (now (start e .args .times)) (none e) (many e) (c .if2 .taken), carried (start e .args .k) (records e))
+    let e = c .before in (
+      import-short-numbers _ (records e) (now (start e .args .numbers)) (now (start e .args .times)) (none e) (many e) (c .if2 .taken),
+      carried (start e .args .k) (records e),
+    )
 
 returns-3 : tie.Need-returns-3
 returns-3 c =
-    let e = c .before .before in
-    (import-short-times _ (records e) (now (start e .args .numbers)) (now (start e .args .times)) (none e) (many e) (c .if3 .taken), carried (start e .args .k) (records e))
+    let e = c .before .before in (
+      import-short-times _ (records e) (now (start e .args .numbers)) (now (start e .args .times)) (none e) (many e) (c .if3 .taken),
+      carried (start e .args .k) (records e),
+    )
 
 fill-arrivals-requires : tie.Need-fill-arrivals-requires
 fill-arrivals-requires c κs =
     let e = c .before .before .before .before in
-    let f = none-refused (start e .args .k) (records e) (none e) in
-    (omega (arith, c .before .before .before .if2 .left, many e), omega (arith, c .before .before .if3 .left, many e), numbers-fit (start e .args .k) (recordsArrivals (records e)) (f .most) (f .numbers), f .few)
+    let f = none-refused (start e .args .k) (records e) (none e) in (
+      omega (arith, c .before .before .before .if2 .left, many e),
+      omega (arith, c .before .before .if3 .left, many e),
+      numbers-fit (start e .args .k) (recordsArrivals (records e)) (f .most) (f .numbers),
+      f .few,
+    )
 
 to-microseconds-requires : tie.Need-to-microseconds-requires
 to-microseconds-requires c κs =
@@ -93,7 +105,9 @@ returns-4 c =
     let a = start e .args in
     let l = recordsArrivals (records e) in
     let f = w .fill-arrivals .ensures in
-    let t = times-converted (inTimeOrder l) _ (now (a .times)) (in-order timeOf l .rising) (many e ∙ sym (order-length timeOf l)) (f .1) (c .before .before .to-microseconds .ensures) in
+    let t =
+    times-converted (inTimeOrder l) _ (now (a .times)) (in-order timeOf l .rising) (many e ∙ sym (order-length timeOf l)) (f .1)
+    (c .before .before .to-microseconds .ensures) in
     let os = records e in
     let h = r .before .if2 .left in
     let answer = import-filled (a .k) os (now (a .numbers)) (now (a .times)) _ (none e) (many e) h (r .if3 .left) (f .0) t in

@@ -1,6 +1,7 @@
--- `owamp::write` meets its contract: a refusal of `check` is the file's own. If there is none, the layout is that of an accepted file (`found`), so
--- `judge_seconds` may judge its times (18). Then a short buffer is refused with 8; else `write_records` writes the records. At each return the
--- first refusal is known, and what is written. Beside each answer stand the theorems that the contract carries (`carried`). Assumes nothing.
+-- `owamp::write` meets its contract: a refusal of `check` is the file's own. If there is none, the layout is that of an accepted file
+-- (`found`), so `judge_seconds` may judge its times (18). Then a short buffer is refused with 8; else `write_records` writes the records.
+-- At each return the first refusal is known, and what is written. Beside each answer stand the theorems that the contract carries
+-- (`carried`). Assumes nothing.
 use borrow.Author.Needs.{needs}
 use native.Mathlib.Omega.{arith}
 use Prim.Native.Nat.{ℕ, _*_}
@@ -50,22 +51,29 @@ found c = (c .before .before .check .ensures .0, c .if1 .left)
 none : (c : tie.Else1) → decodedRefusal (decode (file c)) ≡ 0
 none c = sym (found-refusal (file c) _ (c .before .before .check .ensures .0)) ∙ c .if1 .left
 
-many : (c : tie.Else1) → (c .before .before .check .result .arrivals ≡ length (arrivalsOfFile (file c))) × (length (recordsOf (arrivalsOfFile (file c))) ≡ recordWidth * length (arrivalsOfFile (file c)))
+many : (c : tie.Else1) → (c .before .before .check .result .arrivals ≡ length (arrivalsOfFile (file c)))
+    × (length (recordsOf (arrivalsOfFile (file c))) ≡ recordWidth * length (arrivalsOfFile (file c)))
 many c = (found-many (file c) _ (found c .0), records-many (arrivalsOfFile (file c)))
 
 returns : tie.Need-returns
 returns c =
     let s = c .before .before .before .before .before in
-    let f = now (s .args .file) in
-    (output-refused _ _ (now (s .args .out)) _ (own-refusal f _ (found-refusal f _ (c .before .before .check .ensures .0)) (c .if1 .taken)) (c .if1 .taken), carried f (below-fits w8 f (c .before .before .before .before .shared-slice-known .given)))
+    let f = now (s .args .file) in (
+      output-refused _ _ (now (s .args .out)) _ (own-refusal f _ (found-refusal f _ (c .before .before .check .ensures .0))
+          (c .if1 .taken)) (c .if1 .taken),
+      carried f (below-fits w8 f (c .before .before .before .before .shared-slice-known .given)),
+    )
 
 judge-seconds-requires : tie.Need-judge-seconds-requires
 judge-seconds-requires c κs = found c
 
 returns-2 : tie.Need-returns-2
 returns-2 c =
-    let e = c .before .before in
-    (output-refused _ _ (now (start e .args .out)) _ (times-refusal (file e) _ (none e) (c .before .judge-seconds .ensures)) (c .if2 .taken), carried (file e) (octets e))
+    let e = c .before .before in (
+      output-refused _ _ (now (start e .args .out)) _ (times-refusal (file e) _ (none e) (c .before .judge-seconds .ensures))
+          (c .if2 .taken),
+      carried (file e) (octets e),
+    )
 
 returns-3 : tie.Need-returns-3
 returns-3 c =

@@ -1,6 +1,6 @@
 -- `owamp::write_records` meets its contract. The loop's invariant: the buffer begins with the records of the first i arrivals, the rest is
--- unchanged. A turn reads arrival i, whose number is at least 1 since the file is accepted (`there`, `number-within`), and writes its record to
--- the next 25 octets (`write-next`). The measure is the number of arrivals left. Assumes nothing.
+-- unchanged. A turn reads arrival i, whose number is at least 1 since the file is accepted (`there`, `number-within`), and writes its
+-- record to the next 25 octets (`write-next`). The measure is the number of arrivals left. Assumes nothing.
 use borrow.Author.Needs.{needs}
 use native.Mathlib.Omega.{arith}
 use Prim.Native.Nat.{_+_, _-_, _*_, _≤_}
@@ -90,8 +90,10 @@ loop-again c =
     let r : 0 + recordWidth * length xs ≤ length (now (a .args .out)) = omega (arith, a .pre .1) in
     let i = l .loop .i in
     let z : 0 + recordWidth * i ≡ recordWidth * i = zero-add (recordWidth * i) in
-    let q : c .before .before .put-packet-record .last .0 ≡ put 0 (recordOctets (getD xs i noArrival)) (taken (0 + recordWidth * i) recordWidth (l .loop .out)) =
-    rw z (c .before .before .put-packet-record .ensures ∙ ap (λ (x : Arrival). put 0 (recordOctets x) (taken (recordWidth * i) recordWidth (l .loop .out))) (there (c .before .before .before .before))) in
+    let q : c .before .before .put-packet-record .last .0 ≡ put 0 (recordOctets (getD xs i noArrival))
+    (taken (0 + recordWidth * i) recordWidth (l .loop .out)) =
+    rw z (c .before .before .put-packet-record .ensures ∙ ap (λ (x : Arrival). put 0 (recordOctets x)
+    (taken (recordWidth * i) recordWidth (l .loop .out))) (there (c .before .before .before .before))) in
     let n = write-next recordOctets recordWidth record-long xs 0 (now (a .args .out)) r i (l .loop .inv .1) noArrival (omega arith) q in
     (search needs, rw z at n)
 

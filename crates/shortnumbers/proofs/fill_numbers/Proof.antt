@@ -1,6 +1,6 @@
--- `shortnumbers::fill_numbers` meets its contract. The loop's invariant: the greatest is that of the first i numbers found, at most 512 for each,
--- and the list holds them, then what it held. A turn writes the next one (`fill-next`). The measure is the number of short numbers left.
--- Assumes nothing.
+-- `shortnumbers::fill_numbers` meets its contract. The loop's invariant: the greatest is that of the first i numbers found, at most 512
+-- for each, and the list holds them, then what it held. A turn writes the next one (`fill-next`). The measure is the number of short
+-- numbers left. Assumes nothing.
 use Prim.Native.Nat.{_-_, _*_, _≤_, _<_}
 use native.Mathlib.Omega.{arith}
 use mathlib.Core.Path.{_≡_, refl, ap, _∙_}
@@ -31,7 +31,8 @@ kept c =
     let p = c .before .before .before .pre in
     let m = found-length (a .range) (now (a .shorts)) in
     ap length (c .loop .inv .3)
-    ∙ fill-length (numbersFound (a .range) (now (a .shorts))) (now (a .numbers)) (c .loop .i) (omega (arith, c .loop .inv .0)) (omega (arith, c .loop .inv .0, p .2))
+    ∙ fill-length (numbersFound (a .range) (now (a .shorts))) (now (a .numbers)) (c .loop .i) (omega (arith, c .loop .inv .0))
+    (omega (arith, c .loop .inv .0, p .2))
 
 loop-holds : tie.Need-loop-holds Inv-loop μ-loop
 unfolding greatestOf
@@ -59,8 +60,10 @@ loop-again c =
     let m = found-length (a .range) (now (a .shorts)) in (
       omega arith,
       omega (arith, c .greater-of .ensures, n .ensures .1, l .loop .inv .1),
-      greatest-next (a .range) (now (a .shorts)) (l .loop .greatest) (l .loop .i) (n .result) lt (l .loop .inv .2) (n .ensures .0) (c .greater-of .result) (c .greater-of .ensures),
-      fill-next (numbersFound (a .range) (now (a .shorts))) (now (a .numbers)) (l .loop .i) 0 (omega arith) (omega (arith, p .2)) (l .loop .inv .3)
+      greatest-next (a .range) (now (a .shorts)) (l .loop .greatest) (l .loop .i) (n .result) lt (l .loop .inv .2) (n .ensures .0)
+          (c .greater-of .result) (c .greater-of .ensures),
+      fill-next (numbersFound (a .range) (now (a .shorts))) (now (a .numbers)) (l .loop .i) 0 (omega arith) (omega (arith, p .2))
+          (l .loop .inv .3)
           (found-here (a .range) (now (a .shorts)) (l .loop .greatest) (l .loop .i) (n .result) lt (l .loop .inv .2) (n .ensures .0)),
     )
 
@@ -72,7 +75,8 @@ returns c =
     let l = c .before in
     let a = l .before .before .before .args in
     let m = found-length (a .range) (now (a .shorts)) in
-    fill-done (numbersFound (a .range) (now (a .shorts))) (now (a .numbers)) (l .loop .i) (omega (arith, l .loop .inv .0, c .loop-test .left)) (l .loop .inv .3)
+    fill-done (numbersFound (a .range) (now (a .shorts))) (now (a .numbers)) (l .loop .i)
+    (omega (arith, l .loop .inv .0, c .loop-test .left)) (l .loop .inv .3)
 
 pub fill-numbers-spec : {M : Type 1} → statement M
 fill-numbers-spec =

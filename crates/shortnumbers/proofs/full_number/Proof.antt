@@ -41,4 +41,5 @@ returns-2 c =
 pub full-number-spec : {M : Type 1} → statement M
 full-number-spec =
     tie.close
-    (tie.spec returns (λ c. search needs) sub-up (λ c. search needs) (λ c. search needs) (λ c. search needs) add-up-3 (λ c κs. search needs) returns-2)
+    (tie.spec returns (λ c. search needs) sub-up (λ c. search needs) (λ c. search needs) (λ c. search needs) add-up-3
+    (λ c κs. search needs) returns-2)

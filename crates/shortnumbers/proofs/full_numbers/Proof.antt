@@ -17,7 +17,8 @@ entry c = c .before .before .before .before .before .before
 returns : tie.Need-returns
 returns c =
     let a = c .before .before .before .before .before .args in
-    filled-refused (a .range) (a .k) (now (a .shorts)) (now (a .times)) (now (a .numbers)) (c .before .refusal-of-found .result) (c .before .refusal-of-found .ensures) (c .if1 .taken)
+    filled-refused (a .range) (a .k) (now (a .shorts)) (now (a .times)) (now (a .numbers)) (c .before .refusal-of-found .result)
+    (c .before .refusal-of-found .ensures) (c .if1 .taken)
 
 returns-2 : tie.Need-returns-2
 returns-2 c =
@@ -29,7 +30,9 @@ fill-numbers-requires : tie.Need-fill-numbers-requires
 fill-numbers-requires c κs =
     let t = c .before in
     let a = entry t .args in
-    let f = lists-fit (a .k) (numbersFound (a .range) (now (a .shorts))) (now (a .times)) (sym (t .before .before .refusal-of-found .ensures) ∙ t .before .if1 .left) in
+    let f =
+    lists-fit (a .k) (numbersFound (a .range) (now (a .shorts))) (now (a .times))
+    (sym (t .before .before .refusal-of-found .ensures) ∙ t .before .if1 .left) in
     let m = found-length (a .range) (now (a .shorts)) in
     (entry t .pre, omega (arith, f .few), t .if2 .left)
 

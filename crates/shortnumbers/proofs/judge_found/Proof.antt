@@ -22,7 +22,8 @@ use Rattle.shortnumbers.proofs.judge_found.Tie as tie
 abbrev Inv-loop : tie.InvT-loop
 Inv-loop range k shorts times greatest₀ reference₀ i₀ greatest reference i =
     (i ≤ length shorts) × (greatest ≤ 512 * i) × (greatest ≡ greatestOf (take i (numbersFound range shorts)))
-    × (judge k 0 (arrivalsFrom (numbersFound range shorts) times) ≡ judge k reference (drop i (arrivalsFrom (numbersFound range shorts) times)))
+    × (judge k 0 (arrivalsFrom (numbersFound range shorts) times)
+    ≡ judge k reference (drop i (arrivalsFrom (numbersFound range shorts) times)))
 
 abbrev μ-loop : tie.MeasureT-loop
 μ-loop range k shorts times greatest₀ reference₀ i₀ greatest reference i = length shorts - i
@@ -43,10 +44,12 @@ many c =
 
 -- the number found, with its time, is the arrival at i
 here : (c : tie.After-full-number Inv-loop μ-loop) → let l = c .before .before .before in
-    record { number = c .full-number .result; time = getD (now (start l .args .times)) (l .loop .i) 0 } ≡ getD (arrivals l) (l .loop .i) none
+    record { number = c .full-number .result; time = getD (now (start l .args .times)) (l .loop .i) 0 }
+    ≡ getD (arrivals l) (l .loop .i) none
 here c =
     let l = c .before .before .before in
-    arrival-here _ _ (l .loop .greatest) _ _ (c .before .before .loop-test .taken) (l .loop .inv .2) (c .full-number .ensures .0) _ (start l .pre .2)
+    arrival-here _ _ (l .loop .greatest) _ _ (c .before .before .loop-test .taken) (l .loop .inv .2) (c .full-number .ensures .0) _
+    (start l .pre .2)
 
 loop-holds : tie.Need-loop-holds Inv-loop μ-loop
 unfolding greatestOf
@@ -62,7 +65,8 @@ returns c =
     let n = c .before .before .before in
     let l = n .before .before .before in
     let m = many l in
-    judge-stop _ (arrivals l) (l .loop .reference) (l .loop .i) none _ (omega (arith, n .before .before .loop-test .taken)) (here n) (l .loop .inv .3)
+    judge-stop _ (arrivals l) (l .loop .reference) (l .loop .i) none _ (omega (arith, n .before .before .loop-test .taken)) (here n)
+    (l .loop .inv .3)
     (c .before .judge-one .result) (c .before .judge-one .ensures) (c .if1 .taken)
 
 loop-again : tie.Need-loop-again Inv-loop μ-loop
@@ -76,7 +80,8 @@ loop-again c =
       omega arith,
       omega (arith, g .ensures, n .full-number .ensures .1, l .loop .inv .1),
       greatest-next _ _ (l .loop .greatest) _ _ lt (l .loop .inv .2) (n .full-number .ensures .0) (g .result) (g .ensures),
-      judge-next _ (arrivals l) (l .loop .reference) (l .loop .i) none _ (omega arith) (here n) (l .loop .inv .3) (one .result) (one .ensures) (c .before .before .if1 .left)
+      judge-next _ (arrivals l) (l .loop .reference) (l .loop .i) none _ (omega arith) (here n) (l .loop .inv .3) (one .result)
+          (one .ensures) (c .before .before .if1 .left)
           ∙ ap (λ (r : ℕ). judge (start l .args .k) r (drop (l .loop .i + 1) (arrivals l))) (sym (c .next-reference .ensures)),
     )
 

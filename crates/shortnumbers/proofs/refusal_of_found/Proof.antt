@@ -23,13 +23,23 @@ returns-2 : tie.Need-returns-2
 unfolding refusalOfLists
 returns-2 c =
     let a = c .before .before .before .before .before .before .args in
-    simp (found-length (a .range) (now (a .shorts)), sym (c .before .before .before .outside .ensures) ∙ c .before .before .if1 .left, sym (c .before .outside2 .ensures) ∙ c .if2 .taken)
+    simp (
+      found-length (a .range) (now (a .shorts)),
+      sym (c .before .before .before .outside .ensures) ∙ c .before .before .if1 .left,
+      sym (c .before .outside2 .ensures) ∙ c .if2 .taken,
+    )
 
 returns-3 : tie.Need-returns-3
 unfolding refusalOfLists
 returns-3 c =
     let a = c .before .before .before .before .before .before .before .args in
-    simp (found-length (a .range) (now (a .shorts)), sym (c .before .before .before .before .outside .ensures) ∙ c .before .before .before .if1 .left, sym (c .before .before .outside2 .ensures) ∙ c .before .if2 .left, ne-eqb _ _ (c .if3 .taken))
+    simp (
+      found-length (a .range) (now (a .shorts)),
+      sym (c .before .before .before .before .outside .ensures)
+          ∙ c .before .before .before .if1 .left,
+      sym (c .before .before .outside2 .ensures) ∙ c .before .if2 .left,
+      ne-eqb _ _ (c .if3 .taken),
+    )
 
 judge-found-requires : tie.Need-judge-found-requires
 judge-found-requires c κs =

@@ -13,7 +13,8 @@ returns c =
     let a = c .before .before .before .before .before .before .before .args in
     c .advance .ensures
     ∙ step-found (a .range) (whole (a .s) (a .marks .now) (a .positions .now) (a .numbers .now) (a .times .now)) (a .short) (a .time) _ _
-    (c .before .before .before .before .before .before .greatest-by .ensures .1) (c .before .before .before .before .before .full-number .ensures .0)
+    (c .before .before .before .before .before .before .greatest-by .ensures .1)
+    (c .before .before .before .before .before .full-number .ensures .0)
 
 pub short-advance-spec : {M : Type 1} → statement M
 short-advance-spec = tie.close (tie.spec (λ c κs. search needs) (λ c κs. search needs) (λ c κs. search needs) returns)

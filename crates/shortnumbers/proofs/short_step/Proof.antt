@@ -1,5 +1,5 @@
--- `shortnumbers::short_step` meets its contract: the step is that with the number found (`step-found`), also where NextExp is that of no fit
--- state and the number is found from 0. Assumes nothing.
+-- `shortnumbers::short_step` meets its contract: the step is that with the number found (`step-found`), also where NextExp is that of no
+-- fit state and the number is found from 0. Assumes nothing.
 use mathlib.Core.Path.{_∙_}
 use borrow.Author.Needs.{needs}
 use Rattle.shortnumbers.proofs.Steps.{step-found}

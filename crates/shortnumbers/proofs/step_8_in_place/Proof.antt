@@ -1,5 +1,5 @@
--- `shortnumbers::step_8_in_place` meets its contract: it is the function of the receiver's LentMembers over a receiver that calls `advance_8`, whose
--- answer is the step's with the number found (`as-short-step`). Assumes nothing.
+-- `shortnumbers::step_8_in_place` meets its contract: it is the function of the receiver's LentMembers over a receiver that calls
+-- `advance_8`, whose answer is the step's with the number found (`as-short-step`). Assumes nothing.
 use mathlib.Core.List.{[], _∷_}
 use mir.Syntax.{w16, w64}
 use base.Logic.{emp, id⊢}
@@ -21,7 +21,8 @@ use Rattle.shortnumbers.proofs.step_8_in_place.Code as code
 pub step-8-in-place-spec : {M : Type 1} → stated.statement M
 unfolding code.routine tablesOf
 step-8-in-place-spec 𝓤 H 𝓜 𝓖 𝓡 =
-    in-place 𝓤 H 𝓜 𝓖 𝓡 code.env lendable (w16 ∷ w64 ∷ []) (advance.clauses 𝓤 H (𝓖 .A) (𝓜 .mem) (𝓡 .run)) advance-def.name advance-def.routine
+    in-place 𝓤 H 𝓜 𝓖 𝓡 code.env lendable (w16 ∷ w64 ∷ []) (advance.clauses 𝓤 H (𝓖 .A) (𝓜 .mem) (𝓡 .run)) advance-def.name
+    advance-def.routine
     code.calls-shortnumbers·advance-8 (advance-thm.met 𝓤 H 𝓜 𝓖 𝓡) (λ κs a. tt) (λ κs a. id⊢ 𝓤 _)
     (λ h ns. AsShortStep (rangeOf 8) h (ns .0) (ns .1 .0))
     (λ κs h ns b o γs a e. fact-mono 𝓤 _ _ (as-short-step (rangeOf 8) h (ns .0) (ns .1 .0) _))

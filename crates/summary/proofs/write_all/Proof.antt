@@ -1,6 +1,6 @@
--- `summary::write_all` meets its contract: the check lays the file out, so that `write_text` and `write_more` write into a buffer that has room for
--- any text, and `hand_over` copies what they wrote (`both`). Here t is the summary written, m the rest, y the layout, d the decoded file.
--- Assumes nothing.
+-- `summary::write_all` meets its contract: the check lays the file out, so that `write_text` and `write_more` write into a buffer that
+-- has room for any text, and `hand_over` copies what they wrote (`both`). Here t is the summary written, m the rest, y the layout, d the
+-- decoded file. Assumes nothing.
 use native.Mathlib.Omega.{arith}
 use mathlib.Core.Path.{_≡_, ap}
 use mathlib.Core.List.{List, _++_}
@@ -35,8 +35,11 @@ write-text-requires c κs =
 
 write-more-requires : tie.Need-write-more-requires
 write-more-requires c κs =
-    let check = c .before .before .before .before in
-    (rw (check .check .ensures .0) (laid _ (λ i. check .before .before .shared-slice-known .given i .fits)), c .before .before .write-text .ensures .1, omega arith)
+    let check = c .before .before .before .before in (
+      rw (check .check .ensures .0) (laid _ (λ i. check .before .before .shared-slice-known .given i .fits)),
+      c .before .before .write-text .ensures .1,
+      omega arith,
+    )
 
 slice-aggregate-hand-over : tie.Need-slice-aggregate-hand-over
 slice-aggregate-hand-over c =
@@ -52,7 +55,12 @@ hand-over-requires c κs =
     let t = m .before .before .before in
     let y = t .before .before in
     let d = decode (now (y .before .before .before .args .file)) in
-    omega (arith, m .write-more .ensures .1, stands (both d (y .check .result) (y .check .ensures .0) (t .write-text .ensures .0) (m .write-more .ensures .0)) .0)
+    omega (
+      arith,
+      m .write-more .ensures .1,
+      stands (both d (y .check .result) (y .check .ensures .0) (t .write-text .ensures .0)
+          (m .write-more .ensures .0)) .0,
+    )
 
 returns : tie.Need-returns
 returns c =
@@ -60,8 +68,10 @@ returns c =
     let t = m .before .before .before in
     let y = t .before .before in
     let d = decode (now (y .before .before .before .args .file)) in
-    let w = both d (y .check .result) (y .check .ensures .0) (t .write-text .ensures .0) (m .write-more .ensures .0) in
-    (output-of (ap (λ (y : Layout). y .refusal) (y .check .ensures .0)) (stands w .1) (c .before .before .hand-over .ensures), omega (arith, w .place, m .write-more .ensures .1))
+    let w = both d (y .check .result) (y .check .ensures .0) (t .write-text .ensures .0) (m .write-more .ensures .0) in (
+      output-of (ap (λ (y : Layout). y .refusal) (y .check .ensures .0)) (stands w .1) (c .before .before .hand-over .ensures),
+      omega (arith, w .place, m .write-more .ensures .1),
+    )
 
 pub write-all-spec : {M : Type 1} → statement M
 write-all-spec =

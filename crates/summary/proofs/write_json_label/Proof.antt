@@ -1,5 +1,5 @@
--- `summary::write_json_label` meets its contract: a label over 64 octets is refused by 3, another one is written into a buffer that has room for
--- any, and `hand_over` copies it. Here t is the text written. Assumes nothing.
+-- `summary::write_json_label` meets its contract: a label over 64 octets is refused by 3, another one is written into a buffer that has
+-- room for any, and `hand_over` copies it. Here t is the text written. Assumes nothing.
 use Prim.Native.Nat.{ℕ, _<_}
 use native.Mathlib.Omega.{arith}
 use mathlib.Core.Path.{_≡_, sym, ap}
@@ -23,7 +23,8 @@ unfolding outside
 long n h = sym (simp (le-leb 0 n (omega arith), lt-leb n 64 h))
 
 returns : tie.Need-returns
-returns c = (output-refused _ _ _ longLabel (long _ (c .if1 .taken)) (λ z. omega (arith, z)), λ few. absurd (omega (arith, few, c .if1 .taken)))
+returns c =
+    (output-refused _ _ _ longLabel (long _ (c .if1 .taken)) (λ z. omega (arith, z)), λ few. absurd (omega (arith, few, c .if1 .taken)))
 
 slice-aggregate-hand-over : tie.Need-slice-aggregate-hand-over
 slice-aggregate-hand-over c = stands (c .before .before .write-start .ensures .0) .0
@@ -37,8 +38,11 @@ returns-2 : tie.Need-returns-2
 returns-2 c =
     let t = c .before .before .before .before .before .before in
     let few = t .before .before .if1 .left in
-    let none : 0 ≡ judgeLabel (length (now (t .before .before .before .before .before .args .label))) = sym (ap (λ (b : Bool). refusalIf b longLabel) (not-outside 0 64 _ (omega arith) few)) in
-    (output-of none (stands (t .write-start .ensures .0) .1) (c .before .before .hand-over .ensures), λ _. omega (arith, t .write-start .ensures .0 .place, t .write-start .ensures .1))
+    let none : 0 ≡ judgeLabel (length (now (t .before .before .before .before .before .args .label))) =
+    sym (ap (λ (b : Bool). refusalIf b longLabel) (not-outside 0 64 _ (omega arith) few)) in (
+      output-of none (stands (t .write-start .ensures .0) .1) (c .before .before .hand-over .ensures),
+      λ _. omega (arith, t .write-start .ensures .0 .place, t .write-start .ensures .1),
+    )
 
 pub write-json-label-spec : {M : Type 1} → statement M
 write-json-label-spec =

@@ -66,7 +66,8 @@ returns-2 c =
     let s = c .before .before in
     let q = s .before .before .before in
     with-moved q
-    (swept-short _ _ (q .check .ensures .0) (accepted-of q (s .before .if1 .left)) _ (sym (c .before .if2 .taken) ∙ s .too-short .ensures) _ (c .refused-layout .ensures))
+    (swept-short _ _ (q .check .ensures .0) (accepted-of q (s .before .if1 .left)) _ (sym (c .before .if2 .taken) ∙ s .too-short .ensures)
+    _ (c .refused-layout .ensures))
 
 clear-requires : tie.Need-clear-requires
 clear-requires c κs =
@@ -102,7 +103,8 @@ returns-3 c =
     let q = checked k in
     with-moved q
     (swept (decode (now (start q .args .file))) _ (q .check .ensures .0) (accepted-of q (k .before .before .if1 .left)) (lentAt (start q))
-    (sym (k .if2 .left) ∙ k .before .too-short .ensures) (laid-of q) _ (t .clear .ensures) _ (p .pass .ensures) _ (c .before .before .clear2 .ensures))
+    (sym (k .if2 .left) ∙ k .before .too-short .ensures) (laid-of q) _ (t .clear .ensures) _ (p .pass .ensures) _
+    (c .before .before .clear2 .ensures))
 
 pub sweep-spec : {M : Type 1} → statement M
 sweep-spec =

@@ -38,24 +38,30 @@ other-at m = decode (now (start m .args .second))
 
 -- the first file is accepted
 accepted-first : (m : tie.Else1) → decodedRefusal (one-at m) ≡ 0
-accepted-first m = sym (counted (m .before .before .counts .result) (now (start m .args .first)) (m .before .before .counts .ensures)) ∙ m .if1 .left
+accepted-first m =
+    sym (counted (m .before .before .counts .result) (now (start m .args .first)) (m .before .before .counts .ensures)) ∙ m .if1 .left
 
 -- both are
 accepted-both : (n : tie.Else2) → refusalOfBoth (one-at (first-accepted n)) (other-at (first-accepted n)) ≡ 0
 accepted-both n =
     let m = first-accepted n in
     let other = n .before .before .counts2 in
-    second-refusal (one-at m) (other-at m) (accepted-first m) 0 (sym (n .if2 .left) ∙ counted (other .result) (now (start m .args .second)) (other .ensures))
+    second-refusal (one-at m) (other-at m) (accepted-first m) 0
+    (sym (n .if2 .left) ∙ counted (other .result) (now (start m .args .second)) (other .ensures))
 
 -- neither file is refused: the test of the two ratios says which is the worse
 tested : (c : tie.After-greater) (t : Bool) → c .greater .result ≡ t
-    → record { refusal = 0; link = cond t Second First } ≡ comparisonOf (one-at (first-accepted (c .before .before .before))) (other-at (first-accepted (c .before .before .before)))
+    → record { refusal = 0; link = cond t Second First } ≡ comparisonOf (one-at (first-accepted (c .before .before .before)))
+    (other-at (first-accepted (c .before .before .before)))
 unfolding ratioIn
 tested c t h =
     let n = c .before .before .before in
     let m = first-accepted n in
-    let p = c .before .before .reordered-ratio .ensures ∙ ap (λ (x : SampleCounts). reorderedRatio (x .counts)) (n .before .before .counts2 .ensures) in
-    let q = c .before .reordered-ratio2 .ensures ∙ ap (λ (x : SampleCounts). reorderedRatio (x .counts)) (m .before .before .counts .ensures) in
+    let p =
+    c .before .before .reordered-ratio .ensures ∙ ap (λ (x : SampleCounts). reorderedRatio (x .counts))
+    (n .before .before .counts2 .ensures) in
+    let q =
+    c .before .reordered-ratio2 .ensures ∙ ap (λ (x : SampleCounts). reorderedRatio (x .counts)) (m .before .before .counts .ensures) in
     compared (one-at m) (other-at m) (accepted-both n) t (sym (c .greater .ensures ∙ ap₂ greater p q) ∙ h)
 
 -- ---- the needs

@@ -1,5 +1,5 @@
--- `worse::greater` meets its contract: it compares the products of the definition, and a product of two 32-bit numbers fits in 64 bits. Assumes
--- nothing.
+-- `worse::greater` meets its contract: it compares the products of the definition, and a product of two 32-bit numbers fits in 64 bits.
+-- Assumes nothing.
 use borrow.Author.Needs.{needs}
 use Prim.Native.Nat.{ℕ, _*_, _^_, _≤_, _<_}
 use native.Mathlib.Omega.{arith}
@@ -13,7 +13,8 @@ use Rattle.worse.proofs.greater.Tie as tie
 
 product-fits : (m n : ℕ) → m < 2 ^ 32 → n < 2 ^ 32 → Fits w64 (m * n)
 product-fits m n h k =
-    let p : m * n ≤ 4294967295 * 4294967295 = mul-le-mul {n₁ = m} {m₁ = n} {n₂ = 4294967295} {m₂ = 4294967295} (omega arith) (omega arith) in
+    let p : m * n ≤ 4294967295 * 4294967295 =
+    mul-le-mul {n₁ = m} {m₁ = n} {n₂ = 4294967295} {m₂ = 4294967295} (omega arith) (omega arith) in
     record { fits = omega arith }
 
 mul-ours : tie.Need-mul-ours

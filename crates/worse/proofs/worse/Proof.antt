@@ -30,9 +30,11 @@ label-at : (j : tie.After-compare) (l : Link) → j .compare .result .link ≡ l
 label-at j l f = label-of (one-at j) (other-at j) (j .compare .result) (j .compare .ensures) l f
 
 place-at : (j : tie.After-compare) (l : Link) → j .compare .result .link ≡ l
-    → chosen (start j .args .first .ptr) (placeIn (start j .args .first .ptr) (labelPlace (one-at j))) (placeIn (start j .args .second .ptr) (labelPlace (other-at j))) l
+    → chosen (start j .args .first .ptr) (placeIn (start j .args .first .ptr) (labelPlace (one-at j)))
+    (placeIn (start j .args .second .ptr) (labelPlace (other-at j))) l
     ≡ worsePlace (one-at j) (other-at j) (start j .args .first .ptr) (start j .args .second .ptr)
-place-at j l f = place-of (one-at j) (other-at j) (j .compare .result) (j .compare .ensures) l f (start j .args .first .ptr) (start j .args .second .ptr)
+place-at j l f =
+    place-of (one-at j) (other-at j) (j .compare .result) (j .compare .ensures) l f (start j .args .first .ptr) (start j .args .second .ptr)
 
 returns : tie.Need-returns
 returns c =

@@ -1,5 +1,5 @@
--- `capi::buffering_calls::krakobran_accommodated` meets its contract: the number is no measure and the call is refused, or it is that of the measure of the
--- call (Measured). Assumes nothing.
+-- `capi::buffering_calls::krakobran_accommodated` meets its contract: the number is no measure and the call is refused, or it is that of
+-- the measure of the call (Measured). Assumes nothing.
 use borrow.Author.Needs.{needs}
 use mathlib.Core.Path.{sym, ap, _∙_}
 use mathlib.Core.List.{[], _∷_}
@@ -27,7 +27,9 @@ returns-2 c =
     let a = o .before .before .args in
     let t = sym (o .outside .ensures) ∙ c .before .before .before .before .before .before .if1 .left in
     let m = c .before .before .before .before .before .measure-of in
-    let e = accommodated-in (a .measure) (decode (now (a .file))) t (m .result) (m .ensures) (a .size) _ (c .before .before .before .before .accommodated .ensures) in
+    let e =
+    accommodated-in (a .measure) (decode (now (a .file))) t (m .result) (m .ensures) (a .size) _
+    (c .before .before .before .before .accommodated .ensures) in
     (ap (λ (s : SampleAccommodated). s .refusal) e, ap (λ (s : SampleAccommodated). s .accommodated ∷ s .arrived ∷ []) e)
 
 pub krakobran-accommodated-spec : {M : Type 1} → statement M

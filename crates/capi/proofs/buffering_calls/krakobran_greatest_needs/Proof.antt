@@ -1,4 +1,5 @@
--- `capi::buffering_calls::krakobran_greatest_needs` meets its contract: the call, then its answer as figures, which are stored. Assumes nothing.
+-- `capi::buffering_calls::krakobran_greatest_needs` meets its contract: the call, then its answer as figures, which are stored. Assumes
+-- nothing.
 use borrow.Author.Needs.{needs}
 use Rattle.capi.proofs.buffering_calls.krakobran_greatest_needs.Statement.{statement}
 use Rattle.capi.proofs.buffering_calls.krakobran_greatest_needs.Tie as tie

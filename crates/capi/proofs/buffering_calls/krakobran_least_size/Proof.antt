@@ -1,5 +1,5 @@
--- `capi::buffering_calls::krakobran_least_size` meets its contract: the number is no measure and the call is refused, or it is that of the measure of the
--- call (Measured). Assumes nothing.
+-- `capi::buffering_calls::krakobran_least_size` meets its contract: the number is no measure and the call is refused, or it is that of
+-- the measure of the call (Measured). Assumes nothing.
 use borrow.Author.Needs.{needs}
 use mathlib.Core.Path.{sym, ap, _∙_}
 use mathlib.Core.List.{[], _∷_}
@@ -22,7 +22,9 @@ returns-2 c =
     let a = c .before .before .before .before .before .before .before .args in
     let t = sym (c .before .before .before .before .before .outside .ensures) ∙ c .before .before .before .before .if1 .left in
     let m = c .before .before .before .measure-of in
-    let e = least-in (a .measure) (decode (now (a .file))) t (m .result) (m .ensures) (a .part) (a .whole) _ (c .before .before .least .ensures .0) in
+    let e =
+    least-in (a .measure) (decode (now (a .file))) t (m .result) (m .ensures) (a .part) (a .whole) _
+    (c .before .before .least .ensures .0) in
     (ap (λ (s : SampleLeast). s .refusal) e, ap (λ (s : SampleLeast). s .size ∷ []) e)
 
 pub krakobran-least-size-spec : {M : Type 1} → statement M

@@ -1,4 +1,5 @@
--- `capi::checker_calls::krakobran_report_check` meets its contract: the call, then its answer as figures, which are stored. Assumes nothing.
+-- `capi::checker_calls::krakobran_report_check` meets its contract: the call, then its answer as figures, which are stored. Assumes
+-- nothing.
 use borrow.Author.Needs.{needs}
 use Rattle.capi.proofs.checker_calls.krakobran_report_check.Statement.{statement}
 use Rattle.capi.proofs.checker_calls.krakobran_report_check.Tie as tie

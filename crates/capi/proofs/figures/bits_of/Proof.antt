@@ -1,5 +1,5 @@
--- `capi::figures::bits_of` meets its contract. Only a NaN differs from itself, and the bits returned for it are those of the definition. Any other
--- number has its own bits. Assumes nothing.
+-- `capi::figures::bits_of` meets its contract. Only a NaN differs from itself, and the bits returned for it are those of the definition.
+-- Any other number has its own bits. Assumes nothing.
 use borrow.Author.Needs.{needs}
 use mathlib.Core.Path.{_≡_, refl, sym, ap, subst, _∙_}
 use mathlib.Core.Bool.{true, false, not}

@@ -1,4 +1,5 @@
--- `capi::meter_calls::krakobran_meter_start` meets its contract: it is the function of PassedOn over a meter, a stream number and a number of packets, with the meter's start in place and `refusal_of`. Assumes nothing.
+-- `capi::meter_calls::krakobran_meter_start` meets its contract: it is the function of PassedOn over a meter, a stream number and a
+-- number of packets, with the meter's start in place and `refusal_of`. Assumes nothing.
 use mathlib.Core.Path.{_≡_, ap}
 use mathlib.Core.List.{[], _∷_}
 use mir.Syntax.{w32, w64}

@@ -1,4 +1,5 @@
--- `capi::meter_calls::krakobran_meter_step` meets its contract: it is the function of SteppedAndTold over a meter, the numbers of a stream and a packet, and a time, with the meter's step in place. Assumes nothing.
+-- `capi::meter_calls::krakobran_meter_step` meets its contract: it is the function of SteppedAndTold over a meter, the numbers of a
+-- stream and a packet, and a time, with the meter's step in place. Assumes nothing.
 use mathlib.Core.Path.{ap, _∙_}
 use mathlib.Core.List.{[], _∷_}
 use mir.Syntax.{w32, w64}

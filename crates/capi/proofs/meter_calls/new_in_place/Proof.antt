@@ -1,4 +1,5 @@
--- `capi::meter_calls::new_in_place` meets its contract: it is the function of the receiver's LentMembers over a meter that calls `renew`. Assumes nothing.
+-- `capi::meter_calls::new_in_place` meets its contract: it is the function of the receiver's LentMembers over a meter that calls `renew`.
+-- Assumes nothing.
 use mathlib.Core.Path.{_≡_}
 use mathlib.Core.List.{[]}
 use base.Logic.{emp, id⊢}

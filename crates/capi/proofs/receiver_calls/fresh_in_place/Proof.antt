@@ -1,4 +1,5 @@
--- `capi::receiver_calls::fresh_in_place` meets its contract: it is the function of the receiver's LentMembers over a receiver that calls `refresh`. Assumes nothing.
+-- `capi::receiver_calls::fresh_in_place` meets its contract: it is the function of the receiver's LentMembers over a receiver that calls
+-- `refresh`. Assumes nothing.
 use mathlib.Core.Path.{_≡_, ap}
 use mathlib.Core.List.{[], _∷_}
 use mir.Syntax.{w32}

@@ -1,4 +1,5 @@
--- `capi::receiver_calls::krakobran_receiver_fresh` meets its contract: it is the function of PassedOn over a receiver and a number of packets, with `fresh_in_place` and `refusal_of`. Assumes nothing.
+-- `capi::receiver_calls::krakobran_receiver_fresh` meets its contract: it is the function of PassedOn over a receiver and a number of
+-- packets, with `fresh_in_place` and `refusal_of`. Assumes nothing.
 use mathlib.Core.Path.{_≡_}
 use mathlib.Core.List.{[], _∷_}
 use mir.Syntax.{w32, w64}
@@ -46,7 +47,8 @@ krakobran-receiver-fresh-spec 𝓤 H 𝓜 𝓖 𝓡 =
     (λ h ns d h′. (d ≡ freshIn h (ns .0) .refusal) × (h′ ≡ freshIn h (ns .0) .state)) (λ s. s .refusal)
     (λ h ns s h′ e. e) _ _ _ inner-def.name said-def.name
     -- what the callee gives, and then `refusal_of`
-    (λ κs qs a are. lent-gives 𝓤 H A R.the-row S.the-row (w32 ∷ []) (λ h ns s h′. (s .refusal ≡ freshIn h (ns .0) .refusal) × (h′ ≡ freshIn h (ns .0) .state)) W (𝓣 .C)
+    (λ κs qs a are. lent-gives 𝓤 H A R.the-row S.the-row (w32 ∷ [])
+    (λ h ns s h′. (s .refusal ≡ freshIn h (ns .0) .refusal) × (h′ ≡ freshIn h (ns .0) .state)) W (𝓣 .C)
     (fmOf 𝓤 H (W .laws) 𝓣) (inner.clauses 𝓤 H A (𝓜 .mem) (𝓡 .run)) inner-def.name
     (cited 𝓤 H (tripleOf 𝓤 H A inner.signature (inner.spec 𝓤 H A (𝓜 .mem) (𝓡 .run))) 𝓜 𝓡 code.env inner-def.name inner-def.routine
     code.calls-capi·receiver-calls·fresh-in-place (inner-thm.met 𝓤 H 𝓜 𝓖 𝓡)) κs qs a are tt (id⊢ 𝓤 _) (λ s e. id⊢ 𝓤 _))

@@ -1,4 +1,5 @@
--- `capi::receiver_calls::krakobran_receiver_step` meets its contract: it is the function of SteppedAndTold over a receiver, a number and a time, with the receiver's step in place. Assumes nothing.
+-- `capi::receiver_calls::krakobran_receiver_step` meets its contract: it is the function of SteppedAndTold over a receiver, a number and
+-- a time, with the receiver's step in place. Assumes nothing.
 use mathlib.Core.Path.{ap, _∙_}
 use mathlib.Core.List.{[], _∷_}
 use mir.Syntax.{w32, w64}

@@ -1,5 +1,5 @@
--- `capi::receiver_calls::refresh` meets its contract: K is refused, and the parts are as they were, or they are those of a receiver made for K.
--- Here r is the receiver of the parts. Assumes nothing.
+-- `capi::receiver_calls::refresh` meets its contract: K is refused, and the parts are as they were, or they are those of a receiver made
+-- for K. Here r is the receiver of the parts. Assumes nothing.
 use borrow.Author.Needs.{needs}
 use mathlib.Core.Path.{_≡_, refl, sym, _∙_}
 use Prim.Native.Nat.{ℕ}
@@ -27,7 +27,8 @@ returns-2 : tie.Need-returns-2
 unfolding madeFor
 returns-2 c =
     rw (c .before .refused-outcome2 .ensures, c .fresh-stream .ensures)
-    (made _ _ (sym (c .before .before .before .before .before .before .before .outside .ensures) ∙ c .before .before .before .before .before .before .if1 .left))
+    (made _ _ (sym (c .before .before .before .before .before .before .before .outside .ensures)
+    ∙ c .before .before .before .before .before .before .if1 .left))
 
 pub refresh-spec : {M : Type 1} → statement M
 refresh-spec =

@@ -1,5 +1,5 @@
--- `capi::refusals_calls::krakobran_refusal_words` meets its contract: the narrowed number has the words and the refusal of the number asked for
--- (`alike`). Assumes nothing.
+-- `capi::refusals_calls::krakobran_refusal_words` meets its contract: the narrowed number has the words and the refusal of the number
+-- asked for (`alike`). Assumes nothing.
 use borrow.Author.Needs.{needs}
 use Prim.Native.Nat.{ℕ}
 use mathlib.Core.Path.{_≡_, subst}

@@ -1,5 +1,5 @@
--- `capi::sample_calls::label_part` meets its contract: the layout that `check` returns decides whether the part is the label or empty. Assumes
--- nothing.
+-- `capi::sample_calls::label_part` meets its contract: the layout that `check` returns decides whether the part is the label or empty.
+-- Assumes nothing.
 use borrow.Author.Needs.{needs}
 use native.Mathlib.Omega.{arith}
 use mathlib.Core.Path.{_≡_, sym, ap}

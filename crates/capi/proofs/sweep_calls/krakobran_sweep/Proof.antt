@@ -16,7 +16,8 @@ abbrev at-sweep : tie.After-extents → tie.After-sweep
 at-sweep c = c .before .before .before .before .before .before .before
 
 -- the refusal of the layout that the sweep returns, and the rest as the sweep leaves it
-swept : (d : Decoded) (old new : Lent) (answer : Layout) → Swept d old answer new → (answer .refusal ≡ decodedRefusal d) × Swept d old (layoutOf d) new
+swept : (d : Decoded) (old new : Lent) (answer : Layout) → Swept d old answer new → (answer .refusal ≡ decodedRefusal d)
+    × Swept d old (layoutOf d) new
 swept d old new answer e = (
   ap (λ (y : Layout). y .refusal) (e .layout),
   record {

@@ -35,7 +35,11 @@ returns-3 c =
     let word = now (c .before .before .before .before .before .before .before .args .word) in
     let r = c .before .before .before .before .before .number-at in
     let e : Bad ≡ argumentOf (length word) (r .result) =
-    rw (ne-eqb (r .result .end) 0 (c .before .before .before .if1 .left), le-ltb (r .result .end) (length word) (c .before .if2 .left), lt-ltb (2 ^ 32 - 1) (r .result .value) (c .if3 .taken)) in
+    rw (
+      ne-eqb (r .result .end) 0 (c .before .before .before .if1 .left),
+      le-ltb (r .result .end) (length word) (c .before .if2 .left),
+      lt-ltb (2 ^ 32 - 1) (r .result .value) (c .if3 .taken),
+    ) in
     e ∙ ap (argumentOf (length word)) (r .ensures .0)
 
 returns-4 : tie.Need-returns-4
@@ -44,7 +48,11 @@ returns-4 c =
     let word = now (c .before .before .before .before .before .before .before .args .word) in
     let r = c .before .before .before .before .before .number-at in
     let e : Given (r .result .value) ≡ argumentOf (length word) (r .result) =
-    rw (ne-eqb (r .result .end) 0 (c .before .before .before .if1 .left), le-ltb (r .result .end) (length word) (c .before .if2 .left), le-ltb (2 ^ 32 - 1) (r .result .value) (c .if3 .left)) in
+    rw (
+      ne-eqb (r .result .end) 0 (c .before .before .before .if1 .left),
+      le-ltb (r .result .end) (length word) (c .before .if2 .left),
+      le-ltb (2 ^ 32 - 1) (r .result .value) (c .if3 .left),
+    ) in
     e ∙ ap (argumentOf (length word)) (r .ensures .0)
 
 pub argument-in-spec : {M : Type 1} → statement M

@@ -1,5 +1,6 @@
 -- `cmd_import::convert::import_lists` meets its contract: in each case of `kind` the importer that is called fills lists with room for any
--- sample (`lines-imported`, `records-imported`). f is what the importer ensures, t the place where the case of `kind` is known. Assumes nothing.
+-- sample (`lines-imported`, `records-imported`). f is what the importer ensures, t the place where the case of `kind` is known. Assumes
+-- nothing.
 use mathlib.Core.Path.{refl}
 use borrow.Author.Needs.{needs}
 use Rattle.cmd_import.specs.declared.convert.Kind.the-variants.{Log, Log8, Log10}

@@ -4,8 +4,14 @@ use Rattle.cmd_picture.proofs.panel.across.Statement.{statement}
 use Rattle.cmd_picture.proofs.panel.across.Tie as tie
 
 returns : tie.Need-returns
-returns c =
-    (search needs, λ less small. rw (c .before .before .left-of .ensures .0, c .scaled .ensures .1 less small, c .before .width-of .ensures .0))
+returns c = (
+  search needs,
+  λ less small. rw (
+    c .before .before .left-of .ensures .0,
+    c .scaled .ensures .1 less small,
+    c .before .width-of .ensures .0,
+  ),
+)
 
 pub across-spec : {M : Type 1} → statement M
 across-spec =

@@ -4,8 +4,17 @@ use Rattle.cmd_picture.proofs.panel.down.Statement.{statement}
 use Rattle.cmd_picture.proofs.panel.down.Tie as tie
 
 returns : tie.Need-returns
-returns c =
-    (search needs, (search needs, λ less small. rw (c .before .top-of .ensures .0, c .scaled .ensures .1 less small, c .before .before .height-of .ensures .0)))
+returns c = (
+  search needs,
+  (
+    search needs,
+    λ less small. rw (
+      c .before .top-of .ensures .0,
+      c .scaled .ensures .1 less small,
+      c .before .before .height-of .ensures .0,
+    ),
+  ),
+)
 
 pub down-spec : {M : Type 1} → statement M
 down-spec =

@@ -12,7 +12,8 @@ pub write-shape-spec : {M : Type 1} → statement M
 write-shape-spec =
     tie.close
     (tie.spec
-    (λ shape _ _ _ _ _ _ _ i-end text at i. (i-end ≡ length shape) × (length shape ≤ 64) × (length text ≡ 3072) × (i ≤ i-end) × (at ≤ 41 * i))
+    (λ shape _ _ _ _ _ _ _ i-end text at i. (i-end ≡ length shape) × (length shape ≤ 64) × (length text ≡ 3072) × (i ≤ i-end)
+    × (at ≤ 41 * i))
     (λ _ _ _ _ _ _ _ _ i-end _ _ i. i-end - i)
     (λ c. search needs) (λ c. search needs) (λ c. search needs) (λ c κs. search needs) (λ c. search needs) (λ c. search needs)
     (λ c. search needs) (λ c. search needs) (λ c κs. search needs) (λ c. search needs))

@@ -1,6 +1,6 @@
--- `disorder::pairs::disorder_in` meets its contract. The loop's invariant: the table has the packets that arrived before record i + 1, and the
--- tree and the pairs are those of the first arrivals before it. The table tells whether record i + 1 is a first arrival (`firsts-seen`), and
--- `pairs_after` adds it then. The measure is the number of arrivals left. Assumes nothing.
+-- `disorder::pairs::disorder_in` meets its contract. The loop's invariant: the table has the packets that arrived before record i + 1,
+-- and the tree and the pairs are those of the first arrivals before it. The table tells whether record i + 1 is a first arrival
+-- (`firsts-seen`), and `pairs_after` adds it then. The measure is the number of arrivals left. Assumes nothing.
 use mathlib.Core.Path.{_≡_, sym, ap, subst, _∙_}
 use mathlib.Core.List.{List}
 use lib.ListN.{length, replicate, length-replicate}
@@ -83,7 +83,19 @@ pairs-after-requires c κs =
     let k = l .loop .inv .2 in (
       n .1,
       omega (arith, n .0, h .file .numbers _ (h .inside) .1, k .places),
-      record { k = _; fs = _; paired = k; few = omega (arith, k .count, length-firsts (before d (l .loop .i)), before-length _ _ _ h, h .inside, h .file .few) },
+      record {
+        k = _;
+        fs = _;
+        paired = k;
+        few = omega (
+          arith,
+          k .count,
+          length-firsts (before d (l .loop .i)),
+          before-length _ _ _ h,
+          h .inside,
+          h .file .few,
+        );
+      },
     )
 
 array-write-seen : tie.Need-array-write-seen Inv-loop μ-loop

@@ -1,7 +1,7 @@
--- `disorder::pairs::pairs_after` meets its contract: a copy changes nothing. `paired-more` gives tree and pairs after the next first arrival. If
--- its number is above the greatest so far, it makes no wrong pair and becomes the greatest. Else the tree gives the number of lower numbers
--- (`lower-sum`). Nothing wraps, since there are fewer than 4,096 first arrivals so far. t is the place in the code after the test for the
--- greatest, s the place after the tree was read; q are the pairs so far. Assumes nothing.
+-- `disorder::pairs::pairs_after` meets its contract: a copy changes nothing. `paired-more` gives tree and pairs after the next first
+-- arrival. If its number is above the greatest so far, it makes no wrong pair and becomes the greatest. Else the tree gives the number of
+-- lower numbers (`lower-sum`). Nothing wraps, since there are fewer than 4,096 first arrivals so far. t is the place in the code after
+-- the test for the greatest, s the place after the tree was read; q are the pairs so far. Assumes nothing.
 use mathlib.Core.Path.{_≡_, sym, ap, _∙_}
 use Prim.Native.Nat.{_+_, _-_, _≤_, _<_}
 use lib.ListN.{length}
@@ -46,7 +46,8 @@ returns-2 c =
     let own : a .number ≤ a .number = omega arith in
     let is : q .wrong ≡ q .wrong + byteOffset (λ _. 1) fs (a .number) = omega (arith, h .above (a .number) up) in
     rw (t .before .before .if1 .left, ← e)
-    (paired-more k fs a _ _ _ (rw (← e) at (p .0)) (p .2 .few) h (rw (← e) at (c .before .before .before .add .ensures)) (q .wrong) (a .number) is up own)
+    (paired-more k fs a _ _ _ (rw (← e) at (p .0)) (p .2 .few) h (rw (← e) at (c .before .before .before .add .ensures)) (q .wrong)
+    (a .number) is up own)
 
 add-t16 : tie.Need-add-t16
 add-t16 c = omega (arith, start-s (asked c) .pre .2 .few)
@@ -72,9 +73,11 @@ returns-3 c =
     let w = q .wrong + (q .count - s .sum-to .result) in
     let inside : a .number < length tree = omega (arith, e, p .1) in
     let lower : s .sum-to .result ≡ sumTo tree (a .number) = s .sum-to .ensures .0 ∙ ap (sumTo tree) (sym e) in
-    let is : w ≡ q .wrong + byteOffset (λ _. 1) fs (a .number) = omega (arith, lower, lower-sum k fs tree q h (p .2 .few) (a .number) inside) in
+    let is : w ≡ q .wrong + byteOffset (λ _. 1) fs (a .number) =
+    omega (arith, lower, lower-sum k fs tree q h (p .2 .few) (a .number) inside) in
     rw (s .before .before .before .before .if1 .left)
-    (paired-more k fs a _ _ _ (rw (← e) at (p .0)) (p .2 .few) h (rw (← e) at (c .before .before .before .before .before .add2 .ensures)) w (q .greatest) is up own)
+    (paired-more k fs a _ _ _ (rw (← e) at (p .0)) (p .2 .few) h (rw (← e) at (c .before .before .before .before .before .add2 .ensures))
+    w (q .greatest) is up own)
 
 pub pairs-after-spec : {M : Type 1} → statement M
 pairs-after-spec =

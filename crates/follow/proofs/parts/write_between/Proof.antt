@@ -1,5 +1,5 @@
--- `follow::parts::write_between` meets its contract: the parts are written one after the other (`then`). e1, e2 and so on are the places after the calls.
--- Assumes nothing.
+-- `follow::parts::write_between` meets its contract: the parts are written one after the other (`then`). e1, e2 and so on are the places
+-- after the calls. Assumes nothing.
 use native.Mathlib.Omega.{arith}
 use Rattle.writing.proofs.Parts.{then}
 use borrow.Author.Needs.{needs}

@@ -14,8 +14,10 @@ use Rattle.follow.proofs.parts.write_words.Tie as tie
 -- a place in the code: after the words are written, with what is read of them
 read : (w : tie.After-words2)
     → (w .words2 .result .length ≤ 128)
-    × ((w .words2 .result .length ≤ length (w .words2 .last .1 .0)) × (take (w .words2 .result .length) (w .words2 .last .1 .0) ≡ wordsOf (w .before .before .before .args .refusal)))
-read w = words-read (w .before .before .before .args .refusal) (w .words2 .ensures .0) (w .words2 .ensures .1) (length-replicate {A = ℕ} 128 0)
+    × ((w .words2 .result .length ≤ length (w .words2 .last .1 .0))
+    × (take (w .words2 .result .length) (w .words2 .last .1 .0) ≡ wordsOf (w .before .before .before .args .refusal)))
+read w =
+    words-read (w .before .before .before .args .refusal) (w .words2 .ensures .0) (w .words2 .ensures .1) (length-replicate {A = ℕ} 128 0)
 
 -- the octets taken are `length` many
 taken : (w : tie.After-words2) → length (take (w .words2 .result .length) (w .words2 .last .1 .0)) ≡ w .words2 .result .length
@@ -28,7 +30,13 @@ slice-aggregate-write-word : tie.Need-slice-aggregate-write-word
 slice-aggregate-write-word c = sym (taken (c .before .before .before .before))
 
 write-word-requires : tie.Need-write-word-requires
-write-word-requires c κs = omega (arith, read (c .before .before .before .before) .0, taken (c .before .before .before .before), c .before .before .before .before .before .before .before .pre)
+write-word-requires c κs =
+    omega (
+      arith,
+      read (c .before .before .before .before) .0,
+      taken (c .before .before .before .before),
+      c .before .before .before .before .before .before .before .pre,
+    )
 
 returns : tie.Need-returns
 returns c =

@@ -10,7 +10,8 @@ use Rattle.fragments.proofs.arrival.piece_at.Tie as tie
 returns : tie.Need-returns
 returns c =
     let a = c .before .before .before .before .before .args in
-    sym (pieces-getD (now (a .numbers)) (now (a .times)) (now (a .lengths)) (now (a .mores)) (now (a .offsets)) (a .i) (c .before .before .before .before .before .pre .0))
+    sym (pieces-getD (now (a .numbers)) (now (a .times)) (now (a .lengths)) (now (a .mores)) (now (a .offsets)) (a .i)
+    (c .before .before .before .before .before .pre .0))
 
 pub piece-at-spec : {M : Type 1} → statement M
 piece-at-spec =

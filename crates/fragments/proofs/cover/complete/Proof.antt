@@ -23,14 +23,22 @@ abbrev pieces : tie.Start → List Piece
 pieces s = let a = s .args in piecesOf (now (a .numbers)) (now (a .times)) (now (a .lengths)) (now (a .mores)) (now (a .offsets))
 
 -- the arrival that is read
-read : (c : tie.After-piece-at) → c .piece-at .result ≡ getD (pieces (start (c .before))) (getD (now (start (c .before) .args .run)) 0 0) noPiece
+read : (c : tie.After-piece-at) → c .piece-at .result ≡ getD (pieces (start (c .before))) (getD (now (start (c .before) .args .run)) 0 0)
+    noPiece
 read c = c .piece-at .ensures ∙ ap (λ i. getD (pieces (start (c .before))) i noPiece) (c .before .index-of .ensures)
 
 piece-at-requires : tie.Need-piece-at-requires
 piece-at-requires c κs =
     let s = start c in
-    let a = s .args in
-    (omega (arith, c .index-of .ensures, s .pre .1 .inside 0 (s .pre .2), pieces-length (now (a .numbers)) (now (a .times)) (now (a .lengths)) (now (a .mores)) (now (a .offsets))), s .pre .0)
+    let a = s .args in (
+      omega (
+        arith,
+        c .index-of .ensures,
+        s .pre .1 .inside 0 (s .pre .2),
+        pieces-length (now (a .numbers)) (now (a .times)) (now (a .lengths)) (now (a .mores)) (now (a .offsets)),
+      ),
+      s .pre .0,
+    )
 
 returns : tie.Need-returns
 returns c =

@@ -36,8 +36,15 @@ loop-holds c = pass-start _ _ _ (c .before .before .before .before .before .befo
 piece-at-requires : tie.Need-piece-at-requires Inv-loop μ-loop
 piece-at-requires c κs =
     let l = c .before .before .before in
-    let a = start l .args in
-    (omega (arith, c .index-of .ensures, start l .pre .1 .inside (l .loop .m) (c .before .before .loop-test .taken), pieces-length (now (a .numbers)) (now (a .times)) (now (a .lengths)) (now (a .mores)) (now (a .offsets))), start l .pre .0)
+    let a = start l .args in (
+      omega (
+        arith,
+        c .index-of .ensures,
+        start l .pre .1 .inside (l .loop .m) (c .before .before .loop-test .taken),
+        pieces-length (now (a .numbers)) (now (a .times)) (now (a .lengths)) (now (a .mores)) (now (a .offsets)),
+      ),
+      start l .pre .0,
+    )
 
 loop-again : tie.Need-loop-again Inv-loop μ-loop
 loop-again c =

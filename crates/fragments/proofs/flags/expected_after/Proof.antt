@@ -13,13 +13,24 @@ returns-2 c = rw (c .before .before .if1 .left, sym (c .before .is-reordered .en
 
 returns-3 : tie.Need-returns-3
 unfolding expectedAfter inOrderAfter
-returns-3 c = rw (c .before .before .before .before .before .if1 .left, sym (c .before .before .before .before .is-reordered .ensures) ∙ c .before .before .before .if2 .left, eq-eqb _ _ (c .before .if3 .taken))
+returns-3 c =
+    rw (
+      c .before .before .before .before .before .if1 .left,
+      sym (c .before .before .before .before .is-reordered .ensures) ∙ c .before .before .before .if2 .left,
+      eq-eqb _ _ (c .before .if3 .taken),
+    )
 
 returns-4 : tie.Need-returns-4
 unfolding expectedAfter inOrderAfter
-returns-4 c = rw (c .before .before .before .before .before .if1 .left, sym (c .before .before .before .before .is-reordered .ensures) ∙ c .before .before .before .if2 .left, ne-eqb _ _ (c .before .if3 .left))
+returns-4 c =
+    rw (
+      c .before .before .before .before .before .if1 .left,
+      sym (c .before .before .before .before .is-reordered .ensures) ∙ c .before .before .before .if2 .left,
+      ne-eqb _ _ (c .before .if3 .left),
+    )
 
 pub expected-after-spec : {M : Type 1} → statement M
 expected-after-spec =
     tie.close
-    (tie.spec (λ c. search needs) (λ c κs. search needs) returns-2 (λ c. search needs) returns-3 (λ c. search needs) (λ c. search needs) returns-4)
+    (tie.spec (λ c. search needs) (λ c κs. search needs) returns-2 (λ c. search needs) returns-3 (λ c. search needs) (λ c. search needs)
+    returns-4)

@@ -1,6 +1,7 @@
--- `fragments::flags::fill_flags_and_used` meets its contract. The loop's invariant: both lists have the values of the first i arrivals, then the notes
--- (`read-left`), and e is what is expected next. The laws of Filling give the values of the next arrival (`flag-here`, `usable-here`,
--- `expected-here`). Its number is an index of the table by `NumbersWithin`. The measure is the number of arrivals left. Assumes nothing.
+-- `fragments::flags::fill_flags_and_used` meets its contract. The loop's invariant: both lists have the values of the first i arrivals,
+-- then the notes (`read-left`), and e is what is expected next. The laws of Filling give the values of the next arrival (`flag-here`,
+-- `usable-here`, `expected-here`). Its number is an index of the table by `NumbersWithin`. The measure is the number of arrivals left.
+-- Assumes nothing.
 use borrow.Author.Needs.{needs}
 use native.Mathlib.Omega.{arith}
 use Prim.Native.Nat.{ℕ, _+_, _-_, _≤_, _<_}
@@ -30,7 +31,8 @@ read-left xs old i h e =
     let t : length (take i xs) ≡ i = length-take-le i xs h in
     let z : length (take i xs) + 0 ≡ i = omega arith in
     let y : i + 0 ≡ i = omega arith in
-    ap (λ (l : List ℕ). getD l i 0) e ∙ sym (ap (λ (j : ℕ). getD (take i xs ++ drop i old) j 0) z) ∙ getD-append-add (take i xs) (drop i old) 0 0 ∙ getD-drop i old 0 0
+    ap (λ (l : List ℕ). getD l i 0) e ∙ sym (ap (λ (j : ℕ). getD (take i xs ++ drop i old) j 0) z)
+    ∙ getD-append-add (take i xs) (drop i old) 0 0 ∙ getD-drop i old 0 0
     ∙ ap (λ (j : ℕ). getD old j 0) y
 
 -- as many values as there is memory are all of it
@@ -41,7 +43,8 @@ over-all xs old h = ap (λ (l : List ℕ). xs ++ l) (drop-of-length-le old h) �
 abbrev Inv-loop : tie.InvT-loop
 Inv-loop numbers times lengths mores offsets flagged₀ used₀ seen₀ e₀ i₀ flagged used seen e i =
     (i ≤ length numbers) × (flagged ≡ take i (flags (piecesOf numbers times lengths mores offsets)) ++ drop i flagged₀)
-    × (used ≡ take i (usable (piecesOf numbers times lengths mores offsets)) ++ drop i used₀) × (e ≡ expected (take i (piecesOf numbers times lengths mores offsets)))
+    × (used ≡ take i (usable (piecesOf numbers times lengths mores offsets)) ++ drop i used₀)
+    × (e ≡ expected (take i (piecesOf numbers times lengths mores offsets)))
     × SeenTo (piecesOf numbers times lengths mores offsets) i seen
 
 abbrev μ-loop : tie.MeasureT-loop
@@ -74,12 +77,14 @@ many c =
 kept-flagged : (c : tie.At-loop Inv-loop μ-loop) → length (c .loop .flagged) ≡ length (now (start c .args .flagged))
 kept-flagged c =
     let m = many c in
-    ap length (c .loop .inv .1) ∙ fill-length (flags (pieces c)) (now (start c .args .flagged)) (c .loop .i) (omega arith) (omega (arith, start c .pre .3))
+    ap length (c .loop .inv .1) ∙ fill-length (flags (pieces c)) (now (start c .args .flagged)) (c .loop .i) (omega arith)
+    (omega (arith, start c .pre .3))
 
 kept-used : (c : tie.At-loop Inv-loop μ-loop) → length (c .loop .used) ≡ length (now (start c .args .used))
 kept-used c =
     let m = many c in
-    ap length (c .loop .inv .2) ∙ fill-length (usable (pieces c)) (now (start c .args .used)) (c .loop .i) (omega arith) (omega (arith, start c .pre .4))
+    ap length (c .loop .inv .2) ∙ fill-length (usable (pieces c)) (now (start c .args .used)) (c .loop .i) (omega arith)
+    (omega (arith, start c .pre .4))
 
 -- the number of the arrival that is read lies in 1 to 4,096
 within : (c : tie.After-piece-at Inv-loop μ-loop) → (1 ≤ c .piece-at .result .number) × (c .piece-at .result .number ≤ sentMost)
@@ -104,7 +109,8 @@ array-read-old : tie.Need-array-read-old Inv-loop μ-loop
 array-read-old c = omega (arith, within (c .before), c .before .before .before .loop .inv .4 .long)
 
 slice-read-is-copy : tie.Need-slice-read-is-copy Inv-loop μ-loop
-slice-read-is-copy c = let l = c .before .before .before .before in omega (arith, kept-flagged l, start l .pre .3, c .before .before .before .loop-test .taken)
+slice-read-is-copy c =
+    let l = c .before .before .before .before in omega (arith, kept-flagged l, start l .pre .3, c .before .before .before .loop-test .taken)
 
 array-write-seen : tie.Need-array-write-seen Inv-loop μ-loop
 array-write-seen c = omega (arith, within (c .before .before .before .before), read (c .before) .before .before .loop .inv .4 .long)
@@ -149,14 +155,20 @@ loop-again c =
     let m = many l in
     let v = within r in
     let h : i < length xs = omega (arith, r .before .loop-test .taken) in
-    let copy = copy-here (b .result) (take i xs) (found .result) (getD (l .loop .flagged) i 0) (getD (l .loop .seen) (b .result .number - 1) 0) (found .ensures) (read-left (flags xs) (now (a .flagged)) i (omega arith) (l .loop .inv .1) ∙ rw (b .ensures) (q .5 .at i h .0)) (l .loop .inv .4 .at (b .result .number) (v .0) (v .1)) in (
+    let copy =
+    copy-here (b .result) (take i xs) (found .result) (getD (l .loop .flagged) i 0) (getD (l .loop .seen) (b .result .number - 1) 0)
+    (found .ensures) (read-left (flags xs) (now (a .flagged)) i (omega arith) (l .loop .inv .1) ∙ rw (b .ensures) (q .5 .at i h .0))
+    (l .loop .inv .4 .at (b .result .number) (v .0) (v .1)) in (
       omega arith,
       fill-next (flags xs) (now (a .flagged)) i 0 (omega arith) (omega (arith, q .3)) (l .loop .inv .1)
-          (flag-here xs i (b .result) (l .loop .expected) (found .result) h (b .ensures) copy (l .loop .inv .3) _ (c .before .before .before .flag-of .ensures)),
+          (flag-here xs i (b .result) (l .loop .expected) (found .result) h (b .ensures) copy (l .loop .inv .3) _
+          (c .before .before .before .flag-of .ensures)),
       fill-next (usable xs) (now (a .used)) i 0 (omega arith) (omega (arith, q .4)) (l .loop .inv .2)
-          (usable-here xs i (b .result) (l .loop .expected) (found .result) h (b .ensures) copy (l .loop .inv .3) _ (getD (l .loop .used) i 0) (c .before .usable-of .ensures)
+          (usable-here xs i (b .result) (l .loop .expected) (found .result) h (b .ensures) copy (l .loop .inv .3) _
+          (getD (l .loop .used) i 0) (c .before .usable-of .ensures)
           (read-left (usable xs) (now (a .used)) i (omega arith) (l .loop .inv .2) ∙ rw (b .ensures) (q .5 .at i h .1))),
-      expected-here xs i (b .result) (l .loop .expected) (found .result) h (b .ensures) copy (l .loop .inv .3) _ (c .expected-after .ensures),
+      expected-here xs i (b .result) (l .loop .expected) (found .result) h (b .ensures) copy (l .loop .inv .3) _
+          (c .expected-after .ensures),
       seen-next xs i _ (b .result) h (b .ensures) (v .0) (v .1) (c .before .before .before .before .seen-after .ensures) (l .loop .inv .4),
     )
 
@@ -171,8 +183,10 @@ returns c =
     let l = c .before in
     let m = many l in
     let p = start l .pre in (
-      fill-done (flags (pieces l)) (now (start l .args .flagged)) (l .loop .i) (omega arith) (l .loop .inv .1) ∙ over-all (flags (pieces l)) (now (start l .args .flagged)) (omega (arith, p .3)),
-      fill-done (usable (pieces l)) (now (start l .args .used)) (l .loop .i) (omega arith) (l .loop .inv .2) ∙ over-all (usable (pieces l)) (now (start l .args .used)) (omega (arith, p .4)),
+      fill-done (flags (pieces l)) (now (start l .args .flagged)) (l .loop .i) (omega arith) (l .loop .inv .1)
+          ∙ over-all (flags (pieces l)) (now (start l .args .flagged)) (omega (arith, p .3)),
+      fill-done (usable (pieces l)) (now (start l .args .used)) (l .loop .i) (omega arith) (l .loop .inv .2)
+          ∙ over-all (usable (pieces l)) (now (start l .args .used)) (omega (arith, p .4)),
     )
 
 pub fill-flags-and-used-spec : {M : Type 1} → statement M

@@ -1,5 +1,5 @@
--- `fragments::judge::is_unfit` meets its contract: a whole packet is never unfit. For a fragment the tests are those of `isUnfit` in turn; the length
--- must be a multiple of 8 only if more fragments are to come. Assumes nothing.
+-- `fragments::judge::is_unfit` meets its contract: a whole packet is never unfit. For a fragment the tests are those of `isUnfit` in
+-- turn; the length must be a multiple of 8 only if more fragments are to come. Assumes nothing.
 use Rattle.fragments.specs.Judge.{isUnfit}
 use mathlib.Core.Path.{sym, _∙_}
 use borrow.Author.Tests.{eq-eqb, ne-eqb}

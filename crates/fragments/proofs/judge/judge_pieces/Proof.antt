@@ -26,7 +26,8 @@ abbrev Inv-loop : tie.InvT-loop
 Inv-loop k numbers times lengths mores offsets reference₀ i₀ reference i =
     (i ≤ length numbers)
     × (reference ≡ greatestTime (map arrivalOf (take i (piecesOf numbers times lengths mores offsets))))
-    × (judgePieces k (piecesOf numbers times lengths mores offsets) ≡ firstRefusal (drop i (each (judgeAfter k) (piecesOf numbers times lengths mores offsets))))
+    × (judgePieces k (piecesOf numbers times lengths mores offsets)
+    ≡ firstRefusal (drop i (each (judgeAfter k) (piecesOf numbers times lengths mores offsets))))
 
 abbrev μ-loop : tie.MeasureT-loop
 μ-loop k numbers times lengths mores offsets reference₀ i₀ reference i = length numbers - i
@@ -44,7 +45,8 @@ abbrev refusals : tie.At-loop Inv-loop μ-loop → List ℕ
 refusals c = each (judgeAfter (start c .args .k)) (pieces c)
 
 -- there are as many of both as numbers
-many : (c : tie.At-loop Inv-loop μ-loop) → (length (pieces c) ≡ length (now (start c .args .numbers))) × (length (refusals c) ≡ length (now (start c .args .numbers)))
+many : (c : tie.At-loop Inv-loop μ-loop) → (length (pieces c) ≡ length (now (start c .args .numbers)))
+    × (length (refusals c) ≡ length (now (start c .args .numbers)))
 many c =
     let a = start c .args in
     let n = pieces-length (now (a .numbers)) (now (a .times)) (now (a .lengths)) (now (a .mores)) (now (a .offsets)) in
@@ -62,7 +64,8 @@ returns c =
     let b = c .before .before .piece-at in
     let m = many l in
     turn-stop (refusals l) (l .loop .i) (l .loop .inv .2) 0 (omega arith)
-    (refusal-here (pieces l) (l .loop .reference) (l .loop .i) (b .result) (omega arith) (b .ensures) (l .loop .inv .1) _ _ (c .before .judge-piece .ensures)) (c .if1 .taken)
+    (refusal-here (pieces l) (l .loop .reference) (l .loop .i) (b .result) (omega arith) (b .ensures) (l .loop .inv .1) _ _
+    (c .before .judge-piece .ensures)) (c .if1 .taken)
 
 loop-again : tie.Need-loop-again Inv-loop μ-loop
 loop-again c =
@@ -73,7 +76,8 @@ loop-again c =
       search needs,
       past-next (pieces l) (l .loop .reference) (l .loop .i) (b .result) h (b .ensures) (l .loop .inv .1) _ (c .next-reference .ensures),
       turn-next (refusals l) (l .loop .i) (l .loop .inv .2) 0 (omega arith)
-          (refusal-here (pieces l) (l .loop .reference) (l .loop .i) (b .result) h (b .ensures) (l .loop .inv .1) _ _ (c .before .before .judge-piece .ensures)) (c .before .if1 .left),
+          (refusal-here (pieces l) (l .loop .reference) (l .loop .i) (b .result) h (b .ensures) (l .loop .inv .1) _ _
+          (c .before .before .judge-piece .ensures)) (c .before .if1 .left),
     )
 
 returns-2 : tie.Need-returns-2 Inv-loop μ-loop

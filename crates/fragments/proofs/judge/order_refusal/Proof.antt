@@ -42,7 +42,11 @@ returns c = rw (sym (c .before .outside .ensures) ∙ c .if1 .taken)
 
 returns-2 : tie.Need-returns-2
 unfolding orderRefusal
-returns-2 c = rw (sym (c .before .before .before .outside .ensures) ∙ c .before .before .if1 .left, sym (c .before .outside2 .ensures) ∙ c .if2 .taken)
+returns-2 c =
+    rw (
+      sym (c .before .before .before .outside .ensures) ∙ c .before .before .if1 .left,
+      sym (c .before .outside2 .ensures) ∙ c .if2 .taken,
+    )
 
 returns-3 : tie.Need-returns-3
 unfolding orderRefusal

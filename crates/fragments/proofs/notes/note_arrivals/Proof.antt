@@ -31,7 +31,8 @@ all-zeros k h = record {
 
 -- the sums of the counts are where each packet's places start
 starts : (ns counts sums : List ℕ) → length sums ≡ length counts → Counts ns counts → Sums counts sums → Starts ns sums
-starts ns counts sums e c s = record { at = λ p h. let g : p < length counts = omega arith in s .at p g ∙ counts-sums ns counts c p (omega arith) }
+starts ns counts sums e c s =
+    record { at = λ p h. let g : p < length counts = omega arith in s .at p g ∙ counts-sums ns counts c p (omega arith) }
 
 -- the start, from the first table and from the first call
 abbrev entry : tie.After-table → tie.Start
@@ -65,14 +66,23 @@ sum-counts-requires c κs =
     let s = counting (c .before .before .before .before) in
     let n = c .before .before .before .count-packets in
     let ns = now (s .args .numbers) in
-    omega (arith, counts-sums ns (n .last .1 .0) (n .ensures) (length (n .last .1 .0)) (omega arith), arrivals-most ns (length (n .last .1 .0)), s .pre .3)
+    omega (
+      arith,
+      counts-sums ns (n .last .1 .0) (n .ensures) (length (n .last .1 .0)) (omega arith),
+      arrivals-most ns (length (n .last .1 .0)),
+      s .pre .3,
+    )
 
 fill-places-requires : tie.Need-fill-places-requires
 fill-places-requires c κs =
     let m = c .before .before .before .before in
     let n = counted-at m in
-    let s = counting (n .before) in
-    (subst (λ (j : ℕ). NumbersWithin j (now (s .args .numbers))) (sym (summed m)) (s .pre .2), s .pre .3, many _ (s .pre .3), starts _ _ _ (m .sum-counts .kept .0) (n .count-packets .ensures) (m .sum-counts .ensures))
+    let s = counting (n .before) in (
+      subst (λ (j : ℕ). NumbersWithin j (now (s .args .numbers))) (sym (summed m)) (s .pre .2),
+      s .pre .3,
+      many _ (s .pre .3),
+      starts _ _ _ (m .sum-counts .kept .0) (n .count-packets .ensures) (m .sum-counts .ensures),
+    )
 
 note-packets-requires : tie.Need-note-packets-requires
 note-packets-requires c κs =
@@ -80,8 +90,16 @@ note-packets-requires c κs =
     let f = p .fill-places in
     let m = summed-at p in
     let s = counting (counted-at m .before) in
-    let e = f .kept .1 .0 ∙ summed m in
-    (s .pre .1, subst (λ (j : ℕ). NumbersWithin j (now (s .args .numbers))) (sym e) (s .pre .2), omega (arith, e, s .pre .0), s .pre .3, f .kept .1 .1 .0 ∙ many _ (s .pre .3), f .ensures, s .pre .4, s .pre .5)
+    let e = f .kept .1 .0 ∙ summed m in (
+      s .pre .1,
+      subst (λ (j : ℕ). NumbersWithin j (now (s .args .numbers))) (sym e) (s .pre .2),
+      omega (arith, e, s .pre .0),
+      s .pre .3,
+      f .kept .1 .1 .0 ∙ many _ (s .pre .3),
+      f .ensures,
+      s .pre .4,
+      s .pre .5,
+    )
 
 pub note-arrivals-spec : {M : Type 1} → statement M
 note-arrivals-spec =

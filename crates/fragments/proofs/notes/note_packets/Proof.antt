@@ -1,6 +1,6 @@
--- `fragments::notes::note_packets` meets its contract. The loop's invariant: the arrivals of the first p packets are noted, and `from` is their number.
--- The places of the packets after them are as they were filled in (`PlacedFrom`). The sorted places of the next packet are a run (`block-same`,
--- `run-of`). The measure is the number of packets left. Assumes nothing.
+-- `fragments::notes::note_packets` meets its contract. The loop's invariant: the arrivals of the first p packets are noted, and `from` is
+-- their number. The places of the packets after them are as they were filled in (`PlacedFrom`). The sorted places of the next packet are
+-- a run (`block-same`, `run-of`). The measure is the number of packets left. Assumes nothing.
 use borrow.Author.Needs.{needs}
 use native.Mathlib.Numerals.{add-one}
 use native.Mathlib.Omega.{arith}
@@ -51,14 +51,20 @@ abbrev pieces : tie.Start Inv-loop μ-loop → List Piece
 pieces s = let a = s .args in piecesOf (now (a .numbers)) (now (a .times)) (now (a .lengths)) (now (a .mores)) (now (a .offsets))
 
 -- where the packet's places end
-end : (c : tie.After-index-of Inv-loop μ-loop) → c .index-of .result ≡ arrivalsTo (now (start (c .before .before .before) .args .numbers)) (suc (c .before .before .before .loop .p))
-end c = c .index-of .ensures ∙ start (c .before .before .before) .pre .5 .end (c .before .before .before .loop .p) (c .before .before .loop-test .taken)
+end : (c : tie.After-index-of Inv-loop μ-loop) → c .index-of .result
+    ≡ arrivalsTo (now (start (c .before .before .before) .args .numbers)) (suc (c .before .before .before .loop .p))
+end c =
+    c .index-of .ensures ∙ start (c .before .before .before) .pre .5 .end (c .before .before .before .loop .p)
+    (c .before .before .loop-test .taken)
 
 -- they stand between the two
-between : (c : tie.After-index-of Inv-loop μ-loop) → (c .before .before .before .loop .from ≤ c .index-of .result) × (c .index-of .result ≤ length (c .before .before .before .loop .places))
+between : (c : tie.After-index-of Inv-loop μ-loop) → (c .before .before .before .loop .from ≤ c .index-of .result)
+    × (c .index-of .result ≤ length (c .before .before .before .loop .places))
 between c =
     let l = c .before .before .before in
-    let b = block-inside _ _ (l .loop .p) (c .before .before .loop-test .taken) (l .loop .from) (c .index-of .result) (l .loop .inv .1) (end c) (l .loop .places) (l .loop .inv .2) in
+    let b =
+    block-inside _ _ (l .loop .p) (c .before .before .loop-test .taken) (l .loop .from) (c .index-of .result) (l .loop .inv .1) (end c)
+    (l .loop .places) (l .loop .inv .2) in
     (b .0, b .1 .0)
 
 none : (ns : List ℕ) → 0 ≡ arrivalsTo ns 0
@@ -82,30 +88,51 @@ loop-holds c =
     )
 
 -- how many places the packet has
-many : (c : tie.After-index-of Inv-loop μ-loop) → let l = c .before .before .before in length (take (c .index-of .result - l .loop .from) (drop (l .loop .from) (l .loop .places))) ≡ c .index-of .result - l .loop .from
+many : (c : tie.After-index-of Inv-loop μ-loop) → let l =
+    c .before .before .before in length (take (c .index-of .result - l .loop .from) (drop (l .loop .from) (l .loop .places)))
+    ≡ c .index-of .result - l .loop .from
 many c =
     let l = c .before .before .before in
-    block-length _ _ (l .loop .p) (c .before .before .loop-test .taken) (l .loop .from) (c .index-of .result) (l .loop .inv .1) (end c) (l .loop .places) (l .loop .inv .2)
+    block-length _ _ (l .loop .p) (c .before .before .loop-test .taken) (l .loop .from) (c .index-of .result) (l .loop .inv .1) (end c)
+    (l .loop .places) (l .loop .inv .2)
 
 put-in-order-requires : tie.Need-put-in-order-requires Inv-loop μ-loop
 put-in-order-requires c κs =
     let l = c .before .before .before .before .before .before in
-    let q = start l .pre in
-    (q .0 .1 ∙ sym (q .0 .3), omega (arith, many (c .before .before .before), between (c .before .before .before), l .loop .inv .2 .room, q .3, l .loop .inv .4))
+    let q = start l .pre in (
+      q .0 .1 ∙ sym (q .0 .3),
+      omega (
+        arith,
+        many (c .before .before .before),
+        between (c .before .before .before),
+        l .loop .inv .2 .room,
+        q .3,
+        l .loop .inv .4,
+      ),
+    )
 
 -- the packet's places in order are a run
-run-here : (c : tie.After-put-in-order Inv-loop μ-loop) → let l = c .before .before .before .before .before .before .before in Run (pieces (start l)) (l .loop .p + 1) (c .put-in-order .last .1 .1 .0)
+run-here : (c : tie.After-put-in-order Inv-loop μ-loop) → let l =
+    c .before .before .before .before .before .before .before in Run (pieces (start l)) (l .loop .p + 1) (c .put-in-order .last .1 .1 .0)
 run-here c =
     let i = c .before .before .before .before in
     let l = c .before .before .before .before .before .before .before in
     let a = start l .args in
-    let e : take (i .index-of .result - l .loop .from) (drop (l .loop .from) (l .loop .places)) ≡ placesOf (now (a .numbers)) (l .loop .p + 1) =
-    block-same _ _ (l .loop .p) (i .before .before .loop-test .taken) (l .loop .from) (i .index-of .result) (l .loop .inv .1) (end i) (l .loop .places) (l .loop .inv .2) ∙ ap (placesOf (now (a .numbers))) (sym (add-one (l .loop .p))) in
-    run-of (now (a .numbers)) (now (a .times)) (now (a .lengths)) (now (a .mores)) (now (a .offsets)) (record { at = λ i. omega (arith, l .before .before .before .before .before .before .before .shared-slice-known3 .given i) }) (l .loop .p + 1) (c .put-in-order .last .1 .1 .0)
-    (subst (λ (m : List ℕ). InOrder (pieceKey (now (a .lengths)) (now (a .offsets))) m (c .put-in-order .last .1 .1 .0)) e (c .put-in-order .ensures))
+    let e : take (i .index-of .result - l .loop .from) (drop (l .loop .from) (l .loop .places))
+    ≡ placesOf (now (a .numbers)) (l .loop .p + 1) =
+    block-same _ _ (l .loop .p) (i .before .before .loop-test .taken) (l .loop .from) (i .index-of .result) (l .loop .inv .1) (end i)
+    (l .loop .places) (l .loop .inv .2) ∙ ap (placesOf (now (a .numbers))) (sym (add-one (l .loop .p))) in
+    run-of (now (a .numbers)) (now (a .times)) (now (a .lengths)) (now (a .mores)) (now (a .offsets))
+    (record { at = λ i. omega (arith, l .before .before .before .before .before .before .before .shared-slice-known3 .given i) })
+    (l .loop .p + 1) (c .put-in-order .last .1 .1 .0)
+    (subst (λ (m : List ℕ). InOrder (pieceKey (now (a .lengths)) (now (a .offsets))) m (c .put-in-order .last .1 .1 .0)) e
+    (c .put-in-order .ensures))
 
 note-run-requires : tie.Need-note-run-requires Inv-loop μ-loop
-note-run-requires c κs = let p = c .before .before .before .before .before .before in let l = ended p .before .before .before in (start l .pre .0, run-here p, l .loop .inv .3)
+note-run-requires c κs =
+    let p =
+    c .before .before .before .before .before .before in let l =
+    ended p .before .before .before in (start l .pre .0, run-here p, l .loop .inv .3)
 
 loop-again : tie.Need-loop-again Inv-loop μ-loop
 loop-again c =
@@ -116,7 +143,8 @@ loop-again c =
     let ns = now (start l .args .numbers) in (
       omega (arith, b .loop-test .taken),
       end i ∙ ap (arrivalsTo ns) (sym (add-one (l .loop .p))),
-      placed-next _ _ (l .loop .p) (b .loop-test .taken) (l .loop .from) (i .index-of .result) (l .loop .inv .1) (end i) (l .loop .places) (l .loop .inv .2) (p .put-in-order .last .1 .1 .0) (p .put-in-order .kept .1 .1 .0),
+      placed-next _ _ (l .loop .p) (b .loop-test .taken) (l .loop .from) (i .index-of .result) (l .loop .inv .1) (end i) (l .loop .places)
+          (l .loop .inv .2) (p .put-in-order .last .1 .1 .0) (p .put-in-order .kept .1 .1 .0),
       noted c .note-run .ensures,
       p .put-in-order .kept .1 .1 .1 .0 ∙ l .loop .inv .4,
     )

@@ -23,8 +23,10 @@ made f t u e a b =
     λ i. record { first = (a ∙ ap streamIn s) i; second = (b ∙ ap streamIn s) i; places = s i .places }
 
 returns : tie.Need-returns
-returns c =
-    (made _ _ _ (c .before .before .before .before .fresh .ensures .0) (c .before .stream-in .ensures) (c .stream-in2 .ensures), (demand3, independence))
+returns c = (
+  made _ _ _ (c .before .before .before .before .fresh .ensures .0) (c .before .stream-in .ensures) (c .stream-in2 .ensures),
+  (demand3, independence),
+)
 
 pub new-spec : {M : Type 1} → statement M
 new-spec = tie.close (tie.spec (λ c κs. search needs) (λ c κs. search needs) (λ c κs. search needs) returns)

@@ -1,5 +1,5 @@
--- `meter::Meter::start` meets its contract: it is a turn that is a start, and as it is the definition's, a refused start leaves an equal meter
--- (`start-refused`). Assumes nothing.
+-- `meter::Meter::start` meets its contract: it is a turn that is a start, and as it is the definition's, a refused start leaves an equal
+-- meter (`start-refused`). Assumes nothing.
 use Prim.Native.Nat.{ℕ}
 use mathlib.Core.Path.{_≡_, ap, _∙_}
 use borrow.Author.Needs.{needs}

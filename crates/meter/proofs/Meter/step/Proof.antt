@@ -1,5 +1,5 @@
--- `meter::Meter::step` meets its contract: it is a turn that is no start, and as it is the definition's, a refused step leaves an equal meter
--- (`step-refused`). Assumes nothing.
+-- `meter::Meter::step` meets its contract: it is a turn that is no start, and as it is the definition's, a refused step leaves an equal
+-- meter (`step-refused`). Assumes nothing.
 use Prim.Native.Nat.{ℕ}
 use mathlib.Core.Path.{_≡_, ap, _∙_}
 use borrow.Author.Needs.{needs}
@@ -13,8 +13,11 @@ use Rattle.meter.proofs.Meter.step.Tie as tie
 -- what is the definition's leaves an equal meter where it is refused
 carries : (m : Meter) (n number time : ℕ) (r : MeterStepAnswer) → r ≡ meterStep m n number time
     → (r ≡ meterStep m n number time) × ((r .outcome .refusal ≡ 0 → ⊥) → r .state ≡ m)
-carries m n number time r e =
-    (e, λ h. ap (λ (x : MeterStepAnswer). x .state) e ∙ step-refused m n number time (λ z. h (ap (λ (x : MeterStepAnswer). x .outcome .refusal) e ∙ z)))
+carries m n number time r e = (
+  e,
+  λ h. ap (λ (x : MeterStepAnswer). x .state) e ∙ step-refused m n number time
+      (λ z. h (ap (λ (x : MeterStepAnswer). x .outcome .refusal) e ∙ z)),
+)
 
 returns : tie.Need-returns
 returns c =

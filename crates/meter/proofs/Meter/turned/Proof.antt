@@ -1,4 +1,5 @@
--- `meter::Meter::turned` meets its contract: the parts are those of the meter, and the meter is put together of what they become. Assumes nothing.
+-- `meter::Meter::turned` meets its contract: the parts are those of the meter, and the meter is put together of what they become. Assumes
+-- nothing.
 use borrow.Author.Needs.{needs}
 use Rattle.meter.proofs.Meter.turned.Statement.{statement}
 use Rattle.meter.proofs.Meter.turned.Tie as tie

@@ -1,5 +1,5 @@
--- `owamp::judge::first_of` meets its contract: it returns the first refusal if that is not 0, by cases (`first-taken`), else the second. Assumes
--- nothing.
+-- `owamp::judge::first_of` meets its contract: it returns the first refusal if that is not 0, by cases (`first-taken`), else the second.
+-- Assumes nothing.
 use Rattle.owamp.proofs.InTurn.{first-taken, first-passed}
 use Rattle.owamp.proofs.judge.first_of.Statement.{statement}
 use Rattle.owamp.proofs.judge.first_of.Tie as tie

@@ -1,6 +1,6 @@
--- `owamp::judge::judge_arrivals` meets its contract. The loop's invariant is `Judging`: the arrivals of the first i records are counted, and
--- `refusal` is the first of their refusals. The count is at most i, so no sum wraps. A lost record is `judging-lost`, an arrival `judging-next`.
--- The measure is the number of records left. Assumes nothing.
+-- `owamp::judge::judge_arrivals` meets its contract. The loop's invariant is `Judging`: the arrivals of the first i records are counted,
+-- and `refusal` is the first of their refusals. The count is at most i, so no sum wraps. A lost record is `judging-lost`, an arrival
+-- `judging-next`. The measure is the number of records left. Assumes nothing.
 use borrow.Author.Needs.{needs}
 use native.Mathlib.Omega.{arith}
 use Prim.Native.Nat.{_-_}

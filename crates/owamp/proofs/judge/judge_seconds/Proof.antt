@@ -1,6 +1,6 @@
--- `owamp::judge::judge_seconds` meets its contract. The loop's invariant: the first refusal of all arrivals is that of the greatest time so far
--- or, if there is none, of the arrivals from i on. The arrival read at i is the sample's (`found`). The first refusal of two times is that of the
--- greater (`greater`). The measure is the number of arrivals left. g and t are times, rs refusals. Assumes nothing.
+-- `owamp::judge::judge_seconds` meets its contract. The loop's invariant: the first refusal of all arrivals is that of the greatest time
+-- so far or, if there is none, of the arrivals from i on. The arrival read at i is the sample's (`found`). The first refusal of two times
+-- is that of the greater (`greater`). The measure is the number of arrivals left. g and t are times, rs refusals. Assumes nothing.
 use borrow.Author.Needs.{needs}
 use borrow.Author.Tests.{ltb-true, ltb-false}
 use native.Mathlib.Omega.{arith}
@@ -35,8 +35,10 @@ greater : (g t : ℕ) (rs : List ℕ) → firstRefusal (judgeTime g ∷ judgeTim
 unfolding judgeTime nextReference
 greater g t rs = go (ltb g t) refl (ltb secondsMost (writtenSeconds g)) refl (ltb secondsMost (writtenSeconds t)) refl
   where
-    go : (b : Bool) → ltb g t ≡ b → (x : Bool) → ltb secondsMost (writtenSeconds g) ≡ x → (y : Bool) → ltb secondsMost (writtenSeconds t) ≡ y
-        → firstRefusal (refusalIf x secondsOver ∷ refusalIf y secondsOver ∷ rs) ≡ firstRefusal (refusalIf (ltb secondsMost (writtenSeconds (cond b t g))) secondsOver ∷ rs)
+    go : (b : Bool) → ltb g t ≡ b → (x : Bool) → ltb secondsMost (writtenSeconds g) ≡ x → (y : Bool)
+        → ltb secondsMost (writtenSeconds t) ≡ y
+        → firstRefusal (refusalIf x secondsOver ∷ refusalIf y secondsOver ∷ rs)
+        ≡ firstRefusal (refusalIf (ltb secondsMost (writtenSeconds (cond b t g))) secondsOver ∷ rs)
     go true p true q true r = rw r
     go true p false q true r = rw r
     go true p false q false r = rw r
@@ -58,7 +60,8 @@ refusals file = map judgeArrival (arrivalsOfFile file)
 
 -- greatest₀ and i₀ are the values where the loop begins, greatest and i those at its head
 abbrev Inv-loop : tie.InvT-loop
-Inv-loop file found count greatest₀ i₀ greatest i = (i ≤ count) × (firstRefusal (refusals file) ≡ firstRefusal (judgeTime greatest ∷ drop i (refusals file)))
+Inv-loop file found count greatest₀ i₀ greatest i =
+    (i ≤ count) × (firstRefusal (refusals file) ≡ firstRefusal (judgeTime greatest ∷ drop i (refusals file)))
 
 abbrev μ-loop : tie.MeasureT-loop
 μ-loop file found count greatest₀ i₀ greatest i = count - i
@@ -71,11 +74,13 @@ many c =
 
 -- the one at i is that of the arrival that was read
 found : (c : tie.After-arrival Inv-loop μ-loop)
-    → judgeArrival (c .arrival .result) ≡ getD (refusals (now (c .before .before .before .before .args .file))) (c .before .before .loop .i) (judgeArrival noArrival)
+    → judgeArrival (c .arrival .result) ≡ getD (refusals (now (c .before .before .before .before .args .file)))
+    (c .before .before .loop .i) (judgeArrival noArrival)
 found c =
     let a = c .before .before .before .before in
     let i = c .before .before .loop .i in
-    ap judgeArrival (c .arrival .ensures .1 (a .pre .0) (search needs)) ∙ sym (List·getD-map judgeArrival (arrivalsOfFile (now (a .args .file))) i noArrival)
+    ap judgeArrival (c .arrival .ensures .1 (a .pre .0) (search needs))
+    ∙ sym (List·getD-map judgeArrival (arrivalsOfFile (now (a .args .file))) i noArrival)
 
 loop-holds : tie.Need-loop-holds Inv-loop μ-loop
 unfolding judgeTime
@@ -90,7 +95,8 @@ loop-again c =
     let h : i < length rs = omega (arith, many l, c .before .before .loop-test .taken) in (
       search needs,
       l .loop .inv .1
-          ∙ ap (λ (x : List ℕ). firstRefusal (judgeTime g ∷ x)) (drop-cons rs i (judgeArrival noArrival) h ∙ ap (λ (x : ℕ). x ∷ drop (suc i) rs) (sym (found (c .before))))
+          ∙ ap (λ (x : List ℕ). firstRefusal (judgeTime g ∷ x))
+          (drop-cons rs i (judgeArrival noArrival) h ∙ ap (λ (x : ℕ). x ∷ drop (suc i) rs) (sym (found (c .before))))
           ∙ greater g (c .before .arrival .result .time) (drop (suc i) rs)
           ∙ ap (λ (x : ℕ). firstRefusal (judgeTime x ∷ drop (suc i) rs)) (sym (c .next-reference .ensures))
           ∙ ap (λ (x : ℕ). firstRefusal (judgeTime (c .next-reference .result) ∷ drop x rs)) (sym (add-one i)),
@@ -103,7 +109,8 @@ returns c =
     let rs = refusals (now (l .before .before .args .file)) in
     let h : length rs ≤ l .loop .i = omega (arith, many l, c .before .loop-test .left) in
     c .judge-time .ensures
-    ∙ sym (l .loop .inv .1 ∙ ap (λ (x : List ℕ). firstRefusal (judgeTime (l .loop .greatest) ∷ x)) (drop-of-length-le rs h) ∙ first-one (judgeTime (l .loop .greatest)))
+    ∙ sym (l .loop .inv .1 ∙ ap (λ (x : List ℕ). firstRefusal (judgeTime (l .loop .greatest) ∷ x)) (drop-of-length-le rs h)
+    ∙ first-one (judgeTime (l .loop .greatest)))
 
 pub judge-seconds-spec : {M : Type 1} → statement M
 judge-seconds-spec =

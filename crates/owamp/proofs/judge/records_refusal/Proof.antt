@@ -29,7 +29,8 @@ unfolding recordsRefusal
 returns-3 c =
     let a = c .before .before .before .before .before .before in
     let h = sym (c .before .before .before .outside .ensures) ∙ c .before .before .if2 .left in
-    let g : outside 0 arrivalsMost (length (recordsArrivals (now (a .args .records)))) ≡ true = ap (outside 0 arrivalsMost) (sym (a .pre .0)) ∙ sym (c .before .outside2 .ensures) ∙ c .if3 .taken in
+    let g : outside 0 arrivalsMost (length (recordsArrivals (now (a .args .records)))) ≡ true =
+    ap (outside 0 arrivalsMost) (sym (a .pre .0)) ∙ sym (c .before .outside2 .ensures) ∙ c .if3 .taken in
     simp (eq-eqb _ _ (c .before .before .before .before .if1 .left), h, g)
 
 returns-4 : tie.Need-returns-4
@@ -37,8 +38,14 @@ unfolding recordsRefusal
 returns-4 c =
     let a = c .before .before .before .before .before .before in
     let h = sym (c .before .before .before .outside .ensures) ∙ c .before .before .if2 .left in
-    let g : outside 0 arrivalsMost (length (recordsArrivals (now (a .args .records)))) ≡ false = ap (outside 0 arrivalsMost) (sym (a .pre .0)) ∙ sym (c .before .outside2 .ensures) ∙ c .if3 .left in
-    simp (eq-eqb _ _ (c .before .before .before .before .if1 .left), h, g, first-one (judgeNumbers (a .args .k) (recordsArrivals (now (a .args .records))))) (a .pre .1)
+    let g : outside 0 arrivalsMost (length (recordsArrivals (now (a .args .records)))) ≡ false =
+    ap (outside 0 arrivalsMost) (sym (a .pre .0)) ∙ sym (c .before .outside2 .ensures) ∙ c .if3 .left in
+    simp (
+      eq-eqb _ _ (c .before .before .before .before .if1 .left),
+      h,
+      g,
+      first-one (judgeNumbers (a .args .k) (recordsArrivals (now (a .args .records)))),
+    ) (a .pre .1)
 
 pub records-refusal-spec : {M : Type 1} → statement M
 records-refusal-spec =

@@ -1,5 +1,5 @@
--- `owamp::records::number_of` meets its contract: the first four octets of the record are its sequence number (`number-stands`), and adding 1 does
--- not overflow. Assumes nothing.
+-- `owamp::records::number_of` meets its contract: the first four octets of the record are its sequence number (`number-stands`), and
+-- adding 1 does not overflow. Assumes nothing.
 use borrow.Author.Needs.{needs}
 use native.Mathlib.Omega.{arith}
 use denote.Ref.{now}
@@ -12,10 +12,16 @@ use Rattle.owamp.proofs.records.number_of.Tie as tie
 add-result : tie.Need-add-result
 add-result c =
     let a = c .before .before .before .args in
-    omega (arith, four-below (now (a .records)) (a .i) 0 (below-fits w8 (now (a .records)) (c .before .before .shared-slice-known .given)) (c .number-at .ensures))
+    omega (
+      arith,
+      four-below (now (a .records)) (a .i) 0 (below-fits w8 (now (a .records)) (c .before .before .shared-slice-known .given))
+          (c .number-at .ensures),
+    )
 
 returns : tie.Need-returns
-returns c = number-stands (now (c .before .before .before .args .records)) (c .before .before .before .args .i) (search needs) (c .number-at .ensures)
+returns c =
+    number-stands (now (c .before .before .before .args .records)) (c .before .before .before .args .i) (search needs)
+    (c .number-at .ensures)
 
 pub number-of-spec : {M : Type 1} → statement M
 number-of-spec =

@@ -1,5 +1,5 @@
--- `owamp::records::put_packet_record` meets its contract: seven numbers written one after the other into 25 octets are one put of the record
--- (`record-put`). Assumes nothing.
+-- `owamp::records::put_packet_record` meets its contract: seven numbers written one after the other into 25 octets are one put of the
+-- record (`record-put`). Assumes nothing.
 use borrow.Author.Needs.{needs}
 use denote.Ref.{now}
 use Rattle.owamp.proofs.Writing.{record-put}

@@ -1,5 +1,5 @@
--- `owamp::records::time_of` meets its contract: the seconds and the fraction of the record, each below 2^32, are its receive time (`time-stands`).
--- Assumes nothing.
+-- `owamp::records::time_of` meets its contract: the seconds and the fraction of the record, each below 2^32, are its receive time
+-- (`time-stands`). Assumes nothing.
 use borrow.Author.Needs.{needs}
 use native.Mathlib.Omega.{arith}
 use Prim.Native.Nat.{_<_}
@@ -15,8 +15,10 @@ use Rattle.owamp.proofs.records.time_of.Tie as tie
 below : (c : tie.After-number-at2) → (c .before .number-at .result < fractions) × (c .number-at2 .result < fractions)
 below c =
     let a = c .before .before .before .before .args in
-    let o = below-fits w8 (now (a .records)) (c .before .before .before .shared-slice-known .given) in
-    (four-below (now (a .records)) (a .i) 16 o (c .before .number-at .ensures), four-below (now (a .records)) (a .i) 20 o (c .number-at2 .ensures))
+    let o = below-fits w8 (now (a .records)) (c .before .before .before .shared-slice-known .given) in (
+      four-below (now (a .records)) (a .i) 16 o (c .before .number-at .ensures),
+      four-below (now (a .records)) (a .i) 20 o (c .number-at2 .ensures),
+    )
 
 mul-result : tie.Need-mul-result
 mul-result c = omega (arith, below c)

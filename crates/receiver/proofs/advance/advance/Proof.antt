@@ -1,5 +1,5 @@
--- `receiver::advance::advance` meets its contract: it is the step on parts where at most 64 jumps are kept, from the first place up. Assumes
--- nothing.
+-- `receiver::advance::advance` meets its contract: it is the step on parts where at most 64 jumps are kept, from the first place up.
+-- Assumes nothing.
 use borrow.Author.Needs.{needs}
 use Rattle.receiver.specs.Parts.{oldestFirst}
 use Rattle.receiver.proofs.advance.advance.Statement.{statement}

@@ -16,14 +16,16 @@ use Rattle.receiver.proofs.advance.advance_within.Tie as tie
 
 -- the receiver of the parts at entry
 abbrev stateAt : tie.Start → Receiver
-stateAt c = whole (c .args .s) (c .args .marks .now) (oldestFirst (c .args .down) (c .args .positions .now)) (oldestFirst (c .args .down) (c .args .numbers .now)) (oldestFirst (c .args .down) (c .args .times .now))
+stateAt c =
+    whole (c .args .s) (c .args .marks .now) (oldestFirst (c .args .down) (c .args .positions .now))
+    (oldestFirst (c .args .down) (c .args .numbers .now)) (oldestFirst (c .args .down) (c .args .times .now))
 
 -- the entry, from where an arrival is not refused
 abbrev startOf : tie.Else1 → tie.Start
 startOf c = c .before .before .before .before .before .before .before
 
--- ---- places in the code, each by one before it: where an in-order arrival is noted, after its numbers are made, after it is marked, and where
--- its jump is stored
+-- ---- places in the code, each by one before it: where an in-order arrival is noted, after its numbers are made, after it is marked, and
+-- where its jump is stored
 
 abbrev unrefused-at : tie.After-after-in-order-arg → tie.Else1
 unrefused-at c = c .before .before .before .before
@@ -108,7 +110,11 @@ returns-3 c =
     let late = numbers-at marked in
     let early = in-order-at marked in
     step-noted _ _ _ _ _ (early .before .before .decide .ensures) _ (early .if1 .left)
-    (jump-written _ _ _ _ _ _ _ _ _ _ _ _ _ _ _ (accepted early .places .kept-high, (startOf early .pre .0, same-full _ _ _ _ (startOf early .pre .1))) (late .before .before .before .noted .given .1) (c .before .before .before .before .before .if2 .taken) (late .after-in-order .ensures _ _)
+    (jump-written _ _ _ _ _ _ _ _ _ _ _ _ _ _ _ (
+      accepted early .places .kept-high,
+      (startOf early .pre .0, same-full _ _ _ _ (startOf early .pre .1)),
+    ) (late .before .before .before .noted .given .1) (c .before .before .before .before .before .if2 .taken)
+    (late .after-in-order .ensures _ _)
     (marked .mark .ensures) (c .push .ensures))
 
 returns-4 : tie.Need-returns-4
@@ -116,11 +122,13 @@ returns-4 c =
     let late = numbers-at (c .before) in
     let early = in-order-at (c .before) in
     step-noted _ _ _ _ _ (early .before .before .decide .ensures) _ (early .if1 .left)
-    (in-order-written _ _ _ _ _ _ _ _ _ _ _ _ (late .before .before .before .noted .given .1) (c .if2 .left) (late .after-in-order .ensures _ _) (c .before .mark .ensures))
+    (in-order-written _ _ _ _ _ _ _ _ _ _ _ _ (late .before .before .before .noted .given .1) (c .if2 .left)
+    (late .after-in-order .ensures _ _) (c .before .mark .ensures))
 
 returns-5 : tie.Need-returns-5
 returns-5 c =
-    step-noted _ _ _ _ _ (c .before .before .before .before .before .before .decide .ensures) _ (c .before .before .before .before .if1 .left)
+    step-noted _ _ _ _ _ (c .before .before .before .before .before .before .decide .ensures) _
+    (c .before .before .before .before .if1 .left)
     (late-written _ _ _ _ _ _ _ _ _ _ _ (c .before .before .before .match .keys3) (c .after-reordered .ensures) (c .before .mark2 .ensures))
 
 pub advance-within-spec : {M : Type 1} → statement M

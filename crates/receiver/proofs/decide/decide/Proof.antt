@@ -15,16 +15,21 @@ use Rattle.receiver.proofs.decide.decide.Tie as tie
 
 -- the state
 abbrev stateAt : tie.Start → Receiver
-stateAt c = whole (c .args .s) (c .args .marks .now) (oldestFirst (c .args .down) (c .args .positions .now)) (oldestFirst (c .args .down) (c .args .numbers .now)) (oldestFirst (c .args .down) (c .args .times .now))
+stateAt c =
+    whole (c .args .s) (c .args .marks .now) (oldestFirst (c .args .down) (c .args .positions .now))
+    (oldestFirst (c .args .down) (c .args .numbers .now)) (oldestFirst (c .args .down) (c .args .times .now))
 
 -- past the first test there is no refusal
-no-refusal : (c : tie.Else1) → stepRefusal (stateAt (c .before .before)) (c .before .before .args .number) (c .before .before .args .time) ≡ 0
+no-refusal : (c : tie.Else1) → stepRefusal (stateAt (c .before .before)) (c .before .before .args .number) (c .before .before .args .time)
+    ≡ 0
 unfolding stepRefusal fit
 no-refusal c = sym (c .before .step-refusal .ensures) ∙ c .if1 .left
 
 -- so what an accepted arrival has holds, whatever the marks
 accepted : (c : tie.Else1) →
-    Unrefused (whole (c .before .before .args .s) [] (oldestFirst (c .before .before .args .down) (c .before .before .args .positions .now)) (oldestFirst (c .before .before .args .down) (c .before .before .args .numbers .now)) (oldestFirst (c .before .before .args .down) (c .before .before .args .times .now))) (c .before .before .args .number)
+    Unrefused (whole (c .before .before .args .s) [] (oldestFirst (c .before .before .args .down)
+    (c .before .before .args .positions .now)) (oldestFirst (c .before .before .args .down) (c .before .before .args .numbers .now))
+    (oldestFirst (c .before .before .args .down) (c .before .before .args .times .now))) (c .before .before .args .number)
 accepted c = accepted-facts _ _ _ (sym (c .before .step-refusal .ensures) ∙ c .if1 .left)
 
 returns : tie.Need-returns
@@ -41,7 +46,8 @@ is-marked-requires c κs =
 returns-2 : tie.Need-returns-2
 returns-2 c =
     let s = c .before .before .before .before in
-    outcome-duplicate (stateAt s) (s .args .number) (s .args .time) (no-refusal (c .before .before)) (sym (c .before .is-marked .ensures) ∙ c .if2 .taken)
+    outcome-duplicate (stateAt s) (s .args .number) (s .args .time) (no-refusal (c .before .before))
+    (sym (c .before .is-marked .ensures) ∙ c .if2 .taken)
 
 returns-3 : tie.Need-returns-3
 returns-3 c =
@@ -56,7 +62,8 @@ returns-4 : tie.Need-returns-4
 returns-4 c =
     let s = c .before .before .before .before .before .before .before in
     outcome-late (stateAt s) (s .args .number) (s .args .time) (no-refusal (c .before .before .before .before .before)) _
-    (sym (c .before .before .before .before .is-marked .ensures) ∙ c .before .before .before .if2 .left) (c .before .if3 .left) (c .late-outcome .ensures)
+    (sym (c .before .before .before .before .is-marked .ensures) ∙ c .before .before .before .if2 .left) (c .before .if3 .left)
+    (c .late-outcome .ensures)
 
 pub decide-spec : {M : Type 1} → statement M
 decide-spec =

@@ -1,6 +1,6 @@
--- `receiver::decide::late_outcome` meets its contract: the place that was found is the one that the definition finds (`search-found`), and past
--- the last place it finds none (`search-none`). Below the dropped number the figures are from the first place, which holds the oldest kept
--- jump, else from the place found. Assumes nothing.
+-- `receiver::decide::late_outcome` meets its contract: the place that was found is the one that the definition finds (`search-found`),
+-- and past the last place it finds none (`search-none`). Below the dropped number the figures are from the first place, which holds the
+-- oldest kept jump, else from the place found. Assumes nothing.
 use native.Mathlib.Omega.{arith}
 use borrow.Author.Needs.{needs}
 use lib.ListN.{getD}
@@ -41,7 +41,8 @@ returns-2 c =
     let s = c .before .before .before .before .before .before .before in
     let h = heldAt s in
     late-beyond (s .args .s) (h .places) (arrivalAt s) _ _ _
-    (search-found (h .places) (s .args .number) (h .kept) _ (c .before .before .before .before .if1 .left) (c .before .before .before .before .before .before .place-above .ensures))
+    (search-found (h .places) (s .args .number) (h .kept) _ (c .before .before .before .before .if1 .left)
+    (c .before .before .before .before .before .before .place-above .ensures))
     (c .before .before .if2 .taken)
     (oldest-kept h (omega (arith, c .before .before .before .before .if1 .left)))
     (c .lateness-from .ensures (getD (h .places .numbers) 0 0))
@@ -59,7 +60,8 @@ returns-3 c =
     let s = c .before .before .before .before .before .before .before in
     let h = heldAt s in
     late-exact (s .args .s) (h .places) (arrivalAt s) _ _
-    (search-found (h .places) (s .args .number) (h .kept) _ (c .before .before .before .before .if1 .left) (c .before .before .before .before .before .before .place-above .ensures))
+    (search-found (h .places) (s .args .number) (h .kept) _ (c .before .before .before .before .if1 .left)
+    (c .before .before .before .before .before .before .place-above .ensures))
     (c .before .before .if2 .left)
     (c .lateness-from2 .ensures (getD (h .places .numbers) (c .before .before .before .before .before .before .place-above .result) 0))
 

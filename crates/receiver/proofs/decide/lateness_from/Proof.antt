@@ -12,10 +12,13 @@ use Rattle.receiver.proofs.decide.lateness_from.Statement.{statement}
 use Rattle.receiver.proofs.decide.lateness_from.Tie as tie
 
 -- the position that was read
-position-read : (c : tie.After-wide) → c .wide .result ≡ getD (oldestFirst (c .before .before .before .args .down) (c .before .before .before .args .positions .now)) (c .before .before .before .args .i) 0
+position-read : (c : tie.After-wide) → c .wide .result ≡ getD
+    (oldestFirst (c .before .before .before .args .down) (c .before .before .before .args .positions .now))
+    (c .before .before .before .args .i) 0
 position-read c =
     let s = c .before .before .before in
-    c .wide .ensures ∙ read-at (s .args .positions .now) (s .pre .1 .1 .0) (s .args .down) _ _ (s .pre .0) (c .before .before .place .ensures .0)
+    c .wide .ensures ∙ read-at (s .args .positions .now) (s .pre .1 .1 .0) (s .args .down) _ _ (s .pre .0)
+    (c .before .before .place .ensures .0)
 
 sub-t13 : tie.Need-sub-t13
 sub-t13 c = omega (arith, position-read c, c .before .before .before .pre .1 .0)
@@ -27,7 +30,8 @@ returns c s =
     rw (
       position-read (c .before .before),
       c .elapsed .ensures,
-      read-at (a .args .times .now) (a .pre .1 .1 .1) (a .args .down) _ _ (a .pre .0) (c .before .before .before .before .place .ensures .0),
+      read-at (a .args .times .now) (a .pre .1 .1 .1) (a .args .down) _ _ (a .pre .0)
+          (c .before .before .before .before .place .ensures .0),
     )
 
 pub lateness-from-spec : {M : Type 1} → statement M

@@ -19,7 +19,9 @@ stream-known c = sym (c .before .before .before .stream-fit .ensures) ∙ not-fa
 
 -- and so are the places
 places-known : (c : tie.Else2) →
-    placesFit (c .before .before .before .before .args .s) (placesBy (c .before .before .before .before .args .down) (c .before .before .before .before .args .positions .now) (c .before .before .before .before .args .numbers .now) (c .before .before .before .before .args .times .now)) ≡ true
+    placesFit (c .before .before .before .before .args .s) (placesBy (c .before .before .before .before .args .down)
+    (c .before .before .before .before .args .positions .now) (c .before .before .before .before .args .numbers .now)
+    (c .before .before .before .before .args .times .now)) ≡ true
 places-known c = sym (c .before .places-fit .ensures) ∙ not-false _ (c .if2 .left)
 
 returns : tie.Need-returns

@@ -23,7 +23,8 @@ returns-4 c = numbers-unfit _ _ (sym (c .before .all-within2 .ensures) ∙ not-t
 
 returns-5 : tie.Need-returns-5
 returns-5 c =
-    times-decide _ _ (search needs) (search needs) (sym (c .before .before .before .before .before .all-within .ensures) ∙ not-false _ (c .before .before .before .before .if3 .left))
+    times-decide _ _ (search needs) (search needs) (sym (c .before .before .before .before .before .all-within .ensures)
+    ∙ not-false _ (c .before .before .before .before .if3 .left))
     (sym (c .before .before .all-within2 .ensures) ∙ not-false _ (c .before .if4 .left)) _ (c .none-after .ensures)
 
 pub places-fit-spec : {M : Type 1} → statement M

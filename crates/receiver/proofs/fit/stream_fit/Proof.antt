@@ -12,8 +12,18 @@ returns-11 c =
     let late = c .before .before .before .before .before .before .before in
     let early = late .before .before .before .before .before .before in
     sym (stream-pass _
-    (omega
-    (arith, early .before .before .before .before .before .before .before .if1 .left, early .before .before .before .before .before .if2 .left, early .before .before .before .if3 .left, early .if4 .left, late .before .before .before .before .if5 .left, late .before .before .if6 .left, late .if7 .left, c .before .before .before .before .before .if8 .left, c .before .before .before .if9 .left)))
+    (omega (
+      arith,
+      early .before .before .before .before .before .before .before .if1 .left,
+      early .before .before .before .before .before .if2 .left,
+      early .before .before .before .if3 .left,
+      early .if4 .left,
+      late .before .before .before .before .if5 .left,
+      late .before .before .if6 .left,
+      late .if7 .left,
+      c .before .before .before .before .before .if8 .left,
+      c .before .before .before .if9 .left,
+    )))
 
 pub stream-fit-spec : {M : Type 1} → statement M
 stream-fit-spec =

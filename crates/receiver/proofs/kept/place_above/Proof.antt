@@ -30,7 +30,9 @@ returns c =
     let s = c .before .before .before .before .before .before in
     let l = c .before .before .before .before .before .loop in
     let h : l .i < windowPlaces = search needs in
-    let e = c .before .wide .ensures ∙ read-at (s .args .numbers .now) (s .pre .1) (s .args .down) (l .i) _ h (c .before .before .before .place .ensures .0) in
+    let e =
+    c .before .wide .ensures ∙ read-at (s .args .numbers .now) (s .pre .1) (s .args .down) (l .i) _ h
+    (c .before .before .before .place .ensures .0) in
     record { place-high = search needs; before = l .inv .1; above = λ h. omega (arith, e) }
 
 loop-again : tie.Need-loop-again Inv-loop μ-loop
@@ -38,12 +40,15 @@ loop-again c =
     let s = c .before .before .before .before .before .before in
     let l = c .before .before .before .before .before .loop in
     let h : l .i < windowPlaces = search needs in
-    let e = c .before .wide .ensures ∙ read-at (s .args .numbers .now) (s .pre .1) (s .args .down) (l .i) _ h (c .before .before .before .place .ensures .0) in
+    let e =
+    c .before .wide .ensures ∙ read-at (s .args .numbers .now) (s .pre .1) (s .args .down) (l .i) _ h
+    (c .before .before .before .place .ensures .0) in
     let low : getD (oldestFirst (s .args .down) (s .args .numbers .now)) (l .i) 0 ≤ s .args .number = omega (arith, e) in
     (search needs, below-more _ _ (l .inv .1) (le-ltb _ _ low))
 
 returns-2 : tie.Need-returns-2 Inv-loop μ-loop
-returns-2 c = record { place-high = search needs; before = λ k h. c .before .loop .inv .1 k (omega arith); above = λ h. absurd (omega arith) }
+returns-2 c =
+    record { place-high = search needs; before = λ k h. c .before .loop .inv .1 k (omega arith); above = λ h. absurd (omega arith) }
 
 pub place-above-spec : {M : Type 1} → statement M
 place-above-spec =

@@ -23,7 +23,8 @@ no-room : (kept most last : ℕ) → most ≤ kept → last + 1 ≡ kept → (l 
 no-room kept most last h e l t v p = rw (le-ltb kept most h) (p ∙ ap (λ (n : ℕ). pushed false n l v) e)
 
 -- room: the new value stands after the kept ones
-room : (l : List ℕ) → length l ≡ windowPlaces → (down : Bool) (kept most p v : ℕ) → kept < most → most ≤ windowPlaces → p ≡ placeFrom down kept
+room : (l : List ℕ) → length l ≡ windowPlaces → (down : Bool) (kept most p v : ℕ) → kept < most → most ≤ windowPlaces
+    → p ≡ placeFrom down kept
     → oldestFirst down (set l p v) ≡ pushed (ltb kept most) kept (oldestFirst down l) v
 unfolding pushed
 room l size down kept most p v h m e = rw (lt-ltb kept most h) (write-at l size down kept p v (omega arith) e)
@@ -51,7 +52,10 @@ returns-2 c =
     let e : windowPlaces - 1 + 1 ≡ a .kept = omega (arith, c .before .before .before .before .if2 .taken) in
     let p = c .put-last .ensures in (
       no-room (a .kept) (a .most) (windowPlaces - 1) h e (oldestFirst (a .down) (a .positions .now)) _ _ (p .0),
-      (no-room (a .kept) (a .most) (windowPlaces - 1) h e (oldestFirst (a .down) (a .numbers .now)) _ _ (p .1 .0), no-room (a .kept) (a .most) (windowPlaces - 1) h e (oldestFirst (a .down) (a .times .now)) _ _ (p .1 .1)),
+      (
+        no-room (a .kept) (a .most) (windowPlaces - 1) h e (oldestFirst (a .down) (a .numbers .now)) _ _ (p .1 .0),
+        no-room (a .kept) (a .most) (windowPlaces - 1) h e (oldestFirst (a .down) (a .times .now)) _ _ (p .1 .1),
+      ),
     )
 
 returns-3 : tie.Need-returns-3
@@ -62,7 +66,10 @@ returns-3 c =
     let e : (a .kept - 1) + 1 ≡ a .kept = omega (arith, s .pre .1 .0 .0) in
     let p = c .put-last2 .ensures in (
       no-room (a .kept) (a .most) (a .kept - 1) h e (oldestFirst (a .down) (a .positions .now)) _ _ (p .0),
-      (no-room (a .kept) (a .most) (a .kept - 1) h e (oldestFirst (a .down) (a .numbers .now)) _ _ (p .1 .0), no-room (a .kept) (a .most) (a .kept - 1) h e (oldestFirst (a .down) (a .times .now)) _ _ (p .1 .1)),
+      (
+        no-room (a .kept) (a .most) (a .kept - 1) h e (oldestFirst (a .down) (a .numbers .now)) _ _ (p .1 .0),
+        no-room (a .kept) (a .most) (a .kept - 1) h e (oldestFirst (a .down) (a .times .now)) _ _ (p .1 .1),
+      ),
     )
 
 pub push-spec : {M : Type 1} → statement M

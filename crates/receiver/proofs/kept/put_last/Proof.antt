@@ -1,6 +1,6 @@
--- `receiver::kept::put_last` meets its contract. The loop's invariant: of each array the places passed, as they are counted, hold what stood
--- after each, and the others what they held (`Moved`). A turn moves one place more (`moved-more`), and after the loop the new value at
--- `last` makes it pushed (`moved-last`). The measure is the number of places left. Assumes nothing.
+-- `receiver::kept::put_last` meets its contract. The loop's invariant: of each array the places passed, as they are counted, hold what
+-- stood after each, and the others what they held (`Moved`). A turn moves one place more (`moved-more`), and after the loop the new value
+-- at `last` makes it pushed (`moved-last`). The measure is the number of places left. Assumes nothing.
 use Prim.Native.Nat.{_-_, _≤_, _<_}
 use mathlib.Core.Path.{_≡_}
 use native.Mathlib.Omega.{arith}

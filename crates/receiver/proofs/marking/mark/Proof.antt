@@ -19,7 +19,8 @@ returns c =
     let b = bitOf (c .before .args .number) in
     let low : b < 64 = mod-lt (c .before .args .number - 1) (lit< tt) in
     let e : 1 * 2 ^ b % 2 ^ 64 ≡ 2 ^ b = shl-exact 1 b 64 (lit< tt) (omega arith) ∙ one-mul (2 ^ b) in
-    ap (λ (w : ℕ). set (c .before .args .marks .now) (wordOf (c .before .args .number)) (bitOr (getD (c .before .args .marks .now) (wordOf (c .before .args .number)) 0) w)) e
+    ap (λ (w : ℕ). set (c .before .args .marks .now) (wordOf (c .before .args .number))
+    (bitOr (getD (c .before .args .marks .now) (wordOf (c .before .args .number)) 0) w)) e
 
 pub mark-spec : {M : Type 1} → statement M
 mark-spec =

@@ -11,8 +11,15 @@ returns c =
     let runs = c .before .before .before .before .before .before in
     let a = runs .before .args in
     λ positions times.
-    rw (runs .lengthened .ensures, c .before .before .before .next-after .ensures, c .before .before .kept-after .ensures, c .before .next-reference .ensures, c .dropped-after .ensures)
-    (in-order-numbers (a .most) (runs .before .pre .1 .1 .0) (a .s) positions (oldestFirst (a .down) (a .numbers .now)) times (a .size) (a .number) (a .time))
+    rw (
+      runs .lengthened .ensures,
+      c .before .before .before .next-after .ensures,
+      c .before .before .kept-after .ensures,
+      c .before .next-reference .ensures,
+      c .dropped-after .ensures,
+    )
+    (in-order-numbers (a .most) (runs .before .pre .1 .1 .0) (a .s) positions (oldestFirst (a .down) (a .numbers .now)) times (a .size)
+    (a .number) (a .time))
 
 pub after-in-order-spec : {M : Type 1} → statement M
 after-in-order-spec =

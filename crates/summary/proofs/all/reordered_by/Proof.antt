@@ -1,4 +1,5 @@
--- `summary::all::reordered_by` meets its contract: n is in its limits, so the count is that of the sample's answers (`several`). Assumes nothing.
+-- `summary::all::reordered_by` meets its contract: n is in its limits, so the count is that of the sample's answers (`several`). Assumes
+-- nothing.
 use Rattle.summary.proofs.Counted.{several}
 use borrow.Author.Needs.{needs}
 use Rattle.summary.proofs.all.reordered_by.Statement.{statement}

@@ -16,7 +16,8 @@ returns c =
     let e2 = e3 .before in
     let e1 = e2 .before .before .before .before in (
       then (e1 .write-section .ensures .0)
-          (then (named (ap overLine (e2 .packets-with .ensures)) (e3 .write-over .ensures .0)) (then (e4 .write-section2 .ensures .0) (nothing _ _))),
+          (then (named (ap overLine (e2 .packets-with .ensures)) (e3 .write-over .ensures .0))
+          (then (e4 .write-section2 .ensures .0) (nothing _ _))),
       omega (arith, e1 .write-section .ensures .1, e3 .write-over .ensures .1, e4 .write-section2 .ensures .1),
     )
 

@@ -33,14 +33,20 @@ unfolding sectionLine
 returns c =
     let e = c .before .before in
     let w = e .write-nonzero .ensures in
-    rw (e .before .before .before .enum-told .given .1) (named (ap (extentLine _) (e .before .packets-with .ensures)) (w .0), omega (arith, w .1))
+    rw (e .before .before .before .enum-told .given .1) (
+      named (ap (extentLine _) (e .before .packets-with .ensures)) (w .0),
+      omega (arith, w .1),
+    )
 
 returns-2 : tie.Need-returns-2
 unfolding sectionLine
 returns-2 c =
     let e = c .before .before in
     let w = e .write-pair .ensures in
-    rw (e .before .before .before .enum-told2 .given .1) (named (ap (pairLine _) (e .before .reordered-by .ensures)) (w .0), omega (arith, w .1))
+    rw (e .before .before .before .enum-told2 .given .1) (
+      named (ap (pairLine _) (e .before .reordered-by .ensures)) (w .0),
+      omega (arith, w .1),
+    )
 
 returns-3 : tie.Need-returns-3
 unfolding sectionLine

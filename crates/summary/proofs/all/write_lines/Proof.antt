@@ -1,5 +1,5 @@
--- `summary::all::write_lines` meets its contract. The loop's invariant: the lines of 1 to n are written from `start` on, and each took 47 octets
--- at most. The next one stands after them (`then`, `lines-next`). The measure is the number of lines left. Assumes nothing.
+-- `summary::all::write_lines` meets its contract. The loop's invariant: the lines of 1 to n are written from `start` on, and each took 47
+-- octets at most. The next one stands after them (`then`, `lines-next`). The measure is the number of lines left. Assumes nothing.
 use Prim.Native.Nat.{_+_, _-_, _*_, _≤_}
 use native.Mathlib.Omega.{arith}
 use mathlib.Core.Path.{_≡_, refl}

@@ -26,7 +26,8 @@ abbrev μ-loop : tie.MeasureT-loop
 
 -- record i + 1
 known : (c : tie.After-arrival Inv-loop μ-loop)
-    → c .arrival .result ≡ arrivalAt (decode (now (c .before .before .before .before .before .args .file))) (c .before .before .before .loop .i)
+    → c .arrival .result ≡ arrivalAt (decode (now (c .before .before .before .before .before .args .file)))
+    (c .before .before .before .loop .i)
 known c = arrival-known _ _ (c .before .before .before .before .before .pre) _ (c .before .if1 .taken) (c .arrival .ensures .1) .0
 
 loop-holds : tie.Need-loop-holds Inv-loop μ-loop
@@ -37,7 +38,8 @@ returns c =
     let r = c .before in
     let s = r .before .before .before .before .before in
     let l = r .before .before .before .loop in
-    sym (l .inv .1 ∙ back-next _ _ (s .pre) (l .i) (l .last) (r .before .if1 .taken) (r .arrival .result) (known r) ∙ rw (lt-ltb _ _ (c .if2 .taken)))
+    sym (l .inv .1 ∙ back-next _ _ (s .pre) (l .i) (l .last) (r .before .if1 .taken) (r .arrival .result) (known r)
+    ∙ rw (lt-ltb _ _ (c .if2 .taken)))
 
 add-i : tie.Need-add-i Inv-loop μ-loop
 add-i c = omega (arith, c .before .before .if1 .taken, c .before .before .before .before .before .before .pre .few)
@@ -51,7 +53,8 @@ loop-again c =
     let s = r .before .before .before .before .before in
     let l = r .before .before .before .loop in (
       omega (arith, r .before .if1 .taken),
-      l .inv .1 ∙ back-next _ _ (s .pre) (l .i) (l .last) (r .before .if1 .taken) (r .arrival .result) (known r) ∙ rw (le-ltb _ _ (c .if2 .left)),
+      l .inv .1 ∙ back-next _ _ (s .pre) (l .i) (l .last) (r .before .if1 .taken) (r .arrival .result) (known r)
+          ∙ rw (le-ltb _ _ (c .if2 .left)),
     )
 
 returns-2 : tie.Need-returns-2 Inv-loop μ-loop

@@ -18,7 +18,8 @@ inside : (d : Decoded) (m : Measure) (share : ℕ) (r : SampleLeast) → 1 ≤ s
     → r .size ≡ leastSize m share 100 (answersOf d)
 unfolding sampleLeast
 inside d m share r low high e =
-    ap (λ (r : SampleLeast). r .size) e ∙ ap (λ (b : Bool). leastSize m share 100 (cond b [] (answersOf d))) (not-outside 1 100 share low high)
+    ap (λ (r : SampleLeast). r .size) e ∙ ap (λ (b : Bool). leastSize m share 100 (cond b [] (answersOf d)))
+    (not-outside 1 100 share low high)
 
 returns : tie.Need-returns
 returns c =

@@ -18,7 +18,8 @@ use Rattle.summary.proofs.json.write_object.Statement.{statement}
 use Rattle.summary.proofs.json.write_object.Tie as tie
 
 -- the object of the sample's label and figures
-whole : (d : Decoded) (label : List ℕ) (f : Figures) → label ≡ sampleOf d .label → f ≡ figuresOf d → objectOf label f (answersOf d) ≡ summaryJson d
+whole : (d : Decoded) (label : List ℕ) (f : Figures) → label ≡ sampleOf d .label → f ≡ figuresOf d
+    → objectOf label f (answersOf d) ≡ summaryJson d
 unfolding summaryJson
 whole d label f e g = ap₂ (λ (label : List ℕ) (f : Figures). objectOf label f (answersOf d)) e g
 
@@ -38,8 +39,15 @@ write-end-requires c κs =
     let e2 = e3 .before .before .before .before in
     let e1 = e2 .before .before .before .before in
     let s = e1 .before .before .before .before .before .before in
-    omega
-    (arith, e1 .write-start .ensures .1, e2 .write-counts .ensures .1, e3 .write-needs .ensures .1, e4 .write-limits .ensures .1, e5 .write-ratios .ensures .1, s .pre .1)
+    omega (
+      arith,
+      e1 .write-start .ensures .1,
+      e2 .write-counts .ensures .1,
+      e3 .write-needs .ensures .1,
+      e4 .write-limits .ensures .1,
+      e5 .write-ratios .ensures .1,
+      s .pre .1,
+    )
 
 returns : tie.Need-returns
 unfolding objectOf
@@ -60,7 +68,15 @@ returns c =
           (then (e4 .write-limits .ensures .0)
           (then (e5 .write-ratios .ensures .0)
           (then (e6 .write-end .ensures .0) (nothing _ _))))))),
-      omega (arith, e1 .write-start .ensures .1, e2 .write-counts .ensures .1, e3 .write-needs .ensures .1, e4 .write-limits .ensures .1, e5 .write-ratios .ensures .1, e6 .write-end .ensures .1),
+      omega (
+        arith,
+        e1 .write-start .ensures .1,
+        e2 .write-counts .ensures .1,
+        e3 .write-needs .ensures .1,
+        e4 .write-limits .ensures .1,
+        e5 .write-ratios .ensures .1,
+        e6 .write-end .ensures .1,
+      ),
     )
 
 pub write-object-spec : {M : Type 1} → statement M

@@ -34,7 +34,14 @@ returns c =
           (then (e4 .write-limits .ensures .0)
           (then (e5 .write-ratios .ensures .0)
           (then (e6 .write-disorder .ensures .0) (nothing _ _)))))),
-      omega (arith, e2 .write-counts .ensures .1, e3 .write-needs .ensures .1, e4 .write-limits .ensures .1, e5 .write-ratios .ensures .1, e6 .write-disorder .ensures .1),
+      omega (
+        arith,
+        e2 .write-counts .ensures .1,
+        e3 .write-needs .ensures .1,
+        e4 .write-limits .ensures .1,
+        e5 .write-ratios .ensures .1,
+        e6 .write-disorder .ensures .1,
+      ),
     )
 
 pub write-text-spec : {M : Type 1} → statement M

@@ -15,7 +15,11 @@ slice-aggregate-put-octets c =
 returns : tie.Need-returns
 returns c =
     let s = c .before .before .before .before .before .before .before in
-    rw (c .before .before .put-octets .ensures) (first-put (s .args .at) (s .args .n) (s .args .word .now) (s .args .out .now) (s .pre .0) (s .pre .1), omega arith)
+    rw (c .before .before .put-octets .ensures) (
+      first-put (s .args .at) (s .args .n) (s .args .word .now) (s .args .out .now) (s .pre .0)
+          (s .pre .1),
+      omega arith,
+    )
 
 pub write-first-spec : {M : Type 1} → statement M
 write-first-spec = tie.close (tie.spec slice-aggregate-put-octets (λ c κs. search needs) (λ c. search needs) (λ c. search needs) returns)

@@ -1,5 +1,5 @@
--- `sweep::table::clear` meets its contract. The loop's invariant: the table begins with k zeros, is unchanged after them, and keeps its length.
--- Each turn sets the next number to 0 (`fill-next`). The measure is the number of entries left. Assumes nothing.
+-- `sweep::table::clear` meets its contract. The loop's invariant: the table begins with k zeros, is unchanged after them, and keeps its
+-- length. Each turn sets the next number to 0 (`fill-next`). The measure is the number of entries left. Assumes nothing.
 use Prim.Native.Nat.{ℕ, _-_, _≤_}
 use native.Mathlib.Omega.{arith}
 use borrow.Author.Needs.{needs}
@@ -32,13 +32,22 @@ slice-write-table : tie.Need-slice-write-table Inv-loop μ-loop
 slice-write-table c = let h = kept (c .before) in omega arith
 
 loop-again : tie.Need-loop-again Inv-loop μ-loop
-loop-again c = let l = c .before .loop in (omega arith, l .inv .1, fill-next (replicate tablePlaces 0) _ (l .k) 0 (simp length-replicate (omega arith)) (omega arith) (l .inv .2) (sym (getD-replicate tablePlaces (l .k) 0 0 (omega arith))))
+loop-again c =
+    let l =
+    c .before .loop in (
+      omega arith,
+      l .inv .1,
+      fill-next (replicate tablePlaces 0) _ (l .k) 0 (simp length-replicate (omega arith))
+          (omega arith) (l .inv .2) (sym (getD-replicate tablePlaces (l .k) 0 0 (omega arith))),
+    )
 
 same-length : tie.Need-same-length Inv-loop μ-loop
 same-length c = kept (c .before)
 
 returns : tie.Need-returns Inv-loop μ-loop
-returns c = fill-done (replicate tablePlaces 0) _ (c .before .loop .k) (omega (arith, length-replicate {A = ℕ} tablePlaces 0)) (c .before .loop .inv .2)
+returns c =
+    fill-done (replicate tablePlaces 0) _ (c .before .loop .k) (omega (arith, length-replicate {A = ℕ} tablePlaces 0))
+    (c .before .loop .inv .2)
 
 pub clear-spec : {M : Type 1} → statement M
 clear-spec =

@@ -29,7 +29,9 @@ slice-write-table : tie.Need-slice-write-table Inv-loop μ-loop
 slice-write-table c = let h = kept (c .before) in omega arith
 
 loop-again : tie.Need-loop-again Inv-loop μ-loop
-loop-again c = let i = c .before .loop .inv in (omega arith, omega arith, i .2, skip-next _ _ _ _ (omega arith) (i .2) _ _ (i .0) (i .1) (i .3) (omega arith))
+loop-again c =
+    let i =
+    c .before .loop .inv in (omega arith, omega arith, i .2, skip-next _ _ _ _ (omega arith) (i .2) _ _ (i .0) (i .1) (i .3) (omega arith))
 
 same-length : tie.Need-same-length Inv-loop μ-loop
 same-length c = kept (c .before)

@@ -1,6 +1,6 @@
--- `table::whole::put_part` meets its contract: part 0 is the text before the records, part 17 the text after them, and any part between is a
--- block of records (Joined). w is the place after the text was written to the line, k where the part is known, p the place after the records
--- were copied, s the start. Assumes nothing.
+-- `table::whole::put_part` meets its contract: part 0 is the text before the records, part 17 the text after them, and any part between
+-- is a block of records (Joined). w is the place after the text was written to the line, k where the part is known, p the place after the
+-- records were copied, s the start. Assumes nothing.
 use Prim.Native.Nat.{ℕ, _-_, _*_, _≤_, min}
 use native.Mathlib.Omega.{arith}
 use mathlib.Core.Path.{_≡_, ap, _∙_}

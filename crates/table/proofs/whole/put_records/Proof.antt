@@ -31,7 +31,8 @@ Inv-loop file layout rows json from to out₀ line₀ at₀ i₀ out line at i =
 abbrev μ-loop : tie.MeasureT-loop
 μ-loop file layout rows json from to out₀ line₀ at₀ i₀ out line at i = to - i
 
--- ---- places in the code: a turn of the loop, seen from the record that was written and from the octets that were put; and the start, from the loop
+-- ---- places in the code: a turn of the loop, seen from the record that was written and from the octets that were put; and the start,
+-- from the loop
 
 abbrev turn : tie.After-write-record Inv-loop μ-loop → tie.In-loop Inv-loop μ-loop
 turn w = w .before .before .before .before

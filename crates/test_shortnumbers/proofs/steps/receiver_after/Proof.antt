@@ -1,4 +1,5 @@
--- `test_shortnumbers::steps::receiver_after` is safe and ends. Invariant: the end is the list's length. Measure: the short numbers that are left.
+-- `test_shortnumbers::steps::receiver_after` is safe and ends. Invariant: the end is the list's length. Measure: the short numbers that
+-- are left.
 use borrow.Author.Needs.{needs}
 use Prim.Native.Nat.{_-_}
 use mathlib.Core.Path.{_≡_}
