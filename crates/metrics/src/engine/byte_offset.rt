@@ -85,7 +85,7 @@ pub(crate) fn offset_by_tree(
     }
 }
 
-// The figures that only a reordered packet has, and the totals with which its byte offset was by_tree.
+// The figures that only a reordered packet has, and the totals with which its byte offset was made.
 pub(crate) struct LateFigures {
     pub offset: u32,
     pub largest: u32,
