@@ -1,14 +1,15 @@
 -- The search for the least size. A greater buffer accommodates no fewer, so a size that is too small shows all smaller ones to be
--- (`too-small`), and the bounds close in on the least size (`closer-high`, `closer-low`, `met`), of which there is one (`one-least`): the
+-- (`too-small`), and the bounds close in on the least size (`closer-high`, `closer-low`, `closed-between`, `met`), of which there is one (`one-least`): the
 -- definition's (`sizes-are-least`, `found-least`).
 -- Here m is the measure, l some answers, part and whole the share. Assumes nothing.
-use mathlib.Core.Path.{_≡_, refl, sym, subst, _∙_}
+use mathlib.Core.Path.{_≡_, refl, sym, ap, subst, _∙_}
 use mathlib.Core.Bool.{Bool, true, false, cond}
 use mathlib.Core.List.{List, [], _∷_}
-use Prim.Native.Nat.{ℕ, zero, suc, _+_, _*_, _≤_, _<_}
-use native.Mathlib.Nat.{mul-add, mul-one, mul-le-mul-right, mul-le-mul-left}
+use Prim.Native.Nat.{ℕ, zero, suc, _+_, _-_, _*_, _^_, _≤_, _<_}
+use native.Mathlib.Nat.{mul-add, add-mul, mul-one, one-mul, mul-le-mul-right, mul-le-mul-left}
 use native.Mathlib.Omega.{arith}
 use lib.Dec.{leb, ltb}
+use lib.ListN.{getD}
 use borrow.Author.Tests.{leb-true, leb-false, ltb-true, ltb-false}
 use Rattle.rfc4737.specs.declared.Answer.{Answer}
 use Rattle.rfc4737.specs.Answer.{answers}
@@ -17,13 +18,13 @@ use Rattle.rfc4737.specs.Runs.{arrived}
 use Rattle.rfc4737.proofs.Due.{first-due, between}
 use Rattle.sample.specs.Decode.{Decoded, refused, accepted, decodedRefusal}
 use Rattle.metrics.specs.Sample.{answersOf}
-use Rattle.metrics.specs.Figures.{askedRefusal}
+use Rattle.metrics.specs.Figures.{askedRefusal, stepCount}
 use Rattle.rfc4737.specs.declared.Measure.{Measure}
 use Rattle.rfc4737.specs.Needs.{greatestNeed, accommodated}
 use Rattle.rfc4737.proofs.Needs.{accommodated-grows, all-in, some-out}
 use Rattle.buffering.specs.declared.Bounds.{Bounds}
 use Rattle.buffering.specs.Least.{firstEnough, leastSize, shareAnswers, sampleLeast, Enough, Least, SizesAreLeast, OneLeast, MoreIsNoWorse, AllIsGreatest}
-use Rattle.buffering.specs.Private.{Between}
+use Rattle.buffering.specs.Private.{Between, FirstEnough}
 
 -- ---- the least size
 
@@ -55,6 +56,28 @@ module _ (m : Measure) (part whole : ℕ) (l : List Answer) where
     closer-low g n =
         record { order = omega arith; enough = h .enough; small = λ size k. too-small size middle (omega arith) n }
 
+  module _ (b : Bounds) (h : Between m part whole l b) where
+    -- a size that is too small is below the high one
+    pub under : (size : ℕ) → (Enough m part whole l size → ⊥) → size < b .high
+    under size n = go (ltb size (b .high)) refl
+      where
+        go : (t : Bool) → ltb size (b .high) ≡ t → size < b .high
+        go true e = ltb-true size (b .high) e
+        go false e = absurd (too-small (b .high) size (ltb-false size (b .high) e) n (h .enough))
+
+    -- the low one is enough
+    pub closed : Enough m part whole l (b .low) → Between m part whole l (record { low = b .low; high = b .low })
+    closed e = record { order = omega arith; enough = e; small = h .small }
+
+    -- a size is too small
+    pub closed-above : (below : ℕ) → (Enough m part whole l below → ⊥) → Between m part whole l (record { low = below + 1; high = b .high })
+    closed-above below n = closer-low b h below (under below n) n
+
+    -- and a greater one is enough
+    pub closed-between : (below top : ℕ) → b .low ≤ top → below < top → (Enough m part whole l below → ⊥) → Enough m part whole l top
+        → Between m part whole l (record { low = below + 1; high = top })
+    closed-between below top g k n e = closer-low (record { low = b .low; high = top }) (closer-high b h top g e) below k n
+
   -- at last: both are the least
   pub met : (b : Bounds) → Between m part whole l b → b .high ≤ b .low → Least m part whole l (b .low)
   met b h g =
@@ -66,6 +89,46 @@ module _ (m : Measure) (part whole : ℕ) (l : List Answer) where
   one a b h g true t e q = absurd (g .least a (ltb-true a b e) (h .enough))
   one a b h g false true e q = absurd (h .least b (ltb-true b a q) (g .enough))
   one a b h g false false e q = omega (arith, ltb-false a b e, ltb-false b a q)
+
+-- ---- several sizes at once
+
+module _ (m : Measure) (part whole : ℕ) (l : List Answer) (low shift all : ℕ) (counts : List ℕ) (same : all ≡ arrived l)
+    (is : (j : ℕ) → j < stepCount → getD counts j 0 ≡ accommodated m (low + j * 2 ^ shift) l) (at : ℕ) (f : FirstEnough part whole all counts at) where
+  -- a size whose count is enough is, one whose count is not is not
+  by-count : (j : ℕ) (t : Bool) → j < stepCount → leb (part * all) (whole * getD counts j 0) ≡ t → leb (part * arrived l) (whole * accommodated m (low + j * 2 ^ shift) l) ≡ t
+  by-count j t few e = rw (same, is j few) at e
+
+  -- the first size is
+  pub first-is : at ≡ 0 → Enough m part whole l low
+  first-is z =
+      let e = by-count 0 true (omega arith) (rw z at (f .found (omega (arith, z)))) in
+      let k : low + 0 * 2 ^ shift ≡ low = omega arith in
+      rw k at (leb-true (part * arrived l) (whole * accommodated m (low + 0 * 2 ^ shift) l) e)
+
+  -- the one before is not
+  pub before-not : (at ≡ 0 → ⊥) → Enough m part whole l (low + (at - 1) * 2 ^ shift) → ⊥
+  before-not n = not-enough m part whole l (low + (at - 1) * 2 ^ shift) (by-count (at - 1) false (omega (arith, n, f .within)) (f .before (at - 1) (omega (arith, n))))
+
+  -- the one after it is, if there is one
+  pub after-is : (at ≡ 0 → ⊥) → at < stepCount → Enough m part whole l (low + (at - 1) * 2 ^ shift + 2 ^ shift)
+  after-is n few =
+      let e = leb-true (part * arrived l) (whole * accommodated m (low + at * 2 ^ shift) l) (by-count at true few (f .found few)) in
+      let k : at - 1 + 1 ≡ at = omega (arith, n) in
+      let p : (at - 1 + 1) * 2 ^ shift ≡ (at - 1) * 2 ^ shift + 1 * 2 ^ shift = add-mul (at - 1) 1 (2 ^ shift) in
+      let q : at * 2 ^ shift ≡ (at - 1) * 2 ^ shift + 2 ^ shift = ap (λ (n : ℕ). n * 2 ^ shift) (sym k) ∙ p ∙ ap (λ (n : ℕ). (at - 1) * 2 ^ shift + n) (one-mul (2 ^ shift)) in
+      let r : low + at * 2 ^ shift ≡ low + (at - 1) * 2 ^ shift + 2 ^ shift = omega (arith, q) in
+      rw r at e
+
+  -- there is one if the sizes reach over more than is left
+  pub one-after : (high : ℕ) → high - low < stepCount * 2 ^ shift → 2 ^ shift < high - (low + (at - 1) * 2 ^ shift) → at < stepCount
+  one-after high reach left = go (ltb at stepCount) refl
+    where
+      go : (t : Bool) → ltb at stepCount ≡ t → at < stepCount
+      go true e = ltb-true at stepCount e
+      go false e =
+          let k : at - 1 ≡ 127 = omega (arith, ltb-false at stepCount e, f .within) in
+          let p : (at - 1) * 2 ^ shift ≡ 127 * 2 ^ shift = ap (λ (n : ℕ). n * 2 ^ shift) k in
+          absurd (omega (arith, p, reach, left))
 
 -- ---- what is known of it
 

@@ -1,18 +1,16 @@
 // The least buffer with which a receiver that restores order accommodates a share of the first arrivals of a sample: in packets, in
 // octets, or in time.
 ghost use mathlib.Core.Path.{_≡_};
-ghost use Prim.Native.Nat.{_*_, _-_, _<_};
+ghost use Prim.Native.Nat.{_*_, _-_, _^_, _≤_, _<_};
 ghost use lib.Dec.{leb};
-ghost use Rattle.sample.specs.Decode.{Decoded, decode};
+ghost use Rattle.sample.specs.Decode.{decode};
 ghost use Rattle.metrics.specs.Sample.{answersOf};
-ghost use Rattle.rfc4737.specs.Needs.{greatestNeed};
-ghost use Rattle.metrics.specs.Figures.{sampleNeeds};
+ghost use Rattle.metrics.specs.Figures.{stepCount};
 ghost use Rattle.buffering.specs.Least.{sampleLeast, SizesAreLeast, OneLeast, MoreIsNoWorse, AllIsGreatest};
 ghost use Rattle.buffering.specs.Restoring.{RestoresFile, HoldsOffset, RestoresOrder};
-ghost use Rattle.buffering.specs.Private.{Between};
-use metrics::SampleNeeds;
-use metrics::accommodated;
-use metrics::greatest_needs;
+ghost use Rattle.buffering.specs.Private.{Between, FirstEnough};
+use metrics::STEPS;
+use metrics::accommodated_steps;
 use rfc4737::Measure;
 use rfc4737::judge::outside;
 use rfc4737::refusal::ASKED_OUTSIDE;
@@ -40,35 +38,70 @@ fn enough(part: u32, whole: u32, some: u32, all: u32) -> bool
     due <= given
 }
 
-// The greatest need in a measure.
-fn greatest_in(measure: Measure, needs: SampleNeeds) -> u64
-    ensures { λ r. ⌜ ((d : Decoded) → needs ≡ sampleNeeds d → r ≡ greatestNeed measure (answersOf d)) ⌝ }
+// The index of the first of the counts that is a share of at least `part` in `whole` of `all`; STEPS if none is.
+fn first_enough(counts: &[u32; STEPS], part: u32, whole: u32, all: u32) -> usize
+    ensures { λ r. ⌜ FirstEnough part whole all (now (counts .entry)) r ⌝ }
 {
-    match measure {
-        Measure::Packets => needs.packets,
-        Measure::Octets => needs.octets,
-        Measure::Time => needs.time,
+    let mut j: usize = 0;
+    while j < STEPS {
+        if enough(part, whole, counts[j], all) {
+            return j;
+        }
+        j += 1;
     }
+    j
 }
 
-// Halves the distance of the bounds, by one pass over the sample with the size in the middle.
+// A shift with which STEPS sizes reach over a distance, the least from 0 on. 57 is always enough, as STEPS is 2^7.
+fn shift_for(distance: u64) -> u32
+    ensures { λ r. ⌜ (r ≤ 57) × (distance < stepCount * 2 ^ r) ⌝ }
+{
+    let mut shift: u32 = 0;
+    while shift < 57 {
+        if distance >> shift < STEPS as u64 {
+            return shift;
+        }
+        shift += 1;
+    }
+    shift
+}
+
+// 2^`shift`.
+fn power_of(shift: u32) -> u64
+    requires { ⌜ shift ≤ 57 ⌝ }
+    ensures { λ r. ⌜ r ≡ 2 ^ shift ⌝ }
+{
+    1u64 << shift
+}
+
+// Closes the bounds in by one pass over the sample, which tries STEPS sizes from `low` on.
 fn narrowed(file: &[u8], measure: Measure, part: u32, whole: u32, b: Bounds) -> Bounds
     requires { ⌜ (b .low < b .high) × Between measure part whole (answersOf (decode (now file))) b ⌝ }
     ensures { λ r. ⌜ Between measure part whole (answersOf (decode (now (file .entry)))) r × (r .high - r .low < b .high - b .low) ⌝ }
 {
     let low = b.low;
     let high = b.high;
-    let middle = low + (high - low) / 2;
-    let found = accommodated(file, measure, middle);
-    if enough(part, whole, found.accommodated, found.arrived) {
-        return Bounds { low, high: middle };
+    let shift = shift_for(high - low);
+    let steps = accommodated_steps(file, measure, low, shift);
+    let counts = steps.counts;
+    let at = first_enough(&counts, part, whole, steps.arrived);
+    if at == 0 {
+        return Bounds { low, high: low };
     }
-    let next = middle + 1;
-    Bounds { low: next, high }
+    let width = power_of(shift);
+    let below = low + (at - 1) as u64 * width;
+    let next = below + 1;
+    if high - below <= width {
+        return Bounds { low: next, high };
+    }
+    Bounds {
+        low: next,
+        high: below + width,
+    }
 }
 
-// The least size of a buffer that accommodates at least `part` in `whole` of the first arrivals. A binary search: one pass over the sample,
-// and one for each binary digit of the greatest need, each O(A log K + K). What the size means for a receiver that restores order is
+// The least size of a buffer that accommodates at least `part` in `whole` of the first arrivals. One pass over the sample, and one for each
+// seven binary digits of the greatest need, each O(A + K), and O(A log K + K) in octets. What the size means for a receiver that restores order is
 // carried by `restores`.
 pub fn least(file: &[u8], measure: Measure, part: u32, whole: u32) -> SampleLeast
     ensures { λ r. ⌜ r ≡ sampleLeast (decode (now (file .entry))) measure part whole ⌝ }
@@ -80,10 +113,10 @@ pub fn least(file: &[u8], measure: Measure, part: u32, whole: u32) -> SampleLeas
     ensures more { λ _. ⌜ MoreIsNoWorse ⌝ }
     ensures all { λ _. ⌜ AllIsGreatest ⌝ }
 {
-    let needs = greatest_needs(file);
-    if needs.refusal != NONE {
+    let steps = accommodated_steps(file, measure, 0, 0);
+    if steps.refusal != NONE {
         return SampleLeast {
-            refusal: needs.refusal,
+            refusal: steps.refusal,
             size: 0,
         };
     }
@@ -93,8 +126,10 @@ pub fn least(file: &[u8], measure: Measure, part: u32, whole: u32) -> SampleLeas
             size: 0,
         };
     }
-    let most = greatest_in(measure, needs);
-    let mut b = Bounds { low: 0, high: most };
+    let mut b = Bounds {
+        low: 0,
+        high: steps.greatest,
+    };
     while b.low < b.high {
         b = narrowed(file, measure, part, whole, b);
     }

@@ -1,29 +1,41 @@
--- What one answer more changes in the needs of some answers: the counts and the greatest are folds over them (`needs-more`), so that a pass
--- finds them one record after the other; no count passes the number of the answers (`needs-few`). Here m is the measure, size the
--- buffer's, l some answers and a the next. Assumes nothing.
+-- Needs by one answer more. A need is counted at the index of the first size that is at least it (`step-low`, `step-past`), so all counts up to a
+-- size's are together one more exactly if the size is enough (`counted-in`, `counted-out`). So a pass finds counts and greatest need one record
+-- after the other (`after-duplicate`, `after-first`); no count passes the number of the answers (`needs-few`). Then the need of a record by its
+-- class, and that the tree can be filled.
+-- Here m is the measure, the sizes are low + j * 2^shift, l some answers, a the next and k its class. Assumes nothing.
 use mathlib.Core.Path.{_≡_, refl, sym, ap, _∙_}
-use mathlib.Core.Bool.{not}
+use mathlib.Core.Bool.{Bool, true, false, cond, not}
 use mathlib.Core.List.{List, [], _∷_, _++_}
-use Prim.Native.Nat.{ℕ, _+_, _-_, _≤_}
+use Prim.Native.Nat.{ℕ, zero, suc, _+_, _-_, _*_, _/_, _^_, _≤_, _<_}
+use native.Mathlib.Nat.{div-lt-iff-lt-mul, div-eq-of-lt, lt-of-lt-of-le, pow-le-pow-right, zero-lt-suc}
 use native.Mathlib.Omega.{arith}
-use lib.ListN.{length}
-use borrow.Author.Tests.{le-ltb}
+use lib.Dec.{eqb, leb, ltb}
+use lib.ListN.{length, getD, set, replicate, length-set}
+use lib.Seq.{getD-set-same, getD-set-other}
+use lib.Pow.{pow-pos}
+use borrow.Author.Tests.{le-ltb, le-leb, lt-leb, leb-true, leb-false, ltb-true, ltb-false, eqb-true, eqb-false}
 use Rattle.rfc4737.specs.declared.Answer.{Answer}
 use Rattle.rfc4737.specs.Arrivals.{count}
 use Rattle.rfc4737.specs.Runs.{isDuplicate, arrived}
 use Rattle.rfc4737.proofs.Needs.{count-few, need-more, accommodated-more}
-use Rattle.rfc4737.proofs.Folds.{arrived-more}
+use Rattle.rfc4737.proofs.Folds.{arrived-more, length-answers}
 use Rattle.sample.specs.declared.Layout.{Layout}
 use Rattle.sample.specs.Decode.{Decoded}
-use Rattle.metrics.specs.Records.{before, answerAt, answersTo, HasRecord}
+use Rattle.metrics.specs.Figures.{stepCount}
+use Rattle.metrics.specs.Records.{before, answerAt, answersTo, FileLayout, HasRecord}
+use Rattle.metrics.specs.Sample.{sizeOf, sampleArrivals, answersOf}
+use Rattle.rfc4737.specs.Judge.{arrivalsMost}
+use Rattle.metrics.proofs.TablesFollow.{arrivals-laid}
 use Rattle.rfc4737.specs.Needs.{waitingTime, neededFor, greatestNeed, accommodates, accommodated}
-use Rattle.metrics.specs.Private.Needs.{NeedInput, needsWith, needsAfter, needsOf}
+use Rattle.metrics.specs.Private.Needs.{NeedInput, needsWith, countTo, Counted, NeedsOf}
 use Rattle.metrics.specs.Private.Engine.{FillInput}
 use Rattle.metrics.specs.Private.Tables.{ClassOf}
 use Rattle.metrics.specs.declared.engine.byte_offset.Totals.{Totals}
 use Rattle.metrics.specs.declared.engine.kind.Class.{Class}
 use Rattle.metrics.specs.declared.figures.needs.Needs.{Needs}
 use Rattle.rfc4737.specs.declared.Arrival.{Arrival}
+use Rattle.rfc4737.specs.declared.DuplicateFigures.{DuplicateFigures}
+use Rattle.rfc4737.proofs.Lists.{zeros}
 use Rattle.rfc4737.specs.declared.LateTime.{LateTime}
 use Rattle.rfc4737.specs.declared.ReorderedFigures.{ReorderedFigures}
 use Rattle.rfc4737.specs.Arrivals.{firsts}
@@ -31,51 +43,209 @@ use Rattle.metrics.proofs.AnswersByClass.{packets}
 use Rattle.rfc4737.specs.declared.Measure.{Measure}
 use Rattle.metrics.proofs.OneArrivalMore.{answers-next}
 
+-- ---- counts by size
+
+module _ (counts : List ℕ) (at : ℕ) (inside : at < length counts) where
+  -- one more at a place leaves the sums below it
+  one-below : (n : ℕ) → n ≤ at → countTo (set counts at (getD counts at 0 + 1)) n ≡ countTo counts n
+  unfolding countTo
+  one-below zero h = refl
+  one-below (suc n) h =
+      let e = one-below n (omega arith) in
+      let g = getD-set-other counts at n (getD counts at 0 + 1) 0 (λ (e : n ≡ at). omega (arith, e)) in
+      rw (e, g) refl
+
+  -- adds one to the first that has it
+  one-here : (n : ℕ) → n ≡ at → countTo (set counts at (getD counts at 0 + 1)) (suc n) ≡ countTo counts (suc n) + 1
+  unfolding countTo
+  one-here n here =
+      let e = one-below n (omega (arith, here)) in
+      let g : getD (set counts at (getD counts at 0 + 1)) n 0 ≡ getD counts n 0 + 1 = rw here (getD-set-same counts at (getD counts at 0 + 1) 0 inside) in
+      omega (arith, e, g)
+
+  -- and to all above
+  one-above : (n : ℕ) → at ≤ n → countTo (set counts at (getD counts at 0 + 1)) (suc n) ≡ countTo counts (suc n) + 1
+  unfolding countTo
+  one-above zero h = one-here zero (omega arith)
+  one-above (suc n) h = go (ltb at (suc n)) refl (one-above n)
+    where
+      go : (t : Bool) → ltb at (suc n) ≡ t → (at ≤ n → countTo (set counts at (getD counts at 0 + 1)) (suc n) ≡ countTo counts (suc n) + 1)
+          → countTo (set counts at (getD counts at 0 + 1)) (suc (suc n)) ≡ countTo counts (suc (suc n)) + 1
+      go false q more = one-here (suc n) (omega (arith, ltb-false at (suc n) q))
+      go true q more =
+          let e = more (omega (arith, ltb-true at (suc n) q)) in
+          let g = getD-set-other counts at (suc n) (getD counts at 0 + 1) 0 (λ (e : suc n ≡ at). omega (arith, e, ltb-true at (suc n) q)) in
+          omega (arith, e, g)
+
+  one-more : (n : ℕ) (t : Bool) → leb at n ≡ t
+      → countTo (set counts at (getD counts at 0 + 1)) (suc n) ≡ cond t (countTo counts (suc n) + 1) (countTo counts (suc n))
+  one-more n true e = one-above n (leb-true at n e)
+  one-more n false e = one-below (suc n) (omega (arith, leb-false at n e))
+
+module _ (low shift need : ℕ) (counts : List ℕ) (places : length counts ≡ stepCount) (step : ℕ) (is : (j : ℕ) → leb step j ≡ leb need (low + j * 2 ^ shift)) where
+  -- a need counted at the index of the first size that is at least it
+  pub counted-in : step < stepCount → Counted low shift need counts (set counts step (getD counts step 0 + 1))
+  counted-in h =
+      record {
+        places = length-set counts step (getD counts step 0 + 1) ∙ places;
+        at = λ j few. one-more counts step (omega (arith, places)) j (leb need (low + j * 2 ^ shift)) (is j);
+      }
+
+  -- a need above all sizes
+  pub counted-out : stepCount ≤ step → Counted low shift need counts counts
+  counted-out h =
+      record { places = places; at = λ j few. let e : leb need (low + j * 2 ^ shift) ≡ false = sym (is j) ∙ lt-leb step j (omega (arith, few)) in rw e refl }
+
+-- the first size that is at least a need: `low`, or the first past it
+pub step-low : (low shift need : ℕ) → need ≤ low → (j : ℕ) → leb 0 j ≡ leb need (low + j * 2 ^ shift)
+step-low low shift need h j = le-leb 0 j (omega arith) ∙ sym (le-leb need (low + j * 2 ^ shift) (omega arith))
+
+pub step-past : (low shift need over : ℕ) → low + suc over ≡ need → (j : ℕ) → leb (over / 2 ^ shift + 1) j ≡ leb need (low + j * 2 ^ shift)
+step-past low shift need over e j = go (leb need (low + j * 2 ^ shift)) refl
+  where
+    go : (t : Bool) → leb need (low + j * 2 ^ shift) ≡ t → leb (over / 2 ^ shift + 1) j ≡ t
+    go true q =
+        let h : over < j * 2 ^ shift = omega (arith, e, leb-true need (low + j * 2 ^ shift) q) in
+        let g : over / 2 ^ shift < j = div-lt-iff-lt-mul (pow-pos shift) .1 h in
+        le-leb (over / 2 ^ shift + 1) j (omega (arith, g))
+    go false q = le-false (ltb (over / 2 ^ shift) j) refl
+      where
+        le-false : (t : Bool) → ltb (over / 2 ^ shift) j ≡ t → leb (over / 2 ^ shift + 1) j ≡ false
+        le-false true u =
+            let g : over < j * 2 ^ shift = div-lt-iff-lt-mul (pow-pos shift) .0 (ltb-true (over / 2 ^ shift) j u) in
+            absurd (omega (arith, e, g, leb-false need (low + j * 2 ^ shift) q))
+        le-false false u = lt-leb (over / 2 ^ shift + 1) j (omega (arith, ltb-false (over / 2 ^ shift) j u))
+
+-- with a shift of 64 or more the next size is past every need
+pub step-far : (low shift need over : ℕ) → low + suc over ≡ need → over < 2 ^ 64 → 64 ≤ shift → (j : ℕ) → leb 1 j ≡ leb need (low + j * 2 ^ shift)
+step-far low shift need over e few h j =
+    let small : over / 2 ^ shift ≡ 0 = div-eq-of-lt (lt-of-lt-of-le few (pow-le-pow-right (zero-lt-suc 1) h)) in
+    ap (λ (n : ℕ). leb (n + 1) j) (sym small) ∙ step-past low shift need over e j
+
+-- ---- sums in place
+
+-- before j each count is the sum up to it, from j on all is as it was, and `sum` is that of the first j
+pub record SummedTo (old new : List ℕ) (sum j : ℕ) : Type 0 where
+  pub places : length new ≡ stepCount
+  pub done : (k : ℕ) → k < j → getD new k 0 ≡ countTo old (suc k)
+  pub left : (k : ℕ) → j ≤ k → getD new k 0 ≡ getD old k 0
+  pub total : sum ≡ countTo old j
+
+pub summed-start : (old : List ℕ) → length old ≡ stepCount → SummedTo old old 0 0
+unfolding countTo
+summed-start old p = record { places = p; done = λ k h. absurd (omega arith); left = λ k h. refl; total = refl }
+
+module _ (old new : List ℕ) (sum j : ℕ) (s : SummedTo old new sum j) (few : j < stepCount) where
+  -- the sum with the next count
+  pub summed-sum : sum + getD new j 0 ≡ countTo old (suc j)
+  unfolding countTo
+  summed-sum = omega (arith, s .total, s .left j (omega arith))
+
+  pub summed-next : SummedTo old (set new j (sum + getD new j 0)) (sum + getD new j 0) (j + 1)
+  summed-next =
+      record {
+        places = length-set new j (sum + getD new j 0) ∙ s .places;
+        done = λ k h. go k h (eqb k j) refl;
+        left = λ k h. getD-set-other new j k (sum + getD new j 0) 0 (λ (e : k ≡ j). omega (arith, e, h)) ∙ s .left k (omega (arith, h));
+        total = summed-sum ∙ ap (countTo old) (omega arith);
+      }
+    where
+      go : (k : ℕ) → k < j + 1 → (t : Bool) → eqb k j ≡ t → getD (set new j (sum + getD new j 0)) k 0 ≡ countTo old (suc k)
+      go k h true q =
+          let e = eqb-true k j q in
+          rw e (getD-set-same new j (sum + getD new j 0) 0 (omega (arith, s .places)) ∙ summed-sum)
+      go k h false q =
+          let n = eqb-false k j q in
+          getD-set-other new j k (sum + getD new j 0) 0 n ∙ s .done k (omega (arith, h, n))
+
 -- ---- one answer more
 
 -- a duplicate leaves the greatest need
 greatest-same : (m : Measure) (l : List Answer) (a : Answer) → neededFor m a ≡ 0 → greatestNeed m (l ++ (a ∷ [])) ≡ greatestNeed m l
 greatest-same m l a z = need-more m l a ∙ rw (z, le-ltb (greatestNeed m l) 0 (omega arith)) refl
 
-pub needs-more : (m : Measure) (size : ℕ) (l : List Answer) (a : Answer) → needsOf m size (l ++ (a ∷ [])) ≡ needsAfter m size (needsOf m size l) a
-unfolding needsOf needsAfter needsWith
-needs-more m size l (Answer.Duplicate d) =
-    let a = Answer.Duplicate d in rw (arrived-more l a, accommodated-more m size l a, greatest-same m l a refl) refl
-needs-more m size l (Answer.InOrder d) =
-    let a = Answer.InOrder d in rw (arrived-more l a, accommodated-more m size l a, need-more m l a) refl
-needs-more m size l (Answer.Reordered f) =
-    let a = Answer.Reordered f in rw (arrived-more l a, accommodated-more m size l a, need-more m l a) refl
+module _ (m : Measure) (low shift : ℕ) (l : List Answer) (needs : Needs) (counts : List ℕ) (count : ℕ) where
+  pub after-duplicate : (first : ℕ) (a : Answer) → ClassOf count (Class.Duplicate first) a → NeedsOf m low shift l needs counts
+      → NeedsOf m low shift (l ++ (a ∷ [])) needs counts
+  after-duplicate first a k h = rw (k .is) (go (record { first = first }))
+    where
+      go : (d : DuplicateFigures) → NeedsOf m low shift (l ++ (Answer.Duplicate d ∷ [])) needs counts
+      go d =
+          let a = Answer.Duplicate d in
+          record {
+            many = h .many ∙ sym (arrived-more l a);
+            most = h .most ∙ sym (greatest-same m l a refl);
+            places = h .places;
+            at = λ j few. h .at j few ∙ sym (accommodated-more m (low + j * 2 ^ shift) l a);
+          }
 
--- ---- by the class of the next answer
+  -- a first arrival
+  after-first : (need : ℕ) (a : Answer) → isDuplicate a ≡ false → need ≡ neededFor m a → (new : List ℕ) → Counted low shift need counts new
+      → NeedsOf m low shift l needs counts → NeedsOf m low shift (l ++ (a ∷ [])) (needsWith needs need) new
+  unfolding needsWith
+  after-first need a first e new c h =
+      record {
+        many = rw (h .many) (sym (rw (arrived-more l a, first) refl));
+        most = rw (h .most, e) (sym (need-more m l a));
+        places = c .places;
+        at = λ j few.
+            let same : accommodates m (low + j * 2 ^ shift) a ≡ leb need (low + j * 2 ^ shift) = rw (first, e) refl in
+            c .at j few ∙ rw (h .at j few, accommodated-more m (low + j * 2 ^ shift) l a, same) refl;
+      }
 
-module _ (m : Measure) (size : ℕ) (needs : Needs) (count : ℕ) where
-  pub after-duplicate : (first : ℕ) (a : Answer) → ClassOf count (Class.Duplicate first) a → needs ≡ needsAfter m size needs a
-  unfolding needsAfter
-  after-duplicate first a k = rw (k .is) refl
+  pub after-in-order : (jump need : ℕ) (a : Answer) → ClassOf count (Class.InOrder jump) a → need ≡ neededFor m a → (new : List ℕ) → Counted low shift need counts new
+      → NeedsOf m low shift l needs counts → NeedsOf m low shift (l ++ (a ∷ [])) (needsWith needs need) new
+  after-in-order jump need a k = after-first need a (rw (k .is) refl)
 
-  pub after-in-order : (jump need : ℕ) (a : Answer) → ClassOf count (Class.InOrder jump) a → need ≡ neededFor m a → needsWith size needs need ≡ needsAfter m size needs a
-  unfolding needsAfter
-  after-in-order jump need a k e = let q : need ≡ 0 = e ∙ ap (neededFor m) (k .is) in rw (k .is, q) refl
-
-  pub after-reordered : (at need : ℕ) (a : Answer) → ClassOf count (Class.Reordered at) a → need ≡ neededFor m a → needsWith size needs need ≡ needsAfter m size needs a
-  unfolding needsAfter
-  after-reordered at need a k e = ap (needsWith size needs) (e ∙ ap (neededFor m) (k .is)) ∙ rw (k .is) refl
-
--- under record i + 1
-pub needs-next : (m : Measure) (size : ℕ) (d : Decoded) (y : Layout) (i : ℕ) → HasRecord d y i
-    → needsOf m size (answersTo d (i + 1)) ≡ needsAfter m size (needsOf m size (answersTo d i)) (answerAt d i)
-needs-next m size d y i h = ap (needsOf m size) (answers-next d y i h) ∙ needs-more m size (answersTo d i) (answerAt d i)
+  pub after-reordered : (at need : ℕ) (a : Answer) → ClassOf count (Class.Reordered at) a → need ≡ neededFor m a → (new : List ℕ) → Counted low shift need counts new
+      → NeedsOf m low shift l needs counts → NeedsOf m low shift (l ++ (a ∷ [])) (needsWith needs need) new
+  after-reordered at need a k = after-first need a (rw (k .is) refl)
 
 -- ---- few
 
-pub needs-few : (m : Measure) (size : ℕ) (l : List Answer) → (needsOf m size l .arrived ≤ length l) × (needsOf m size l .accommodated ≤ length l)
-unfolding needsOf arrived accommodated
-needs-few m size l = (count-few (λ (a : Answer). not (isDuplicate a)) l, count-few (accommodates m size) l)
+-- no count passes the number of the answers
+pub needs-few : (m : Measure) (low shift : ℕ) (l : List Answer) (needs : Needs) (counts : List ℕ) → NeedsOf m low shift l needs counts
+    → (needs .arrived ≤ length l) × ((j : ℕ) → j < stepCount → countTo counts (suc j) ≤ length l)
+unfolding arrived accommodated
+needs-few m low shift l needs counts h = (
+  omega (arith, h .many, count-few (λ (a : Answer). not (isDuplicate a)) l),
+  λ j few. omega (arith, h .at j few, count-few (accommodates m (low + j * 2 ^ shift)) l),
+)
+
+-- a count is at most the sum up to it
+pub count-le : (counts : List ℕ) (j : ℕ) → getD counts j 0 ≤ countTo counts (suc j)
+unfolding countTo
+count-le counts j = omega arith
+
+-- the first count is what a buffer of the first size accommodates
+pub first-count : (m : Measure) (low shift : ℕ) (l : List Answer) (needs : Needs) (counts : List ℕ) → NeedsOf m low shift l needs counts
+    → getD counts 0 0 ≡ accommodated m low l
+unfolding countTo
+first-count m low shift l needs counts h =
+    let same : low + 0 * 2 ^ shift ≡ low = omega arith in
+    let e = h .at 0 (omega arith) in
+    omega (arith, e) ∙ ap (λ (size : ℕ). accommodated m size l) same
+
+-- no sum of a whole sample passes the greatest number of arrivals
+pub steps-few : (d : Decoded) (y : Layout) → FileLayout d y → (m : Measure) (low shift : ℕ) (needs : Needs) (counts : List ℕ)
+    → NeedsOf m low shift (answersOf d) needs counts → (j : ℕ) → j < stepCount → countTo counts (suc j) ≤ arrivalsMost
+steps-few d y h m low shift needs counts n j few =
+    omega (arith, needs-few m low shift (answersOf d) needs counts n .1 j few, length-answers (sizeOf d) (sampleArrivals d), arrivals-laid d y h, h .few)
 
 -- of none
-pub needs-none : (m : Measure) (size : ℕ) → needsOf m size [] ≡ record { arrived = 0; accommodated = 0; greatest = 0 }
-unfolding needsOf arrived accommodated count greatestNeed Rattle.rfc4737.specs.Needs.greatest
-needs-none m size = refl
+none-counted : (n k : ℕ) → countTo (replicate n 0) k ≡ 0
+unfolding countTo
+none-counted n zero = refl
+none-counted n (suc k) = rw (none-counted n k, zeros n k) refl
+
+pub needs-none : (m : Measure) (low shift : ℕ) → NeedsOf m low shift [] (record { arrived = 0; greatest = 0 }) (replicate stepCount 0)
+unfolding arrived accommodated count greatestNeed Rattle.rfc4737.specs.Needs.greatest
+needs-none m low shift = record { many = refl; most = refl; places = refl; at = λ j few. none-counted stepCount (suc j) }
+
+-- under record i + 1
+pub needs-next : (m : Measure) (low shift : ℕ) (d : Decoded) (y : Layout) (i : ℕ) → HasRecord d y i → (needs : Needs) (counts : List ℕ)
+    → NeedsOf m low shift (answersTo d i ++ (answerAt d i ∷ [])) needs counts → NeedsOf m low shift (answersTo d (i + 1)) needs counts
+needs-next m low shift d y i h needs counts n = rw (answers-next d y i h) n
 
 -- ---- the need of a record, by its class after `count` first arrivals
 

@@ -1,7 +1,8 @@
 -- What each call returns of a decoded file: a definition of rfc4737 over the answers of its sample. The file's own refusal comes
 -- first, then 9. A refused file has the empty sample, so what stands beside a refusal is the figure of no arrivals: zeros, no gap, an
 -- undefined ratio. Assumes nothing.
-use Prim.Native.Nat.{ℕ, zero, suc}
+use mathlib.Core.Path.{_≡_}
+use Prim.Native.Nat.{ℕ, zero, suc, _+_, _*_, _^_, _<_}
 use mathlib.Core.Bool.{cond}
 use mathlib.Core.List.{List, [], _∷_}
 use lib.ListN.{length, getD}
@@ -25,6 +26,7 @@ use Rattle.metrics.specs.declared.SampleDegree.{SampleDegree}
 use Rattle.metrics.specs.declared.SampleRatios.{SampleRatios}
 use Rattle.metrics.specs.declared.SampleAccommodated.{SampleAccommodated}
 use Rattle.metrics.specs.declared.SampleNeeds.{SampleNeeds}
+use Rattle.metrics.specs.declared.SampleSteps.{SampleSteps}
 
 -- ---- what is asked for
 
@@ -103,3 +105,18 @@ sampleNeeds d =
       octets = greatestNeed Measure.Octets (answersOf d);
       time = greatestNeed Measure.Time (answersOf d);
     }
+
+-- ---- several sizes at once
+
+-- how many sizes of a buffer are tried in one pass
+abbrev pub stepCount : ℕ
+stepCount = 128
+
+-- how many first arrivals of a sample buffers of the sizes low, low + 2^shift, low + 2 * 2^shift and so on accommodate, L, and the greatest
+-- need
+pub record StepsOf (d : Decoded) (m : Measure) (low shift : ℕ) (r : SampleSteps) : Type 0 where
+  pub refusal : r .refusal ≡ decodedRefusal d
+  pub many : r .arrived ≡ arrived (answersOf d)
+  pub most : r .greatest ≡ greatestNeed m (answersOf d)
+  pub places : length (r .counts) ≡ stepCount
+  pub at : (j : ℕ) → j < stepCount → getD (r .counts) j 0 ≡ accommodated m (low + j * 2 ^ shift) (answersOf d)

@@ -9,7 +9,7 @@ ghost use lib.ListN.{length};
 ghost use Rattle.rfc4737.specs.Cases.{CasesHold};
 ghost use Rattle.rfc4737.specs.Reordered.{ReorderedHaveDiscontinuity, OffsetsBounded, FiguresBounded};
 ghost use Rattle.sample.specs.Decode.{decode};
-ghost use Rattle.metrics.specs.Figures.{recordAnswer, recordGap, sampleCounts, sampleTally, degreeCounts, sampleDegree, sampleRatios, sampleAccommodated, sampleNeeds};
+ghost use Rattle.metrics.specs.Figures.{recordAnswer, recordGap, sampleCounts, sampleTally, degreeCounts, sampleDegree, sampleRatios, sampleAccommodated, sampleNeeds, StepsOf};
 ghost use Rattle.metrics.specs.Gaps.{GapsTo, GapsTell};
 ghost use Rattle.metrics.specs.Rows.{RowsTo, RowsTell};
 ghost use Rattle.listing.specs.Example.{ExampleHolds};
@@ -28,7 +28,9 @@ use figures::answers::asked_refusal;
 use figures::counts_of;
 use figures::gaps::gap_of;
 use figures::gaps::put_gaps;
+use figures::needs::greatest_need;
 use figures::needs::needs_of;
+use figures::needs::sum_up;
 use figures::quotients::ratio_of;
 use figures::quotients::ratios_of;
 use figures::rows::put_rows;
@@ -54,6 +56,9 @@ pub const TALLY_PLACES: usize = TALLY_MOST as usize + 1;
 
 // The greatest n of a degree.
 const DEGREE_MOST: u32 = 100;
+
+// How many sizes of a buffer are tried in one pass.
+pub const STEPS: usize = 128;
 
 // The answer for a record, and the refusal (0 for none).
 pub struct RecordAnswer {
@@ -116,6 +121,15 @@ pub struct SampleNeeds {
     pub packets: u64,
     pub octets: u64,
     pub time: u64,
+}
+
+// How many first arrivals of a sample buffers of several sizes accommodate, how many there are, the greatest need of any, and the refusal (0
+// for none).
+pub struct SampleSteps {
+    pub refusal: u32,
+    pub arrived: u32,
+    pub greatest: u64,
+    pub counts: [u32; STEPS],
 }
 
 // How many octets of a text agree with the listing of a sample, from the start on; whether the text is that listing; and the
@@ -214,32 +228,47 @@ pub fn ratios(file: &[u8]) -> SampleRatios
     }
 }
 
-// How many first arrivals a receiver's buffer of this size accommodates: one pass, as that of `listing`, O(A log K + K).
+// How many first arrivals a receiver's buffer of `size` accommodates: one pass, O(A + K), and O(A log K + K) in octets.
 pub fn accommodated(file: &[u8], measure: Measure, size: u64) -> SampleAccommodated
     ensures { λ r. ⌜ r ≡ sampleAccommodated (decode (now (file .entry))) measure size ⌝ }
 {
     let layout = checked_layout(file);
-    let held = needs_of(file, layout, measure, size);
+    let mut counts = [0u32; STEPS];
+    let needs = needs_of(file, layout, measure, size, 0, &mut counts);
     SampleAccommodated {
         refusal: layout.refusal,
-        accommodated: held.accommodated,
-        arrived: held.arrived,
+        accommodated: counts[0],
+        arrived: needs.arrived,
     }
 }
 
-// The greatest needs of a sample, at the same cost.
+// How many first arrivals buffers of STEPS sizes accommodate, how many first arrivals there are, and the greatest need: one pass, O(A + K), and
+// O(A log K + K) in octets.
+pub fn accommodated_steps(file: &[u8], measure: Measure, low: u64, shift: u32) -> SampleSteps
+    ensures { λ r. ⌜ StepsOf (decode (now (file .entry))) measure low shift r ⌝ }
+{
+    let layout = checked_layout(file);
+    let mut counts = [0u32; STEPS];
+    let needs = needs_of(file, layout, measure, low, shift, &mut counts);
+    sum_up(&mut counts);
+    SampleSteps {
+        refusal: layout.refusal,
+        arrived: needs.arrived,
+        greatest: needs.greatest,
+        counts,
+    }
+}
+
+// The greatest needs of a sample: a pass for each measure.
 pub fn greatest_needs(file: &[u8]) -> SampleNeeds
     ensures { λ r. ⌜ r ≡ sampleNeeds (decode (now (file .entry))) ⌝ }
 {
     let layout = checked_layout(file);
-    let packets = needs_of(file, layout, Measure::Packets, 0);
-    let octets = needs_of(file, layout, Measure::Octets, 0);
-    let time = needs_of(file, layout, Measure::Time, 0);
     SampleNeeds {
         refusal: layout.refusal,
-        packets: packets.greatest,
-        octets: octets.greatest,
-        time: time.greatest,
+        packets: greatest_need(file, layout, Measure::Packets),
+        octets: greatest_need(file, layout, Measure::Octets),
+        time: greatest_need(file, layout, Measure::Time),
     }
 }
 

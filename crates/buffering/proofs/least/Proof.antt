@@ -25,18 +25,13 @@ use Rattle.buffering.proofs.least.Tie as tie
 
 -- b₀ are the bounds where the loop begins, b those at its head
 abbrev Inv-loop : tie.InvT-loop
-Inv-loop file measure part whole most b₀ b = Between measure part whole (answersOf (decode file)) b
+Inv-loop file measure part whole b₀ b = Between measure part whole (answersOf (decode file)) b
 
 abbrev μ-loop : tie.MeasureT-loop
-μ-loop file measure part whole most b₀ b = b .high - b .low
-
--- the refusal of the needs is the file's
-told : (x : SampleNeeds) (f : List ℕ) → x ≡ sampleNeeds (decode f) → x .refusal ≡ decodedRefusal (decode f)
-unfolding sampleNeeds
-told x f e = ap (λ (y : SampleNeeds). y .refusal) e
+μ-loop file measure part whole b₀ b = b .high - b .low
 
 -- what is carried besides the answer
-carries : (c : tie.After-greatest-needs Inv-loop μ-loop)
+carries : (c : tie.After-accommodated-steps Inv-loop μ-loop)
     → RestoresFile (decode (now (c .before .before .args .file))) × (HoldsOffset × (RestoresOrder × (SizesAreLeast × (OneLeast × (MoreIsNoWorse × AllIsGreatest)))))
 carries c =
     let file = now (c .before .before .args .file) in
@@ -45,17 +40,17 @@ carries c =
 returns : tie.Need-returns Inv-loop μ-loop
 returns c =
     let q = c .before .before in
-    (least-refused _ _ _ _ _ (told (q .greatest-needs .result) _ (q .greatest-needs .ensures)) (c .if1 .taken), carries q)
+    (least-refused _ _ _ _ _ (q .accommodated-steps .ensures .refusal) (c .if1 .taken), carries q)
 
 returns-2 : tie.Need-returns-2 Inv-loop μ-loop
 returns-2 c =
     let q = c .before .before .before .before in
-    (least-outside _ _ _ _ (sym (told (q .greatest-needs .result) _ (q .greatest-needs .ensures)) ∙ c .before .before .if1 .left) (sym (c .before .outside .ensures) ∙ c .if2 .taken), carries q)
+    (least-outside _ _ _ _ (sym (q .accommodated-steps .ensures .refusal) ∙ c .before .before .if1 .left) (sym (c .before .outside .ensures) ∙ c .if2 .taken), carries q)
 
 loop-holds : tie.Need-loop-holds Inv-loop μ-loop
 loop-holds c =
-    let q = c .before .before .before .before .before .greatest-needs in
-    rw (c .greatest-in .ensures _ (q .ensures)) (start _ _ _ _ (between 1 _ _ (sym (c .before .before .outside .ensures) ∙ c .before .if2 .left) .1))
+    let q = c .before .before .before .before .accommodated-steps in
+    rw (q .ensures .most) (start _ _ _ _ (between 1 _ _ (sym (c .before .outside .ensures) ∙ c .if2 .left) .1))
 
 narrowed-requires : tie.Need-narrowed-requires Inv-loop μ-loop
 narrowed-requires c κs = (c .if3 .taken, c .before .before .loop .inv)
@@ -68,9 +63,9 @@ loop-again c = c .narrowed .ensures .0
 
 returns-3 : tie.Need-returns-3 Inv-loop μ-loop
 returns-3 c =
-    let tests = c .before .before .before .before in
+    let tests = c .before .before .before in
     let q = tests .before .before .before .before in
-    let accepted = sym (told (q .greatest-needs .result) _ (q .greatest-needs .ensures)) ∙ tests .before .before .if1 .left in (
+    let accepted = sym (q .accommodated-steps .ensures .refusal) ∙ tests .before .before .if1 .left in (
       least-found _ _ _ _ accepted (sym (tests .before .outside .ensures) ∙ tests .if2 .left) _
           (met _ _ _ _ _ (c .before .before .loop .inv) (c .if3 .left)),
       carries q,
@@ -86,7 +81,6 @@ least-spec =
     returns
     (λ c κs. search needs)
     returns-2
-    (λ c κs. search needs)
     loop-holds
     narrowed-requires
     loop-less

@@ -2,17 +2,19 @@
 use mathlib.Core.Path.{_≡_}
 use mathlib.Core.Bool.{false, cond}
 use mathlib.Core.List.{List}
-use Prim.Native.Nat.{ℕ, _+_}
+use Prim.Native.Nat.{ℕ, zero, suc, _+_, _*_, _^_, _<_}
 use lib.Dec.{leb, ltb}
+use lib.ListN.{length, getD}
 use Rattle.rfc4737.specs.declared.Answer.{Answer}
 use Rattle.rfc4737.specs.declared.Arrival.{Arrival}
 use Rattle.rfc4737.specs.declared.Measure.{Measure}
 use Rattle.rfc4737.specs.Arrivals.{has, firsts}
 use Rattle.rfc4737.specs.Runs.{arrived}
-use Rattle.rfc4737.specs.Needs.{neededBy, greatestNeed, accommodated}
+use Rattle.rfc4737.specs.Needs.{greatestNeed, accommodated}
 use Rattle.sample.specs.declared.Layout.{Layout}
 use Rattle.sample.specs.Decode.{Decoded}
 use Rattle.metrics.specs.Sample.{sizeOf}
+use Rattle.metrics.specs.Figures.{stepCount}
 use Rattle.metrics.specs.Records.{HasRecord, arrivalAt, before, answerAt}
 use Rattle.metrics.specs.Private.Tables.{NumberTable, RecordTable, EngineTables, ClassOf, IfLate}
 use Rattle.metrics.specs.Private.Engine.{SizeTree}
@@ -41,20 +43,22 @@ abbrev pub greaterOf : ℕ → ℕ → ℕ
 greaterOf a b = cond (ltb a b) b a
 
 -- the needs after a first arrival of this need
-unfoldable pub needsWith : ℕ → Needs → ℕ → Needs
-needsWith size needs need =
-    record {
-      arrived = needs .arrived + 1;
-      accommodated = cond (leb need size) (needs .accommodated + 1) (needs .accommodated);
-      greatest = greaterOf (needs .greatest) need;
-    }
+unfoldable pub needsWith : Needs → ℕ → Needs
+needsWith needs need = record { arrived = needs .arrived + 1; greatest = greaterOf (needs .greatest) need }
 
--- the needs after the next answer
-unfoldable pub needsAfter : Measure → ℕ → Needs → Answer → Needs
-needsAfter m size needs (Answer.Duplicate d) = needs
-needsAfter m size needs (Answer.InOrder d) = needsWith size needs 0
-needsAfter m size needs (Answer.Reordered f) = needsWith size needs (neededBy m f)
+-- the sum of the first n of some counts
+unfoldable pub countTo : List ℕ → ℕ → ℕ
+countTo counts zero = 0
+countTo counts (suc n) = countTo counts n + getD counts n 0
 
--- what some answers need
-unfoldable pub needsOf : Measure → ℕ → List Answer → Needs
-needsOf m size l = record { arrived = arrived l; accommodated = accommodated m size l; greatest = greatestNeed m l }
+-- a need is counted: all counts up to that of a size are one more if the size is at least the need
+pub record Counted (low shift need : ℕ) (old new : List ℕ) : Type 0 where
+  pub places : length new ≡ stepCount
+  pub at : (j : ℕ) → j < stepCount → countTo new (suc j) ≡ cond (leb need (low + j * 2 ^ shift)) (countTo old (suc j) + 1) (countTo old (suc j))
+
+-- what some answers need in a measure; all counts up to that of a size are together what a buffer of that size accommodates
+pub record NeedsOf (m : Measure) (low shift : ℕ) (l : List Answer) (needs : Needs) (counts : List ℕ) : Type 0 where
+  pub many : needs .arrived ≡ arrived l
+  pub most : needs .greatest ≡ greatestNeed m l
+  pub places : length counts ≡ stepCount
+  pub at : (j : ℕ) → j < stepCount → countTo counts (suc j) ≡ accommodated m (low + j * 2 ^ shift) l

@@ -1,20 +1,24 @@
-// What a receiver that restores order needs in one measure: how many first arrivals a buffer of one size accommodates, and the greatest need
-// of any. One pass with the tables of the records; only byte offsets take a tree of sums, and no need takes a largest n.
+// What a receiver that restores order needs in one measure: the greatest need of any first arrival, and how many first arrivals buffers of
+// some sizes accommodate. One pass with the tables of the records; only byte offsets take a tree of sums, and no need takes a largest n.
+// The sizes are `low`, `low` + 2^`shift`, `low` + 2 * 2^`shift` and so on, STEPS of them.
 ghost use mathlib.Core.Path.{_≡_};
-ghost use mathlib.Core.Bool.{false, cond};
-ghost use Prim.Native.Nat.{ℕ, _+_, _≤_, _<_};
+ghost use mathlib.Core.List.{List, [], _∷_, _++_};
+ghost use Prim.Native.Nat.{ℕ, suc, _+_, _*_, _^_, _≤_, _<_};
 ghost use lib.Dec.{leb};
+ghost use lib.ListN.{length, getD, replicate};
 ghost use Rattle.rfc4737.specs.Arrivals.{has, firsts};
 ghost use Rattle.rfc4737.specs.declared.Answer.{Answer};
 ghost use Rattle.rfc4737.specs.declared.Measure.{Measure};
 ghost use Rattle.rfc4737.specs.Judge.{arrivalsMost};
 ghost use Rattle.sample.specs.Decode.{decode};
 ghost use Rattle.metrics.specs.Sample.{sizeOf, answersOf};
-ghost use Rattle.rfc4737.specs.Needs.{waitingTime, neededFor};
+ghost use Rattle.rfc4737.specs.Needs.{waitingTime, neededFor, greatestNeed};
+ghost use Rattle.metrics.specs.Figures.{stepCount};
 ghost use Rattle.metrics.specs.Records.{FileLayout, HasRecord, arrivalAt, before, answerAt};
 ghost use Rattle.metrics.specs.Private.Tables.{NumberTable, RecordTable, ClassOf, IfLate};
 ghost use Rattle.metrics.specs.Private.Engine.{SizeTree};
-ghost use Rattle.metrics.specs.Private.Needs.{greaterOf, NeedInput, needsWith, needsAfter, needsOf};
+ghost use Rattle.metrics.specs.Private.Needs.{greaterOf, NeedInput, countTo, Counted, needsWith, NeedsOf};
+use crate::STEPS;
 use crate::engine::byte_offset::PAIR_TREE_LEN;
 use crate::engine::byte_offset::Totals;
 use crate::engine::byte_offset::offset_by_tree;
@@ -31,10 +35,9 @@ use rfc4737::LateTime;
 use rfc4737::Measure;
 use sample::Layout;
 
-// Of the arrivals taken: how many are first arrivals, how many of these a buffer of one size accommodates, and the greatest need of any.
+// Of the arrivals taken: how many are first arrivals, and the greatest need of any.
 pub(crate) struct Needs {
     pub arrived: u32,
-    pub accommodated: u32,
     pub greatest: u64,
 }
 
@@ -150,45 +153,75 @@ fn greater_of(a: u64, b: u64) -> u64
     a
 }
 
-// `count`, and one more if `need` is at most `size`.
-fn one_more_if(need: u64, size: u64, count: u32) -> u32
-    requires { ⌜ count < arrivalsMost ⌝ }
-    ensures { λ r. ⌜ r ≡ cond (leb need size) (count + 1) count ⌝ }
+// The index of the first size that is at least `need`.
+fn step_of(low: u64, shift: u32, need: u64) -> u64
+    ensures { λ r. ⌜ ((j : ℕ) → leb r j ≡ leb need (low + j * 2 ^ shift)) ⌝ }
 {
-    if need <= size {
-        return count + 1;
+    if need <= low {
+        return 0;
     }
-    count
+    let over = need - low - 1;
+    if 64 <= shift {
+        return 1;
+    }
+    (over >> shift) + 1
+}
+
+// Counts a need at the index of the first size that is at least `need`, if there is one.
+fn count_need(counts: &mut [u32; STEPS], low: u64, shift: u32, need: u64)
+    requires { ⌜ (length (now counts) ≡ stepCount) × ((k : ℕ) → k < stepCount → getD (now counts) k 0 < arrivalsMost) ⌝ }
+    ensures { λ _. ⌜ Counted low shift need (now (counts .entry)) (now (counts .exit)) ⌝ }
+{
+    let step = step_of(low, shift, need);
+    if step < STEPS as u64 {
+        let at = step as usize;
+        counts[at] = counts[at] + 1;
+    }
 }
 
 // The needs after a first arrival of this need.
-fn needs_with(size: u64, needs: Needs, need: u64) -> Needs
-    requires { ⌜ (needs .arrived < arrivalsMost) × (needs .accommodated < arrivalsMost) ⌝ }
-    ensures { λ r. ⌜ r ≡ needsWith size needs need ⌝ }
+fn needs_with(counts: &mut [u32; STEPS], low: u64, shift: u32, needs: Needs, need: u64) -> Needs
+    requires { ⌜ (needs .arrived < arrivalsMost) × (length (now counts) ≡ stepCount) × ((k : ℕ) → k < stepCount → getD (now counts) k 0 < arrivalsMost) ⌝ }
+    ensures { λ r. ⌜ (r ≡ needsWith needs need) × Counted low shift need (now (counts .entry)) (now (counts .exit)) ⌝ }
 {
+    count_need(counts, low, shift, need);
     Needs {
         arrived: needs.arrived + 1,
-        accommodated: one_more_if(need, size, needs.accommodated),
         greatest: greater_of(needs.greatest, need),
     }
 }
 
 // The needs after the next arrival, of this class and need; a copy leaves them.
-fn needs_after(size: u64, needs: Needs, class: Class, need: u64) -> Needs
-    requires { ⌜ (needs .arrived < arrivalsMost) × (needs .accommodated < arrivalsMost) ⌝ }
-    ensures { λ r. ⌜ ((m : Measure) (count : ℕ) (a : Answer) → ClassOf count class a → need ≡ neededFor m a → r ≡ needsAfter m size needs a) ⌝ }
+fn needs_after(
+    counts: &mut [u32; STEPS],
+    low: u64,
+    shift: u32,
+    needs: Needs,
+    class: Class,
+    need: u64,
+) -> Needs
+    requires { ⌜ (needs .arrived < arrivalsMost) × (length (now counts) ≡ stepCount) × ((k : ℕ) → k < stepCount → getD (now counts) k 0 < arrivalsMost) ⌝ }
+    ensures { λ r. ⌜ ((m : Measure) (count : ℕ) (l : List Answer) (a : Answer) → ClassOf count class a → need ≡ neededFor m a
+        → NeedsOf m low shift l needs (now (counts .entry)) → NeedsOf m low shift (l ++ (a ∷ [])) r (now (counts .exit))) ⌝ }
 {
     match class {
         Class::Duplicate(_) => needs,
-        Class::InOrder(_) => needs_with(size, needs, need),
-        Class::Reordered(_) => needs_with(size, needs, need),
+        Class::InOrder(_) => needs_with(counts, low, shift, needs, need),
+        Class::Reordered(_) => needs_with(counts, low, shift, needs, need),
     }
 }
 
 // What a sample needs in a measure: one pass, O(A + K), and O(A log K + K) in octets.
-pub(crate) fn needs_of(file: &[u8], layout: Layout, measure: Measure, size: u64) -> Needs
-    requires { ⌜ FileLayout (decode (now file)) layout ⌝ }
-    ensures { λ r. ⌜ r ≡ needsOf measure size (answersOf (decode (now (file .entry)))) ⌝ }
+pub(crate) fn needs_of(
+    file: &[u8],
+    layout: Layout,
+    measure: Measure,
+    low: u64,
+    shift: u32,
+    counts: &mut [u32; STEPS],
+) -> Needs
+    requires { ⌜ FileLayout (decode (now file)) layout × (now counts ≡ replicate stepCount 0) ⌝ }
+    ensures { λ r. ⌜ NeedsOf measure low shift (answersOf (decode (now (file .entry)))) r (now (counts .exit)) ⌝ }
 {
     let mut numbers = [0u16; MAX_FIRST_ARRIVALS];
     let mut records = [0u16; PACKET_TABLE_LEN];
@@ -201,7 +234,6 @@ pub(crate) fn needs_of(file: &[u8], layout: Layout, measure: Measure, size: u64)
     };
     let mut needs = Needs {
         arrived: 0,
-        accommodated: 0,
         greatest: 0,
     };
     let mut i: u32 = 0;
@@ -222,7 +254,7 @@ pub(crate) fn needs_of(file: &[u8], layout: Layout, measure: Measure, size: u64)
             totals,
             class,
         );
-        needs = needs_after(size, needs, class, need.size);
+        needs = needs_after(counts, low, shift, needs, class, need.size);
         totals = need.totals;
         state = note(
             &mut numbers,
@@ -236,4 +268,28 @@ pub(crate) fn needs_of(file: &[u8], layout: Layout, measure: Measure, size: u64)
         i += 1;
     }
     needs
+}
+
+// The greatest need of a sample in a measure.
+pub(crate) fn greatest_need(file: &[u8], layout: Layout, measure: Measure) -> u64
+    requires { ⌜ FileLayout (decode (now file)) layout ⌝ }
+    ensures { λ r. ⌜ r ≡ greatestNeed measure (answersOf (decode (now (file .entry)))) ⌝ }
+{
+    let mut counts = [0u32; STEPS];
+    needs_of(file, layout, measure, 0, 0, &mut counts).greatest
+}
+
+// Makes each count that of all places up to its own.
+pub(crate) fn sum_up(counts: &mut [u32; STEPS])
+    requires { ⌜ (length (now counts) ≡ stepCount) × ((j : ℕ) → j < stepCount → countTo (now counts) (suc j) ≤ arrivalsMost) ⌝ }
+    ensures { λ _. ⌜ (length (now (counts .exit)) ≡ stepCount)
+        × ((j : ℕ) → j < stepCount → getD (now (counts .exit)) j 0 ≡ countTo (now (counts .entry)) (suc j)) ⌝ }
+{
+    let mut sum: u32 = 0;
+    let mut j: usize = 0;
+    while j < STEPS {
+        sum += counts[j];
+        counts[j] = sum;
+        j += 1;
+    }
 }

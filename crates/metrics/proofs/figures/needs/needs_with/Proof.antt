@@ -6,7 +6,7 @@ use Rattle.metrics.proofs.figures.needs.needs_with.Tie as tie
 
 returns : tie.Need-returns
 unfolding needsWith
-returns c = rw (c .before .one-more-if .ensures, c .greater-of .ensures)
+returns c = (rw (c .greater-of .ensures), c .before .before .count-need .ensures)
 
 pub needs-with-spec : {M : Type 1} → statement M
-needs-with-spec = tie.close (tie.spec (λ c. search needs) (λ c κs. search needs) (λ c κs. search needs) returns)
+needs-with-spec = tie.close (tie.spec (λ c κs. search needs) (λ c. search needs) (λ c κs. search needs) returns)
