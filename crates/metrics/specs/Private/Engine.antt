@@ -1,4 +1,4 @@
--- What the engine knows after some arrivals. Assumes nothing.
+-- The state of the engine after some arrivals. Assumes nothing.
 use mathlib.Core.Path.{_≡_}
 use mathlib.Core.List.{List}
 use Prim.Native.Nat.{ℕ, _*_, _≤_}
@@ -16,14 +16,14 @@ use Rattle.metrics.specs.Private.Tables.{NumberTable, Packets, EngineTab
 use Rattle.metrics.specs.declared.engine.byte_offset.Totals.{Totals}
 use Rattle.metrics.specs.declared.engine.Engine.{Engine}
 
--- a tree has the sums of the payload sizes of the first `filled` of some first arrivals, by pairs of packets, and their total is known
+-- the tree has the payload sizes of the first `filled` first arrivals, summed by pairs of packets; `total` is the sum of all of them
 pub record SizeTree (size : ℕ → ℕ) (fs : List Arrival) (tree : List ℕ) (totals : Totals) : Type 0 where
   pub places : length tree ≡ 2049
   pub some : totals .filled ≤ length fs
   pub summed : Summed (λ (k : ℕ). byteOffset size (take (totals .filled) fs) (k * 2)) tree
   pub whole : totals .total ≡ byteOffset size (take (totals .filled) fs) 0
 
--- first arrivals whose numbers a table has can be put into a tree
+-- the first arrivals in the table `numbers` can be entered in the tree
 pub record FillInput (d : Decoded) (layout : Layout) (numbers tree : List ℕ) (count : ℕ) (totals : Totals) : Type 0 where
   pub file : FileLayout d layout
   pub few : count ≤ sentMost
@@ -32,7 +32,7 @@ pub record FillInput (d : Decoded) (layout : Layout) (numbers tree : List ℕ) (
   pub numbered : NumberTable fs numbers count
   pub totalled : SizeTree (sizeOf d) fs tree totals
 
--- the tables, the tree and what is known beside them after the first i arrivals
+-- the tables, the tree and the state after the first i arrivals
 pub record EngineState (d : Decoded) (i : ℕ) (numbers records skipped tree : List ℕ) (engine : Engine) : Type 0 where
   pub follows : EngineTables (before d i) numbers records skipped (engine .noted)
   pub linked : LinkTable 1 (firsts (before d i)) skipped

@@ -18,40 +18,39 @@ use Rattle.metrics.specs.Records.{numberPlaces}
 use Rattle.metrics.specs.declared.engine.kind.Class.{Class}
 use Rattle.metrics.specs.declared.engine.seen.State.{State}
 
--- a list after one value was put at the places from `from` to before `to`, all else as it was
+-- `new` is `old` with `value` at the indices from `from` to before `to`
 pub record Filled (from to value : ℕ) (old new : List ℕ) : Type 0 where
   pub same : length new ≡ length old
   pub inside : (k : ℕ) → from ≤ k → k < to → getD new k 0 ≡ value
   pub below : (k : ℕ) → k < from → getD new k 0 ≡ getD old k 0
   pub past : (k : ℕ) → to ≤ k → getD new k 0 ≡ getD old k 0
 
--- a table has the numbers of some first arrivals, by position, and there are `count` of them
+-- the table `numbers` begins with the numbers of the first arrivals, in their order; there are `count` of them
 pub record NumberTable (fs : List Arrival) (numbers : List ℕ) (count : ℕ) : Type 0 where
   pub all : count ≡ length fs
   pub at : (p : ℕ) → p < length fs → getD numbers p 0 ≡ getD fs p noArrival .number
 
--- a table has the numbers of `count` packets, from 1 to `most`
+-- the first `count` entries of the table are numbers from 1 to `most`
 pub record Packets (numbers : List ℕ) (count most : ℕ) : Type 0 where
   pub inside : (p : ℕ) → p < count → (1 ≤ getD numbers p 0) × (getD numbers p 0 ≤ most)
 
--- the numbers of a table at the places from `low` to before `high` are above s
+-- the entries of the table at the indices from `low` to before `high` are greater than s
 pub record Above (numbers : List ℕ) (s low high : ℕ) : Type 0 where
   pub order : low ≤ high
   pub at : (p : ℕ) → low ≤ p → p < high → s < getD numbers p 0
 
--- for each of the first `count` first arrivals, `more` and what a table has at its packet are 1 and some number of places directly before
--- it, all of which hold greater numbers
+-- links: for the first arrival at index p, `links[numbers[p]] + more - 1` entries directly before it are greater than its number
 pub record Links (more : ℕ) (numbers links : List ℕ) (count : ℕ) : Type 0 where
   pub packet : (p : ℕ) → p < count → getD numbers p 0 ≤ sentMost
   pub inside : (p : ℕ) → p < count → (1 ≤ more + getD links (getD numbers p 0) 0) × (more + getD links (getD numbers p 0) 0 ≤ p + 1)
   pub at : (p : ℕ) → p < count → Above numbers (getD numbers p 0) (p + 1 - more - getD links (getD numbers p 0) 0) p
 
--- a table has the record of each packet's first arrival, 0 if it has not arrived
+-- the table `records` has for each packet the record of its first arrival, or 0 if it has not arrived
 pub record RecordTable (earlier : List Arrival) (records : List ℕ) : Type 0 where
   pub at : (s : ℕ) → 1 ≤ s → s ≤ sentMost → getD records s 0 ≡ firstRecord s earlier
 
--- the tables and the state after some arrivals: the numbers of the first arrivals, the record of each packet's, and the position of
--- the discontinuity of each packet that would be reordered
+-- the tables and the state after the arrivals `earlier`: the numbers of the first arrivals, their records, and for each packet that
+-- would be reordered the position of its discontinuity
 pub record EngineTables (earlier : List Arrival) (numbers records skipped : List ℕ) (state : State) : Type 0 where
   pub places : (length numbers ≡ sentMost) × (length records ≡ numberPlaces) × (length skipped ≡ numberPlaces)
   pub numbered : NumberTable (firsts earlier) numbers (state .count)
@@ -60,12 +59,12 @@ pub record EngineTables (earlier : List Arrival) (numbers records skipped : List
   pub skips : (s : ℕ) → 1 ≤ s → s < nextExp (firsts earlier) → has s earlier ≡ false
       → (p : FirstArrival) → discontinuity (firsts earlier) s ≡ some p → getD skipped s 0 ≡ p .position
 
--- for each first arrival, `more` and what a table has at its packet are 1 and its own largest n; from NextExp on every packet has 0
+-- links by the largest n: for each first arrival, `links[number] + more == largest n + 1`; from NextExp on every entry is 0
 pub record LinkTable (more : ℕ) (fs : List Arrival) (links : List ℕ) : Type 0 where
   pub at : (p : ℕ) → p < length fs → more + getD links (getD fs p noArrival .number) 0 ≡ largestN (take p fs) (getD fs p noArrival .number) + 1
   pub ahead : (s : ℕ) → nextExp fs ≤ s → getD links s 0 ≡ 0
 
--- record i + 1, of a packet of this number, can be noted: the tables and the state are those after i arrivals
+-- record i + 1, an arrival of packet `number`, can be noted: the tables and the state are those after the first i arrivals
 pub record NextRecord (numbers records skipped : List ℕ) (state : State) (i number : ℕ) : Type 0 where
   pub earlier : List Arrival
   pub follows : EngineTables earlier numbers records skipped state
@@ -74,8 +73,8 @@ pub record NextRecord (numbers records skipped : List ℕ) (state : State) (i nu
   pub low : 1 ≤ number
   pub high : number ≤ sentMost
 
--- record i + 1, of a packet of this number, is noted: the tables and the state are those after this arrival, and links stay links
--- if it is linked by its largest n where it is reordered
+-- record i + 1, an arrival of packet `number`, has been noted: the tables and the state are those after it. If `largest` is its largest
+-- n where it is reordered, the links stay links by the largest n
 pub record NotedRecord (i number largest : ℕ) (numbers records skipped : List ℕ) (state : State) (numbers′ records′ skipped′ : List ℕ) (state′ : State) : Type 0 where
   pub follows : (l : List Arrival) (a : Arrival) → length l ≡ i → a .number ≡ number → EngineTables l numbers records skipped state
       → EngineTables (l ++ (a ∷ [])) numbers′ records′ skipped′ state′
@@ -83,26 +82,26 @@ pub record NotedRecord (i number largest : ℕ) (numbers records skipped : List 
       → (has number l ≡ false → number < nextExp (firsts l) → largest ≡ largestN (firsts l) number)
       → LinkTable 1 (firsts l) skipped → LinkTable 1 (firsts (l ++ (a ∷ []))) skipped′
 
--- the class of an arrival of this number, by the tables and NextExp
+-- the class of an arrival of packet `number`, by the tables and NextExp
 unfoldable pub classBy : List ℕ → List ℕ → ℕ → ℕ → Class
 classBy records skipped next number =
     cond (eqb (getD records number 0) 0)
     (cond (leb next number) (Class.InOrder (number - next)) (Class.Reordered (getD skipped number 0)))
     (Class.Duplicate (getD records number 0))
 
--- the answer of a class after `count` first arrivals, with those figures of a reordered packet that its class does not tell
+-- the answer for an arrival of this class after `count` first arrivals; late time, byte offset and largest n are those of f
 abbrev pub answerBy : ℕ → Class → ReorderedFigures → Answer
 answerBy count (Class.Duplicate first) f = Answer.Duplicate (record { first = first })
 answerBy count (Class.InOrder jump) f = Answer.InOrder (record { position = count + 1; jump = jump })
 answerBy count (Class.Reordered at) f =
     Answer.Reordered (record { position = count + 1; extent = count + 1 - at; late = f .late; offset = f .offset; largest = f .largest })
 
--- a class is that of an answer, after `count` first arrivals
+-- `class` is the class of the answer a, after `count` first arrivals
 pub record ClassOf (count : ℕ) (class : Class) (a : Answer) : Type 0 where
   pub figures : ReorderedFigures
   pub is : a ≡ answerBy count class figures
 
--- what holds of a reordered packet, by the position of its discontinuity; nothing is said of any other class
+-- `holds` of the position of the discontinuity, if the class is that of a reordered packet
 abbrev pub IfLate : (ℕ → Type 0) → Class → Type 0
 IfLate holds (Class.Duplicate first) = Unit
 IfLate holds (Class.InOrder jump) = Unit
