@@ -30,8 +30,8 @@ orderRefusal k numbers times lengths mores offsets flagRoom usableRoom =
     ∷ [])
 
 -- the answer, and the caller's two lists after it, which begin with the values; the rest is unchanged
-pub record OrderedTo (k : ℕ) (numbers times lengths mores offsets flagged used : List ℕ) (answer : ℕ) (flagged′ used′ : List ℕ) : Type 0
-  where
-    pub refusal : answer ≡ orderRefusal k numbers times lengths mores offsets (length flagged) (length used)
-    pub filledFlags : flagged′ ≡ ifNone answer (over (flags (piecesOf numbers times lengths mores offsets)) flagged) flagged
-    pub filledUsable : used′ ≡ ifNone answer (over (usable (piecesOf numbers times lengths mores offsets)) used) used
+pub record OrderedTo (k : ℕ) (numbers times lengths mores offsets flagged used : List ℕ) (answer : ℕ)
+    (flagged′ used′ : List ℕ) : Type 0 where
+  pub refusal : answer ≡ orderRefusal k numbers times lengths mores offsets (length flagged) (length used)
+  pub filledFlags : flagged′ ≡ ifNone answer (over (flags (piecesOf numbers times lengths mores offsets)) flagged) flagged
+  pub filledUsable : used′ ≡ ifNone answer (over (usable (piecesOf numbers times lengths mores offsets)) used) used
