@@ -35,10 +35,12 @@ held-above : (size : ℕ → ℕ) (s : ℕ) (ps : List Packet) → All (λ (p : 
     → byteOffset size (arrivalsOf ps) s ≤ held size ps
 unfolding held byteOffset
 held-above size s [] h = omega arith
-held-above size s (p ∷ ps) h = rw (offset-front size s (p .arrival) (arrivalsOf ps)) (go (held-above size s ps (h .1)) (ltb s (p .arrival .number)) refl)
+held-above size s (p ∷ ps) h =
+    rw (offset-front size s (p .arrival) (arrivalsOf ps)) (go (held-above size s ps (h .1)) (ltb s (p .arrival .number)) refl)
   where
     go : byteOffset size (arrivalsOf ps) s ≤ held size ps → (b : Bool) → ltb s (p .arrival .number) ≡ b
-        → cond b (size (p .arrival .number)) 0 + byteOffset size (arrivalsOf ps) s ≤ cond (p .passed) 0 (size (p .arrival .number)) + held size ps
+        → cond b (size (p .arrival .number)) 0 + byteOffset size (arrivalsOf ps) s ≤ cond (p .passed) 0 (size (p .arrival .number))
+        + held size ps
     go k true q = rw (h .0 (ltb-true s (p .arrival .number) q)) (omega (arith, k))
     go k false q = omega (arith, k)
 
@@ -47,13 +49,16 @@ held-only : (size : ℕ → ℕ) (s : ℕ) (ps : List Packet) → All (λ (p : P
     → held size ps ≤ byteOffset size (arrivalsOf ps) s
 unfolding held byteOffset
 held-only size s [] h = omega arith
-held-only size s (p ∷ ps) h = rw (offset-front size s (p .arrival) (arrivalsOf ps)) (go (held-only size s ps (h .1)) (ltb s (p .arrival .number)) refl (p .passed) refl)
+held-only size s (p ∷ ps) h =
+    rw (offset-front size s (p .arrival) (arrivalsOf ps)) (go (held-only size s ps (h .1)) (ltb s (p .arrival .number)) refl (p .passed)
+    refl)
   where
     go : held size ps ≤ byteOffset size (arrivalsOf ps) s → (b : Bool) → ltb s (p .arrival .number) ≡ b → (c : Bool) → p .passed ≡ c
         → cond c 0 (size (p .arrival .number)) + held size ps ≤ cond b (size (p .arrival .number)) 0 + byteOffset size (arrivalsOf ps) s
     go k true q c e = few c
       where
-        few : (c : Bool) → cond c 0 (size (p .arrival .number)) + held size ps ≤ size (p .arrival .number) + byteOffset size (arrivalsOf ps) s
+        few : (c : Bool) → cond c 0 (size (p .arrival .number)) + held size ps ≤ size (p .arrival .number)
+            + byteOffset size (arrivalsOf ps) s
         few true = omega (arith, k)
         few false = omega (arith, k)
     go k false q true e = omega (arith, k)
@@ -76,14 +81,16 @@ prompt-pass : (ps qs : List Packet) → All (Prompt (arrivalsOf ps)) (passOn (λ
 unfolding passOn
 prompt-pass ps [] = tt
 prompt-pass ps (q ∷ qs) = (
-  (λ h. on-right (q .passed) (settledTo ps (q .arrival .number - 1)) (settled-all ps (q .arrival .number - 1) (λ s g l. h s g (omega (arith, g, l))))),
+  (λ h. on-right (q .passed) (settledTo ps (q .arrival .number - 1))
+      (settled-all ps (q .arrival .number - 1) (λ s g l. h s g (omega (arith, g, l))))),
   prompt-pass ps qs,
 )
 
 module _ (w : ℕ) where
   prompt-settle : (fs : List Arrival) (ps : List Packet) → arrivalsOf ps ≡ fs → All (Prompt fs) (settle ps)
   unfolding settle
-  prompt-settle fs ps e = subst (λ (l : List Arrival). All (Prompt l) (passOn (λ (a : Arrival). settledTo ps (a .number - 1)) ps)) e (prompt-pass ps ps)
+  prompt-settle fs ps e =
+      subst (λ (l : List Arrival). All (Prompt l) (passOn (λ (a : Arrival). settledTo ps (a .number - 1)) ps)) e (prompt-pass ps ps)
 
   -- no step changes an arrival
   arrivals-settle : (ps : List Packet) → arrivalsOf (settle ps) ≡ arrivalsOf ps
@@ -111,18 +118,21 @@ module _ (w : ℕ) where
       more : (fs : List Arrival) (a : Arrival) → Kept fs → Kept (fs ++ (a ∷ []))
       more fs a k =
           let ps : List Packet = until w (a .time) (received w fs) ++ (record { arrival = a; passed = false } ∷ []) in
-          let e : arrivalsOf ps ≡ fs ++ (a ∷ []) = arrivals-one (received w fs) a ∙ ap (λ (l : List Arrival). l ++ (a ∷ [])) (k .arrivals) in
+          let e : arrivalsOf ps ≡ fs ++ (a ∷ []) =
+          arrivals-one (received w fs) a ∙ ap (λ (l : List Arrival). l ++ (a ∷ [])) (k .arrivals) in
           record {
             arrivals = ap arrivalsOf (received-more w fs a) ∙ arrivals-settle ps ∙ e;
             prompt = rw (received-more w fs a) (prompt-settle (fs ++ (a ∷ [])) ps e);
           }
 
   -- only those are held that have a number greater than one before which all have arrived
-  held-offset : (fs : List Arrival) (size : ℕ → ℕ) (s : ℕ) → ((r : ℕ) → 1 ≤ r → r < s → has r fs ≡ true) → held size (received w fs) ≤ byteOffset size fs s
+  held-offset : (fs : List Arrival) (size : ℕ → ℕ) (s : ℕ) → ((r : ℕ) → 1 ≤ r → r < s → has r fs ≡ true)
+      → held size (received w fs) ≤ byteOffset size fs s
   held-offset fs size s f =
       subst (λ (l : List Arrival). held size (received w fs) ≤ byteOffset size l s) (kept fs .arrivals)
       (held-only size s (received w fs)
-      (all-weaken {P = Prompt fs} {Q = λ (p : Packet). p .arrival .number ≤ s → p .passed ≡ true} (λ p k l. k (λ r g i. f r g (omega (arith, i, l)))) (received w fs) (kept fs .prompt)))
+      (all-weaken {P = Prompt fs} {Q = λ (p : Packet). p .arrival .number ≤ s → p .passed ≡ true}
+      (λ p k l. k (λ r g i. f r g (omega (arith, i, l)))) (received w fs) (kept fs .prompt)))
 
   -- all that have a greater number than one that is not overtaken are held
   above-held : (s : ℕ) (ps : List Packet) → overtaken s ps ≡ false → All (λ (p : Packet). s < p .arrival .number → p .passed ≡ false) ps
@@ -145,7 +155,8 @@ module _ (w : ℕ) where
   offset-held : (t : ℕ) (fs : List Arrival) (size : ℕ → ℕ) (s : ℕ) → overtaken s (until w t (received w fs)) ≡ false
       → byteOffset size fs s ≤ held size (until w t (received w fs))
   offset-held t fs size s e =
-      subst (λ (l : List Arrival). byteOffset size l s ≤ held size (until w t (received w fs))) (arrivals-until t (received w fs) ∙ kept fs .arrivals)
+      subst (λ (l : List Arrival). byteOffset size l s ≤ held size (until w t (received w fs)))
+      (arrivals-until t (received w fs) ∙ kept fs .arrivals)
       (held-above size s (until w t (received w fs)) (above-held s (until w t (received w fs)) e))
 
   -- what is held falls
@@ -163,7 +174,11 @@ module _ (w : ℕ) where
   held-until : (t : ℕ) (size : ℕ → ℕ) (ps : List Packet) → held size (until w t ps) ≤ held size ps
   unfolding until settle
   held-until t size ps =
-      omega (arith, held-pass size (λ (a : Arrival). settledTo (passOn (due w t ps) ps) (a .number - 1)) (passOn (due w t ps) ps), held-pass size (due w t ps) ps)
+      omega (
+        arith,
+        held-pass size (λ (a : Arrival). settledTo (passOn (due w t ps) ps) (a .number - 1)) (passOn (due w t ps) ps),
+        held-pass size (due w t ps) ps,
+      )
 
 -- ---- the least number that has not arrived
 
@@ -175,7 +190,14 @@ record Missing (fs : List Arrival) (k : ℕ) : Type 0 where
   all : (s : ℕ) → 1 ≤ s → s < at → has s fs ≡ true
 
 missing : (fs : List Arrival) (k : ℕ) → Missing fs k
-missing fs zero = record { at = 1; low = omega arith; high = omega arith; new = λ h. absurd (omega (arith, h)); all = λ s g l. absurd (omega (arith, g, l)) }
+missing fs zero =
+    record {
+      at = 1;
+      low = omega arith;
+      high = omega arith;
+      new = λ h. absurd (omega (arith, h));
+      all = λ s g l. absurd (omega (arith, g, l));
+    }
 missing fs (suc k) = go (missing fs k)
   where
     last : (m : Missing fs k) → k < m .at → (b : Bool) → has (suc k) fs ≡ b → Missing fs (suc k)
@@ -217,7 +239,9 @@ module _ (m : Measure) (size : ℕ → ℕ) where
       let k = greatest-grows after (before ++ (a ∷ [])) in
       let e : (before ++ (a ∷ [])) ++ after ≡ before ++ (a ∷ after) = append-assoc before (a ∷ []) after in
       let h = subst (λ (l : List Arrival). greatestNeed m (answers size (before ++ (a ∷ []))) ≤ greatestNeed m (answers size l)) e k in
-      let g = subst (λ (l : List Answer). greatestNeed m (answers size before) ≤ greatestNeed m l) (sym (answers-more size before a)) (need-least m (answers size before) (answerTo size before a) .0) in
+      let g =
+      subst (λ (l : List Answer). greatestNeed m (answers size before) ≤ greatestNeed m l) (sym (answers-more size before a))
+      (need-least m (answers size before) (answerTo size before a) .0) in
       omega (arith, g, h)
 
   -- where a packet needs at least the sum of z over the greater numbers before it, that of a number that has not arrived is reached
@@ -238,7 +262,8 @@ module _ (m : Measure) (size : ℕ → ℕ) where
         split : (before ++ (a ∷ [])) ++ after ≡ before ++ (a ∷ after)
         split = append-assoc before (a ∷ []) after
 
-        go : (has s (before ++ (a ∷ [])) ≡ false → byteOffset z (firsts (before ++ (a ∷ []))) s ≤ greatestNeed m (answers size ((before ++ (a ∷ [])) ++ after)))
+        go : (has s (before ++ (a ∷ [])) ≡ false → byteOffset z (firsts (before ++ (a ∷ []))) s
+            ≤ greatestNeed m (answers size ((before ++ (a ∷ [])) ++ after)))
             → (b : Bool) → eqb (a .number) s ≡ b
             → byteOffset z (firsts before) s ≤ greatestNeed m (answers size ((before ++ (a ∷ [])) ++ after))
         go k false q =
@@ -246,10 +271,13 @@ module _ (m : Measure) (size : ℕ → ℕ) where
             omega (arith, i, offset-grows before a s)
         go k true q =
             let i : a .number ≡ s = eqb-true (a .number) s q in
-            let v : answerTo size before a ≡ firstAnswer size (firsts before) a = answer-first size before a (ap (λ (r : ℕ). has r before) i ∙ n) in
+            let v : answerTo size before a ≡ firstAnswer size (firsts before) a =
+            answer-first size before a (ap (λ (r : ℕ). has r before) i ∙ n) in
             let x = needs (firsts before) a in
             let y : byteOffset z (firsts before) s ≤ neededFor m (answerTo size before a) = rw (v, ← i) x in
-            let g = subst (λ (l : List Answer). neededFor m (answerTo size before a) ≤ greatestNeed m l) (sym (answers-more size before a)) (need-least m (answers size before) (answerTo size before a) .1) in
+            let g =
+            subst (λ (l : List Answer). neededFor m (answerTo size before a) ≤ greatestNeed m l) (sym (answers-more size before a))
+            (need-least m (answers size before) (answerTo size before a) .1) in
             omega (arith, y, g, greatest-grows after (before ++ (a ∷ [])))
 
 -- ---- what a first arrival needs
@@ -269,7 +297,8 @@ module _ (size : ℕ → ℕ) (fs : List Arrival) (a : Arrival) where
   unfolding inOrderAnswer reorderedAnswer
   needs-packets = go (leb (nextExp fs) (a .number)) refl
     where
-      go : (b : Bool) → leb (nextExp fs) (a .number) ≡ b → byteOffset (λ _. 1) fs (a .number) ≤ neededFor Measure.Packets (firstAnswer size fs a)
+      go : (b : Bool) → leb (nextExp fs) (a .number) ≡ b → byteOffset (λ _. 1) fs (a .number)
+          ≤ neededFor Measure.Packets (firstAnswer size fs a)
       go true q =
           let n = leb-true (nextExp fs) (a .number) q in
           rw (first-in-order size fs a n, offset-in-order (λ _. 1) (a .number) fs n) (omega arith)
@@ -286,8 +315,10 @@ module _ (size : ℕ → ℕ) (fs : List Arrival) (a : Arrival) where
 
 -- ---- never more than is needed
 
-pub never-more : (m : Measure) (size z : ℕ → ℕ) → ((fs : List Arrival) (a : Arrival) → byteOffset z fs (a .number) ≤ neededFor m (firstAnswer size fs a))
-    → (w k : ℕ) (before after : List Arrival) → All (λ (a : Arrival). a .number ≤ k) before → ((s : ℕ) → 1 ≤ s → s ≤ k → has s (before ++ after) ≡ true)
+pub never-more : (m : Measure) (size z : ℕ → ℕ) → ((fs : List Arrival) (a : Arrival)
+    → byteOffset z fs (a .number) ≤ neededFor m (firstAnswer size fs a))
+    → (w k : ℕ) (before after : List Arrival) → All (λ (a : Arrival). a .number ≤ k) before
+    → ((s : ℕ) → 1 ≤ s → s ≤ k → has s (before ++ after) ≡ true)
     → held z (received w (firsts before)) ≤ greatestNeed m (answers size (before ++ after))
 never-more m size z needs w k before after h all = go (leb (i .at) k) refl
   where
@@ -303,10 +334,17 @@ never-more m size z needs w k before after h all = go (leb (i .at) k) refl
     go : (b : Bool) → leb (i .at) k ≡ b → held z (received w fs) ≤ greatestNeed m (answers size (before ++ after))
     go true q =
         let l = leb-true (i .at) k q in
-        omega (arith, least, comes m size z needs after before (i .at) (sym (has-firsts (i .at) before) ∙ i .new l) (all (i .at) (i .low) l))
+        omega (
+          arith,
+          least,
+          comes m size z needs after before (i .at) (sym (has-firsts (i .at) before) ∙ i .new l)
+              (all (i .at) (i .low) l),
+        )
     go false q =
         let n = leb-false (i .at) k q in
-        let e : byteOffset z fs (i .at) ≡ 0 = offset-none z (i .at) fs (all-weaken {P = λ (a : Arrival). a .number ≤ k} {Q = λ (a : Arrival). a .number ≤ i .at} (λ a g. omega (arith, g, n)) fs (all-firsts (λ (a : Arrival). a .number ≤ k) before h)) in
+        let e : byteOffset z fs (i .at) ≡ 0 =
+        offset-none z (i .at) fs (all-weaken {P = λ (a : Arrival). a .number ≤ k} {Q = λ (a : Arrival). a .number ≤ i .at}
+        (λ a g. omega (arith, g, n)) fs (all-firsts (λ (a : Arrival). a .number ≤ k) before h)) in
         omega (arith, least, e)
 
 -- ---- as it is stated
@@ -315,7 +353,9 @@ pub holds-offset : HoldsOffset
 unfolding inTime
 holds-offset =
     record {
-      found = λ w size before a e. reached w size before a (both (not (has (a .number) before)) (not (overtaken (a .number) (until w (a .time) (received w (firsts before))))) e);
+      found =
+          λ w size before a e. reached w size before a (both (not (has (a .number) before))
+          (not (overtaken (a .number) (until w (a .time) (received w (firsts before))))) e);
       falls = held-until;
     }
   where

@@ -15,7 +15,8 @@ use Rattle.rfc4737.proofs.Lists.{snoc-ind, All, all-weaken}
 use Rattle.buffering.specs.Restoring.{Packet, arrivalsOf, overtaken, passOn, settledTo, settle, until, receive, received, NoneBehind, RestoresOrder}
 use Rattle.buffering.proofs.InTime.{due, settled-at, received-more}
 
-settled-build : (ps : List Packet) (n : ℕ) → ((s : ℕ) → 1 ≤ s → s ≤ n → (has s (arrivalsOf ps) || overtaken s ps) ≡ true) → settledTo ps n ≡ true
+settled-build : (ps : List Packet) (n : ℕ) → ((s : ℕ) → 1 ≤ s → s ≤ n → (has s (arrivalsOf ps) || overtaken s ps) ≡ true)
+    → settledTo ps n ≡ true
 unfolding settledTo
 settled-build ps zero h = refl
 settled-build ps (suc n) h =
@@ -30,8 +31,10 @@ passed-overtakes : (ps : List Packet) → All (Overtakes ps) ps
 unfolding overtaken
 passed-overtakes [] = tt
 passed-overtakes (p ∷ ps) = (
-  (λ e s l. on-left (p .passed && ltb s (p .arrival .number)) (overtaken s ps) (join (p .passed) (ltb s (p .arrival .number)) e (lt-ltb s (p .arrival .number) l))),
-  all-weaken {P = Overtakes ps} {Q = Overtakes (p ∷ ps)} (λ q k e s l. on-right (p .passed && ltb s (p .arrival .number)) (overtaken s ps) (k e s l)) ps (passed-overtakes ps),
+  (λ e s l. on-left (p .passed && ltb s (p .arrival .number)) (overtaken s ps)
+      (join (p .passed) (ltb s (p .arrival .number)) e (lt-ltb s (p .arrival .number) l))),
+  all-weaken {P = Overtakes ps} {Q = Overtakes (p ∷ ps)} (λ q k e s l. on-right (p .passed && ltb s (p .arrival .number)) (overtaken s ps)
+      (k e s l)) ps (passed-overtakes ps),
 )
 
 -- what is overtaken after settling had no smaller number to wait for
@@ -40,7 +43,8 @@ overtaken-settled : (ps qs : List Packet) (n : ℕ) → All (Overtakes ps) qs
 unfolding overtaken passOn
 overtaken-settled ps [] n h e = absurd (true≢false (sym e))
 overtaken-settled ps (q ∷ qs) n h e =
-    either ((q .passed || settledTo ps (q .arrival .number - 1)) && ltb n (q .arrival .number)) (overtaken n (passOn (λ (a : Arrival). settledTo ps (a .number - 1)) qs)) e
+    either ((q .passed || settledTo ps (q .arrival .number - 1)) && ltb n (q .arrival .number))
+    (overtaken n (passOn (λ (a : Arrival). settledTo ps (a .number - 1)) qs)) e
     (λ b. let k = both (q .passed || settledTo ps (q .arrival .number - 1)) (ltb n (q .arrival .number)) b in
     let l = ltb-true n (q .arrival .number) (k .1) in
     either (q .passed) (settledTo ps (q .arrival .number - 1)) (k .0)
@@ -52,17 +56,20 @@ none-behind : (all ps qs : List Packet) → ((n : ℕ) → overtaken n all ≡ t
     → NoneBehind all (passOn (λ (a : Arrival). settledTo ps (a .number - 1)) qs)
 unfolding passOn
 none-behind all ps [] f = tt
-none-behind all ps (q ∷ qs) f = ((λ e. on-right (q .passed) (settledTo ps (q .arrival .number - 1)) (f (q .arrival .number) e)), none-behind all ps qs f)
+none-behind all ps (q ∷ qs) f =
+    ((λ e. on-right (q .passed) (settledTo ps (q .arrival .number - 1)) (f (q .arrival .number) e)), none-behind all ps qs f)
 
 settle-order : (ps : List Packet) → NoneBehind (settle ps) (settle ps)
 unfolding settle
-settle-order ps = none-behind (passOn (λ (a : Arrival). settledTo ps (a .number - 1)) ps) ps ps (λ n e. overtaken-settled ps ps n (passed-overtakes ps) e)
+settle-order ps =
+    none-behind (passOn (λ (a : Arrival). settledTo ps (a .number - 1)) ps) ps ps (λ n e. overtaken-settled ps ps n (passed-overtakes ps) e)
 
 received-order : (w : ℕ) (fs : List Arrival) → NoneBehind (received w fs) (received w fs)
 unfolding received receive
 received-order w = snoc-ind (λ (fs : List Arrival). NoneBehind (received w fs) (received w fs)) more tt
   where
-    more : (fs : List Arrival) (a : Arrival) → NoneBehind (received w fs) (received w fs) → NoneBehind (received w (fs ++ (a ∷ []))) (received w (fs ++ (a ∷ [])))
+    more : (fs : List Arrival) (a : Arrival) → NoneBehind (received w fs) (received w fs)
+        → NoneBehind (received w (fs ++ (a ∷ []))) (received w (fs ++ (a ∷ [])))
     more fs a h =
         subst (λ (ps : List Packet). NoneBehind ps ps) (sym (received-more w fs a))
         (settle-order (until w (a .time) (received w fs) ++ (record { arrival = a; passed = false } ∷ [])))

@@ -43,7 +43,8 @@ module _ (w : ℕ) where
       either (ltb s (b .number) && ltb (b .time + w) t) (overdue w t s l) e
       (λ q. let k = both (ltb s (b .number)) (ltb (b .time + w) t) q in
       let n = ltb-true (b .time + w) t (k .1) in
-      on-left (ltb s (b .number) && ltb (b .time + w) u) (overdue w u s l) (join (ltb s (b .number)) (ltb (b .time + w) u) (k .0) (lt-ltb (b .time + w) u (omega (arith, n, h)))))
+      on-left (ltb s (b .number) && ltb (b .time + w) u) (overdue w u s l)
+      (join (ltb s (b .number)) (ltb (b .time + w) u) (k .0) (lt-ltb (b .time + w) u (omega (arith, n, h)))))
       (λ q. on-right (ltb s (b .number) && ltb (b .time + w) u) (overdue w u s l) (overdue-later t u s h l q))
 
   -- for a smaller number
@@ -54,7 +55,8 @@ module _ (w : ℕ) where
       either (ltb r (b .number) && ltb (b .time + w) t) (overdue w t r l) e
       (λ q. let k = both (ltb r (b .number)) (ltb (b .time + w) t) q in
       let n = ltb-true r (b .number) (k .0) in
-      on-left (ltb s (b .number) && ltb (b .time + w) t) (overdue w t s l) (join (ltb s (b .number)) (ltb (b .time + w) t) (lt-ltb s (b .number) (omega (arith, n, h))) (k .1)))
+      on-left (ltb s (b .number) && ltb (b .time + w) t) (overdue w t s l)
+      (join (ltb s (b .number)) (ltb (b .time + w) t) (lt-ltb s (b .number) (omega (arith, n, h))) (k .1)))
       (λ q. on-right (ltb s (b .number) && ltb (b .time + w) t) (overdue w t s l) (overdue-less t s r h l q))
 
   -- among more
@@ -74,8 +76,10 @@ module _ (w : ℕ) where
   unfolding overdue
   overdue-one t [] = tt
   overdue-one t (b ∷ l) = (
-    (λ s h e. on-left (ltb s (b .number) && ltb (b .time + w) t) (overdue w t s l) (join (ltb s (b .number)) (ltb (b .time + w) t) (lt-ltb s (b .number) h) e)),
-    all-weaken {P = Shows t l} {Q = Shows t (b ∷ l)} (λ c k s h e. on-right (ltb s (b .number) && ltb (b .time + w) t) (overdue w t s l) (k s h e)) l (overdue-one t l),
+    (λ s h e. on-left (ltb s (b .number) && ltb (b .time + w) t) (overdue w t s l)
+        (join (ltb s (b .number)) (ltb (b .time + w) t) (lt-ltb s (b .number) h) e)),
+    all-weaken {P = Shows t l} {Q = Shows t (b ∷ l)} (λ c k s h e. on-right (ltb s (b .number) && ltb (b .time + w) t) (overdue w t s l)
+        (k s h e)) l (overdue-one t l),
   )
 
   -- ---- what the receiver keeps
@@ -127,8 +131,10 @@ module _ (w : ℕ) where
   overtaken-pass ready s (p ∷ ps) e =
       either (p .passed && ltb s (p .arrival .number)) (overtaken s ps) e
       (λ q. let k = both (p .passed) (ltb s (p .arrival .number)) q in
-      on-left ((p .passed || ready (p .arrival)) && ltb s (p .arrival .number)) (overtaken s (passOn ready ps)) (join (p .passed || ready (p .arrival)) (ltb s (p .arrival .number)) (on-left (p .passed) (ready (p .arrival)) (k .0)) (k .1)))
-      (λ q. on-right ((p .passed || ready (p .arrival)) && ltb s (p .arrival .number)) (overtaken s (passOn ready ps)) (overtaken-pass ready s ps q))
+      on-left ((p .passed || ready (p .arrival)) && ltb s (p .arrival .number)) (overtaken s (passOn ready ps))
+      (join (p .passed || ready (p .arrival)) (ltb s (p .arrival .number)) (on-left (p .passed) (ready (p .arrival)) (k .0)) (k .1)))
+      (λ q. on-right ((p .passed || ready (p .arrival)) && ltb s (p .arrival .number)) (overtaken s (passOn ready ps))
+      (overtaken-pass ready s ps q))
 
   -- where all that waited are passed on, what is overdue overtakes
   overdue-passed : (ready : Arrival → Bool) (t s : ℕ) → ((a : Arrival) → ltb (a .time + w) t ≡ true → ready a ≡ true)
@@ -138,8 +144,11 @@ module _ (w : ℕ) where
   overdue-passed ready t s f (p ∷ ps) e =
       either (ltb s (p .arrival .number) && ltb (p .arrival .time + w) t) (overdue w t s (arrivalsOf ps)) e
       (λ q. let k = both (ltb s (p .arrival .number)) (ltb (p .arrival .time + w) t) q in
-      on-left ((p .passed || ready (p .arrival)) && ltb s (p .arrival .number)) (overtaken s (passOn ready ps)) (join (p .passed || ready (p .arrival)) (ltb s (p .arrival .number)) (on-right (p .passed) (ready (p .arrival)) (f (p .arrival) (k .1))) (k .0)))
-      (λ q. on-right ((p .passed || ready (p .arrival)) && ltb s (p .arrival .number)) (overtaken s (passOn ready ps)) (overdue-passed ready t s f ps q))
+      on-left ((p .passed || ready (p .arrival)) && ltb s (p .arrival .number)) (overtaken s (passOn ready ps))
+      (join (p .passed || ready (p .arrival)) (ltb s (p .arrival .number))
+      (on-right (p .passed) (ready (p .arrival)) (f (p .arrival) (k .1))) (k .0)))
+      (λ q. on-right ((p .passed || ready (p .arrival)) && ltb s (p .arrival .number)) (overtaken s (passOn ready ps))
+      (overdue-passed ready t s f ps q))
 
   -- each of the numbers 1 to n
   pub settled-at : (ps : List Packet) (n s : ℕ) → settledTo ps n ≡ true → 1 ≤ s → s ≤ n → (has s (arrivalsOf ps) || overtaken s ps) ≡ true
@@ -168,7 +177,9 @@ module _ (w : ℕ) where
   keeps-settle t fs ps h =
       record {
         arrivals = arrivals-pass ready ps ∙ h .arrivals;
-        patient = patient-pass t fs ready ps (h .patient) (all-every (λ (p : Packet). Waited t fs (record { arrival = p .arrival; passed = ready (p .arrival) })) one ps);
+        patient =
+            patient-pass t fs ready ps (h .patient) (all-every
+            (λ (p : Packet). Waited t fs (record { arrival = p .arrival; passed = ready (p .arrival) })) one ps);
       }
     where
       ready : Arrival → Bool
@@ -194,7 +205,8 @@ module _ (w : ℕ) where
   patient-due : (t : ℕ) (ps : List Packet) → Patient t (arrivalsOf ps) ps → Patient t (arrivalsOf ps) (passOn (due t ps) ps)
   patient-due t ps h =
       patient-pass t (arrivalsOf ps) (due t ps) ps h
-      (all-weaken {P = λ (p : Packet). Shows t (arrivalsOf ps) (p .arrival)} {Q = λ (p : Packet). Waited t (arrivalsOf ps) (record { arrival = p .arrival; passed = due t ps (p .arrival) })}
+      (all-weaken {P = λ (p : Packet). Shows t (arrivalsOf ps) (p .arrival)}
+      {Q = λ (p : Packet). Waited t (arrivalsOf ps) (record { arrival = p .arrival; passed = due t ps (p .arrival) })}
       (λ p k e s g l n.
       either (ltb (p .arrival .time + w) t) (overdue w t (p .arrival .number) (arrivalsOf ps)) e
       (λ q. k s l q)
@@ -220,14 +232,16 @@ module _ (w : ℕ) where
         patient =
             all-append (Waited t (fs ++ (a ∷ []))) ps (new ∷ [])
             (all-weaken {P = Waited t fs} {Q = Waited t (fs ++ (a ∷ []))}
-            (λ p k e s g l n. overdue-more t s fs (a ∷ []) (k e s g l (neither (has s fs) (eqb (a .number) s) (sym (has-more s fs a) ∙ n) .0))) ps (h .patient))
+            (λ p k e s g l n. overdue-more t s fs (a ∷ []) (k e s g l
+            (neither (has s fs) (eqb (a .number) s) (sym (has-more s fs a) ∙ n) .0))) ps (h .patient))
             ((λ e. absurd (true≢false (sym e))), tt);
       }
     where
       new : Packet
       new = record { arrival = a; passed = false }
 
-  keeps-receive : (fs : List Arrival) (ps : List Packet) (a : Arrival) → Keeps (a .time) fs ps → Keeps (a .time) (fs ++ (a ∷ [])) (receive w ps a)
+  keeps-receive : (fs : List Arrival) (ps : List Packet) (a : Arrival) → Keeps (a .time) fs ps
+      → Keeps (a .time) (fs ++ (a ∷ [])) (receive w ps a)
   unfolding receive
   keeps-receive fs ps a h = keeps-settle (a .time) _ _ (keeps-one (a .time) fs _ a (keeps-until (a .time) fs ps h))
 
@@ -251,7 +265,8 @@ module _ (w : ℕ) where
       (λ o t h. record { arrivals = refl; patient = tt })
     where
       more : (fs : List Arrival) (a : Arrival) → (Ordered NotBack fs → (t : ℕ) → All (By t) fs → Keeps t fs (received w fs))
-          → Ordered NotBack (fs ++ (a ∷ [])) → (t : ℕ) → All (By t) (fs ++ (a ∷ [])) → Keeps t (fs ++ (a ∷ [])) (received w (fs ++ (a ∷ [])))
+          → Ordered NotBack (fs ++ (a ∷ [])) → (t : ℕ) → All (By t) (fs ++ (a ∷ []))
+          → Keeps t (fs ++ (a ∷ [])) (received w (fs ++ (a ∷ [])))
       more fs a k o t h =
           rw (received-more fs a)
           (keeps-later t (a .time) (fs ++ (a ∷ [])) (receive w (received w fs) a) (all-right (By t) fs (a ∷ []) h .0)
@@ -297,12 +312,15 @@ module _ (w : ℕ) where
       late true q = let n = ltb-true (b .time + w) t q in lt-leb (t - b .time) w (omega (arith, n))
       late false q =
           let n = ltb-false (b .time + w) t q in
-          let z : overdue w t s l ≡ false = none-overdue t s l (all-weaken {P = NotBack b} {Q = λ (c : Arrival). s < c .number → t ≤ c .time + w} (λ c k g. omega (arith, k, n)) l (o .0)) in
+          let z : overdue w t s l ≡ false =
+          none-overdue t s l (all-weaken {P = NotBack b} {Q = λ (c : Arrival). s < c .number → t ≤ c .time + w}
+          (λ c k g. omega (arith, k, n)) l (o .0)) in
           rw z (le-leb (t - b .time) w (omega (arith, n)))
 
       go : leb (waitingTime (lateFrom t (firstAbove s (eachAfter placeAfter (before ++ (b ∷ [])) l)))) w ≡ not (overdue w t s l)
           → (c : Bool)
-          → leb (waitingTime (lateFrom t (cond c (some (placeAfter before b)) (firstAbove s (eachAfter placeAfter (before ++ (b ∷ [])) l))))) w
+          → leb (waitingTime (lateFrom t (cond c (some (placeAfter before b))
+          (firstAbove s (eachAfter placeAfter (before ++ (b ∷ [])) l))))) w
           ≡ not ((c && ltb (b .time + w) t) || overdue w t s l)
       go k true = rw (le-ltb t (b .time) (h .0)) (late (ltb (b .time + w) t) refl)
       go k false = k
@@ -314,7 +332,8 @@ module _ (w : ℕ) where
 
   none-above : (t s : ℕ) (fs : List Arrival) → nextExp fs ≤ s → overdue w t s fs ≡ false
   none-above t s fs h =
-      none-overdue t s fs (all-weaken {P = λ (b : Arrival). b .number < nextExp fs} {Q = λ (b : Arrival). s < b .number → t ≤ b .time + w} (λ b q g. absurd (omega (arith, q, g, h))) fs (below-next fs))
+      none-overdue t s fs (all-weaken {P = λ (b : Arrival). b .number < nextExp fs} {Q = λ (b : Arrival). s < b .number → t ≤ b .time + w}
+      (λ b q g. absurd (omega (arith, q, g, h))) fs (below-next fs))
 
   -- a first arrival is accommodated exactly if none is overdue
   first-accommodated : (size : ℕ → ℕ) (fs : List Arrival) (a : Arrival) → Ordered NotBack fs → All (By (a .time)) fs
@@ -322,7 +341,8 @@ module _ (w : ℕ) where
   unfolding inOrderAnswer reorderedAnswer
   first-accommodated size fs a o h = go (leb (nextExp fs) (a .number)) refl
     where
-      go : (b : Bool) → leb (nextExp fs) (a .number) ≡ b → accommodates Measure.Time w (firstAnswer size fs a) ≡ not (overdue w (a .time) (a .number) fs)
+      go : (b : Bool) → leb (nextExp fs) (a .number) ≡ b → accommodates Measure.Time w (firstAnswer size fs a)
+          ≡ not (overdue w (a .time) (a .number) fs)
       go true q =
           let n = leb-true (nextExp fs) (a .number) q in
           rw (first-in-order size fs a n, none-above (a .time) (a .number) fs n) (le-leb 0 w (omega arith))
@@ -352,12 +372,20 @@ module _ (w : ℕ) where
       → each (inTime w) l ≡ map (accommodates Measure.Time w) (answers size l)
   unfolding each eachAfter answers
   all-in-time size =
-      snoc-ind (λ (l : List Arrival). Ordered NotBack l → All (λ (a : Arrival). 1 ≤ a .number) l → each (inTime w) l ≡ map (accommodates Measure.Time w) (answers size l)) more (λ o n. refl)
+      snoc-ind (λ (l : List Arrival). Ordered NotBack l → All (λ (a : Arrival). 1 ≤ a .number) l
+      → each (inTime w) l ≡ map (accommodates Measure.Time w) (answers size l)) more (λ o n. refl)
     where
       more : (l : List Arrival) (a : Arrival)
-          → (Ordered NotBack l → All (λ (a : Arrival). 1 ≤ a .number) l → each (inTime w) l ≡ map (accommodates Measure.Time w) (answers size l))
+          → (Ordered NotBack l → All (λ (a : Arrival). 1 ≤ a .number) l
+          → each (inTime w) l ≡ map (accommodates Measure.Time w) (answers size l))
           → Ordered NotBack (l ++ (a ∷ [])) → All (λ (a : Arrival). 1 ≤ a .number) (l ++ (a ∷ []))
           → each (inTime w) (l ++ (a ∷ [])) ≡ map (accommodates Measure.Time w) (answers size (l ++ (a ∷ [])))
       more l a k o n =
-          rw (each-more (inTime w) l a, answers-more size l a, map-append (accommodates Measure.Time w) (answers size l) (answerTo size l a ∷ []), k (ordered-left NotBack l (a ∷ []) o) (all-left _ l (a ∷ []) n), one-in-time size l a o (all-right (λ (a : Arrival). 1 ≤ a .number) l (a ∷ []) n .0))
+          rw (
+            each-more (inTime w) l a,
+            answers-more size l a,
+            map-append (accommodates Measure.Time w) (answers size l) (answerTo size l a ∷ []),
+            k (ordered-left NotBack l (a ∷ []) o) (all-left _ l (a ∷ []) n),
+            one-in-time size l a o (all-right (λ (a : Arrival). 1 ≤ a .number) l (a ∷ []) n .0),
+          )
           refl

@@ -38,8 +38,11 @@ unfolding stepsBack
 steps-low t [] e = tt
 steps-low t (a ∷ l) e =
     let k = neither (ltb (a .time) t) (stepsBack (a .time) l) e in
-    let n = ltb-false (a .time) t (k .0) in
-    (n, all-weaken {P = λ (b : Arrival). a .time ≤ b .time} {Q = λ (b : Arrival). t ≤ b .time} (λ b q. omega (arith, q, n)) l (steps-low (a .time) l (k .1)))
+    let n = ltb-false (a .time) t (k .0) in (
+      n,
+      all-weaken {P = λ (b : Arrival). a .time ≤ b .time} {Q = λ (b : Arrival). t ≤ b .time} (λ b q. omega (arith, q, n)) l
+          (steps-low (a .time) l (k .1)),
+    )
 
 steps-ordered : (t : ℕ) (l : List Arrival) → stepsBack t l ≡ false → Ordered NotBack l
 unfolding stepsBack
@@ -55,7 +58,8 @@ module _ (w : ℕ) (z : ℕ → ℕ) where
   abbrev now-held : List Arrival → Arrival → ℕ
   now-held l a = held z (received w (firsts (l ++ (a ∷ []))))
 
-  most-least : (l : List Arrival) (a : Arrival) → (mostHeld w z l ≤ mostHeld w z (l ++ (a ∷ []))) × (now-held l a ≤ mostHeld w z (l ++ (a ∷ [])))
+  most-least : (l : List Arrival) (a : Arrival) → (mostHeld w z l ≤ mostHeld w z (l ++ (a ∷ [])))
+      × (now-held l a ≤ mostHeld w z (l ++ (a ∷ [])))
   unfolding mostHeld
   most-least l a = rw (each-more _ l a) (greatest-least (each _ l) _)
 
@@ -69,20 +73,25 @@ module _ (w : ℕ) (z : ℕ → ℕ) where
   held-most = snoc-ind (λ (l : List Arrival). held z (received w (firsts l)) ≤ mostHeld w z l) (λ l a h. most-least l a .1) (omega arith)
 
 -- never more than the greatest need, where all packets come in the end
-module _ (m : Measure) (size z : ℕ → ℕ) (needs : (fs : List Arrival) (a : Arrival) → byteOffset z fs (a .number) ≤ neededFor m (firstAnswer size fs a)) (w k : ℕ) where
+module _ (m : Measure) (size z : ℕ → ℕ) (needs : (fs : List Arrival) (a : Arrival)
+    → byteOffset z fs (a .number) ≤ neededFor m (firstAnswer size fs a)) (w k : ℕ) where
   abbrev Low : List Arrival → Type 0
   Low l = All (λ (a : Arrival). a .number ≤ k) l
 
   most-held : (l after : List Arrival) → Low l → AllArrive k (l ++ after) → mostHeld w z l ≤ greatestNeed m (answers size (l ++ after))
   unfolding mostHeld greatest each eachAfter
-  most-held = snoc-ind (λ (l : List Arrival). (after : List Arrival) → Low l → AllArrive k (l ++ after) → mostHeld w z l ≤ greatestNeed m (answers size (l ++ after))) more (λ after h g. omega arith)
+  most-held =
+      snoc-ind (λ (l : List Arrival). (after : List Arrival) → Low l → AllArrive k (l ++ after)
+      → mostHeld w z l ≤ greatestNeed m (answers size (l ++ after))) more (λ after h g. omega arith)
     where
-      more : (l : List Arrival) (a : Arrival) → ((after : List Arrival) → Low l → AllArrive k (l ++ after) → mostHeld w z l ≤ greatestNeed m (answers size (l ++ after)))
+      more : (l : List Arrival) (a : Arrival) → ((after : List Arrival) → Low l → AllArrive k (l ++ after)
+          → mostHeld w z l ≤ greatestNeed m (answers size (l ++ after)))
           → (after : List Arrival) → Low (l ++ (a ∷ [])) → AllArrive k ((l ++ (a ∷ [])) ++ after)
           → mostHeld w z (l ++ (a ∷ [])) ≤ greatestNeed m (answers size ((l ++ (a ∷ [])) ++ after))
       more l a k after h g =
           most-most w z l a _
-          (subst (λ (x : List Arrival). mostHeld w z l ≤ greatestNeed m (answers size x)) (sym split) (k (a ∷ after) (all-left _ l (a ∷ []) h) (λ s n i. ap (has s) (sym split) ∙ g s n i)))
+          (subst (λ (x : List Arrival). mostHeld w z l ≤ greatestNeed m (answers size x)) (sym split)
+          (k (a ∷ after) (all-left _ l (a ∷ []) h) (λ s n i. ap (has s) (sym split) ∙ g s n i)))
           (never-more m size z needs w _ (l ++ (a ∷ [])) after h g)
         where
           split : (l ++ (a ∷ [])) ++ after ≡ l ++ (a ∷ after)
@@ -95,7 +104,8 @@ module _ (w : ℕ) (size : ℕ → ℕ) where
   Numbered l = All (λ (a : Arrival). 1 ≤ a .number) l
 
   -- a packet that needs at most w finds its byte offset held
-  one-needed : (l : List Arrival) (a : Arrival) → Ordered NotBack (l ++ (a ∷ [])) → 1 ≤ a .number → neededFor Measure.Time (answerTo size l a) ≤ w
+  one-needed : (l : List Arrival) (a : Arrival) → Ordered NotBack (l ++ (a ∷ [])) → 1 ≤ a .number
+      → neededFor Measure.Time (answerTo size l a) ≤ w
       → neededFor Measure.Octets (answerTo size l a) ≤ mostHeld w size l
   one-needed l a o n h = go (has (a .number) l) refl
     where
@@ -111,10 +121,13 @@ module _ (w : ℕ) (size : ℕ → ℕ) where
   held-needed : (l : List Arrival) → Ordered NotBack l → Numbered l → greatestNeed Measure.Time (answers size l) ≤ w
       → greatestNeed Measure.Octets (answers size l) ≤ mostHeld w size l
   unfolding greatestNeed greatest answers each eachAfter
-  held-needed = snoc-ind (λ (l : List Arrival). Ordered NotBack l → Numbered l → greatestNeed Measure.Time (answers size l) ≤ w → greatestNeed Measure.Octets (answers size l) ≤ mostHeld w size l) more (λ o n h. omega arith)
+  held-needed =
+      snoc-ind (λ (l : List Arrival). Ordered NotBack l → Numbered l → greatestNeed Measure.Time (answers size l) ≤ w
+      → greatestNeed Measure.Octets (answers size l) ≤ mostHeld w size l) more (λ o n h. omega arith)
     where
       more : (l : List Arrival) (a : Arrival)
-          → (Ordered NotBack l → Numbered l → greatestNeed Measure.Time (answers size l) ≤ w → greatestNeed Measure.Octets (answers size l) ≤ mostHeld w size l)
+          → (Ordered NotBack l → Numbered l → greatestNeed Measure.Time (answers size l) ≤ w
+          → greatestNeed Measure.Octets (answers size l) ≤ mostHeld w size l)
           → Ordered NotBack (l ++ (a ∷ [])) → Numbered (l ++ (a ∷ [])) → greatestNeed Measure.Time (answers size (l ++ (a ∷ []))) ≤ w
           → greatestNeed Measure.Octets (answers size (l ++ (a ∷ []))) ≤ mostHeld w size (l ++ (a ∷ []))
       more l a k o n h =
@@ -138,7 +151,12 @@ of-packets k size l of =
       octets = octets;
       packets = packets;
       most = λ w all e h. let n = held-needed w size l (steps-ordered 0 l e) numbered h in let m = octets w all in omega (arith, n, m);
-      enough = λ all e. record { intime = many _ e ∙ all-in Measure.Time _ (answers size l) (omega arith) ∙ arrived-answers size l; storage = octets _ all; places = packets _ all };
+      enough =
+          λ all e. record {
+            intime = many _ e ∙ all-in Measure.Time _ (answers size l) (omega arith) ∙ arrived-answers size l;
+            storage = octets _ all;
+            places = packets _ all;
+          };
     }
   where
     numbered : All (λ (a : Arrival). 1 ≤ a .number) l
@@ -153,7 +171,8 @@ of-packets k size l of =
     many : (w : ℕ) → stepsBack 0 l ≡ false → inTimeCount w l ≡ accommodated Measure.Time w (answers size l)
     many w e = rw (which w e) (foldl-map _ _ (answers size l) 0)
 
-    never : (m : Measure) (z : ℕ → ℕ) → ((fs : List Arrival) (a : Arrival) → byteOffset z fs (a .number) ≤ neededFor m (firstAnswer size fs a))
+    never : (m : Measure) (z : ℕ → ℕ) → ((fs : List Arrival) (a : Arrival)
+        → byteOffset z fs (a .number) ≤ neededFor m (firstAnswer size fs a))
         → (w : ℕ) → AllArrive k l → mostHeld w z l ≤ greatestNeed m (answers size l)
     never m z needs w all =
         subst (λ (x : List Arrival). mostHeld w z l ≤ greatestNeed m (answers size x)) (append-nil l)
@@ -171,4 +190,5 @@ restores file o = go (decode file) refl
   where
     go : (d : Decoded) → decode file ≡ d → RestoresFile d
     go (refused r) e = of-packets _ _ [] tt
-    go (accepted s) e = of-packets _ _ (s .arrivals) (judged-packets (length (s .sizes)) 0 (s .arrivals) (accepted-limits file s e o .judged))
+    go (accepted s) e =
+        of-packets _ _ (s .arrivals) (judged-packets (length (s .sizes)) 0 (s .arrivals) (accepted-limits file s e o .judged))

@@ -1,7 +1,7 @@
 -- The search for the least size. A greater buffer accommodates no fewer, so a size that is too small shows all smaller ones to be
--- (`too-small`), and the bounds close in on the least size (`closer-high`, `closer-low`, `closed-between`, `met`), of which there is one (`one-least`): the
--- definition's (`sizes-are-least`, `found-least`).
--- Here m is the measure, l some answers, part and whole the share. Assumes nothing.
+-- (`too-small`), and the bounds close in on the least size (`closer-high`, `closer-low`, `closed-between`, `met`), of which there is one
+-- (`one-least`): the definition's (`sizes-are-least`, `found-least`). Here m is the measure, l some answers, part and whole the share.
+-- Assumes nothing.
 use mathlib.Core.Path.{_≡_, refl, sym, ap, subst, _∙_}
 use mathlib.Core.Bool.{Bool, true, false, cond}
 use mathlib.Core.List.{List, [], _∷_}
@@ -52,7 +52,8 @@ module _ (m : Measure) (part whole : ℕ) (l : List Answer) where
     closer-high g e = record { order = g; enough = e; small = h .small }
 
     -- one that is not
-    pub closer-low : middle < b .high → (Enough m part whole l middle → ⊥) → Between m part whole l (record { low = middle + 1; high = b .high })
+    pub closer-low : middle < b .high → (Enough m part whole l middle → ⊥)
+        → Between m part whole l (record { low = middle + 1; high = b .high })
     closer-low g n =
         record { order = omega arith; enough = h .enough; small = λ size k. too-small size middle (omega arith) n }
 
@@ -93,9 +94,11 @@ module _ (m : Measure) (part whole : ℕ) (l : List Answer) where
 -- ---- several sizes at once
 
 module _ (m : Measure) (part whole : ℕ) (l : List Answer) (low shift all : ℕ) (counts : List ℕ) (same : all ≡ arrived l)
-    (is : (j : ℕ) → j < stepCount → getD counts j 0 ≡ accommodated m (low + j * 2 ^ shift) l) (at : ℕ) (f : FirstEnough part whole all counts at) where
+    (is : (j : ℕ) → j < stepCount → getD counts j 0 ≡ accommodated m (low + j * 2 ^ shift) l) (at : ℕ)
+    (f : FirstEnough part whole all counts at) where
   -- a size whose count is enough is, one whose count is not is not
-  by-count : (j : ℕ) (t : Bool) → j < stepCount → leb (part * all) (whole * getD counts j 0) ≡ t → leb (part * arrived l) (whole * accommodated m (low + j * 2 ^ shift) l) ≡ t
+  by-count : (j : ℕ) (t : Bool) → j < stepCount → leb (part * all) (whole * getD counts j 0) ≡ t
+      → leb (part * arrived l) (whole * accommodated m (low + j * 2 ^ shift) l) ≡ t
   by-count j t few e = rw (same, is j few) at e
 
   -- the first size is
@@ -107,7 +110,9 @@ module _ (m : Measure) (part whole : ℕ) (l : List Answer) (low shift all : ℕ
 
   -- the one before is not
   pub before-not : (at ≡ 0 → ⊥) → Enough m part whole l (low + (at - 1) * 2 ^ shift) → ⊥
-  before-not n = not-enough m part whole l (low + (at - 1) * 2 ^ shift) (by-count (at - 1) false (omega (arith, n, f .within)) (f .before (at - 1) (omega (arith, n))))
+  before-not n =
+      not-enough m part whole l (low + (at - 1) * 2 ^ shift)
+      (by-count (at - 1) false (omega (arith, n, f .within)) (f .before (at - 1) (omega (arith, n))))
 
   -- the one after it is, if there is one
   pub after-is : (at ≡ 0 → ⊥) → at < stepCount → Enough m part whole l (low + (at - 1) * 2 ^ shift + 2 ^ shift)
@@ -115,7 +120,8 @@ module _ (m : Measure) (part whole : ℕ) (l : List Answer) (low shift all : ℕ
       let e = leb-true (part * arrived l) (whole * accommodated m (low + at * 2 ^ shift) l) (by-count at true few (f .found few)) in
       let k : at - 1 + 1 ≡ at = omega (arith, n) in
       let p : (at - 1 + 1) * 2 ^ shift ≡ (at - 1) * 2 ^ shift + 1 * 2 ^ shift = add-mul (at - 1) 1 (2 ^ shift) in
-      let q : at * 2 ^ shift ≡ (at - 1) * 2 ^ shift + 2 ^ shift = ap (λ (n : ℕ). n * 2 ^ shift) (sym k) ∙ p ∙ ap (λ (n : ℕ). (at - 1) * 2 ^ shift + n) (one-mul (2 ^ shift)) in
+      let q : at * 2 ^ shift ≡ (at - 1) * 2 ^ shift + 2 ^ shift =
+      ap (λ (n : ℕ). n * 2 ^ shift) (sym k) ∙ p ∙ ap (λ (n : ℕ). (at - 1) * 2 ^ shift + n) (one-mul (2 ^ shift)) in
       let r : low + at * 2 ^ shift ≡ low + (at - 1) * 2 ^ shift + 2 ^ shift = omega (arith, q) in
       rw r at e
 
@@ -139,7 +145,13 @@ pub more-is-no-worse : MoreIsNoWorse
 more-is-no-worse = record { more = accommodated-grows }
 
 pub all-is-greatest : AllIsGreatest
-all-is-greatest = record { all = λ m l n h. record { enough = rw (all-in m (greatestNeed m l) l (omega arith)) (omega arith); least = λ s g e. out m l n h s g e } }
+all-is-greatest =
+    record {
+      all = λ m l n h. record {
+        enough = rw (all-in m (greatestNeed m l) l (omega arith)) (omega arith);
+        least = λ s g e. out m l n h s g e;
+      };
+    }
   where
     out : (m : Measure) (l : List Answer) (n : ℕ) → 1 ≤ n → (s : ℕ) → s < greatestNeed m l → n * arrived l ≤ n * accommodated m s l → ⊥
     out m l n h s g e =
@@ -157,7 +169,8 @@ first-least m part whole l (suc steps) size h =
     go (leb (part * arrived l) (whole * accommodated m size l)) refl (first-least m part whole l steps (size + 1))
   where
     go : (t : Bool) → leb (part * arrived l) (whole * accommodated m size l) ≡ t
-        → (Between m part whole l (record { low = size + 1; high = size + 1 + steps }) → Least m part whole l (firstEnough m part whole l steps (size + 1)))
+        → (Between m part whole l (record { low = size + 1; high = size + 1 + steps })
+        → Least m part whole l (firstEnough m part whole l steps (size + 1)))
         → Least m part whole l (cond t size (firstEnough m part whole l steps (size + 1)))
     go true e more =
         let q = leb-true (part * arrived l) (whole * accommodated m size l) e in
@@ -175,7 +188,8 @@ sizes-are-least m part whole l h =
     (subst (λ (n : ℕ). Between m part whole l (record { low = 0; high = n })) (omega arith) (start m part whole l h))
 
 -- a least size is the definition's
-found-least : (m : Measure) (part whole : ℕ) (l : List Answer) (size : ℕ) → part ≤ whole → Least m part whole l size → size ≡ leastSize m part whole l
+found-least : (m : Measure) (part whole : ℕ) (l : List Answer) (size : ℕ) → part ≤ whole → Least m part whole l size
+    → size ≡ leastSize m part whole l
 found-least m part whole l size h found = one-least .same m part whole l size _ found (sizes-are-least m part whole l h)
 
 -- ---- the answer

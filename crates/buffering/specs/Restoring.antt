@@ -108,7 +108,8 @@ pub record Restores (k : ℕ) (size : ℕ → ℕ) (l : List Arrival) : Type 0 w
       → mostHeld w size l ≡ greatestNeed Measure.Octets (answers size l)
   -- so the three greatest needs are enough at once
   pub enough : AllArrive k l → stepsBack 0 l ≡ false
-      → EnoughAtOnce size l (greatestNeed Measure.Time (answers size l)) (greatestNeed Measure.Octets (answers size l)) (greatestNeed Measure.Packets (answers size l))
+      → EnoughAtOnce size l (greatestNeed Measure.Time (answers size l)) (greatestNeed Measure.Octets (answers size l))
+      (greatestNeed Measure.Packets (answers size l))
 
 -- of the sample of a decoded file; a refused one has the empty sample
 abbrev pub RestoresFile : Decoded → Type 0

@@ -101,8 +101,8 @@ fn narrowed(file: &[u8], measure: Measure, part: u32, whole: u32, b: Bounds) -> 
 }
 
 // The least size of a buffer that accommodates at least `part` in `whole` of the first arrivals. One pass over the sample, and one for each
-// seven binary digits of the greatest need, each O(A + K), and O(A log K + K) in octets. What the size means for a receiver that restores order is
-// carried by `restores`.
+// seven binary digits of the greatest need, each O(A + K), and O(A log K + K) in octets. What the size means for a receiver that restores
+// order is carried by `restores`.
 pub fn least(file: &[u8], measure: Measure, part: u32, whole: u32) -> SampleLeast
     ensures { λ r. ⌜ r ≡ sampleLeast (decode (now (file .entry))) measure part whole ⌝ }
     ensures restores { λ _. ⌜ RestoresFile (decode (now (file .entry))) ⌝ }

@@ -1,8 +1,8 @@
--- Needs by one answer more. A need is counted at the index of the first size that is at least it (`step-low`, `step-past`), so all counts up to a
--- size's are together one more exactly if the size is enough (`counted-in`, `counted-out`). So a pass finds counts and greatest need one record
--- after the other (`after-duplicate`, `after-first`); no count passes the number of the answers (`needs-few`). Then the need of a record by its
--- class, and that the tree can be filled.
--- Here m is the measure, the sizes are low + j * 2^shift, l some answers, a the next and k its class. Assumes nothing.
+-- Needs by one answer more. A need is counted at the index of the first size that is at least it (`step-low`, `step-past`), so all counts
+-- up to a size's are together one more exactly if the size is enough (`counted-in`, `counted-out`). So a pass finds counts and greatest
+-- need one record after the other (`after-duplicate`, `after-first`); no count passes the number of the answers (`needs-few`). Then the
+-- need of a record by its class, and that the tree can be filled. Here m is the measure, the sizes are low + j * 2^shift, l some answers,
+-- a the next and k its class. Assumes nothing.
 use mathlib.Core.Path.{_≡_, refl, sym, ap, _∙_}
 use mathlib.Core.Bool.{Bool, true, false, cond, not}
 use mathlib.Core.List.{List, [], _∷_, _++_}
@@ -60,7 +60,8 @@ module _ (counts : List ℕ) (at : ℕ) (inside : at < length counts) where
   unfolding countTo
   one-here n here =
       let e = one-below n (omega (arith, here)) in
-      let g : getD (set counts at (getD counts at 0 + 1)) n 0 ≡ getD counts n 0 + 1 = rw here (getD-set-same counts at (getD counts at 0 + 1) 0 inside) in
+      let g : getD (set counts at (getD counts at 0 + 1)) n 0 ≡ getD counts n 0 + 1 =
+      rw here (getD-set-same counts at (getD counts at 0 + 1) 0 inside) in
       omega (arith, e, g)
 
   -- and to all above
@@ -82,7 +83,8 @@ module _ (counts : List ℕ) (at : ℕ) (inside : at < length counts) where
   one-more n true e = one-above n (leb-true at n e)
   one-more n false e = one-below (suc n) (omega (arith, leb-false at n e))
 
-module _ (low shift need : ℕ) (counts : List ℕ) (places : length counts ≡ stepCount) (step : ℕ) (is : (j : ℕ) → leb step j ≡ leb need (low + j * 2 ^ shift)) where
+module _ (low shift need : ℕ) (counts : List ℕ) (places : length counts ≡ stepCount) (step : ℕ)
+    (is : (j : ℕ) → leb step j ≡ leb need (low + j * 2 ^ shift)) where
   -- a need counted at the index of the first size that is at least it
   pub counted-in : step < stepCount → Counted low shift need counts (set counts step (getD counts step 0 + 1))
   counted-in h =
@@ -94,7 +96,11 @@ module _ (low shift need : ℕ) (counts : List ℕ) (places : length counts ≡ 
   -- a need above all sizes
   pub counted-out : stepCount ≤ step → Counted low shift need counts counts
   counted-out h =
-      record { places = places; at = λ j few. let e : leb need (low + j * 2 ^ shift) ≡ false = sym (is j) ∙ lt-leb step j (omega (arith, few)) in rw e refl }
+      record {
+        places = places;
+        at = λ j few. let e : leb need (low + j * 2 ^ shift) ≡ false = sym (is j)
+            ∙ lt-leb step j (omega (arith, few)) in rw e refl;
+      }
 
 -- the first size that is at least a need: `low`, or the first past it
 pub step-low : (low shift need : ℕ) → need ≤ low → (j : ℕ) → leb 0 j ≡ leb need (low + j * 2 ^ shift)
@@ -117,7 +123,8 @@ step-past low shift need over e j = go (leb need (low + j * 2 ^ shift)) refl
         le-false false u = lt-leb (over / 2 ^ shift + 1) j (omega (arith, ltb-false (over / 2 ^ shift) j u))
 
 -- with a shift of 64 or more the next size is past every need
-pub step-far : (low shift need over : ℕ) → low + suc over ≡ need → over < 2 ^ 64 → 64 ≤ shift → (j : ℕ) → leb 1 j ≡ leb need (low + j * 2 ^ shift)
+pub step-far : (low shift need over : ℕ) → low + suc over ≡ need → over < 2 ^ 64 → 64 ≤ shift → (j : ℕ)
+    → leb 1 j ≡ leb need (low + j * 2 ^ shift)
 step-far low shift need over e few h j =
     let small : over / 2 ^ shift ≡ 0 = div-eq-of-lt (lt-of-lt-of-le few (pow-le-pow-right (zero-lt-suc 1) h)) in
     ap (λ (n : ℕ). leb (n + 1) j) (sym small) ∙ step-past low shift need over e j
@@ -193,11 +200,13 @@ module _ (m : Measure) (low shift : ℕ) (l : List Answer) (needs : Needs) (coun
             c .at j few ∙ rw (h .at j few, accommodated-more m (low + j * 2 ^ shift) l a, same) refl;
       }
 
-  pub after-in-order : (jump need : ℕ) (a : Answer) → ClassOf count (Class.InOrder jump) a → need ≡ neededFor m a → (new : List ℕ) → Counted low shift need counts new
+  pub after-in-order : (jump need : ℕ) (a : Answer) → ClassOf count (Class.InOrder jump) a → need ≡ neededFor m a → (new : List ℕ)
+      → Counted low shift need counts new
       → NeedsOf m low shift l needs counts → NeedsOf m low shift (l ++ (a ∷ [])) (needsWith needs need) new
   after-in-order jump need a k = after-first need a (rw (k .is) refl)
 
-  pub after-reordered : (at need : ℕ) (a : Answer) → ClassOf count (Class.Reordered at) a → need ≡ neededFor m a → (new : List ℕ) → Counted low shift need counts new
+  pub after-reordered : (at need : ℕ) (a : Answer) → ClassOf count (Class.Reordered at) a → need ≡ neededFor m a → (new : List ℕ)
+      → Counted low shift need counts new
       → NeedsOf m low shift l needs counts → NeedsOf m low shift (l ++ (a ∷ [])) (needsWith needs need) new
   after-reordered at need a k = after-first need a (rw (k .is) refl)
 
@@ -230,7 +239,13 @@ first-count m low shift l needs counts h =
 pub steps-few : (d : Decoded) (y : Layout) → FileLayout d y → (m : Measure) (low shift : ℕ) (needs : Needs) (counts : List ℕ)
     → NeedsOf m low shift (answersOf d) needs counts → (j : ℕ) → j < stepCount → countTo counts (suc j) ≤ arrivalsMost
 steps-few d y h m low shift needs counts n j few =
-    omega (arith, needs-few m low shift (answersOf d) needs counts n .1 j few, length-answers (sizeOf d) (sampleArrivals d), arrivals-laid d y h, h .few)
+    omega (
+      arith,
+      needs-few m low shift (answersOf d) needs counts n .1 j few,
+      length-answers (sizeOf d) (sampleArrivals d),
+      arrivals-laid d y h,
+      h .few,
+    )
 
 -- of none
 none-counted : (n k : ℕ) → countTo (replicate n 0) k ≡ 0
@@ -260,16 +275,19 @@ module _ (count at : ℕ) (a : Answer) (k : ClassOf count (Class.Reordered at) a
   pub need-packets : count + 1 - at ≡ neededFor Measure.Packets a
   need-packets = rw (k .is) refl
 
-  pub need-octets : (offset : ℕ) → ((f : ReorderedFigures) → Answer.Reordered f ≡ a → offset ≡ f .offset) → offset ≡ neededFor Measure.Octets a
+  pub need-octets : (offset : ℕ) → ((f : ReorderedFigures) → Answer.Reordered f ≡ a → offset ≡ f .offset)
+      → offset ≡ neededFor Measure.Octets a
   need-octets offset e = e _ (sym (k .is)) ∙ rw (k .is) refl
 
-  pub need-time : (late : LateTime) (wait : ℕ) → ((f : ReorderedFigures) → Answer.Reordered f ≡ a → late ≡ f .late) → wait ≡ waitingTime late → wait ≡ neededFor Measure.Time a
+  pub need-time : (late : LateTime) (wait : ℕ) → ((f : ReorderedFigures) → Answer.Reordered f ≡ a → late ≡ f .late)
+      → wait ≡ waitingTime late → wait ≡ neededFor Measure.Time a
   need-time late wait e w = w ∙ ap waitingTime (e _ (sym (k .is))) ∙ rw (k .is) refl
 
 -- ---- the tree
 
 -- the tree can be filled where a need is asked for
-pub need-filling : (d : Decoded) (y : Layout) (i : ℕ) (arrival : Arrival) (numbers records tree : List ℕ) (count : ℕ) (totals : Totals) (k : Class)
+pub need-filling : (d : Decoded) (y : Layout) (i : ℕ) (arrival : Arrival) (numbers records tree : List ℕ) (count : ℕ) (totals : Totals)
+    (k : Class)
     → NeedInput d y i arrival numbers records tree count totals k → FillInput d y numbers tree count totals
 need-filling d y i arrival numbers records tree count totals k p =
     let q = packets d y i (p .there .file) numbers count (p .numbered) (omega (arith, p .there .inside)) in

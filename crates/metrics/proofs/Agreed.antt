@@ -1,10 +1,10 @@
--- How far a text agrees with the lines of a listing. Lines of which all agrees have their length in common with the text, so that a line more adds
--- what it has in common with the rest of the text (`agreed-more`, by `common-after`). Where lines differ, less than all of them agrees, so that
--- what stands after them adds nothing and the whole does not agree either (`agreed-stop`, by `common-part`). Last, what is answered: with a refusal
--- nothing is compared (`agreed-refused`); without one the text is the listing exactly if all of the listing agrees and is as long as the text
--- (`agreed-accepted`, by `same-common`).
--- Here line is the one after lines, rest what stands after them, at the place after lines that agree, p how far a line or a listing agrees, d the
--- decoded file, y its layout and own that the layout's refusal is the file's. Assumes nothing.
+-- How far a text agrees with the lines of a listing. Lines of which all agrees have their length in common with the text, so that a line
+-- more adds what it has in common with the rest of the text (`agreed-more`, by `common-after`). Where lines differ, less than all of them
+-- agrees, so that what stands after them adds nothing and the whole does not agree either (`agreed-stop`, by `common-part`). Last, what
+-- is answered: with a refusal nothing is compared (`agreed-refused`); without one the text is the listing exactly if all of the listing
+-- agrees and is as long as the text (`agreed-accepted`, by `same-common`). Here line is the one after lines, rest what stands after them,
+-- at the place after lines that agree, p how far a line or a listing agrees, d the decoded file, y its layout and own that the layout's
+-- refusal is the file's. Assumes nothing.
 use Prim.Native.Nat.{ℕ, zero, suc, _+_, _<_}
 use mathlib.Core.Path.{_≡_, refl, sym, ap, _∙_}
 use mathlib.Core.Bool.{Bool, true, false, _&&_}
@@ -27,14 +27,17 @@ use Rattle.metrics.proofs.Common.{eqb-same, common-le, common-part, com
 -- ---- lines
 
 -- lines that agree, and one more
-pub agreed-more : (lines line text : List ℕ) (at : ℕ) (p : Part) → Agreed lines text (record { octets = at; whole = true }) → Agreed line (drop at text) p
+pub agreed-more : (lines line text : List ℕ) (at : ℕ) (p : Part) → Agreed lines text (record { octets = at; whole = true })
+    → Agreed line (drop at text) p
     → Agreed (lines ++ line) text (record { octets = at + p .octets; whole = p .whole })
 agreed-more lines line text at p a b =
     let e : common lines text ≡ length lines = eqb-true _ _ (sym (a .whole)) in
     let n : at ≡ length lines = a .octets ∙ e in
     let after : common (lines ++ line) text ≡ at + common line (drop at text) = rw n (common-after lines line text e) in
     let long : length (lines ++ line) ≡ at + length line = rw n (length-append lines line) in
-    let same = eqb-same (common line (drop at text)) (length line) (at + common line (drop at text)) (at + length line) (λ q. omega arith) (λ q. omega arith) in
+    let same =
+    eqb-same (common line (drop at text)) (length line) (at + common line (drop at text)) (at + length line) (λ q. omega arith)
+    (λ q. omega arith) in
     record {
       octets = rw (b .octets) (sym after);
       whole = b .whole ∙ sym (rw (after, long) same);
@@ -46,7 +49,11 @@ agreed-stop lines rest text p a w =
     let e : common lines text ≡ length lines → ⊥ = eqb-false _ _ (sym (a .whole) ∙ w) in
     let less : common lines text < length lines = omega (arith, e, common-le lines text) in
     let q = common-part lines rest text less in
-    record { octets = a .octets ∙ sym q; whole = w ∙ sym (ne-eqb (common (lines ++ rest) text) (length (lines ++ rest)) (λ r. omega (arith, r, q, less, length-append lines rest))) }
+    record {
+      octets = a .octets ∙ sym q;
+      whole = w ∙ sym (ne-eqb (common (lines ++ rest) text) (length (lines ++ rest))
+          (λ r. omega (arith, r, q, less, length-append lines rest)));
+    }
 
 -- ---- the call
 
@@ -61,12 +68,14 @@ module _ (d : Decoded) (y : Layout) (h : FileLayout d y) (text : List ℕ) where
   agreed-refused n = rw own (go (decodedRefusal d) (λ e. n (own ∙ e)))
     where
       go : (r : ℕ) → (r ≡ 0 → ⊥)
-          → _≡_ {A = SampleAgreement} (record { refusal = r; octets = 0; same = false }) (record { refusal = r; octets = ifNone r (common (sampleText d) text) 0; same = ifNone r (sameText (sampleText d) text) false })
+          → _≡_ {A = SampleAgreement} (record { refusal = r; octets = 0; same = false })
+          (record { refusal = r; octets = ifNone r (common (sampleText d) text) 0; same = ifNone r (sameText (sampleText d) text) false })
       go zero n = absurd (n refl)
       go (suc r) n = refl
 
   -- without one it is compared
-  pub agreed-accepted : y .refusal ≡ 0 → (p : Part) → Agreed (sampleText d) text p → (same : Bool) → same ≡ (p .whole && eqb (p .octets) (length text))
+  pub agreed-accepted : y .refusal ≡ 0 → (p : Part) → Agreed (sampleText d) text p → (same : Bool)
+      → same ≡ (p .whole && eqb (p .octets) (length text))
       → record { refusal = 0; octets = p .octets; same = same } ≡ sampleAgreement d text
   unfolding sampleAgreement
   agreed-accepted n p a same e =

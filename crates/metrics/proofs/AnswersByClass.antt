@@ -1,12 +1,13 @@
--- The answer for record i + 1, by the class that the tables give it (`told`). A packet with a record has arrived, so that it is a duplicate; one
--- without has not: from NextExp on it is in order, and below it is reordered, has a discontinuity, and `skipped` has its position. By the same tests
--- one that is reordered by the tables has not arrived (`new-told`), and one that has not and is below NextExp is reordered by them (`late-told`).
--- Then the figures of a record whose answer is a reordered packet's: no other packet has such an answer, and its extent gives the position of
--- its discontinuity (`late-classed`), which is one of the positions (`late-place`). The table of numbers has the packet there, and the table of
--- records that packet's record, at which that first arrival stands (`first-stands`), so that the time there is the discontinuity's (`late-time`).
--- With it, the byte offset and the largest n the answer is whole (`late-answer`); over those before the discontinuity the offset is 0 (`late-alone`).
--- Here d is the decoded file, y its layout, f that the tables are those of the i records before, n the arrival's number, k its class, at the position
--- of its discontinuity, count the first arrivals, and p a place among them. Assumes nothing.
+-- The answer for record i + 1, by the class that the tables give it (`told`). A packet with a record has arrived, so that it is a
+-- duplicate; one without has not: from NextExp on it is in order, and below it is reordered, has a discontinuity, and `skipped` has its
+-- position. By the same tests one that is reordered by the tables has not arrived (`new-told`), and one that has not and is below NextExp
+-- is reordered by them (`late-told`). Then the figures of a record whose answer is a reordered packet's: no other packet has such an
+-- answer, and its extent gives the position of its discontinuity (`late-classed`), which is one of the positions (`late-place`). The
+-- table of numbers has the packet there, and the table of records that packet's record, at which that first arrival stands
+-- (`first-stands`), so that the time there is the discontinuity's (`late-time`). With it, the byte offset and the largest n the answer is
+-- whole (`late-answer`); over those before the discontinuity the offset is 0 (`late-alone`). Here d is the decoded file, y its layout, f
+-- that the tables are those of the i records before, n the arrival's number, k its class, at the position of its discontinuity, count the
+-- first arrivals, and p a place among them. Assumes nothing.
 use mathlib.Core.Path.{_≡_, refl, sym, ap, _∙_}
 use mathlib.Core.Bool.{Bool, true, false, cond, true≢false}
 use mathlib.Core.List.{List}
@@ -56,12 +57,14 @@ untold size fs a =
 
 -- with these its answer is that of the class
 untold-answer : (size : ℕ → ℕ) (fs : List Arrival) (a : Arrival) (count at : ℕ) (p : FirstArrival) → count ≡ length fs → at ≡ p .position
-    → discontinuity fs (a .number) ≡ some p → reorderedAnswer size fs a (discontinuity fs (a .number)) ≡ answerBy count (Class.Reordered at) (untold size fs a)
+    → discontinuity fs (a .number) ≡ some p → reorderedAnswer size fs a (discontinuity fs (a .number))
+    ≡ answerBy count (Class.Reordered at) (untold size fs a)
 unfolding reorderedAnswer extentFrom
 untold-answer size fs a count at p c e q = rw (c, e, q)
 
 module _ (d : Decoded) (i : ℕ) (numbers records skipped : List ℕ) (state : State)
-    (f : EngineTables (before d i) numbers records skipped state) (n : ℕ) (is : n ≡ arrivalAt d i .number) (low : 1 ≤ n) (high : n ≤ sentMost) where
+    (f : EngineTables (before d i) numbers records skipped state) (n : ℕ) (is : n ≡ arrivalAt d i .number) (low : 1 ≤ n)
+    (high : n ≤ sentMost) where
   -- what no class tells of it, if it is reordered
   abbrev figures : ReorderedFigures
   figures = untold (sizeOf d) (firsts (before d i)) (arrivalAt d i)
@@ -69,7 +72,8 @@ module _ (d : Decoded) (i : ℕ) (numbers records skipped : List ℕ) (state : S
   -- a packet with a record is a duplicate
   told-duplicate : (getD records n 0 ≡ 0 → ⊥) → answerAt d i ≡ answerBy (state .count) (Class.Duplicate (getD records n 0)) figures
   told-duplicate e =
-      let arrived : has (arrivalAt d i .number) (before d i) ≡ true = rw is at (arrived-recorded (before d i) numbers records skipped state f n low high e) in
+      let arrived : has (arrivalAt d i .number) (before d i) ≡ true =
+      rw is at (arrived-recorded (before d i) numbers records skipped state f n low high e) in
       answer-duplicate (sizeOf d) (before d i) (arrivalAt d i) arrived
       ∙ rw (f .recorded .at n low high, is)
 
@@ -86,7 +90,8 @@ module _ (d : Decoded) (i : ℕ) (numbers records skipped : List ℕ) (state : S
       ∙ rw (f .numbered .all, f .next, is)
 
   -- below NextExp it is reordered, and the table has its discontinuity
-  told-reordered : getD records n 0 ≡ 0 → n < state .next → answerAt d i ≡ answerBy (state .count) (Class.Reordered (getD skipped n 0)) figures
+  told-reordered : getD records n 0 ≡ 0 → n < state .next → answerAt d i
+      ≡ answerBy (state .count) (Class.Reordered (getD skipped n 0)) figures
   unfolding isInOrder
   told-reordered e late =
       let s = arrivalAt d i .number in
@@ -104,7 +109,8 @@ module _ (d : Decoded) (i : ℕ) (numbers records skipped : List ℕ) (state : S
     where
       go : (t : Bool) → eqb (getD records n 0) 0 ≡ t → (u : Bool) → leb (state .next) n ≡ u
           → answerAt d i ≡ answerBy (state .count)
-          (cond t (cond u (Class.InOrder (n - state .next)) (Class.Reordered (getD skipped n 0))) (Class.Duplicate (getD records n 0))) figures
+          (cond t (cond u (Class.InOrder (n - state .next)) (Class.Reordered (getD skipped n 0))) (Class.Duplicate (getD records n 0)))
+          figures
       go false e u q = told-duplicate (eqb-false _ _ e)
       go true e true q = told-in-order (eqb-true _ _ e) (leb-true _ _ q)
       go true e false q = told-reordered (eqb-true _ _ e) (leb-false _ _ q)
@@ -119,7 +125,8 @@ module _ (d : Decoded) (i : ℕ) (numbers records skipped : List ℕ) (state : S
   new-told k q = rw q (go (eqb (getD records n 0) 0) refl (leb (state .next) n))
     where
       go : (t : Bool) → eqb (getD records n 0) 0 ≡ t → (u : Bool)
-          → IfLate (λ (at : ℕ). has n (firsts (before d i)) ≡ false) (cond t (cond u (Class.InOrder (n - state .next)) (Class.Reordered (getD skipped n 0))) (Class.Duplicate (getD records n 0)))
+          → IfLate (λ (at : ℕ). has n (firsts (before d i)) ≡ false)
+          (cond t (cond u (Class.InOrder (n - state .next)) (Class.Reordered (getD skipped n 0))) (Class.Duplicate (getD records n 0)))
       go false e u = tt
       go true e true = tt
       go true e false = has-firsts n (before d i) ∙ new-recorded (before d i) numbers records skipped state f n low high (eqb-true _ _ e)
@@ -130,7 +137,10 @@ module _ (d : Decoded) (i : ℕ) (numbers records skipped : List ℕ) (state : S
   unfolding classBy
   late-told k q holds new behind =
       let late : k ≡ Class.Reordered (getD skipped n 0) =
-      q ∙ simp (eq-eqb (getD records n 0) 0 (f .recorded .at n low high ∙ record-none n (before d i) new), lt-leb (state .next) n (omega (arith, f .next))) in
+      q ∙ simp (
+        eq-eqb (getD records n 0) 0 (f .recorded .at n low high ∙ record-none n (before d i) new),
+        lt-leb (state .next) n (omega (arith, f .next)),
+      ) in
       rw late at holds
 
 -- of two facts about a reordered packet a third
@@ -162,15 +172,19 @@ same-figures e = cc
 late-classed : (d : Decoded) (y : Layout) (i : ℕ) → HasRecord d y i → (count at : ℕ) → count ≡ length (firsts (before d i))
     → ClassOf count (Class.Reordered at) (answerAt d i) → LateRecord d i at
 unfolding isInOrder inOrderAnswer reorderedAnswer extentFrom
-late-classed d y i h count at all c = go (has (arrivalAt d i .number) (before d i)) refl (leb (nextExp (firsts (before d i))) (arrivalAt d i .number)) refl
+late-classed d y i h count at all c =
+    go (has (arrivalAt d i .number) (before d i)) refl (leb (nextExp (firsts (before d i))) (arrivalAt d i .number)) refl
   where
-    go : (t : Bool) → has (arrivalAt d i .number) (before d i) ≡ t → (u : Bool) → leb (nextExp (firsts (before d i))) (arrivalAt d i .number) ≡ u → LateRecord d i at
+    go : (t : Bool) → has (arrivalAt d i .number) (before d i) ≡ t → (u : Bool)
+        → leb (nextExp (firsts (before d i))) (arrivalAt d i .number) ≡ u → LateRecord d i at
     go true e u q = absurd (true≢false (ap isReordered (sym (c .is) ∙ answer-duplicate (sizeOf d) (before d i) (arrivalAt d i) e)))
     go false e true q =
         absurd (true≢false (ap isReordered (sym (c .is) ∙ answer-first (sizeOf d) (before d i) (arrivalAt d i) e
         ∙ first-in-order (sizeOf d) (firsts (before d i)) (arrivalAt d i) (leb-true _ _ q))))
     go false e false q =
-        let k = reordered-discontinuity (arrivalAt d i .number) (h .file .numbers i (h .inside) .0) (firsts (before d i)) (has-firsts (arrivalAt d i .number) (before d i) ∙ e) q in
+        let k =
+        reordered-discontinuity (arrivalAt d i .number) (h .file .numbers i (h .inside) .0) (firsts (before d i))
+        (has-firsts (arrivalAt d i .number) (before d i) ∙ e) q in
         let f = found (sizeOf d) (arrivalAt d i .number) (firsts (before d i)) (k .at) (k .is) in
         let answer : answerAt d i ≡ reorderedAnswer (sizeOf d) (firsts (before d i)) (arrivalAt d i) (some (k .at)) =
         answer-first (sizeOf d) (before d i) (arrivalAt d i) e
@@ -180,7 +194,8 @@ late-classed d y i h count at all c = go (has (arrivalAt d i .number) (before d 
         record { place = k .at; position = omega (arith, extent, all, f .low, f .high); is = k .is; answer = answer }
 
 -- a first arrival among the first i arrivals stands at one of their records
-module _ (d : Decoded) (y : Layout) (i : ℕ) (h : FileLayout d y) (most : i ≤ y .arrivals) (p : ℕ) (inside : p < length (firsts (before d i))) where
+module _ (d : Decoded) (y : Layout) (i : ℕ) (h : FileLayout d y) (most : i ≤ y .arrivals) (p : ℕ)
+    (inside : p < length (firsts (before d i))) where
   -- its packet has arrived
   arrived : has (getD (firsts (before d i)) p noArrival .number) (before d i) ≡ true
   arrived = sym (has-firsts _ (before d i)) ∙ has-at noArrival (firsts (before d i)) p inside
@@ -191,7 +206,8 @@ module _ (d : Decoded) (y : Layout) (i : ℕ) (h : FileLayout d y) (most : i ≤
   first-record = omega (arith, record-some _ (before d i) arrived, before-count d y i h most)
 
   -- and it stands there
-  first-stands : arrivalAt d (firstRecord (getD (firsts (before d i)) p noArrival .number) (before d i) - 1) ≡ getD (firsts (before d i)) p noArrival
+  first-stands : arrivalAt d (firstRecord (getD (firsts (before d i)) p noArrival .number) (before d i) - 1)
+      ≡ getD (firsts (before d i)) p noArrival
   first-stands =
       let r = firstRecord (getD (firsts (before d i)) p noArrival .number) (before d i) - 1 in
       sym (getD-take i (sampleArrivals d) r noArrival (omega (arith, first-record))) ∙ first-at noArrival (before d i) p inside
@@ -214,7 +230,8 @@ packets d y i h numbers count n most = (
   },
 )
 
-module _ (d : Decoded) (y : Layout) (i at count : ℕ) (h : HasRecord d y i) (class : ClassOf count (Class.Reordered at) (answerAt d i)) (numbers records : List ℕ)
+module _ (d : Decoded) (y : Layout) (i at count : ℕ) (h : HasRecord d y i) (class : ClassOf count (Class.Reordered at) (answerAt d i))
+    (numbers records : List ℕ)
     (nums : NumberTable (firsts (before d i)) numbers count) (recs : RecordTable (before d i) records) where
   -- record i + 1 is reordered
   late : LateRecord d i at
@@ -236,11 +253,14 @@ module _ (d : Decoded) (y : Layout) (i at count : ℕ) (h : HasRecord d y i) (cl
 
   -- its packet is one of the packets
   pub late-packet : (1 ≤ getD numbers (at - 1) 0) × (getD numbers (at - 1) 0 ≤ sentMost)
-  late-packet = omega (arith, packets d y i (h .file) numbers count nums most .1 .inside (at - 1) (omega (arith, late-place)), h .file .sentFew)
+  late-packet =
+      omega (arith, packets d y i (h .file) numbers count nums most .1 .inside (at - 1) (omega (arith, late-place)), h .file .sentFew)
 
   -- the table of records has its record
   same-packet : getD records (getD numbers (at - 1) 0) 0 ≡ firstRecord (getD (firsts (before d i)) (at - 1) noArrival .number) (before d i)
-  same-packet = recs .at (getD numbers (at - 1) 0) (late-packet .0) (late-packet .1) ∙ ap (λ (s : ℕ). firstRecord s (before d i)) (nums .at (at - 1) inside)
+  same-packet =
+      recs .at (getD numbers (at - 1) 0) (late-packet .0) (late-packet .1)
+      ∙ ap (λ (s : ℕ). firstRecord s (before d i)) (nums .at (at - 1) inside)
 
   -- and its record is one before record i + 1
   pub late-record : (1 ≤ getD records (getD numbers (at - 1) 0) 0) × (getD records (getD numbers (at - 1) 0) 0 ≤ i)
@@ -256,8 +276,10 @@ module _ (d : Decoded) (y : Layout) (i at count : ℕ) (h : HasRecord d y i) (cl
   -- the answer, from its parts
   pub late-answer : (past own offset largest : ℕ) (elapse : LateTime)
       → past ≡ arrivalAt d (getD records (getD numbers (at - 1) 0) 0 - 1) .time → own ≡ arrivalAt d i .time → elapse ≡ elapsed past own
-      → offset ≡ byteOffset (sizeOf d) (firsts (before d i)) (arrivalAt d i .number) → largest ≡ largestN (firsts (before d i)) (arrivalAt d i .number)
-      → Answer.Reordered (record { position = count + 1; extent = count + 1 - at; late = elapse; offset = offset; largest = largest }) ≡ answerAt d i
+      → offset ≡ byteOffset (sizeOf d) (firsts (before d i)) (arrivalAt d i .number)
+      → largest ≡ largestN (firsts (before d i)) (arrivalAt d i .number)
+      → Answer.Reordered (record { position = count + 1; extent = count + 1 - at; late = elapse; offset = offset; largest = largest })
+      ≡ answerAt d i
   unfolding reorderedAnswer extentFrom lateFrom
   late-answer past own offset largest elapse p o e f g =
       sym (late .answer ∙ rw (late .position, ← nums .all, ← f, ← g, ← late-time, ← p, ← o, ← e))
@@ -271,12 +293,21 @@ module _ (d : Decoded) (y : Layout) (i at count : ℕ) (h : HasRecord d y i) (cl
       sym (ap (λ (g : ReorderedFigures). g .late) (same-figures (a ∙ sym whole)))
 
   -- an answer whose late time is known to be that of the answer is whole with the byte offset and the largest n
-  pub late-whole : (offset largest : ℕ) (elapse : LateTime) → ((f : ReorderedFigures) → Answer.Reordered f ≡ answerAt d i → elapse ≡ f .late)
-      → offset ≡ byteOffset (sizeOf d) (firsts (before d i)) (arrivalAt d i .number) → largest ≡ largestN (firsts (before d i)) (arrivalAt d i .number)
-      → Answer.Reordered (record { position = count + 1; extent = count + 1 - at; late = elapse; offset = offset; largest = largest }) ≡ answerAt d i
+  pub late-whole : (offset largest : ℕ) (elapse : LateTime) → ((f : ReorderedFigures) → Answer.Reordered f ≡ answerAt d i
+      → elapse ≡ f .late)
+      → offset ≡ byteOffset (sizeOf d) (firsts (before d i)) (arrivalAt d i .number)
+      → largest ≡ largestN (firsts (before d i)) (arrivalAt d i .number)
+      → Answer.Reordered (record { position = count + 1; extent = count + 1 - at; late = elapse; offset = offset; largest = largest })
+      ≡ answerAt d i
   late-whole offset largest elapse e f g =
       let whole = late-answer _ _ offset largest _ refl refl refl f g in
-      ap (λ (l : LateTime). Answer.Reordered (record { position = count + 1; extent = count + 1 - at; late = l; offset = offset; largest = largest })) (e _ whole) ∙ whole
+      ap (λ (l : LateTime). Answer.Reordered (record {
+        position = count + 1;
+        extent = count + 1 - at;
+        late = l;
+        offset = offset;
+        largest = largest;
+      })) (e _ whole) ∙ whole
 
   -- the byte offset is that of the answer
   pub late-offset : (offset : ℕ) → offset ≡ byteOffset (sizeOf d) (firsts (before d i)) (arrivalAt d i .number)

@@ -2,8 +2,8 @@
 -- an equal octet moves i on (`common-step`), and where octets differ or a text ends it is i. Two texts are the same if what they have in
 -- common is all of both (`same-common`, by induction over both). A line, and what stands after it: if less than the line agrees the rest is
 -- not looked at (`common-part`), and if all of it does the rest is compared with the rest of the text (`common-after`), both by induction
--- over the line. Last, a line put at the start of a buffer is what is read there (`line-read`). Here e is the text that must be given, t the
--- other. Assumes nothing.
+-- over the line. Last, a line put at the start of a buffer is what is read there (`line-read`). Here e is the text that must be given, t
+-- the other. Assumes nothing.
 use Prim.Native.Nat.{ℕ, suc, _+_, _-_, _≤_, _<_}
 use mathlib.Core.Path.{_≡_, refl}
 use mathlib.Core.Bool.{Bool, true, false, cond, _&&_}
@@ -101,13 +101,15 @@ common-part (x ∷ e) rest (y ∷ t) h = go (eqb x y) (common-part e rest t) h
     go false k h = refl
 
 -- where all of it agrees, what stands after it is compared with the rest
-pub common-after : (line rest t : List ℕ) → common line t ≡ length line → common (line ++ rest) t ≡ length line + common rest (drop (length line) t)
+pub common-after : (line rest t : List ℕ) → common line t ≡ length line
+    → common (line ++ rest) t ≡ length line + common rest (drop (length line) t)
 unfolding common
 common-after [] rest t h = omega arith
 common-after (x ∷ e) rest [] h = absurd (omega arith)
 common-after (x ∷ e) rest (y ∷ t) h = go (eqb x y) (common-after e rest t) h
   where
-    go : (b : Bool) → (common e t ≡ length e → common (e ++ rest) t ≡ length e + common rest (drop (length e) t)) → cond b (common e t + 1) 0 ≡ suc (length e)
+    go : (b : Bool) → (common e t ≡ length e → common (e ++ rest) t ≡ length e + common rest (drop (length e) t))
+        → cond b (common e t + 1) 0 ≡ suc (length e)
         → cond b (common (e ++ rest) t + 1) 0 ≡ suc (length e) + common rest (drop (length e) t)
     go true k h = let q = k (omega arith) in omega arith
     go false k h = absurd (omega arith)

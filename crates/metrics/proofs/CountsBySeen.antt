@@ -1,9 +1,9 @@
--- The counts need no more of the arrivals than which packets have arrived, and NextExp. A packet that has arrived is below NextExp (`has-below`,
--- by induction over the first arrivals), so that NextExp goes by every arrival alike (`next-arrival`); and a packet has arrived if it had, or if
--- it is the one marked (`seen-more`). By these an arrival's kind is that of its answer. Counts go by the kind alone, so that an answer of this kind
--- with any figures counts as the record's own (`kind-told`), and counts that take a step by the class are right with the kind (`counts-seen`).
--- Here l are the arrivals or the answers so far, a the next one, fs first arrivals, s the number of any packet, n that of record i + 1, f that the
--- table has the packets before it, and g any figures. Assumes nothing.
+-- The counts need no more of the arrivals than which packets have arrived, and NextExp. A packet that has arrived is below NextExp
+-- (`has-below`, by induction over the first arrivals), so that NextExp goes by every arrival alike (`next-arrival`); and a packet has
+-- arrived if it had, or if it is the one marked (`seen-more`). By these an arrival's kind is that of its answer. Counts go by the kind
+-- alone, so that an answer of this kind with any figures counts as the record's own (`kind-told`), and counts that take a step by the
+-- class are right with the kind (`counts-seen`). Here l are the arrivals or the answers so far, a the next one, fs first arrivals, s the
+-- number of any packet, n that of record i + 1, f that the table has the packets before it, and g any figures. Assumes nothing.
 use mathlib.Core.Path.{_≡_, refl, sym, ap, _∙_}
 use mathlib.Core.Bool.{Bool, true, false, cond, _||_, or-true, or-false, true≢false}
 use mathlib.Core.List.{List, [], _∷_, _++_}
@@ -48,7 +48,11 @@ pub record SeenPackets (earlier : List Arrival) (seen : List Bool) (next : ℕ) 
 pub seen-start : (d : Decoded) → SeenPackets (before d 0) (replicate numberPlaces false) 1
 unfolding has firsts nextExp
 seen-start d =
-    record { places = length-replicate numberPlaces false; at = λ s h. getD-replicate numberPlaces s false false (omega arith); expected = refl }
+    record {
+      places = length-replicate numberPlaces false;
+      at = λ s h. getD-replicate numberPlaces s false false (omega arith);
+      expected = refl;
+    }
 
 -- ---- one arrival more
 
@@ -57,7 +61,8 @@ pub has-below : (s : ℕ) (fs : List Arrival) → has s fs ≡ true → s < next
 unfolding has
 has-below s fs = snoc-ind (λ (fs : List Arrival). has s fs ≡ true → s < nextExp fs) more (λ e. absurd (true≢false (sym e))) fs
   where
-    more : (fs : List Arrival) (a : Arrival) → (has s fs ≡ true → s < nextExp fs) → has s (fs ++ (a ∷ [])) ≡ true → s < nextExp (fs ++ (a ∷ []))
+    more : (fs : List Arrival) (a : Arrival) → (has s fs ≡ true → s < nextExp fs) → has s (fs ++ (a ∷ [])) ≡ true
+        → s < nextExp (fs ++ (a ∷ []))
     more fs a h e = rw (next-more fs a) (go (has s fs) refl (eqb (a .number) s) refl (sym (has-more s fs a) ∙ e))
       where
         b : (nextExp fs ≤ nextAfter (nextExp fs) (a .number)) × (a .number < nextAfter (nextExp fs) (a .number))
@@ -69,7 +74,8 @@ has-below s fs = snoc-ind (λ (fs : List Arrival). has s fs ≡ true → s < nex
         go false q false r w = absurd (true≢false (sym w))
 
 -- so the table has no packet from NextExp on
-pub unseen : (l : List Arrival) (seen : List Bool) (next : ℕ) → SeenPackets l seen next → (n : ℕ) → n ≤ sentMost → next ≤ n → getD seen n false ≡ false
+pub unseen : (l : List Arrival) (seen : List Bool) (next : ℕ) → SeenPackets l seen next → (n : ℕ) → n ≤ sentMost → next ≤ n
+    → getD seen n false ≡ false
 unseen l seen next f n high h = f .at n high ∙ go (has n l) refl
   where
     go : (t : Bool) → has n l ≡ t → t ≡ false
@@ -112,21 +118,26 @@ module _ (d : Decoded) (y : Layout) (i : ℕ) (there : HasRecord d y i) (seen : 
   seen-next = rw (before-more d y i there, is) (seen-more (before d i) (arrivalAt d i) seen next (rw is at high) f)
 
   -- the class by the table counts as the answer
-  kind-told : (l : List Answer) (g : ReorderedFigures) → counts (l ++ (answerBy 0 (kindBy seen next n) g ∷ [])) ≡ counts (l ++ (answerAt d i ∷ []))
+  kind-told : (l : List Answer) (g : ReorderedFigures) → counts (l ++ (answerBy 0 (kindBy seen next n) g ∷ []))
+      ≡ counts (l ++ (answerAt d i ∷ []))
   unfolding answerTo firstAnswer inOrderAnswer reorderedAnswer isInOrder kindBy runsAfter
-  kind-told l g = rw (f .at n high, f .expected, is) (go (has (arrivalAt d i .number) (before d i)) (leb (nextExp (firsts (before d i))) (arrivalAt d i .number)))
+  kind-told l g =
+      rw (f .at n high, f .expected, is) (go (has (arrivalAt d i .number) (before d i))
+      (leb (nextExp (firsts (before d i))) (arrivalAt d i .number)))
     where
       go : (t u : Bool)
           → counts (l ++ (answerBy 0 (cond t (Class.Duplicate 0) (cond u (Class.InOrder 0) (Class.Reordered 0))) g ∷ []))
           ≡ counts (l ++ (cond t (Answer.Duplicate (record { first = firstRecord (arrivalAt d i .number) (before d i) }))
           (cond u (inOrderAnswer (firsts (before d i)) (arrivalAt d i))
-          (reorderedAnswer (sizeOf d) (firsts (before d i)) (arrivalAt d i) (discontinuity (firsts (before d i)) (arrivalAt d i .number)))) ∷ []))
+          (reorderedAnswer (sizeOf d) (firsts (before d i)) (arrivalAt d i)
+          (discontinuity (firsts (before d i)) (arrivalAt d i .number)))) ∷ []))
       go true u = counts-more l _ ∙ sym (counts-more l _)
       go false true = counts-more l _ ∙ sym (counts-more l _)
       go false false = counts-more l _ ∙ sym (counts-more l _)
 
   -- the counts under record i + 1
-  pub counts-seen : {k : Class} {r : Counts} → k ≡ kindBy seen next n → ((m : ℕ) (a : Answer) → ClassOf m k a → r ≡ counts (answersTo d i ++ (a ∷ [])))
+  pub counts-seen : {k : Class} {r : Counts} → k ≡ kindBy seen next n
+      → ((m : ℕ) (a : Answer) → ClassOf m k a → r ≡ counts (answersTo d i ++ (a ∷ [])))
       → r ≡ counts (answersTo d (i + 1))
   counts-seen e h =
       let g : ReorderedFigures = record { position = 0; extent = 0; late = LateTime.After 0; offset = 0; largest = 0 } in

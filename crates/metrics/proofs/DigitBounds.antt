@@ -58,7 +58,8 @@ late-within : (t : ℕ) → t < 2 ^ 64 → (fs : List Arrival) → All (λ (b : 
 unfolding lateFrom elapsed
 late-within t high fs back s = go (discontinuity fs s) (discontinuity-until (t + backMost) fs back s)
   where
-    test : (p : FirstArrival) → p .time ≤ t + backMost → (u : Bool) → TimeWithin (cond u (LateTime.Before (p .time - t)) (LateTime.After (t - p .time)))
+    test : (p : FirstArrival) → p .time ≤ t + backMost → (u : Bool)
+        → TimeWithin (cond u (LateTime.Before (p .time - t)) (LateTime.After (t - p .time)))
     test p h true = omega arith
     test p h false = omega arith
 
@@ -66,7 +67,8 @@ late-within t high fs back s = go (discontinuity fs s) (discontinuity-until (t +
     go none h = omega arith
     go (some p) h = test p (h p refl) (ltb t (p .time))
 
-module _ (size : ℕ → ℕ) (small : (s : ℕ) → size s ≤ sizeMost) (earlier : List Arrival) (few : length earlier < arrivalsMost) (a : Arrival) (number : a .number ≤ sentMost)
+module _ (size : ℕ → ℕ) (small : (s : ℕ) → size s ≤ sizeMost) (earlier : List Arrival) (few : length earlier < arrivalsMost) (a : Arrival)
+    (number : a .number ≤ sentMost)
     (time : a .time < 2 ^ 64) (back : All (λ (b : Arrival). b .time ≤ a .time + backMost) earlier) where
   -- the answer for an arrival after fewer than 4,096
   answer-within : AnswerWithin (answerTo size earlier a)
@@ -75,7 +77,8 @@ module _ (size : ℕ → ℕ) (small : (s : ℕ) → size s ≤ sizeMost) (earli
     where
       go : (t : Bool) → has (a .number) earlier ≡ t → (u : Bool)
           → AnswerWithin (cond t (Answer.Duplicate (record { first = firstRecord (a .number) earlier }))
-          (cond u (inOrderAnswer (firsts earlier) a) (reorderedAnswer size (firsts earlier) a (discontinuity (firsts earlier) (a .number)))))
+          (cond u (inOrderAnswer (firsts earlier) a) (reorderedAnswer size (firsts earlier) a
+          (discontinuity (firsts earlier) (a .number)))))
       go true arrived u = omega (arith, record-some (a .number) earlier arrived)
       go false new true = (omega (arith, length-firsts earlier), omega arith)
       go false new false =
@@ -112,12 +115,14 @@ back-most : (file : List ℕ) (y : Layout) → Octets file → (i : ℕ) → Has
 back-most file y o i h =
     all-take _ noArrival (sampleArrivals (decode file)) i (λ j k. go (decode file) refl j (omega arith) (inside-laid (decode file) y i h))
   where
-    go : (d : Decoded) → decode file ≡ d → (j : ℕ) → j ≤ i → i < length (sampleArrivals d) → arrivalAt d j .time ≤ arrivalAt d i .time + backMost
+    go : (d : Decoded) → decode file ≡ d → (j : ℕ) → j ≤ i → i < length (sampleArrivals d)
+        → arrivalAt d j .time ≤ arrivalAt d i .time + backMost
     go (refused r) e j p q = omega arith
     go (accepted w) e j p q = times-within file w e o noArrival j i p q
 
 -- the answer for any record of a file of octets
-pub answers-within : (file : List ℕ) (y : Layout) (i : ℕ) → Octets file → HasRecord (decode file) y i → AnswerWithin (answerAt (decode file) i)
+pub answers-within : (file : List ℕ) (y : Layout) (i : ℕ) → Octets file → HasRecord (decode file) y i
+    → AnswerWithin (answerAt (decode file) i)
 answers-within file y i o h =
     answer-within (sizeOf (decode file)) (size-most file o) (before (decode file) i)
     (omega (arith, before-length (decode file) y i h, h .inside, h .file .few))
@@ -135,7 +140,8 @@ answer-bounded file y h o asked = go (eqb (recordRefusal (decode file) asked) 0)
     d : Decoded
     d = decode file
 
-    go : (t : Bool) → eqb (recordRefusal d asked) 0 ≡ t → FiguresBounded (atRecord (Answer.InOrder (record { position = 0; jump = 0 })) (answersOf d) asked)
+    go : (t : Bool) → eqb (recordRefusal d asked) 0 ≡ t → FiguresBounded
+        (atRecord (Answer.InOrder (record { position = 0; jump = 0 })) (answersOf d) asked)
     go false e = rw (answer-refused d asked (Answer.InOrder (record { position = 0; jump = 0 })) (eqb-false _ 0 e)) tt
     go true e =
         let z : recordRefusal d asked ≡ 0 = eqb-true _ 0 e in
@@ -154,4 +160,12 @@ counts-within l h =
     let c = closed-reordered l in
     let e = current-le l in
     let s = squares-le arrivalsMost l (omega arith) in
-    record { arrived = omega arith; reordered = omega arith; duplicates = omega arith; inorder = omega arith; closed = omega arith; squares = omega arith; current = omega arith }
+    record {
+      arrived = omega arith;
+      reordered = omega arith;
+      duplicates = omega arith;
+      inorder = omega arith;
+      closed = omega arith;
+      squares = omega arith;
+      current = omega arith;
+    }

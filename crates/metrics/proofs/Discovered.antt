@@ -1,10 +1,9 @@
 -- The gap of a position from a table of discoverers, looked through downward. First the last discontinuity up to a position in the table,
--- `lastTo`, one position at a time. A position is marked in the table exactly if it is a discontinuity (`marked-some`), so the neighbour of a
--- position is the last marked one before it (`neighbour-known`, by induction over the positions), and the gap is that over it (`gap-known`).
--- Hence the three answers: none where p is not marked (`gap-other`), none where nothing is marked before it (`gap-first`), and else by the two
--- entries, of which the smaller is the earlier discoverer (`gap-near`).
--- Here l are the answers, discoverers the table, m that it has their discoverers, p the position, q one before it and b the neighbour. Assumes
--- nothing.
+-- `lastTo`, one position at a time. A position is marked in the table exactly if it is a discontinuity (`marked-some`), so the neighbour
+-- of a position is the last marked one before it (`neighbour-known`, by induction over the positions), and the gap is that over it
+-- (`gap-known`). Hence the three answers: none where p is not marked (`gap-other`), none where nothing is marked before it (`gap-first`),
+-- and else by the two entries, of which the smaller is the earlier discoverer (`gap-near`). Here l are the answers, discoverers the
+-- table, m that it has their discoverers, p the position, q one before it and b the neighbour. Assumes nothing.
 use mathlib.Core.Path.{_≡_, refl, sym, ap, _∙_}
 use mathlib.Core.Bool.{Bool, true, false, cond, not}
 use mathlib.Core.List.{List}
@@ -25,7 +24,8 @@ use Rattle.metrics.proofs.OneArrivalMore.{known-some}
 
 module _ (discoverers : List ℕ) where
   -- by what stands at a position
-  last-suc : (q : ℕ) (t : Bool) → eqb (getD discoverers (suc q) 0) 0 ≡ t → lastTo discoverers (suc q) ≡ cond t (lastTo discoverers q) (suc q)
+  last-suc : (q : ℕ) (t : Bool) → eqb (getD discoverers (suc q) 0) 0 ≡ t
+      → lastTo discoverers (suc q) ≡ cond t (lastTo discoverers q) (suc q)
   unfolding lastTo
   last-suc q t e = rw e
 
@@ -58,7 +58,8 @@ module _ (discoverers : List ℕ) where
   last-marked zero h z = h (last-none 0 (omega arith))
   last-marked (suc q) h z = go (eqb (getD discoverers (suc q) 0) 0) refl (last-marked q)
     where
-      go : (t : Bool) → eqb (getD discoverers (suc q) 0) 0 ≡ t → ((lastTo discoverers q ≡ 0 → ⊥) → getD discoverers (lastTo discoverers q) 0 ≡ 0 → ⊥) → ⊥
+      go : (t : Bool) → eqb (getD discoverers (suc q) 0) 0 ≡ t
+          → ((lastTo discoverers q ≡ 0 → ⊥) → getD discoverers (lastTo discoverers q) 0 ≡ 0 → ⊥) → ⊥
       go true e k = k (λ w. h (last-suc q true e ∙ w)) (rw (last-suc q true e) at z)
       go false e k = eqb-false (getD discoverers (suc q) 0) 0 e (rw (last-suc q false e) at z)
 
@@ -98,7 +99,8 @@ module _ (l : List Answer) where
     unfolding neighbour lastTo
     neighbour-known zero h = refl
     neighbour-known (suc q) h =
-        go (eqb (getD discoverers (suc q) 0) 0) (isSome (discoverer (suc q) l)) (marked-some (suc q) (omega arith) h) (neighbour-known q (omega arith))
+        go (eqb (getD discoverers (suc q) 0) 0) (isSome (discoverer (suc q) l)) (marked-some (suc q) (omega arith) h)
+        (neighbour-known q (omega arith))
       where
         go : (z t : Bool) → t ≡ not z → neighbour l (suc q) ≡ known (lastTo discoverers q)
             → cond t (some (suc q)) (neighbour l (suc q)) ≡ known (cond z (lastTo discoverers q) (suc q))
@@ -131,7 +133,8 @@ module _ (l : List Answer) where
         gap-first z = sym (gap-known p low few ∙ rw (← e, z))
 
         -- any other has one if the one before it was discovered earlier
-        pub gap-near : (t : Bool) → (b ≡ 0 → ⊥) → ltb (getD discoverers b 0) (getD discoverers p 0) ≡ t → cond t (Gap.Positions (p - b)) Gap.None ≡ gapOf l (some p)
+        pub gap-near : (t : Bool) → (b ≡ 0 → ⊥) → ltb (getD discoverers b 0) (getD discoverers p 0) ≡ t
+            → cond t (Gap.Positions (p - b)) Gap.None ≡ gapOf l (some p)
         unfolding gapOver
         gap-near t s k =
             let marked : getD discoverers b 0 ≡ 0 → ⊥ = rw e (last-marked discoverers (p - 1) (λ z. s (e ∙ z))) in

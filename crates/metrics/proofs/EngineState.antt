@@ -1,9 +1,9 @@
 -- What the engine knows: the tables, the links and the tree. Before any record all are zeros (`engine-start`). Since the numbers of the
 -- first arrivals are those of packets, the links can be gone along (`links-laid`) and the tree can be filled (`engine-filling`). Under
 -- record i + 1 the tables and links are those that noting leaves, given that the record is linked by its largest n where it is reordered
--- (`linked-next`); and a tree of some first arrivals is one of these and more (`size-tree-grown`). So all is known under it (`engine-next`).
--- Here d is the decoded file, y its layout, i the records before, f that the tables follow them, k the class of record i + 1, late what is
--- known where it is reordered, n that it is noted, t the totals, and a prime marks what is after it. Assumes nothing.
+-- (`linked-next`); and a tree of some first arrivals is one of these and more (`size-tree-grown`). So all is known under it
+-- (`engine-next`). Here d is the decoded file, y its layout, i the records before, f that the tables follow them, k the class of record i
+-- + 1, late what is known where it is reordered, n that it is noted, t the totals, and a prime marks what is after it. Assumes nothing.
 use mathlib.Core.Path.{_≡_, refl}
 use mathlib.Core.Bool.{Bool, true, false}
 use mathlib.Core.List.{List, [], _∷_, _++_}
@@ -34,27 +34,40 @@ use Rattle.metrics.proofs.NotingArrivals.{noted-follows, noted-linked}
 use Rattle.metrics.proofs.Pairs.{size-tree-none}
 
 -- before any record
-pub engine-start : (d : Decoded) → EngineState d 0 (replicate sentMost 0) (replicate numberPlaces 0) (replicate numberPlaces 0) (replicate 2049 0)
+pub engine-start : (d : Decoded) → EngineState d 0 (replicate sentMost 0) (replicate numberPlaces 0) (replicate numberPlaces 0)
+    (replicate 2049 0)
     (record { noted = record { count = 0; next = 1 }; totals = record { filled = 0; total = 0 } })
 engine-start d = record { follows = follows-start d; linked = linked-start 1 d; totalled = size-tree-none (sizeOf d) (firsts (before d 0)) }
 
 -- a tree of some first arrivals stays one where others come after them
-size-tree-grown : (size : ℕ → ℕ) (fs more : List Arrival) (tree : List ℕ) (t : Totals) → SizeTree size fs tree t → SizeTree size (fs ++ more) tree t
+size-tree-grown : (size : ℕ → ℕ) (fs more : List Arrival) (tree : List ℕ) (t : Totals) → SizeTree size fs tree t
+    → SizeTree size (fs ++ more) tree t
 size-tree-grown size fs more tree t k =
     let same : take (t .filled) (fs ++ more) ≡ take (t .filled) fs = take-append-le (t .filled) fs more (k .some) in
-    record { places = k .places; some = omega (arith, k .some, length-append fs more); summed = rw same (k .summed); whole = rw same (k .whole) }
+    record {
+      places = k .places;
+      some = omega (arith, k .some, length-append fs more);
+      summed = rw same (k .summed);
+      whole = rw same (k .whole);
+    }
 
 module _ (d : Decoded) (y : Layout) (i : ℕ) (h : HasRecord d y i) where
   -- so it does under record i + 1
-  pub size-tree-next : (tree : List ℕ) (t : Totals) → SizeTree (sizeOf d) (firsts (before d i)) tree t → SizeTree (sizeOf d) (firsts (before d (i + 1))) tree t
-  size-tree-next tree t k = rw (before-more d y i h, firsts-more (before d i) (arrivalAt d i)) (go (has (arrivalAt d i .number) (firsts (before d i))) refl)
+  pub size-tree-next : (tree : List ℕ) (t : Totals) → SizeTree (sizeOf d) (firsts (before d i)) tree t
+      → SizeTree (sizeOf d) (firsts (before d (i + 1))) tree t
+  size-tree-next tree t k =
+      rw (before-more d y i h, firsts-more (before d i) (arrivalAt d i)) (go (has (arrivalAt d i .number) (firsts (before d i))) refl)
     where
-      go : (b : Bool) → has (arrivalAt d i .number) (firsts (before d i)) ≡ b → SizeTree (sizeOf d) (withArrival (firsts (before d i)) (arrivalAt d i)) tree t
+      go : (b : Bool) → has (arrivalAt d i .number) (firsts (before d i)) ≡ b
+          → SizeTree (sizeOf d) (withArrival (firsts (before d i)) (arrivalAt d i)) tree t
       go true e = rw (with-duplicate (firsts (before d i)) (arrivalAt d i) e) k
-      go false e = rw (with-first (firsts (before d i)) (arrivalAt d i) e) (size-tree-grown (sizeOf d) (firsts (before d i)) (arrivalAt d i ∷ []) tree t k)
+      go false e =
+          rw (with-first (firsts (before d i)) (arrivalAt d i) e)
+          (size-tree-grown (sizeOf d) (firsts (before d i)) (arrivalAt d i ∷ []) tree t k)
 
   -- links can be gone along
-  pub links-laid : (more : ℕ) (numbers links : List ℕ) (count : ℕ) → NumberTable (firsts (before d i)) numbers count → LinkTable more (firsts (before d i)) links
+  pub links-laid : (more : ℕ) (numbers links : List ℕ) (count : ℕ) → NumberTable (firsts (before d i)) numbers count
+      → LinkTable more (firsts (before d i)) links
       → (count ≤ sentMost) × Links more numbers links count
   links-laid more numbers links count n l =
       let k = packets d y i (h .file) numbers count n (omega (arith, h .inside)) in
@@ -64,7 +77,8 @@ module _ (d : Decoded) (y : Layout) (i : ℕ) (h : HasRecord d y i) where
     module _ (number : ℕ) (is : number ≡ arrivalAt d i .number) (low : 1 ≤ number) (high : number ≤ sentMost)
         (k : Class) (e : k ≡ classBy records skipped (state .next) number) (largest : ℕ) (R : Type 0)
         (late : IfLate (λ (at : ℕ). (largest ≡ largestN (firsts (before d i)) number) × R) k)
-        (numbers′ records′ skipped′ : List ℕ) (state′ : State) (n : NotedRecord i number largest numbers records skipped state numbers′ records′ skipped′ state′) where
+        (numbers′ records′ skipped′ : List ℕ) (state′ : State)
+        (n : NotedRecord i number largest numbers records skipped state numbers′ records′ skipped′ state′) where
       -- the links under record i + 1, which is linked by its largest n
       pub linked-next : LinkTable 1 (firsts (before d i)) skipped → LinkTable 1 (firsts (before d (i + 1))) skipped′
       linked-next l =
@@ -72,7 +86,8 @@ module _ (d : Decoded) (y : Layout) (i : ℕ) (h : HasRecord d y i) where
           (λ new behind. late-told d i numbers records skipped state f number is low high k e late new behind .0) l
 
       -- all that is known under it
-      pub engine-next : (tree′ : List ℕ) (totals′ : Totals) → LinkTable 1 (firsts (before d i)) skipped → SizeTree (sizeOf d) (firsts (before d i)) tree′ totals′
+      pub engine-next : (tree′ : List ℕ) (totals′ : Totals) → LinkTable 1 (firsts (before d i)) skipped
+          → SizeTree (sizeOf d) (firsts (before d i)) tree′ totals′
           → EngineState d (i + 1) numbers′ records′ skipped′ tree′ (record { noted = state′; totals = totals′ })
       engine-next tree′ totals′ l t =
           record {

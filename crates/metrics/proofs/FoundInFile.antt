@@ -47,7 +47,8 @@ module _ (file : List ℕ) where
     arrival-inside i g p = p .inside i (h .laid) g
 
     -- what is read of its twelve octets
-    pub arrival-read : (i : ℕ) {from : ℕ} {a : Arrival} → i < y .arrivals → ArrivalsFrom file y from → a ≡ arrivalIn (taken (from + 12 * i) 12 file)
+    pub arrival-read : (i : ℕ) {from : ℕ} {a : Arrival} → i < y .arrivals → ArrivalsFrom file y from
+        → a ≡ arrivalIn (taken (from + 12 * i) 12 file)
         → (a ≡ arrivalAt (decode file) i) × (1 ≤ a .number) × (a .number ≤ sentMost)
     arrival-read i {from} g p e = arrival-known i g (λ l k. arrival-taken (from + 12 * i) file e ∙ p .arrival i l k)
 

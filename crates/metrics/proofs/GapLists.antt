@@ -1,11 +1,10 @@
 -- The gaps of all records in a lent list. The record of a packet's first arrival stays under any later arrivals (`record-kept`), so after
--- all arrivals it is i + 1 exactly if record i + 1 is a first arrival (`copy-recorded`, `new-recorded`). Then its position is the next one, and
--- else it has none (`position-new`, `position-copy`). With the next position the last discontinuity moves on or stays (`last-stays`). A gap
--- is the difference of two positions of which the second is greater (`neighbour-below`), so it is not 0, and its number tells it
--- (`gaps-tell`).
--- Here l and m are arrivals or answers, s is a packet's number, d the decoded file, y its layout, i the records before, n the first
--- arrivals among them, p a position, q its neighbour, discoverers the table of discoverers, old and new the list before and now. Assumes
--- nothing.
+-- all arrivals it is i + 1 exactly if record i + 1 is a first arrival (`copy-recorded`, `new-recorded`). Then its position is the next
+-- one, and else it has none (`position-new`, `position-copy`). With the next position the last discontinuity moves on or stays
+-- (`last-stays`). A gap is the difference of two positions of which the second is greater (`neighbour-below`), so it is not 0, and its
+-- number tells it (`gaps-tell`). Here l and m are arrivals or answers, s is a packet's number, d the decoded file, y its layout, i the
+-- records before, n the first arrivals among them, p a position, q its neighbour, discoverers the table of discoverers, old and new the
+-- list before and now. Assumes nothing.
 use mathlib.Core.Path.{_≡_, refl, sym, ap, _∙_}
 use mathlib.Core.Bool.{Bool, true, false, cond}
 use mathlib.Core.List.{List, [], _∷_, _++_, append-nil, append-assoc}
@@ -128,7 +127,8 @@ pub last-prior : (discoverers : List ℕ) (n p last : ℕ) → last ≡ lastTo d
 last-prior discoverers n p last e k = let q : n ≡ p - 1 = omega arith in e ∙ ap (lastTo discoverers) q
 
 -- it stays where the next position is none
-pub last-stays : (discoverers : List ℕ) (n p last : ℕ) → last ≡ lastTo discoverers n → p ≡ n + 1 → getD discoverers p 0 ≡ 0 → last ≡ lastTo discoverers p
+pub last-stays : (discoverers : List ℕ) (n p last : ℕ) → last ≡ lastTo discoverers n → p ≡ n + 1 → getD discoverers p 0 ≡ 0
+    → last ≡ lastTo discoverers p
 last-stays discoverers n p last e k z = last-prior discoverers n p last e k ∙ sym (last-before discoverers p (omega arith) z)
 
 -- and else is that position

@@ -1,9 +1,10 @@
--- Links: at the packet of each first arrival stands what with `more` is 1 and its own largest n: `more` is 1 in the engine's table, which has the
--- largest n itself, and 0 in that of the shares. The first arrivals that a largest n counts have greater numbers (`largest-over`, by induction
--- over the first arrivals). So where a first arrival's number is above s, those are too that its link passes over (`above-link`). Under one first
--- arrival more the others' links stay, since its packet is another, and its own is put at its packet (`linked-set`). From NextExp on the largest
--- n is 0 (`largest-next`), and 0 stands there already; so where `more` is 1 nothing is put for a packet in order (`linked-in-order`).
--- Here fs are the first arrivals, a the next one, s a packet's number, p a place among them, n the number there and k its link. Assumes nothing.
+-- Links: at the packet of each first arrival stands what with `more` is 1 and its own largest n: `more` is 1 in the engine's table, which
+-- has the largest n itself, and 0 in that of the shares. The first arrivals that a largest n counts have greater numbers (`largest-over`,
+-- by induction over the first arrivals). So where a first arrival's number is above s, those are too that its link passes over
+-- (`above-link`). Under one first arrival more the others' links stay, since its packet is another, and its own is put at its packet
+-- (`linked-set`). From NextExp on the largest n is 0 (`largest-next`), and 0 stands there already; so where `more` is 1 nothing is put
+-- for a packet in order (`linked-in-order`). Here fs are the first arrivals, a the next one, s a packet's number, p a place among them, n
+-- the number there and k its link. Assumes nothing.
 use mathlib.Core.Path.{_≡_, refl, sym, ap, _∙_}
 use mathlib.Core.Bool.{Bool, true, false, cond, true≢false}
 use mathlib.Core.List.{List, [], _∷_, _++_}
@@ -53,7 +54,8 @@ largest-over s = snoc-ind Over more (λ p a b. absurd (omega arith))
 
 module _ (more : ℕ) where
   -- a table of the largest n links each first arrival to the nearest before it whose number is not greater
-  pub linked-links : (fs : List Arrival) (numbers links : List ℕ) (count : ℕ) → NumberTable fs numbers count → ((p : ℕ) → p < count → getD numbers p 0 ≤ sentMost)
+  pub linked-links : (fs : List Arrival) (numbers links : List ℕ) (count : ℕ) → NumberTable fs numbers count
+      → ((p : ℕ) → p < count → getD numbers p 0 ≤ sentMost)
       → LinkTable more fs links → Links more numbers links count
   linked-links fs numbers links count n packets l = record { packet = packets; inside = inside; at = over }
     where
@@ -68,7 +70,8 @@ module _ (more : ℕ) where
       over p h =
           let here : p < length fs = omega (arith, n .all) in
           let taken : length (take p fs) ≡ p = length-take-le p fs (omega arith) in
-          let back : p + 1 - more - getD links (getD numbers p 0) 0 ≡ p - largestN (take p fs) (getD fs p noArrival .number) = omega (arith, link p h) in
+          let back : p + 1 - more - getD links (getD numbers p 0) 0 ≡ p - largestN (take p fs) (getD fs p noArrival .number) =
+          omega (arith, link p h) in
           rw (back, n .at p here)
           (record {
             order = omega arith;
@@ -78,12 +81,14 @@ module _ (more : ℕ) where
           })
 
   -- where the numbers from p on are above s, and so is the one before them, those that its link passes over are above s too
-  pub above-link : (numbers links : List ℕ) (s count p n k : ℕ) → Links more numbers links count → 1 ≤ p → s < n → n ≡ getD numbers (p - 1) 0 → k ≡ getD links n 0
+  pub above-link : (numbers links : List ℕ) (s count p n k : ℕ) → Links more numbers links count → 1 ≤ p → s < n
+      → n ≡ getD numbers (p - 1) 0 → k ≡ getD links n 0
       → Above numbers s p count → Above numbers s (p - more - k) count
   above-link numbers links s count p n k l low g e f a =
       let same : k ≡ getD links (getD numbers (p - 1) 0) 0 = f ∙ ap (λ (m : ℕ). getD links m 0) e in
       let back : p - 1 + 1 ≡ p = omega arith in
-      let linked : Above numbers (getD numbers (p - 1) 0) (p - more - k) (p - 1) = rw (back, ← same) at (l .at (p - 1) (omega (arith, a .order))) in
+      let linked : Above numbers (getD numbers (p - 1) 0) (p - more - k) (p - 1) =
+      rw (back, ← same) at (l .at (p - 1) (omega (arith, a .order))) in
       above-join numbers s (record { order = linked .order; at = λ q b c. omega (arith, linked .at q b c) })
       (above-back numbers s low (rw e at g) a)
 
@@ -94,7 +99,8 @@ pub largest-next : (s : ℕ) (fs : List Arrival) → nextExp fs ≤ s → larges
 unfolding largestN nextExp nextAfter
 largest-next s = snoc-ind (λ (fs : List Arrival). nextExp fs ≤ s → largestN fs s ≡ 0) more (λ h. refl)
   where
-    more : (fs : List Arrival) (a : Arrival) → (nextExp fs ≤ s → largestN fs s ≡ 0) → nextExp (fs ++ (a ∷ [])) ≤ s → largestN (fs ++ (a ∷ [])) s ≡ 0
+    more : (fs : List Arrival) (a : Arrival) → (nextExp fs ≤ s → largestN fs s ≡ 0) → nextExp (fs ++ (a ∷ [])) ≤ s
+        → largestN (fs ++ (a ∷ [])) s ≡ 0
     more fs a h g = go (leb (nextExp fs) (a .number)) refl (rw (next-more fs a) at g)
       where
         last : a .number ≤ s → largestN (fs ++ (a ∷ [])) s ≡ 0
@@ -109,35 +115,42 @@ pub linked-start : (more : ℕ) (d : Decoded) → LinkTable more (firsts (before
 unfolding firsts
 linked-start more d = record { at = λ p h. absurd (omega arith); ahead = λ s h. zeros numberPlaces s }
 
-module _ (more : ℕ) (fs : List Arrival) (a : Arrival) (new : has (a .number) fs ≡ false) (links : List ℕ) (l : LinkTable more fs links) where
+module _ (more : ℕ) (fs : List Arrival) (a : Arrival) (new : has (a .number) fs ≡ false) (links : List ℕ)
+    (l : LinkTable more fs links) where
   -- the packet of another first arrival is another
   other-packet : (p : ℕ) → p < length fs → getD fs p noArrival .number ≡ a .number → ⊥
   other-packet p h e = true≢false (sym (has-at noArrival fs p h) ∙ rw e new)
 
   -- the links under it, where those before it stay and its own is put at its packet
-  linked-more : (links′ : List ℕ) → ((p : ℕ) → p < length fs → getD links′ (getD fs p noArrival .number) 0 ≡ getD links (getD fs p noArrival .number) 0)
+  linked-more : (links′ : List ℕ) → ((p : ℕ) → p < length fs
+      → getD links′ (getD fs p noArrival .number) 0 ≡ getD links (getD fs p noArrival .number) 0)
       → more + getD links′ (a .number) 0 ≡ largestN fs (a .number) + 1 → ((s : ℕ) → nextExp (fs ++ (a ∷ [])) ≤ s → getD links′ s 0 ≡ 0)
       → LinkTable more (fs ++ (a ∷ [])) links′
   linked-more links′ stay own ahead = record { at = λ p h. go p h (eqb p (length fs)) refl; ahead = ahead }
     where
       go : (p : ℕ) → p < length (fs ++ (a ∷ [])) → (u : Bool) → eqb p (length fs) ≡ u
-          → more + getD links′ (getD (fs ++ (a ∷ [])) p noArrival .number) 0 ≡ largestN (take p (fs ++ (a ∷ []))) (getD (fs ++ (a ∷ [])) p noArrival .number) + 1
+          → more + getD links′ (getD (fs ++ (a ∷ [])) p noArrival .number) 0
+          ≡ largestN (take p (fs ++ (a ∷ []))) (getD (fs ++ (a ∷ [])) p noArrival .number) + 1
       go p h true e = rw (eqb-true p (length fs) e, take-append-seam fs (a ∷ []), getD-append-seam fs a [] noArrival) own
       go p h false e =
           let inside : p < length fs = omega (arith, length-append fs (a ∷ []), eqb-false p (length fs) e) in
-          rw (take-append-le p fs (a ∷ []) (omega arith), List·getD-append fs (a ∷ []) noArrival p inside) (ap (λ (k : ℕ). more + k) (stay p inside) ∙ l .at p inside)
+          rw (take-append-le p fs (a ∷ []) (omega arith), List·getD-append fs (a ∷ []) noArrival p inside)
+          (ap (λ (k : ℕ). more + k) (stay p inside) ∙ l .at p inside)
 
   -- where it is linked by its largest n
-  pub linked-set : (link : ℕ) → a .number < length links → more + link ≡ largestN fs (a .number) + 1 → LinkTable more (fs ++ (a ∷ [])) (set links (a .number) link)
+  pub linked-set : (link : ℕ) → a .number < length links → more + link ≡ largestN fs (a .number) + 1
+      → LinkTable more (fs ++ (a ∷ [])) (set links (a .number) link)
   linked-set link room is =
       let above = nextAfter-above (nextExp fs) (a .number) in
       linked-more (set links (a .number) link)
       (λ p h. getD-set-other links (a .number) _ link 0 (other-packet p h))
       (rw (getD-set-same links (a .number) link 0 room) is)
-      (λ s h. getD-set-other links (a .number) s link 0 (λ e. omega (arith, next-more fs a, above)) ∙ l .ahead s (omega (arith, next-more fs a, above)))
+      (λ s h. getD-set-other links (a .number) s link 0 (λ e. omega (arith, next-more fs a, above))
+      ∙ l .ahead s (omega (arith, next-more fs a, above)))
 
 -- where it is in order, and skips the packets from NextExp on, its link is 0
-pub linked-in-order : (fs : List Arrival) (a : Arrival) → has (a .number) fs ≡ false → (links links′ : List ℕ) → LinkTable 1 fs links → (value : ℕ) → nextExp fs ≤ a .number
+pub linked-in-order : (fs : List Arrival) (a : Arrival) → has (a .number) fs ≡ false → (links links′ : List ℕ) → LinkTable 1 fs links
+    → (value : ℕ) → nextExp fs ≤ a .number
     → Filled (nextExp fs) (a .number) value links links′ → LinkTable 1 (fs ++ (a ∷ [])) links′
 unfolding nextAfter
 linked-in-order fs a new links links′ l value ahead filled =

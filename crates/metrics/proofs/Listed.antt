@@ -1,10 +1,10 @@
--- The listing of a checked file. `linesTo` is it up to record i: the first line alone before any record (`lines-start`); under one record more, since
--- the arrivals and the answers are those before and one after them, it goes on by that record's line (`lines-next`); up to the last record, with the
--- last line, it is whole (`lines-end`). So up to any record it is the start of the whole (`lines-rest`, by induction over the n records that follow).
--- How long it is: the figures have few digits, so that it has at most 24 octets for the first line and 61 for each record (`lines-within`, by
--- induction over the records), which with the last line is at most `listingOctets` (`sample-within`).
--- Here d is the decoded file, y its layout, laid that it is the file's, i the records before, c the counts and o that the file is of octets.
--- Assumes nothing.
+-- The listing of a checked file. `linesTo` is it up to record i: the first line alone before any record (`lines-start`); under one record
+-- more, since the arrivals and the answers are those before and one after them, it goes on by that record's line (`lines-next`); up to
+-- the last record, with the last line, it is whole (`lines-end`). So up to any record it is the start of the whole (`lines-rest`, by
+-- induction over the n records that follow). How long it is: the figures have few digits, so that it has at most 24 octets for the first
+-- line and 61 for each record (`lines-within`, by induction over the records), which with the last line is at most `listingOctets`
+-- (`sample-within`). Here d is the decoded file, y its layout, laid that it is the file's, i the records before, c the counts and o that
+-- the file is of octets. Assumes nothing.
 use mathlib.Core.Path.{_≡_, refl, sym, ap, _∙_}
 use mathlib.Core.List.{List, _++_, append-nil, append-assoc}
 use Prim.Native.Nat.{ℕ, zero, suc, _+_, _*_, _≤_}
@@ -41,7 +41,8 @@ pub lines-next : (d : Decoded) (y : Layout) (i : ℕ) → HasRecord d y i
 lines-next d y i h =
     let b = before-length d y i h in
     let more = rw b at (lines-more (before d i) (answersTo d i) (arrivalAt d i) (answerAt d i) (answers-length d y i h ∙ sym b)) in
-    rw (answers-next d y i h, before-more d y i h, more) (sym (append-assoc (headerLine (y .sent) (y .arrivals)) (recordLines (before d i) (answersTo d i)) _))
+    rw (answers-next d y i h, before-more d y i h, more) (sym
+    (append-assoc (headerLine (y .sent) (y .arrivals)) (recordLines (before d i) (answersTo d i)) _))
 
 -- the listing goes on after record i
 pub record Rest (d : Decoded) (y : Layout) (i : ℕ) : Type 0 where
@@ -57,13 +58,18 @@ module _ (d : Decoded) (y : Layout) (laid : FileLayout d y) where
       let l : before d (y .arrivals) ≡ sampleArrivals d = take-all (y .arrivals) (sampleArrivals d) (omega (arith, many)) in
       let m : answersTo d (y .arrivals) ≡ answersOf d = answers-end d y (y .arrivals) laid (omega arith) in
       let k : y .sent ≡ length (sampleOf d .sizes) = ap (λ (y : Layout). y .sent) (laid .laid) in
-      rw (m, l, many, k) (append-assoc (headerLine (length (sampleOf d .sizes)) (length (sampleArrivals d))) (recordLines (sampleArrivals d) (answersOf d)) _)
+      rw (m, l, many, k) (append-assoc (headerLine (length (sampleOf d .sizes)) (length (sampleArrivals d)))
+      (recordLines (sampleArrivals d) (answersOf d)) _)
 
   -- up to any record it is a part of the whole
   pub lines-rest : (n i : ℕ) → n + i ≡ y .arrivals → Rest d y i
   lines-rest zero i e =
       let last : y .arrivals ≡ i = omega arith in
-      record { rest = endLine (counts (answersOf d)); is = sym lines-end ∙ ap (λ (n : ℕ). linesTo d y n ++ endLine (counts (answersOf d))) last }
+      record {
+        rest = endLine (counts (answersOf d));
+        is = sym lines-end
+            ∙ ap (λ (n : ℕ). linesTo d y n ++ endLine (counts (answersOf d))) last;
+      }
   lines-rest (suc n) i e =
       let r = lines-rest n (i + 1) (omega arith) in
       record {
@@ -73,7 +79,8 @@ module _ (d : Decoded) (y : Layout) (laid : FileLayout d y) where
 
 -- the counts have few digits
 pub end-within : (d : Decoded) (y : Layout) → FileLayout d y → {c : Counts} → c ≡ counts (answersOf d) → CountsWithin c
-end-within d y h e = rw e (counts-within (answersOf d) (omega (arith, h .few, arrivals-laid d y h, length-answers (sizeOf d) (sampleArrivals d))))
+end-within d y h e =
+    rw e (counts-within (answersOf d) (omega (arith, h .few, arrivals-laid d y h, length-answers (sizeOf d) (sampleArrivals d))))
 
 module _ (file : List ℕ) (y : Layout) (laid : FileLayout (decode file) y) (o : Octets file) where
   -- up to record i it has at most 24 octets for the first line and 61 for each record
@@ -84,7 +91,9 @@ module _ (file : List ℕ) (y : Layout) (laid : FileLayout (decode file) y) (o :
   lines-within (suc i) h =
       let d = decode file in
       let r : HasRecord d y i = record { file = laid; inside = omega arith } in
-      let line = record-octets (i + 1) (arrivalAt d i .number) (answerAt d i) (omega (arith, laid .few)) (omega (arith, laid .numbers i (r .inside), laid .sentFew)) (answers-within file y i o r) in
+      let line =
+      record-octets (i + 1) (arrivalAt d i .number) (answerAt d i) (omega (arith, laid .few))
+      (omega (arith, laid .numbers i (r .inside), laid .sentFew)) (answers-within file y i o r) in
       let rest = lines-within i (omega arith) in
       let e : suc i ≡ i + 1 = omega arith in
       rw (e, lines-next d y i r, length-append (linesTo d y i) _) (omega arith)

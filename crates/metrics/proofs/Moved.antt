@@ -1,8 +1,8 @@
 -- Moving the clock by c: every call answers of the moved sample as of the sample. The answers of the records are the same (rfc4737's
 -- `answers-moved`), and there are as many records; a listing has no time in it but those of the answers, since of an arrival a line has the
--- number alone (`lines-moved`, by induction over the arrivals). Each call is a function of these, so that it answers the same (`figures-same`).
--- Here l are the arrivals, m the answers, n the counts, s the sample, and in `figures-same` i is the point of a path from the one to the other.
--- Assumes nothing.
+-- number alone (`lines-moved`, by induction over the arrivals). Each call is a function of these, so that it answers the same
+-- (`figures-same`). Here l are the arrivals, m the answers, n the counts, s the sample, and in `figures-same` i is the point of a path
+-- from the one to the other. Assumes nothing.
 use Prim.Native.Nat.{ℕ, _+_}
 use mathlib.Core.Path.{_≡_, refl, sym, ap, subst, _∙_}
 use mathlib.Core.Bool.{cond}
@@ -116,6 +116,8 @@ pub clock-moved : (file : List ℕ) → Octets file → ClockMoved file
 clock-moved file o =
     record {
       accepts = moved-accepted file o;
-      same = λ s c e t. subst (λ (d : Decoded × Decoded). SameFigures (d .0) (d .1)) (λ i. (sym (moved-accepted file o s c e t) i, sym e i)) (figures-same c s);
+      same =
+          λ s c e t. subst (λ (d : Decoded × Decoded). SameFigures (d .0) (d .1)) (λ i. (sym (moved-accepted file o s c e t) i, sym e i))
+          (figures-same c s);
       twice = sample-twice;
     }

@@ -1,9 +1,9 @@
 -- What noting record i + 1 leaves of the tables and of the links, by what the packet is. The table of records tells whether it has arrived;
--- then the laws of `TablesFollow` and of `Links` are put together. A copy leaves both (`noted-copy`). A reordered packet leaves its largest n as
--- a link where its discontinuity stood (`noted-reordered`). One in order fills the places of the packets that it skips, and has the link 0,
--- which stands there (`noted-in-order`). Last, the same of a record of a file.
--- Here l are arrivals, a the next one, m that there are i of them, is that a has this number, f that the tables follow l, lar that
--- `largest` is its largest n, and k that the links are those of l. A prime marks what is after it. Assumes nothing.
+-- then the laws of `TablesFollow` and of `Links` are put together. A copy leaves both (`noted-copy`). A reordered packet leaves its
+-- largest n as a link where its discontinuity stood (`noted-reordered`). One in order fills the places of the packets that it skips, and
+-- has the link 0, which stands there (`noted-in-order`). Last, the same of a record of a file. Here l are arrivals, a the next one, m
+-- that there are i of them, is that a has this number, f that the tables follow l, lar that `largest` is its largest n, and k that the
+-- links are those of l. A prime marks what is after it. Assumes nothing.
 use mathlib.Core.Path.{_≡_, sym, ap, _∙_}
 use mathlib.Core.Bool.{true, false}
 use mathlib.Core.List.{List}
@@ -25,19 +25,22 @@ use Rattle.metrics.proofs.TablesFollow.{kept-copy, kept-reordered, kept
 use Rattle.metrics.proofs.Links.{linked-set, linked-in-order}
 
 -- where a record can be noted there are fewer first arrivals than places
-pub noting-few : (numbers records skipped : List ℕ) (state : State) (i number : ℕ) → NextRecord numbers records skipped state i number → state .count < sentMost
+pub noting-few : (numbers records skipped : List ℕ) (state : State) (i number : ℕ) → NextRecord numbers records skipped state i number
+    → state .count < sentMost
 noting-few numbers records skipped state i number n = omega (arith, n .follows .numbered .all, length-firsts (n .earlier), n .many, n .few)
 
 module _ (i largest : ℕ) (numbers records skipped : List ℕ) (state : State) (few : i < arrivalsMost) where
   -- of a copy: all stays
-  pub noted-copy : (number : ℕ) → 1 ≤ number → number ≤ sentMost → (getD records number 0 ≡ 0 → ⊥) → NotedRecord i number largest numbers records skipped state numbers records skipped state
+  pub noted-copy : (number : ℕ) → 1 ≤ number → number ≤ sentMost → (getD records number 0 ≡ 0 → ⊥)
+      → NotedRecord i number largest numbers records skipped state numbers records skipped state
   noted-copy number low high e =
       record {
         follows = λ l a m is f. kept-copy l a numbers records skipped state f (arrived l a is f);
         linked = λ l a m is f lar k. rw (firsts-duplicate l a (arrived l a is f)) k;
       }
     where
-      arrived : (l : List Arrival) (a : Arrival) → a .number ≡ number → EngineTables l numbers records skipped state → has (a .number) l ≡ true
+      arrived : (l : List Arrival) (a : Arrival) → a .number ≡ number → EngineTables l numbers records skipped state
+          → has (a .number) l ≡ true
       arrived l a is f = rw is (arrived-recorded l numbers records skipped state f number low high e)
 
   module _ (number : ℕ) (low : 1 ≤ number) (high : number ≤ sentMost) (e : getD records number 0 ≡ 0) where
@@ -47,32 +50,38 @@ module _ (i largest : ℕ) (numbers records skipped : List ℕ) (state : State) 
 
     -- of a reordered packet
     pub noted-reordered : number < state .next
-        → NotedRecord i number largest numbers records skipped state (set numbers (state .count) number) (set records number (i + 1)) (set skipped number largest)
+        → NotedRecord i number largest numbers records skipped state (set numbers (state .count) number) (set records number (i + 1))
+        (set skipped number largest)
         (record { count = state .count + 1; next = state .next })
     noted-reordered late =
         record {
           follows = λ l a m is f.
               rw (← m, ← is)
-              (kept-reordered l a numbers records skipped state f (new l a is f) (omega arith) (omega arith) (omega arith) largest (omega arith));
+              (kept-reordered l a numbers records skipped state f (new l a is f) (omega arith) (omega arith) (omega arith) largest
+              (omega arith));
           linked = λ l a m is f lar k.
               let own : largest ≡ largestN (firsts l) (a .number) =
               lar (ap (λ (s : ℕ). has s l) (sym is) ∙ new l a is f) (omega arith) ∙ ap (largestN (firsts l)) (sym is) in
               rw (firsts-first l a (new l a is f), ← is)
-              (linked-set 1 (firsts l) a (has-firsts (a .number) l ∙ new l a is f) skipped k largest (omega (arith, f .places)) (omega (arith, own)));
+              (linked-set 1 (firsts l) a (has-firsts (a .number) l ∙ new l a is f) skipped k largest (omega (arith, f .places))
+              (omega (arith, own)));
         }
 
     -- of a packet in order
     pub noted-in-order : state .next ≤ number → (skipped′ : List ℕ) → Filled (state .next) number (state .count + 1) skipped skipped′
-        → NotedRecord i number largest numbers records skipped state (set numbers (state .count) number) (set records number (i + 1)) skipped′
+        → NotedRecord i number largest numbers records skipped state (set numbers (state .count) number) (set records number (i + 1))
+        skipped′
         (record { count = state .count + 1; next = number + 1 })
     noted-in-order ahead skipped′ filled =
         record {
           follows = λ l a m is f.
               rw (← m, ← is)
-              (kept-in-order l a numbers records skipped state f (new l a is f) (omega arith) (omega arith) (omega arith) (omega arith) skipped′ (rw (← is) at filled));
+              (kept-in-order l a numbers records skipped state f (new l a is f) (omega arith) (omega arith) (omega arith) (omega arith)
+              skipped′ (rw (← is) at filled));
           linked = λ l a m is f lar k.
               rw (firsts-first l a (new l a is f))
-              (linked-in-order (firsts l) a (has-firsts (a .number) l ∙ new l a is f) skipped skipped′ k _ (omega (arith, f .next)) (rw (← is, f .next) at filled));
+              (linked-in-order (firsts l) a (has-firsts (a .number) l ∙ new l a is f) skipped skipped′ k _ (omega (arith, f .next))
+              (rw (← is, f .next) at filled));
         }
 
 module _ (d : Decoded) (y : Layout) (i : ℕ) (h : HasRecord d y i) (numbers records skipped : List ℕ) (state : State)
@@ -97,6 +106,7 @@ module _ (d : Decoded) (y : Layout) (i : ℕ) (h : HasRecord d y i) (numbers rec
     noted-follows = rw (before-more d y i h) (n .follows (before d i) (arrivalAt d i) (before-length d y i h) (sym is) f)
 
     -- and the links
-    pub noted-linked : (has number (before d i) ≡ false → number < nextExp (firsts (before d i)) → largest ≡ largestN (firsts (before d i)) number)
+    pub noted-linked : (has number (before d i) ≡ false → number < nextExp (firsts (before d i))
+        → largest ≡ largestN (firsts (before d i)) number)
         → LinkTable 1 (firsts (before d i)) skipped → LinkTable 1 (firsts (before d (i + 1))) skipped′
     noted-linked lar k = rw (before-more d y i h) (n .linked (before d i) (arrivalAt d i) (before-length d y i h) (sym is) f lar k)

@@ -41,7 +41,8 @@ use Rattle.metrics.proofs.AnswersByClass.{late-place}
 -- ---- before any arrival
 
 -- the tables at the start
-pub follows-start : (d : Decoded) → EngineTables (before d 0) (replicate sentMost 0) (replicate numberPlaces 0) (replicate numberPlaces 0) (record { count = 0; next = 1 })
+pub follows-start : (d : Decoded) → EngineTables (before d 0) (replicate sentMost 0) (replicate numberPlaces 0) (replicate numberPlaces 0)
+    (record { count = 0; next = 1 })
 unfolding firsts nextExp firstRecord recordFrom
 follows-start d =
     record {
@@ -93,7 +94,8 @@ pub counts-more : (l : List Answer) (a : Answer)
       runs = runsAfter (runs l) a;
     }
 unfolding counts
-counts-more l a = rw (arrived-more l a, count-more isReordered l a, count-more isDuplicate l a, count-more isInOrderAnswer l a, runs-more l a)
+counts-more l a =
+    rw (arrived-more l a, count-more isReordered l a, count-more isDuplicate l a, count-more isInOrderAnswer l a, runs-more l a)
 
 -- ---- tally
 
@@ -155,7 +157,8 @@ discoverer-same p l a e = discoverer-more p l a ∙ go a e (discoverer p l)
     go (Answer.Reordered f) e o = absurd (true≢false e)
 
 -- a table of discoverers stays under an answer that is no reordered packet's
-pub marked-same : (l : List Answer) (a : Answer) (discoverers : List ℕ) → isReordered a ≡ false → DiscoverersAt l discoverers → DiscoverersAt (l ++ (a ∷ [])) discoverers
+pub marked-same : (l : List Answer) (a : Answer) (discoverers : List ℕ) → isReordered a ≡ false → DiscoverersAt l discoverers
+    → DiscoverersAt (l ++ (a ∷ [])) discoverers
 marked-same l a discoverers e m = record { places = m .places; at = λ p low high. m .at p low high ∙ sym (discoverer-same p l a e) }
 
 -- a number that is not 0 stands for itself
@@ -164,14 +167,16 @@ known-some zero h = absurd (h refl)
 known-some (suc p) h = refl
 
 -- under a reordered packet's answer the discontinuity at `at` has its position, if it had none
-module _ (l : List Answer) (a : Answer) (discoverers : List ℕ) (at position : ℕ) (m : DiscoverersAt l discoverers) (low : 1 ≤ at) (high : at ≤ sentMost) (one : position ≡ 0 → ⊥)
+module _ (l : List Answer) (a : Answer) (discoverers : List ℕ) (at position : ℕ) (m : DiscoverersAt l discoverers) (low : 1 ≤ at)
+    (high : at ≤ sentMost) (one : position ≡ 0 → ⊥)
     (mine : (p : ℕ) → cond (belongsTo p a) (positionOf a) none ≡ cond (eqb at p) (some position) none) where
   -- the discoverer at each position
   now-found : (p : ℕ) → discoverer p (l ++ (a ∷ [])) ≡ first-of (discoverer p l) (cond (eqb at p) (some position) none)
   now-found p = discoverer-more p l a ∙ ap (first-of (discoverer p l)) (mine p)
 
   -- the table has it
-  at-more : (p : ℕ) → 1 ≤ p → p ≤ sentMost → known (getD (cond (eqb (getD discoverers at 0) 0) (set discoverers at position) discoverers) p 0) ≡ discoverer p (l ++ (a ∷ []))
+  at-more : (p : ℕ) → 1 ≤ p → p ≤ sentMost → known (getD (cond (eqb (getD discoverers at 0) 0) (set discoverers at position) discoverers)
+      p 0) ≡ discoverer p (l ++ (a ∷ []))
   at-more p lo hi = go (eqb (getD discoverers at 0) 0) refl (eqb at p) refl (discoverer p l) (m .at p lo hi) ∙ sym (now-found p)
     where
       go : (z : Bool) → eqb (getD discoverers at 0) 0 ≡ z → (t : Bool) → eqb at p ≡ t → (o : Option ℕ) → known (getD discoverers p 0) ≡ o
@@ -207,8 +212,10 @@ module _ (l : List Answer) (a : Answer) (discoverers : List ℕ) (at position : 
   marked-more = record { places = places-more; at = at-more }
 
 -- the table of discoverers under a reordered packet after n first arrivals
-pub marked-late : (l : List Answer) (a : Answer) (discoverers : List ℕ) (n at : ℕ) → ClassOf n (Class.Reordered at) a → (1 ≤ at) × (at ≤ n) → n ≤ sentMost
-    → DiscoverersAt l discoverers → DiscoverersAt (l ++ (a ∷ [])) (cond (eqb (getD discoverers at 0) 0) (set discoverers at (n + 1)) discoverers)
+pub marked-late : (l : List Answer) (a : Answer) (discoverers : List ℕ) (n at : ℕ) → ClassOf n (Class.Reordered at) a → (1 ≤ at)
+    × (at ≤ n) → n ≤ sentMost
+    → DiscoverersAt l discoverers → DiscoverersAt (l ++ (a ∷ []))
+    (cond (eqb (getD discoverers at 0) 0) (set discoverers at (n + 1)) discoverers)
 unfolding belongsTo positionOf
 marked-late l a discoverers n at k inside few m =
     let e : n + 1 - (n + 1 - at) ≡ at = omega (arith, inside) in

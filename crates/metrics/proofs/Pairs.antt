@@ -1,9 +1,9 @@
--- The tree of sums over pairs of packets: packets 2k - 1 and 2k stand at number k, so that above k stand the packets above 2k (`pair-above`).
--- One first arrival more is its size added at its pair (`size-tree-more`). Once all stand in the tree, the sum up to s / 2 and the byte offset
--- of 2 (s / 2) are the total (`total-sum`). That number is s or the one before it, and where packet s has not arrived both have the same byte
--- offset (`offset-before`, by induction over the first arrivals); so the total without the sum is the byte offset of s (`offset-summed`).
--- Here fs are the first arrivals, p how many of them stand in the tree, t their number and total, size gives the payload size of a packet,
--- and s is the packet asked for. Assumes nothing.
+-- The tree of sums over pairs of packets: packets 2k - 1 and 2k stand at number k, so that above k stand the packets above 2k
+-- (`pair-above`). One first arrival more is its size added at its pair (`size-tree-more`). Once all stand in the tree, the sum up to s /
+-- 2 and the byte offset of 2 (s / 2) are the total (`total-sum`). That number is s or the one before it, and where packet s has not
+-- arrived both have the same byte offset (`offset-before`, by induction over the first arrivals); so the total without the sum is the
+-- byte offset of s (`offset-summed`). Here fs are the first arrivals, p how many of them stand in the tree, t their number and total,
+-- size gives the payload size of a packet, and s is the packet asked for. Assumes nothing.
 use mathlib.Core.Path.{_≡_, refl, sym, ap, _∙_}
 use mathlib.Core.Bool.{Bool, true, false, cond}
 use mathlib.Core.List.{List, [], _∷_, _++_}
@@ -48,7 +48,8 @@ module _ (size : ℕ → ℕ) (s : ℕ) (low : 1 ≤ s) where
           go true e = lt-ltb (s - 1) n (omega (arith, ltb-true s n e))
           go false e = le-ltb (s - 1) n (omega (arith, ltb-false s n e, d))
 
-      more : (fs : List Arrival) (a : Arrival) → (has s fs ≡ false → byteOffset size fs (s - 1) ≡ byteOffset size fs s) → has s (fs ++ (a ∷ [])) ≡ false
+      more : (fs : List Arrival) (a : Arrival) → (has s fs ≡ false → byteOffset size fs (s - 1) ≡ byteOffset size fs s)
+          → has s (fs ++ (a ∷ [])) ≡ false
           → byteOffset size (fs ++ (a ∷ [])) (s - 1) ≡ byteOffset size (fs ++ (a ∷ [])) s
       more fs a h e =
           let k = has-more-false s fs a e in
@@ -78,7 +79,8 @@ module _ (size : ℕ → ℕ) (small : (s : ℕ) → size s ≤ 65535) (fs : Lis
   total-small t k = omega (arith, k .whole, sizes-few (t .filled) 0 (k .some))
 
   -- a tree of one first arrival more
-  pub size-tree-more : (p number value total : ℕ) (tree′ : List ℕ) → p < length fs → number ≡ getD fs p noArrival .number → 1 ≤ number → value ≡ size number
+  pub size-tree-more : (p number value total : ℕ) (tree′ : List ℕ) → p < length fs → number ≡ getD fs p noArrival .number → 1 ≤ number
+      → value ≡ size number
       → SizeTree size fs tree (record { filled = p; total = total }) → Added ((number + 1) / 2) value tree tree′
       → SizeTree size fs tree′ (record { filled = p + 1; total = total + value })
   size-tree-more p number value total tree′ inside is low own t added =

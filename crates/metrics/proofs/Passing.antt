@@ -1,13 +1,14 @@
--- A pass over a sample, line by line. A line is put after those before it or, comparing, at the start of memory and held against the text from its
--- place on; `Taken` says what either leaves (`line-taken`). Lines that are taken whole, and a line after them, are lines taken (`taken-more`): what
--- is written is spliced in behind, and what agrees goes by `agreed-more`. A line that is written is always whole, so only comparing can end the
--- pass; then what follows is not looked at, and the whole listing is known to differ there (`taken-stop`). So after a record's line the pass goes on
--- (`passed-next`) or ends (`passed-stop`), and after the last all are behind (`passed-all`). The lines of records are taken in memory that has the
--- first line; the listing is no shorter than that line and stands over it too, so it stands over memory as it was (`taken-over`): where the first
--- line differs (`first-differs`), where a record's does (`record-differs`), and after the last line (`last-taken`). How far lines are taken is less
--- than 2^64, as it lies in the text or is their length (`taken-fits`).
--- Here d is the decoded file, y its layout, i the records behind, at the place after them, p how far a line is taken, old memory before the first
--- line, start after it, new before the line at hand and newer after it, s that the lines before are taken and t that this one is. Assumes nothing.
+-- A pass over a sample, line by line. A line is put after those before it or, comparing, at the start of memory and held against the text
+-- from its place on; `Taken` says what either leaves (`line-taken`). Lines that are taken whole, and a line after them, are lines taken
+-- (`taken-more`): what is written is spliced in behind, and what agrees goes by `agreed-more`. A line that is written is always whole, so
+-- only comparing can end the pass; then what follows is not looked at, and the whole listing is known to differ there (`taken-stop`). So
+-- after a record's line the pass goes on (`passed-next`) or ends (`passed-stop`), and after the last all are behind (`passed-all`). The
+-- lines of records are taken in memory that has the first line; the listing is no shorter than that line and stands over it too, so it
+-- stands over memory as it was (`taken-over`): where the first line differs (`first-differs`), where a record's does (`record-differs`),
+-- and after the last line (`last-taken`). How far lines are taken is less than 2^64, as it lies in the text or is their length
+-- (`taken-fits`). Here d is the decoded file, y its layout, i the records behind, at the place after them, p how far a line is taken, old
+-- memory before the first line, start after it, new before the line at hand and newer after it, s that the lines before are taken and t
+-- that this one is. Assumes nothing.
 use Prim.Native.Nat.{ℕ, _+_, _-_, _^_, _≤_, _<_}
 use mathlib.Core.Path.{_≡_, refl, sym, ap, _∙_}
 use mathlib.Core.Bool.{Bool, true, false, cond, true≢false}
@@ -46,7 +47,8 @@ module _ (comparing : Bool) (line text : List ℕ) (at : ℕ) {old new : List �
   line-ready t = (omega (arith, line-kept, ready .room t), ready .inside t)
 
   -- held against it, or only written, it is taken
-  pub line-taken : {r : Part} → (comparing ≡ false → r ≡ record { octets = n; whole = true }) × (comparing ≡ true → Agreed (take n new) (drop at text) r)
+  pub line-taken : {r : Part} → (comparing ≡ false → r ≡ record { octets = n; whole = true })
+      × (comparing ≡ true → Agreed (take n new) (drop at text) r)
       → Taken comparing line text at old new r
   line-taken h =
       record {
@@ -72,11 +74,13 @@ splice-again xs ys old h = ap (λ (l : List ℕ). ys ++ l) (splice-drop 0 xs old
 
 module _ {comparing : Bool} {text : List ℕ} where
   -- lines that are compared with a text agree with at most all its octets
-  pub taken-inside : {lines old new : List ℕ} {r : Part} → Taken comparing lines text 0 old new r → comparing ≡ true → r .octets ≤ length text
+  pub taken-inside : {lines old new : List ℕ} {r : Part} → Taken comparing lines text 0 old new r → comparing ≡ true
+      → r .octets ≤ length text
   taken-inside {lines} t e = omega (arith, t .compared e .octets, common-le lines text)
 
   -- they are few
-  pub taken-fits : {lines old new : List ℕ} {r : Part} → length text < 2 ^ 64 → length lines < 2 ^ 64 → Taken comparing lines text 0 old new r → r .octets < 2 ^ 64
+  pub taken-fits : {lines old new : List ℕ} {r : Part} → length text < 2 ^ 64 → length lines < 2 ^ 64
+      → Taken comparing lines text 0 old new r → r .octets < 2 ^ 64
   taken-fits {lines} {old} {new} {r} short few t = go comparing refl
     where
       go : (b : Bool) → comparing ≡ b → r .octets < 2 ^ 64
@@ -84,8 +88,10 @@ module _ {comparing : Bool} {text : List ℕ} where
       go false e = omega (arith, few, ap (λ (q : Part). q .octets) (t .listed e .0))
 
   -- a line more, after lines that are taken whole
-  taken-more : {lines line old new newer : List ℕ} {at : ℕ} {p : Part} → Taken comparing lines text 0 old new (record { octets = at; whole = true })
-      → Taken comparing line text at new newer p → Taken comparing (lines ++ line) text 0 old newer (record { octets = at + p .octets; whole = p .whole })
+  taken-more : {lines line old new newer : List ℕ} {at : ℕ} {p : Part}
+      → Taken comparing lines text 0 old new (record { octets = at; whole = true })
+      → Taken comparing line text at new newer p → Taken comparing (lines ++ line) text 0 old newer
+      (record { octets = at + p .octets; whole = p .whole })
   taken-more {lines} {line} {old} {new} {newer} {at} {p} s t =
       record {
         listed = λ e.
@@ -118,7 +124,8 @@ module _ {comparing : Bool} {text : List ℕ} where
       record {
         listed = λ e. (
           t .listed e .0,
-          λ room. t .listed e .1 (omega (arith, room, s .places)) ∙ ap (splice 0 lines) (s .listed e .1 (omega (arith, room))) ∙ splice-again first lines old h,
+          λ room. t .listed e .1 (omega (arith, room, s .places)) ∙ ap (splice 0 lines) (s .listed e .1 (omega (arith, room)))
+              ∙ splice-again first lines old h,
         );
         compared = t .compared;
         places = t .places ∙ s .places;
@@ -126,8 +133,10 @@ module _ {comparing : Bool} {text : List ℕ} where
 
 -- ---- a record's line
 
-module _ (d : Decoded) (y : Layout) (text : List ℕ) (comparing : Bool) {i at number : ℕ} {answer : Answer} {old new newer : List ℕ} {p : Part}
-    (h : HasRecord d y i) (s : PassedTo d y text comparing i at old new) (is : number ≡ arrivalAt d i .number) (says : answer ≡ answerAt d i)
+module _ (d : Decoded) (y : Layout) (text : List ℕ) (comparing : Bool) {i at number : ℕ} {answer : Answer} {old new newer : List ℕ}
+    {p : Part}
+    (h : HasRecord d y i) (s : PassedTo d y text comparing i at old new) (is : number ≡ arrivalAt d i .number)
+    (says : answer ≡ answerAt d i)
     (t : Taken comparing (recordLine (i + 1) number answer) text at new newer p) where
   -- the listing up to record i + 1
   pub line-more : Taken comparing (linesTo d y (i + 1)) text 0 old newer (record { octets = at + p .octets; whole = p .whole })

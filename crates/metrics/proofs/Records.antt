@@ -1,9 +1,9 @@
--- The record of a packet's first arrival. There is none if the packet has not arrived (`record-none`), else it is one from 1 to the number of
--- arrivals (`record-some`): by induction over the arrivals, with records counted from any r. A list that has a value for each arrival, and for a
--- first arrival one that its place among the first arrivals tells, has that value at its record (`listed-at`), by induction over the arrivals from
--- the end: one arrival more leaves the records of packets that have arrived (`earlier`), and if it is a first arrival its own is the last (`last`).
--- So at the record of a first arrival stands that arrival (`first-at`).
--- Here l are the arrivals, a one more, s a packet's number, p a place among the first arrivals, d and z what lists have at no place. Assumes nothing.
+-- The record of a packet's first arrival. There is none if the packet has not arrived (`record-none`), else it is one from 1 to the
+-- number of arrivals (`record-some`): by induction over the arrivals, with records counted from any r. A list that has a value for each
+-- arrival, and for a first arrival one that its place among the first arrivals tells, has that value at its record (`listed-at`), by
+-- induction over the arrivals from the end: one arrival more leaves the records of packets that have arrived (`earlier`), and if it is a
+-- first arrival its own is the last (`last`). So at the record of a first arrival stands that arrival (`first-at`). Here l are the
+-- arrivals, a one more, s a packet's number, p a place among the first arrivals, d and z what lists have at no place. Assumes nothing.
 use mathlib.Core.Path.{_≡_, refl, sym, _∙_}
 use mathlib.Core.Bool.{Bool, true, false, cond, _||_, true≢false}
 use mathlib.Core.List.{List, [], _∷_, _++_}
@@ -65,8 +65,10 @@ has-at d (a ∷ l) (suc p) h = go (eqb (a .number) (getD l p d .number)) (has-at
     go true h = refl
     go false h = h
 
--- `listed` has for each arrival its value after the arrivals before it (`count`, `next`), and a first arrival's is told by its place (`first`)
-module _ {B : Type 0} (d : Arrival) (z : B) (listed : List Arrival → List B) (value : List Arrival → Arrival → B) (byPlace : ℕ → Arrival → B)
+-- `listed` has for each arrival its value after the arrivals before it (`count`, `next`), and a first arrival's is told by its place
+-- (`first`)
+module _ {B : Type 0} (d : Arrival) (z : B) (listed : List Arrival → List B) (value : List Arrival → Arrival → B)
+    (byPlace : ℕ → Arrival → B)
     (count : (l : List Arrival) → length (listed l) ≡ length l)
     (next : (l : List Arrival) (a : Arrival) → listed (l ++ (a ∷ [])) ≡ listed l ++ (value l a ∷ []))
     (first : (l : List Arrival) (a : Arrival) → has (a .number) l ≡ false → value l a ≡ byPlace (length (firsts l)) a) where
@@ -77,10 +79,13 @@ module _ {B : Type 0} (d : Arrival) (z : B) (listed : List Arrival → List B) (
   listed-at = snoc-ind At more (λ p h. absurd (omega arith))
     where
       At : List Arrival → Type 0
-      At l = (p : ℕ) → p < length (firsts l) → getD (listed l) (firstRecord (getD (firsts l) p d .number) l - 1) z ≡ byPlace p (getD (firsts l) p d)
+      At l =
+          (p : ℕ) → p < length (firsts l) → getD (listed l) (firstRecord (getD (firsts l) p d .number) l - 1) z
+          ≡ byPlace p (getD (firsts l) p d)
 
       earlier : (l : List Arrival) (a : Arrival) → At l → (p : ℕ) → p < length (firsts l)
-          → getD (listed (l ++ (a ∷ []))) (firstRecord (getD (firsts l) p d .number) (l ++ (a ∷ [])) - 1) z ≡ byPlace p (getD (firsts l) p d)
+          → getD (listed (l ++ (a ∷ []))) (firstRecord (getD (firsts l) p d .number) (l ++ (a ∷ [])) - 1) z
+          ≡ byPlace p (getD (firsts l) p d)
       earlier l a k p h =
           let arrived : has (getD (firsts l) p d .number) l ≡ true = sym (has-firsts _ l) ∙ has-at d (firsts l) p h in
           let r = record-some (getD (firsts l) p d .number) l arrived in
@@ -98,7 +103,8 @@ module _ {B : Type 0} (d : Arrival) (z : B) (listed : List Arrival → List B) (
 
       new-at : (l : List Arrival) (a : Arrival) → At l → has (a .number) l ≡ false → (p : ℕ) → p < length (firsts l ++ (a ∷ []))
           → (t : Bool) → eqb p (length (firsts l)) ≡ t
-          → getD (listed (l ++ (a ∷ []))) (firstRecord (getD (firsts l ++ (a ∷ [])) p d .number) (l ++ (a ∷ [])) - 1) z ≡ byPlace p (getD (firsts l ++ (a ∷ [])) p d)
+          → getD (listed (l ++ (a ∷ []))) (firstRecord (getD (firsts l ++ (a ∷ [])) p d .number) (l ++ (a ∷ [])) - 1) z
+          ≡ byPlace p (getD (firsts l ++ (a ∷ [])) p d)
       new-at l a k new p h true q =
           let at : p ≡ length (firsts l) = eqb-true p (length (firsts l)) q in
           rw (at, getD-append-seam (firsts l) a [] d) (last l a new)

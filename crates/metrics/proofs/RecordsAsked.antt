@@ -47,7 +47,9 @@ use Rattle.metrics.proofs.OneArrivalMore.{known-some}
 
 -- no refusal: the file has none of its own, and what is asked for is in its range
 asked-inside : (d : Decoded) (low high asked : ℕ) → askedRefusal d low high asked ≡ 0 → outside low high asked ≡ false
-asked-inside d low high asked e = case-none (outside low high asked) askedOutside (omega arith) (sym (first-one _) ∙ first-none (decodedRefusal d) (refusalIf (outside low high asked) askedOutside ∷ []) e .1)
+asked-inside d low high asked e =
+    case-none (outside low high asked) askedOutside (omega arith)
+    (sym (first-one _) ∙ first-none (decodedRefusal d) (refusalIf (outside low high asked) askedOutside ∷ []) e .1)
 
 -- a call that is not refused asks for a number in its range
 pub asked-within : (d : Decoded) (low high asked : ℕ) → askedRefusal d low high asked ≡ 0 → (low ≤ asked) × (asked ≤ high)
@@ -121,7 +123,8 @@ module _ (d : Decoded) (asked : ℕ) where
   -- a refused call has no answer and no gap
   pub answer-refused : (other : Answer) → (recordRefusal d asked ≡ 0 → ⊥) → atRecord other (answersOf d) asked ≡ other
   answer-refused other h =
-      at-outside other (answersOf d) asked (λ low high. asked-outside d asked h low (omega (arith, length-answers (sizeOf d) (sampleArrivals d))))
+      at-outside other (answersOf d) asked (λ low high. asked-outside d asked h low
+      (omega (arith, length-answers (sizeOf d) (sampleArrivals d))))
 
   -- there is a gap or none for each record
   gaps-length : length (gaps (answersOf d)) ≡ length (sampleArrivals d)
@@ -139,7 +142,8 @@ module _ (d : Decoded) (asked : ℕ) where
 
     -- its answer
     pub answer-known : (other : Answer) → atRecord other (answersOf d) asked ≡ answerAt d (asked - 1)
-    answer-known other = at-inside other (answersOf d) asked (record-inside .0) ∙ answer-at d other (asked - 1) (omega (arith, record-inside))
+    answer-known other =
+        at-inside other (answersOf d) asked (record-inside .0) ∙ answer-at d other (asked - 1) (omega (arith, record-inside))
 
     -- and its gap
     pub gap-known : atRecord Gap.None (gaps (answersOf d)) asked ≡ gapOf (answersOf d) (positionOf (answerAt d (asked - 1)))
@@ -155,7 +159,8 @@ first-place : (size : ℕ → ℕ) (fs : List Arrival) (a : Arrival) → positio
 unfolding firstAnswer inOrderAnswer reorderedAnswer positionOf
 first-place size fs a = go (isInOrder fs (a .number))
   where
-    go : (t : Bool) → positionOf (cond t (inOrderAnswer fs a) (reorderedAnswer size fs a (discontinuity fs (a .number)))) ≡ some (length fs + 1)
+    go : (t : Bool) → positionOf (cond t (inOrderAnswer fs a) (reorderedAnswer size fs a (discontinuity fs (a .number))))
+        ≡ some (length fs + 1)
     go true = refl
     go false = refl
 
@@ -197,7 +202,13 @@ module _ (d : Decoded) (y : Layout) (i : ℕ) (h : HasRecord d y i) where
   -- and L at most 4,096
   arrived-le : arrived (answersOf d) ≤ sentMost
   arrived-le =
-      omega (arith, arrived-answers (sizeOf d) (sampleArrivals d), length-firsts (sampleArrivals d), arrivals-laid d y (h .file), h .file .few)
+      omega (
+        arith,
+        arrived-answers (sizeOf d) (sampleArrivals d),
+        length-firsts (sampleArrivals d),
+        arrivals-laid d y (h .file),
+        h .file .few,
+      )
 
 -- ---- the calls' answers
 

@@ -1,11 +1,11 @@
--- Figures of a reordered packet over the numbers of the first arrivals before it. Places whose numbers are above s, from one to another, are
--- joined, and grow back by one (`above-join`, `above-back`). The byte offset is a sum over the positions: one more adds its size if its
--- number is greater (`offset-greater`), else nothing (`offset-same`). The largest n grows by 1 at a greater number and is 0 after any
--- other, so it counts the positions behind the last that is not greater (`largest-back`, by induction over these positions). Last, where a
--- discontinuity stands (`found`), by induction over the first arrivals: a discontinuity stays; where there is none yet the byte offset is
--- 0, and an arrival of a greater number is the discontinuity.
--- Here numbers is the table of the numbers of the first arrivals fs, count their number, s the packet's, p the positions passed, n the
--- number at the next one, and from a place up to which the byte offset is 0. Assumes nothing.
+-- Figures of a reordered packet over the numbers of the first arrivals before it. Places whose numbers are above s, from one to another,
+-- are joined, and grow back by one (`above-join`, `above-back`). The byte offset is a sum over the positions: one more adds its size if
+-- its number is greater (`offset-greater`), else nothing (`offset-same`). The largest n grows by 1 at a greater number and is 0 after any
+-- other, so it counts the positions behind the last that is not greater (`largest-back`, by induction over these positions). Last, where
+-- a discontinuity stands (`found`), by induction over the first arrivals: a discontinuity stays; where there is none yet the byte offset
+-- is 0, and an arrival of a greater number is the discontinuity. Here numbers is the table of the numbers of the first arrivals fs, count
+-- their number, s the packet's, p the positions passed, n the number at the next one, and from a place up to which the byte offset is 0.
+-- Assumes nothing.
 use mathlib.Core.Path.{_≡_, refl, sym, ap, ap₂, _∙_}
 use mathlib.Core.Bool.{Bool, true, false, cond}
 use mathlib.Core.List.{List, [], _∷_, _++_}
@@ -71,7 +71,8 @@ module _ (numbers : List ℕ) (count s : ℕ) where
     at fs h = sym (is ∙ h .at p (omega (arith, h .all)))
 
     -- under one position more, of a greater number
-    pub offset-greater : (size : ℕ → ℕ) (from sum k : ℕ) → s < n → k ≡ size n → OffsetTo size from p sum → OffsetTo size from (p + 1) (sum + k)
+    pub offset-greater : (size : ℕ → ℕ) (from sum k : ℕ) → s < n → k ≡ size n → OffsetTo size from p sum
+        → OffsetTo size from (p + 1) (sum + k)
     unfolding byteOffset
     offset-greater size from sum k g e o fs h none-before =
         ap₂ (λ (a b : ℕ). a + b) (o fs h none-before) e
@@ -166,7 +167,8 @@ searched-more size s fs a h = go (discontinuity fs s) refl (ltb s (a .number)) r
           alone = rw (last, take-append-seam fs (a ∷ [])) e;
         }
 
-    only : (p : FirstArrival) → discontinuity (fs ++ (a ∷ [])) s ≡ some p → FoundDiscontinuity size (fs ++ (a ∷ [])) s p → Searched size (fs ++ (a ∷ [])) s
+    only : (p : FirstArrival) → discontinuity (fs ++ (a ∷ [])) s ≡ some p → FoundDiscontinuity size (fs ++ (a ∷ [])) s p
+        → Searched size (fs ++ (a ∷ [])) s
     only p e k =
         record {
           none-above = λ n. absurd (Option·some-ne-none p (sym e ∙ n));

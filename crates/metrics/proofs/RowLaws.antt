@@ -1,7 +1,7 @@
 -- Rows in a lent list. Numbers that are set one after the other are spliced in (`set-next`, `row-set`). There are eight for each record
--- (`rows-length`), and one record more puts its row after those before (`rows-more`, `rows-next`). A row tells its answer: two rows that are
--- the same have the same numbers, the first of which is that of the case (`rows-tell`).
--- Here d is the decoded file, y its layout, i the records before, old and new the list before and now. Assumes nothing.
+-- (`rows-length`), and one record more puts its row after those before (`rows-more`, `rows-next`). A row tells its answer: two rows that
+-- are the same have the same numbers, the first of which is that of the case (`rows-tell`). Here d is the decoded file, y its layout, i
+-- the records before, old and new the list before and now. Assumes nothing.
 use mathlib.Core.Path.{_≡_, refl, sym, ap, ap₂, subst, _∙_}
 use mathlib.Core.Bool.{Bool, true, false}
 use mathlib.Core.List.{List, [], _∷_, _++_, append-assoc, append-nil}
@@ -31,9 +31,11 @@ use Rattle.metrics.proofs.RecordsAsked.{asked-within, at-inside}
 -- ---- numbers set one after the other
 
 -- one more after some
-set-next : (at n : ℕ) (xs old : List ℕ) (x : ℕ) → length xs ≡ n → at + n < length old → set (splice at xs old) (at + n) x ≡ splice at (xs ++ (x ∷ [])) old
+set-next : (at n : ℕ) (xs old : List ℕ) (x : ℕ) → length xs ≡ n → at + n < length old
+    → set (splice at xs old) (at + n) x ≡ splice at (xs ++ (x ∷ [])) old
 set-next at n xs old x e h =
-    splice-set (at + n) x (splice at xs old) (omega (arith, e, splice-length at xs old (omega (arith, e)))) ∙ splice-next at (at + n) xs (x ∷ []) old (rw e) (omega arith)
+    splice-set (at + n) x (splice at xs old) (omega (arith, e, splice-length at xs old (omega (arith, e))))
+    ∙ splice-next at (at + n) xs (x ∷ []) old (rw e) (omega arith)
 
 -- the numbers of a row
 pub row-set : (at a b c d e f g h : ℕ) (old : List ℕ) → at + 8 ≤ length old
@@ -78,10 +80,12 @@ rows-none d old = refl
 pub rows-kept-to : (d : Decoded) (y : Layout) (i : ℕ) → FileLayout d y → i ≤ y .arrivals → (old new : List ℕ) → 8 * y .arrivals ≤ length old
     → new ≡ over (rowsOf (answersTo d i)) old → length new ≡ length old
 rows-kept-to d y i h most old new room is =
-    let n : length (rowsOf (answersTo d i)) ≡ 8 * i = rows-length (answersTo d i) ∙ ap (λ (n : ℕ). 8 * n) (length-answers (sizeOf d) (before d i) ∙ before-count d y i h most) in
+    let n : length (rowsOf (answersTo d i)) ≡ 8 * i =
+    rows-length (answersTo d i) ∙ ap (λ (n : ℕ). 8 * n) (length-answers (sizeOf d) (before d i) ∙ before-count d y i h most) in
     ap length is ∙ over-length (rowsOf (answersTo d i)) old (omega (arith, n, most, room))
 
-module _ (d : Decoded) (y : Layout) (i : ℕ) (h : HasRecord d y i) (old new : List ℕ) (room : 8 * y .arrivals ≤ length old) (is : new ≡ over (rowsOf (answersTo d i)) old) where
+module _ (d : Decoded) (y : Layout) (i : ℕ) (h : HasRecord d y i) (old new : List ℕ) (room : 8 * y .arrivals ≤ length old)
+    (is : new ≡ over (rowsOf (answersTo d i)) old) where
   filled : length (rowsOf (answersTo d i)) ≡ 8 * i
   filled = rows-length (answersTo d i) ∙ ap (λ (n : ℕ). 8 * n) (answers-length d y i h)
 
@@ -104,7 +108,8 @@ module _ (d : Decoded) (y : Layout) (i : ℕ) (h : HasRecord d y i) (old new : L
 -- ---- what the call answers
 
 -- a decoded file that is accepted, where what is lent is too short or not, by the arrivals of its layout
-pub into : (short : (arrivals places : ℕ) → Bool) (d : Decoded) (y : Layout) → FileLayout d y → d ≡ accepted (sampleOf d) → (places : ℕ) (b : Bool)
+pub into : (short : (arrivals places : ℕ) → Bool) (d : Decoded) (y : Layout) → FileLayout d y → d ≡ accepted (sampleOf d)
+    → (places : ℕ) (b : Bool)
     → b ≡ short (y .arrivals) places → unlessShort (short (length (sampleArrivals d)) places) d ≡ unlessShort b (accepted (sampleOf d))
 into short d y h a places b q = ap₂ unlessShort (ap (λ (n : ℕ). short n places) (sym (arrivals-laid d y h)) ∙ sym q) a
 
@@ -149,7 +154,8 @@ rows-same (Answer.Duplicate d) (Answer.Reordered e) q = absurd (late (e .late) (
     late (LateTime.After t) k = omega (arith, k)
     late (LateTime.Before t) k = omega (arith, k)
 rows-same (Answer.InOrder d) (Answer.Duplicate e) q = let k = same-at q 0 in absurd (omega (arith, k))
-rows-same (Answer.InOrder d) (Answer.InOrder e) q = ap₂ (λ (n j : ℕ). Answer.InOrder (record { position = n; jump = j })) (same-at q 1) (same-at q 2)
+rows-same (Answer.InOrder d) (Answer.InOrder e) q =
+    ap₂ (λ (n j : ℕ). Answer.InOrder (record { position = n; jump = j })) (same-at q 1) (same-at q 2)
 rows-same (Answer.InOrder d) (Answer.Reordered e) q = absurd (late (e .late) (same-at q 0))
   where
     late : (t : LateTime) → 0 ≡ reorderedNumber t → ⊥
@@ -175,7 +181,8 @@ rows-same (Answer.Reordered d) (Answer.Reordered e) q =
     late (LateTime.Before s) (LateTime.Before t) k g = ap LateTime.Before g
 
     made : {p x o n : ℕ} {p′ x′ o′ n′ : ℕ} {s t : LateTime} → p ≡ p′ → x ≡ x′ → s ≡ t → o ≡ o′ → n ≡ n′
-        → Answer.Reordered (record { position = p; extent = x; late = s; offset = o; largest = n }) ≡ Answer.Reordered (record { position = p′; extent = x′; late = t; offset = o′; largest = n′ })
+        → Answer.Reordered (record { position = p; extent = x; late = s; offset = o; largest = n })
+        ≡ Answer.Reordered (record { position = p′; extent = x′; late = t; offset = o′; largest = n′ })
     made a b c d e = rw (a, b, c, d, e)
 
 -- ---- the row of a record
@@ -195,7 +202,8 @@ row-at z (a ∷ l) (suc i) h =
     let e : 8 * suc i ≡ 8 + 8 * i = omega arith in
     ap (λ (n : ℕ). take 8 (drop n (rowOf a ++ rowsOf l))) e ∙ ap (take 8) (other-rows a (rowsOf l) (8 * i)) ∙ row-at z l i (omega arith)
 
-rows-at : (d : Decoded) (asked : ℕ) → recordAnswer d asked .refusal ≡ 0 → rowAt (rowsOf (answersOf d)) asked ≡ rowOf (recordAnswer d asked .answer)
+rows-at : (d : Decoded) (asked : ℕ) → recordAnswer d asked .refusal ≡ 0
+    → rowAt (rowsOf (answersOf d)) asked ≡ rowOf (recordAnswer d asked .answer)
 unfolding rowAt recordAnswer
 rows-at d asked e =
     let k = asked-within d 1 (length (sampleArrivals d)) asked e in

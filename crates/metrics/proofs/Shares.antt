@@ -37,7 +37,8 @@ use Rattle.metrics.proofs.CountsBySeen.{has-below, next-arrival}
 use Rattle.metrics.proofs.Links.{largest-next, linked-start, linked-set}
 
 -- before any arrival
-pub shares-start : (low high : ℕ) (d : Decoded) → ShareTables low high (sizeOf d) (before d 0) (replicate sentMost 0) (replicate numberPlaces 0)
+pub shares-start : (low high : ℕ) (d : Decoded) → ShareTables low high (sizeOf d) (before d 0) (replicate sentMost 0)
+    (replicate numberPlaces 0)
     (record { whole = 0; reordered = 0; low = 0; high = 0; next = 1 })
 unfolding sharesOf answers each eachAfter arrived nReordered count firsts nextExp has
 shares-start low high d =
@@ -66,7 +67,8 @@ pub shares-few : (low high : ℕ) (size : ℕ → ℕ) (l : List Arrival) (t : S
     → (t .whole < sentMost) × (t .reordered < arrivalsMost) × (t .low < arrivalsMost) × (t .high < arrivalsMost)
 unfolding sharesOf nReordered arrived
 shares-few low high size l t is h =
-    let most : (p : Answer → Bool) → count p (answers size l) < arrivalsMost = λ p. omega (arith, count-most p (answers size l), length-answers size l) in
+    let most : (p : Answer → Bool) → count p (answers size l) < arrivalsMost =
+    λ p. omega (arith, count-most p (answers size l), length-answers size l) in
     rw is (most _, most isReordered, most (isNReordered low), most (isNReordered high))
 
 -- ---- one arrival more
@@ -83,7 +85,15 @@ module _ (low high : ℕ) (size : ℕ → ℕ) (l : List Arrival) (a : Arrival) 
       }
   unfolding sharesOf nReordered
   shares-more b e =
-      rw (answers-more size l a, e, arrived-more (answers size l) b, count-more isReordered (answers size l) b, count-more (isNReordered low) (answers size l) b, count-more (isNReordered high) (answers size l) b, next-arrival l a)
+      rw (
+        answers-more size l a,
+        e,
+        arrived-more (answers size l) b,
+        count-more isReordered (answers size l) b,
+        count-more (isNReordered low) (answers size l) b,
+        count-more (isNReordered high) (answers size l) b,
+        next-arrival l a,
+      )
 
   -- of a copy
   shares-copy : has (a .number) l ≡ true → sharesOf low high size (l ++ (a ∷ [])) ≡ sharesOf low high size l
@@ -95,18 +105,27 @@ module _ (low high : ℕ) (size : ℕ → ℕ) (l : List Arrival) (a : Arrival) 
   module _ (new : has (a .number) l ≡ false) (t : Shares) (is : t ≡ sharesOf low high size l) where
     -- of a packet in order
     shares-in-order : nextExp (firsts l) ≤ a .number
-        → record { whole = t .whole + 1; reordered = t .reordered; low = t .low; high = t .high; next = a .number + 1 } ≡ sharesOf low high size (l ++ (a ∷ []))
+        → record { whole = t .whole + 1; reordered = t .reordered; low = t .low; high = t .high; next = a .number + 1 }
+        ≡ sharesOf low high size (l ++ (a ∷ []))
     unfolding sharesOf isNReordered nextAfter inOrderAnswer
     shares-in-order ahead =
-        rw is (sym (shares-more _ (answer-first size l a new ∙ first-in-order size (firsts l) a ahead) ∙ rw (le-leb (nextExp (firsts l)) (a .number) ahead)))
+        rw is (sym (shares-more _ (answer-first size l a new ∙ first-in-order size (firsts l) a ahead)
+        ∙ rw (le-leb (nextExp (firsts l)) (a .number) ahead)))
 
     -- of a reordered one
     shares-late : a .number < nextExp (firsts l) → (n : ℕ) → n ≡ largestN (firsts l) (a .number)
-        → record { whole = t .whole + 1; reordered = t .reordered + 1; low = reachedBy low n (t .low); high = reachedBy high n (t .high); next = t .next }
+        → record {
+          whole = t .whole + 1;
+          reordered = t .reordered + 1;
+          low = reachedBy low n (t .low);
+          high = reachedBy high n (t .high);
+          next = t .next;
+        }
         ≡ sharesOf low high size (l ++ (a ∷ []))
     unfolding sharesOf isNReordered nextAfter reorderedAnswer
     shares-late late n e =
-        rw (is, e) (sym (shares-more _ (answer-first size l a new ∙ first-reordered size (firsts l) a late) ∙ rw (lt-leb (nextExp (firsts l)) (a .number) late)))
+        rw (is, e) (sym (shares-more _ (answer-first size l a new ∙ first-reordered size (firsts l) a late)
+        ∙ rw (lt-leb (nextExp (firsts l)) (a .number) late)))
 
 module _ (low high : ℕ) (size : ℕ → ℕ) (l : List Arrival) (a : Arrival) (most : a .number ≤ sentMost) (numbers links : List ℕ) (t : Shares)
     (h : ShareTables low high size l numbers links t) where
@@ -134,18 +153,25 @@ module _ (low high : ℕ) (size : ℕ → ℕ) (l : List Arrival) (a : Arrival) 
       kept s false q = or-false (has s l)
 
   -- a new packet adds its number, and its link by its largest n
-  after-new : getD links (a .number) 0 ≡ 0 → t .whole < sentMost → (n : ℕ) → n ≡ largestN (firsts l) (a .number) → (t′ : Shares) → t′ ≡ sharesOf low high size (l ++ (a ∷ []))
-      → t′ .whole ≡ t .whole + 1 → ShareTables low high size (l ++ (a ∷ [])) (set numbers (t .whole) (a .number)) (set links (a .number) (n + 1)) t′
+  after-new : getD links (a .number) 0 ≡ 0 → t .whole < sentMost → (n : ℕ) → n ≡ largestN (firsts l) (a .number) → (t′ : Shares)
+      → t′ ≡ sharesOf low high size (l ++ (a ∷ []))
+      → t′ .whole ≡ t .whole + 1 → ShareTables low high size (l ++ (a ∷ [])) (set numbers (t .whole) (a .number))
+      (set links (a .number) (n + 1)) t′
   after-new e few n is t′ shares one =
       record {
         shares = shares;
         places = (length-set numbers (t .whole) (a .number) ∙ h .places .0, length-set links (a .number) (n + 1) ∙ h .places .1);
-        numbered = rw (firsts-first l a (new e), one) (numbered-more (firsts l) a numbers (t .whole) (omega (arith, h .places, h .numbered .all)) (h .numbered));
-        linked = rw (firsts-first l a (new e)) (linked-set 0 (firsts l) a (has-firsts (a .number) l ∙ new e) links (h .linked) (n + 1) (omega (arith, h .places)) (omega arith));
+        numbered =
+            rw (firsts-first l a (new e), one) (numbered-more (firsts l) a numbers (t .whole) (omega (arith, h .places, h .numbered .all))
+            (h .numbered));
+        linked =
+            rw (firsts-first l a (new e)) (linked-set 0 (firsts l) a (has-firsts (a .number) l ∙ new e) links (h .linked) (n + 1)
+            (omega (arith, h .places)) (omega arith));
         arrived = λ s g. marked s g (eqb (a .number) s) refl ∙ ap not (sym (has-more s l a));
       }
     where
-      marked : (s : ℕ) → s ≤ sentMost → (u : Bool) → eqb (a .number) s ≡ u → eqb (getD (set links (a .number) (n + 1)) s 0) 0 ≡ not (has s l || eqb (a .number) s)
+      marked : (s : ℕ) → s ≤ sentMost → (u : Bool) → eqb (a .number) s ≡ u
+          → eqb (getD (set links (a .number) (n + 1)) s 0) 0 ≡ not (has s l || eqb (a .number) s)
       marked s g true q =
           rw (q, or-true (has s l), ← eqb-true (a .number) s q, getD-set-same links (a .number) (n + 1) 0 (omega (arith, h .places)))
           (ne-eqb (n + 1) 0 (λ z. omega arith))
@@ -165,7 +191,8 @@ module _ (low high number : ℕ) (most : number ≤ sentMost) (numbers links : L
   module _ (e : getD links number 0 ≡ 0) (few : t .whole < sentMost) where
     -- of a packet in order
     pub shared-in-order : t .next ≤ number
-        → After (set numbers (t .whole) number) (set links number 1) (record { whole = t .whole + 1; reordered = t .reordered; low = t .low; high = t .high; next = number + 1 })
+        → After (set numbers (t .whole) number) (set links number 1)
+        (record { whole = t .whole + 1; reordered = t .reordered; low = t .low; high = t .high; next = number + 1 })
     unfolding sharesOf
     shared-in-order ahead size l a is h =
         let first : nextExp (firsts l) ≤ a .number = omega (arith, ap (λ (t : Shares). t .next) (h .shares)) in
@@ -176,7 +203,8 @@ module _ (low high number : ℕ) (most : number ≤ sentMost) (numbers links : L
     -- of a reordered one
     pub shared-late : number < t .next → (n : ℕ) → ((fs : List Arrival) → NumberTable fs numbers (t .whole) → n ≡ largestN fs number)
         → (low′ high′ : ℕ) → low′ ≡ reachedBy low n (t .low) → high′ ≡ reachedBy high n (t .high)
-        → After (set numbers (t .whole) number) (set links number (n + 1)) (record { whole = t .whole + 1; reordered = t .reordered + 1; low = low′; high = high′; next = t .next })
+        → After (set numbers (t .whole) number) (set links number (n + 1))
+        (record { whole = t .whole + 1; reordered = t .reordered + 1; low = low′; high = high′; next = t .next })
     unfolding sharesOf
     shared-late late n own low′ high′ lowIs highIs size l a is h =
         let last : a .number < nextExp (firsts l) = omega (arith, ap (λ (t : Shares). t .next) (h .shares)) in

@@ -58,7 +58,8 @@ filled-more from s value old new h g f =
         getD-set-other new s k value 0 other ∙ f .inside k a (omega (arith, other))
 
 -- to the last place, or none where there is none
-pub filled-to : (from to s value : ℕ) (old new : List ℕ) → to ≤ s → s ≤ from + (to - from) → Filled from s value old new → Filled from to value old new
+pub filled-to : (from to s value : ℕ) (old new : List ℕ) → to ≤ s → s ≤ from + (to - from) → Filled from s value old new
+    → Filled from to value old new
 filled-to from to s value old new h g f =
     record { same = f .same; inside = λ k a b. f .inside k a (omega arith); below = f .below; past = λ k a. past k a (ltb k from) refl }
   where
@@ -69,7 +70,8 @@ filled-to from to s value old new h g f =
 -- ---- one arrival more
 
 -- the numbers under one first arrival more, put after those before it
-pub numbered-more : (fs : List Arrival) (a : Arrival) (numbers : List ℕ) (count : ℕ) → length fs < length numbers → NumberTable fs numbers count
+pub numbered-more : (fs : List Arrival) (a : Arrival) (numbers : List ℕ) (count : ℕ) → length fs < length numbers
+    → NumberTable fs numbers count
     → NumberTable (fs ++ (a ∷ [])) (set numbers count (a .number)) (count + 1)
 numbered-more fs a numbers count room h =
     record { all = rw (length-append fs (a ∷ [])) (ap (λ (n : ℕ). n + 1) (h .all)); at = λ p g. go p g (eqb p (length fs)) refl }
@@ -106,7 +108,8 @@ recorded-more l a records room new h s low high = go (eqb (a .number) s) refl
     go : (t : Bool) → eqb (a .number) s ≡ t → getD (set records (a .number) (length l + 1)) s 0 ≡ firstRecord s (l ++ (a ∷ []))
     go true e =
         let q : a .number ≡ s = eqb-true (a .number) s e in
-        rw (← q) (getD-set-same records (a .number) (length l + 1) 0 room ∙ sym (record-more (a .number) l a ∙ simp (new, eq-eqb (a .number) (a .number) refl)))
+        rw (← q) (getD-set-same records (a .number) (length l + 1) 0 room
+        ∙ sym (record-more (a .number) l a ∙ simp (new, eq-eqb (a .number) (a .number) refl)))
     go false e =
         let other : s ≡ a .number → ⊥ = λ q. eqb-false (a .number) s e (sym q) in
         getD-set-other records (a .number) s (length l + 1) 0 other ∙ h s low high ∙ sym (record-more s l a ∙ rw e (same (has s l) refl))
@@ -116,7 +119,8 @@ recorded-more l a records room new h s low high = go (eqb (a .number) s) refl
         same false q = sym (record-none s l q)
 
 -- a discontinuity stays under first arrivals more
-pub discontinuity-stays : (fs : List Arrival) (a : Arrival) (s : ℕ) (p : FirstArrival) → discontinuity fs s ≡ some p → discontinuity (fs ++ (a ∷ [])) s ≡ some p
+pub discontinuity-stays : (fs : List Arrival) (a : Arrival) (s : ℕ) (p : FirstArrival) → discontinuity fs s ≡ some p
+    → discontinuity (fs ++ (a ∷ [])) s ≡ some p
 unfolding discontinuity
 discontinuity-stays fs a s p e = rw (placed-more, firstAbove-append, e)
 
@@ -172,11 +176,13 @@ module _ (l : List Arrival) (a : Arrival) (numbers records skipped : List ℕ) (
 
   -- the tables under a first arrival that is reordered: where its discontinuity stood any number may stand
   pub kept-reordered : (largest : ℕ) → a .number < state .next
-      → EngineTables (l ++ (a ∷ [])) (set numbers (state .count) (a .number)) (set records (a .number) (length l + 1)) (set skipped (a .number) largest)
+      → EngineTables (l ++ (a ∷ [])) (set numbers (state .count) (a .number)) (set records (a .number) (length l + 1))
+      (set skipped (a .number) largest)
       (record { count = state .count + 1; next = state .next })
   unfolding nextAfter
   kept-reordered largest late =
-      let stays : nextExp (firsts l ++ (a ∷ [])) ≡ nextExp (firsts l) = next-more (firsts l) a ∙ rw (lt-leb (nextExp (firsts l)) (a .number) (omega (arith, f .next))) in
+      let stays : nextExp (firsts l ++ (a ∷ [])) ≡ nextExp (firsts l) =
+      next-more (firsts l) a ∙ rw (lt-leb (nextExp (firsts l)) (a .number) (omega (arith, f .next))) in
       record {
         places = (simp length-set (f .places .0), simp length-set (f .places .1), simp length-set (f .places .2));
         next = rw (firsts-first l a new, stays) (f .next);
@@ -193,13 +199,15 @@ module _ (l : List Arrival) (a : Arrival) (numbers records skipped : List ℕ) (
       (record { count = state .count + 1; next = a .number + 1 })
   unfolding nextAfter
   kept-in-order ahead skipped′ filled =
-      let moves : nextExp (firsts l ++ (a ∷ [])) ≡ a .number + 1 = next-more (firsts l) a ∙ rw (le-leb (nextExp (firsts l)) (a .number) (omega (arith, f .next))) in
+      let moves : nextExp (firsts l ++ (a ∷ [])) ≡ a .number + 1 =
+      next-more (firsts l) a ∙ rw (le-leb (nextExp (firsts l)) (a .number) (omega (arith, f .next))) in
       record {
         places = (simp length-set (f .places .0), simp length-set (f .places .1), filled .same ∙ f .places .2);
         next = rw (firsts-first l a new, moves);
         numbered = rw (firsts-first l a new) numbers-more;
         recorded = records-more;
-        skips = rw (firsts-first l a new, moves) (λ s one h other p q. go s one h (has-more-false s l a other) p q (ltb s (state .next)) refl);
+        skips =
+            rw (firsts-first l a new, moves) (λ s one h other p q. go s one h (has-more-false s l a other) p q (ltb s (state .next)) refl);
       }
     where
       go : (s : ℕ) → 1 ≤ s → s < a .number + 1 → (has s l ≡ false) × (a .number ≡ s → ⊥) → (p : FirstArrival)

@@ -1,5 +1,5 @@
--- The records of a decoded file, one by one, and its layout. Private functions of this crate, of sweep and of disorder name these; no public
--- contract does. Assumes nothing.
+-- The records of a decoded file, one by one, and its layout. Private functions of this crate, of sweep and of disorder name these; no
+-- public contract does. Assumes nothing.
 use mathlib.Core.Path.{_≡_}
 use Prim.Native.Nat.{ℕ, _<_, _≤_}
 use mathlib.Core.List.{List}

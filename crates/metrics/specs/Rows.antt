@@ -46,8 +46,9 @@ pub record RowsTo (d : Decoded) (old : List ℕ) (answer : Layout) (new : List �
 unfoldable pub rowAt : List ℕ → ℕ → List ℕ
 rowAt rows asked = take 8 (drop (8 * (asked - 1)) rows)
 
--- a row tells its whole answer: no two answers have the same row. And at every record for which `answer` is not refused stands the row of what
--- that call returns
+-- a row tells its whole answer: no two answers have the same row. And at every record for which `answer` is not refused stands the row of
+-- what that call returns
 pub record RowsTell : Type 0 where
   pub tell : (a b : Answer) → rowOf a ≡ rowOf b → a ≡ b
-  pub at : (d : Decoded) (asked : ℕ) → recordAnswer d asked .refusal ≡ 0 → rowAt (rowsOf (answersOf d)) asked ≡ rowOf (recordAnswer d asked .answer)
+  pub at : (d : Decoded) (asked : ℕ) → recordAnswer d asked .refusal ≡ 0
+      → rowAt (rowsOf (answersOf d)) asked ≡ rowOf (recordAnswer d asked .answer)

@@ -67,8 +67,10 @@ pub(crate) fn advance(
 ) -> EngineAnswer
     requires { ⌜ HasRecord (decode (now file)) layout i × (arrival ≡ arrivalAt (decode (now file)) i)
         × EngineState (decode (now file)) i (now numbers) (now records) (now skipped) (now tree) engine ⌝ }
-    ensures { λ r. ⌜ (r .answer ≡ answerAt (decode (now (file .entry))) i) × ClassOf (engine .noted .count) (r .class) (answerAt (decode (now (file .entry))) i)
-        × EngineState (decode (now (file .entry))) (i + 1) (now (numbers .exit)) (now (records .exit)) (now (skipped .exit)) (now (tree .exit)) (r .engine) ⌝ }
+    ensures { λ r. ⌜ (r .answer ≡ answerAt (decode (now (file .entry))) i)
+        × ClassOf (engine .noted .count) (r .class) (answerAt (decode (now (file .entry))) i)
+        × EngineState (decode (now (file .entry))) (i + 1) (now (numbers .exit)) (now (records .exit)) (now (skipped .exit))
+        (now (tree .exit)) (r .engine) ⌝ }
 {
     let noted = engine.noted;
     let totals = engine.totals;

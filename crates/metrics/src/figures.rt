@@ -153,7 +153,8 @@ fn tally_place(extent: u32) -> usize
 
 // Tallies the next arrival, after `count` first arrivals.
 fn tally_after(tally: &mut [u32; TALLY_PLACES], count: u32, class: Class)
-    requires { ⌜ (length (now tally) ≡ tallyPlaces) × ((k : ℕ) → getD (now tally) k 0 ≤ arrivalsMost) × (count ≤ sentMost) × IfLate (λ (at : ℕ). (1 ≤ at) × (at ≤ count)) class ⌝ }
+    requires { ⌜ (length (now tally) ≡ tallyPlaces) × ((k : ℕ) → getD (now tally) k 0 ≤ arrivalsMost) × (count ≤ sentMost)
+        × IfLate (λ (at : ℕ). (1 ≤ at) × (at ≤ count)) class ⌝ }
     ensures { λ _. ⌜ ((a : Answer) → ClassOf count class a → now (tally .exit) ≡ tallyAfter (now (tally .entry)) a) ⌝ }
 {
     match class {
@@ -226,7 +227,8 @@ fn shares_after(
     number: u32,
     shares: Shares,
 ) -> Shares
-    requires { ⌜ (number ≤ sentMost) × (shares .whole < sentMost) × (shares .reordered < arrivalsMost) × (shares .low < arrivalsMost) × (shares .high < arrivalsMost)
+    requires { ⌜ (number ≤ sentMost) × (shares .whole < sentMost) × (shares .reordered < arrivalsMost) × (shares .low < arrivalsMost)
+        × (shares .high < arrivalsMost)
         × (length (now numbers) ≡ sentMost) × (length (now links) ≡ numberPlaces) × Links 0 (now numbers) (now links) (shares .whole) ⌝ }
     ensures { λ r. ⌜ ((size : ℕ → ℕ) (l : List Arrival) (a : Arrival) → a .number ≡ number
         → ShareTables low high size l (now (numbers .entry)) (now (links .entry)) shares

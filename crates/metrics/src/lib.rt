@@ -123,8 +123,8 @@ pub struct SampleNeeds {
     pub time: u64,
 }
 
-// How many first arrivals of a sample buffers of several sizes accommodate, how many there are, the greatest need of any, and the refusal (0
-// for none).
+// How many first arrivals of a sample buffers of several sizes accommodate, how many there are, the greatest need of any, and the refusal
+// (0 for none).
 pub struct SampleSteps {
     pub refusal: u32,
     pub arrived: u32,
@@ -242,8 +242,8 @@ pub fn accommodated(file: &[u8], measure: Measure, size: u64) -> SampleAccommoda
     }
 }
 
-// How many first arrivals buffers of STEPS sizes accommodate, how many first arrivals there are, and the greatest need: one pass, O(A + K), and
-// O(A log K + K) in octets.
+// How many first arrivals buffers of STEPS sizes accommodate, how many first arrivals there are, and the greatest need: one pass, O(A +
+// K), and O(A log K + K) in octets.
 pub fn accommodated_steps(file: &[u8], measure: Measure, low: u64, shift: u32) -> SampleSteps
     ensures { λ r. ⌜ StepsOf (decode (now (file .entry))) measure low shift r ⌝ }
 {

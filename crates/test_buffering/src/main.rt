@@ -1,6 +1,7 @@
-// Runs the calls on buffers on the cases that stand on standard input. Each line there has the case's name, the text of its sample, a measure
-// (1 packets, 2 octets, any other number time), the size of a buffer, a share as part and whole, and how many places the list of rows
-// has, 64 at most. A line is written for each case: each call's refusal and answer, and the list of rows, which holds sevens before the call.
+// Runs the calls on buffers on the cases that stand on standard input. Each line there has the case's name, the text of its sample, a
+// measure (1 packets, 2 octets, any other number time), the size of a buffer, a share as part and whole, and how many places the list of
+// rows has, 64 at most. A line is written for each case: each call's refusal and answer, and the list of rows, which holds sevens before
+// the call.
 use cases::fields::field;
 use cases::fields::number_in;
 use cases::fields::number_in_32;

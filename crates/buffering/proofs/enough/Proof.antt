@@ -10,7 +10,8 @@ use Rattle.buffering.proofs.enough.Tie as tie
 
 product-fits : (m n : ℕ) → m < 2 ^ 32 → n < 2 ^ 32 → Fits w64 (m * n)
 product-fits m n h k =
-    let p : m * n ≤ 4294967295 * 4294967295 = mul-le-mul {n₁ = m} {m₁ = n} {n₂ = 4294967295} {m₂ = 4294967295} (omega arith) (omega arith) in
+    let p : m * n ≤ 4294967295 * 4294967295 =
+    mul-le-mul {n₁ = m} {m₁ = n} {n₂ = 4294967295} {m₂ = 4294967295} (omega arith) (omega arith) in
     record { fits = omega arith }
 
 mul-due : tie.Need-mul-due

@@ -1,5 +1,5 @@
--- `buffering::first_enough` meets its contract. The loop's invariant: no count before j is enough. The measure is what is left of the counts.
--- Assumes nothing.
+-- `buffering::first_enough` meets its contract. The loop's invariant: no count before j is enough. The measure is what is left of the
+-- counts. Assumes nothing.
 use mathlib.Core.Path.{_≡_, sym, _∙_}
 use mathlib.Core.Bool.{false}
 use Prim.Native.Nat.{ℕ, _-_, _*_, _≤_, _<_}
@@ -27,8 +27,14 @@ returns c =
 loop-again : tie.Need-loop-again Inv-loop μ-loop
 loop-again c =
     let l = c .before .before .before .before .loop in
-    let t = c .before .before .before .loop-test .taken in
-    (omega (arith, t), below-more (λ (k : ℕ). leb (c .before .before .before .before .before .args .part * c .before .before .before .before .before .args .all) (c .before .before .before .before .before .args .whole * getD (now (c .before .before .before .before .before .args .counts)) k 0) ≡ false) (l .j) (l .inv .1) (sym (c .before .enough .ensures) ∙ c .if1 .left))
+    let t = c .before .before .before .loop-test .taken in (
+      omega (arith, t),
+      below-more (λ (k : ℕ). leb (c .before .before .before .before .before .args .part
+          * c .before .before .before .before .before .args .all)
+          (c .before .before .before .before .before .args .whole
+          * getD (now (c .before .before .before .before .before .args .counts)) k 0) ≡ false) (l .j) (l .inv .1)
+          (sym (c .before .enough .ensures) ∙ c .if1 .left),
+    )
 
 returns-2 : tie.Need-returns-2 Inv-loop μ-loop
 returns-2 c =

@@ -32,10 +32,13 @@ abbrev μ-loop : tie.MeasureT-loop
 
 -- what is carried besides the answer
 carries : (c : tie.After-accommodated-steps Inv-loop μ-loop)
-    → RestoresFile (decode (now (c .before .before .args .file))) × (HoldsOffset × (RestoresOrder × (SizesAreLeast × (OneLeast × (MoreIsNoWorse × AllIsGreatest)))))
+    → RestoresFile (decode (now (c .before .before .args .file)))
+    × (HoldsOffset × (RestoresOrder × (SizesAreLeast × (OneLeast × (MoreIsNoWorse × AllIsGreatest)))))
 carries c =
-    let file = now (c .before .before .args .file) in
-    (restores file (below-fits w8 file (c .before .shared-slice-known .given)), (holds-offset, (restores-order, (sizes-are-least, (one-least, (more-is-no-worse, all-is-greatest))))))
+    let file = now (c .before .before .args .file) in (
+      restores file (below-fits w8 file (c .before .shared-slice-known .given)),
+      (holds-offset, (restores-order, (sizes-are-least, (one-least, (more-is-no-worse, all-is-greatest))))),
+    )
 
 returns : tie.Need-returns Inv-loop μ-loop
 returns c =
@@ -44,8 +47,11 @@ returns c =
 
 returns-2 : tie.Need-returns-2 Inv-loop μ-loop
 returns-2 c =
-    let q = c .before .before .before .before in
-    (least-outside _ _ _ _ (sym (q .accommodated-steps .ensures .refusal) ∙ c .before .before .if1 .left) (sym (c .before .outside .ensures) ∙ c .if2 .taken), carries q)
+    let q = c .before .before .before .before in (
+      least-outside _ _ _ _ (sym (q .accommodated-steps .ensures .refusal) ∙ c .before .before .if1 .left)
+          (sym (c .before .outside .ensures) ∙ c .if2 .taken),
+      carries q,
+    )
 
 loop-holds : tie.Need-loop-holds Inv-loop μ-loop
 loop-holds c =

@@ -1,6 +1,6 @@
--- `buffering::narrowed` meets its contract: if the first size is enough, it is the least (`closed`); else the size before the first that is enough is
--- too small (`before-not`), so it is below the high one (`under`), and the first that is enough is the new high one unless it is past the old
--- (`closed-above`, `closed-between`). Assumes nothing.
+-- `buffering::narrowed` meets its contract: if the first size is enough, it is the least (`closed`); else the size before the first that
+-- is enough is too small (`before-not`), so it is below the high one (`under`), and the first that is enough is the new high one unless
+-- it is past the old (`closed-above`, `closed-between`). Assumes nothing.
 use borrow.Author.Needs.{needs}
 use native.Mathlib.Omega.{arith}
 use Prim.Native.Nat.{ℕ, _+_, _-_, _*_, _^_, _<_}
@@ -25,10 +25,12 @@ tried c = c .before .before
 
 -- the size before the first that is enough
 abbrev below : tie.After-power-of → ℕ
-below c = start (tried c) .args .b .low + (tried c .first-enough .result - 1) * 2 ^ (tried c .before .before .before .before .shift-for .result)
+below c =
+    start (tried c) .args .b .low + (tried c .first-enough .result - 1) * 2 ^ (tried c .before .before .before .before .shift-for .result)
 
 -- it is too small
-not-below : (c : tie.After-power-of) → Enough (start (tried c) .args .measure) (start (tried c) .args .part) (start (tried c) .args .whole) (answersOf (decode (now (start (tried c) .args .file)))) (below c) → ⊥
+not-below : (c : tie.After-power-of) → Enough (start (tried c) .args .measure) (start (tried c) .args .part)
+    (start (tried c) .args .whole) (answersOf (decode (now (start (tried c) .args .file)))) (below c) → ⊥
 not-below c =
     let t = tried c in
     let s = t .before .before .before .accommodated-steps .ensures in
@@ -39,7 +41,8 @@ inside : (c : tie.After-power-of) → below c < start (tried c) .args .b .high
 inside c = under _ _ _ _ _ (start (tried c) .pre .1) _ (not-below c)
 
 -- as the code makes it
-made : (c : tie.After-power-of) → (tried c .first-enough .result - 1) * c .power-of .result ≡ (tried c .first-enough .result - 1) * 2 ^ (tried c .before .before .before .before .shift-for .result)
+made : (c : tie.After-power-of) → (tried c .first-enough .result - 1) * c .power-of .result ≡ (tried c .first-enough .result - 1)
+    * 2 ^ (tried c .before .before .before .before .shift-for .result)
 made c = ap (λ (w : ℕ). (tried c .first-enough .result - 1) * w) (c .power-of .ensures)
 
 -- a size with a power of two more is greater
@@ -66,7 +69,9 @@ returns-3 c =
     let p = start t .pre in
     let s = t .before .before .before .accommodated-steps .ensures in
     let w = q .power-of .ensures in
-    let few = one-after _ _ _ _ _ _ _ _ (s .many) (s .at) _ (t .first-enough .ensures) _ (t .before .before .before .before .shift-for .ensures .1) (omega (arith, made q, w, c .if2 .left)) in
+    let few =
+    one-after _ _ _ _ _ _ _ _ (s .many) (s .at) _ (t .first-enough .ensures) _ (t .before .before .before .before .shift-for .ensures .1)
+    (omega (arith, made q, w, c .if2 .left)) in
     let top = after-is _ _ _ _ _ _ _ _ (s .many) (s .at) _ (t .first-enough .ensures) (q .before .if1 .left) few in
     let a = start t .args in
     let width = q .power-of .result in
@@ -74,7 +79,8 @@ returns-3 c =
     let e : below q ≡ size = omega (arith, made q) in
     let f : below q + 2 ^ (t .before .before .before .before .shift-for .result) ≡ size + width = omega (arith, made q, w) in
     let l = answersOf (decode (now (a .file))) in
-    let between = closed-between (a .measure) (a .part) (a .whole) l _ (p .1) (below q) _ (omega arith) (pow-more (below q) _) (not-below q) top in (
+    let between =
+    closed-between (a .measure) (a .part) (a .whole) l _ (p .1) (below q) _ (omega arith) (pow-more (below q) _) (not-below q) top in (
       subst (λ (x : ℕ). Between (a .measure) (a .part) (a .whole) l (record { low = x + 1; high = size + width })) e
           (subst (λ (x : ℕ). Between (a .measure) (a .part) (a .whole) l (record { low = below q + 1; high = x })) f between),
       omega (arith, made q, w, c .if2 .left, p .0),

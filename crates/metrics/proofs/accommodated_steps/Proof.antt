@@ -1,5 +1,5 @@
--- `metrics::accommodated_steps` meets its contract: the counts of `needs_of` up to a size's are together what that size accommodates, and `sum_up`
--- puts these sums in their place; they are few (`steps-few`). Assumes nothing.
+-- `metrics::accommodated_steps` meets its contract: the counts of `needs_of` up to a size's are together what that size accommodates, and
+-- `sum_up` puts these sums in their place; they are few (`steps-few`). Assumes nothing.
 use mathlib.Core.Path.{ap, _∙_}
 use borrow.Author.Needs.{needs}
 use Rattle.sample.specs.declared.Layout.{Layout}

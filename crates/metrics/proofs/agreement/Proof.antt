@@ -17,15 +17,19 @@ use Rattle.metrics.proofs.agreement.Tie as tie
 room : (c : tie.After-checked-layout) → length (sampleText (decode (now (c .before .before .before .args .file)))) ≤ listingOctets
 room c =
     let file = now (c .before .before .before .args .file) in
-    sample-within file (c .checked-layout .result) (c .checked-layout .ensures) (below-fits w8 file (c .before .before .shared-slice-known .given))
+    sample-within file (c .checked-layout .result) (c .checked-layout .ensures)
+    (below-fits w8 file (c .before .before .shared-slice-known .given))
 
 returns : tie.Need-returns
 returns c = (agreed-refused _ _ (c .before .before .checked-layout .ensures) _ (c .if1 .taken), room (c .before .before))
 
 returns-2 : tie.Need-returns-2
 returns-2 c =
-    let l = c .before .before .before .before in
-    (agreed-accepted _ _ (l .checked-layout .ensures) _ (c .before .before .if1 .left) _ (c .before .compare-listing .ensures) _ (c .same-text .ensures), room l)
+    let l = c .before .before .before .before in (
+      agreed-accepted _ _ (l .checked-layout .ensures) _ (c .before .before .if1 .left) _ (c .before .compare-listing .ensures) _
+          (c .same-text .ensures),
+      room l,
+    )
 
 pub agreement-spec : {M : Type 1} → statement M
 agreement-spec =

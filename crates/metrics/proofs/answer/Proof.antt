@@ -18,7 +18,9 @@ returns c =
     let e = c .answer-of .ensures in
     let file = now (c .before .before .before .args .file) in
     let o = below-fits w8 file (c .before .before .shared-slice-known .given) in
-    let b = answer-bounded file (c .before .checked-layout .result) (c .before .checked-layout .ensures) o (c .before .before .before .args .asked) in
+    let b =
+    answer-bounded file (c .before .checked-layout .result) (c .before .checked-layout .ensures) o
+    (c .before .before .before .args .asked) in
     (e, (cases-hold, (subst (λ (r : RecordAnswer). FiguresBounded (r .answer)) (sym e) b, (reordered-found, offsets-bounded))))
 
 pub answer-spec : {M : Type 1} → statement M

@@ -1,5 +1,5 @@
--- `metrics::greatest_needs` meets its contract: the layout has the file's refusal, and `greatest_need` gives the greatest need of its sample in each
--- measure. Assumes nothing.
+-- `metrics::greatest_needs` meets its contract: the layout has the file's refusal, and `greatest_need` gives the greatest need of its
+-- sample in each measure. Assumes nothing.
 use borrow.Author.Needs.{needs}
 use Rattle.metrics.specs.Figures.{sampleNeeds}
 use Rattle.metrics.proofs.greatest_needs.Statement.{statement}
@@ -16,4 +16,5 @@ returns c =
     )
 
 pub greatest-needs-spec : {M : Type 1} → statement M
-greatest-needs-spec = tie.close (tie.spec (λ c κs. search needs) (λ c κs. search needs) (λ c κs. search needs) (λ c κs. search needs) returns)
+greatest-needs-spec =
+    tie.close (tie.spec (λ c κs. search needs) (λ c κs. search needs) (λ c κs. search needs) (λ c κs. search needs) returns)

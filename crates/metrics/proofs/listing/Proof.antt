@@ -1,5 +1,5 @@
--- `metrics::listing` meets its contract: with a refusal nothing is written (`nothing-written`), else `write_listing` writes the lines of the file's
--- sample, which fit as nothing is refused (`whole-written`). What it carries are laws. Assumes nothing.
+-- `metrics::listing` meets its contract: with a refusal nothing is written (`nothing-written`), else `write_listing` writes the lines of
+-- the file's sample, which fit as nothing is refused (`whole-written`). What it carries are laws. Assumes nothing.
 use Prim.Native.Nat.{_≤_}
 use borrow.Author.Needs.{needs}
 use denote.Ref.{now}

@@ -33,8 +33,10 @@ returns-3 c =
     let s = c .before .before .before .before in
     let k = s .before .before in
     let q = k .before .before in
-    let room = le-ltb _ _ (s .if2 .left) in
-    (gaps-filled _ _ (q .checked-layout .ensures) (accepted-of q (k .if1 .left)) _ (sym room) _ (c .before .before .put-gaps .ensures), gaps-tell)
+    let room = le-ltb _ _ (s .if2 .left) in (
+      gaps-filled _ _ (q .checked-layout .ensures) (accepted-of q (k .if1 .left)) _ (sym room) _ (c .before .before .put-gaps .ensures),
+      gaps-tell,
+    )
 
 pub record-gaps-spec : {M : Type 1} → statement M
 record-gaps-spec =

@@ -20,21 +20,30 @@ returns c = (rows-refused _ _ (c .before .before .checked-layout .ensures .laid)
 returns-2 : tie.Need-returns-2
 returns-2 c =
     let k = c .before .before .before in
-    let q = k .before .before in
-    (rows-eight _ _ (q .checked-layout .ensures) (accepted-of q (k .if1 .left)) _ (sym (c .before .if2 .taken) ∙ c .before .before .rows-short .ensures) _ (c .refused-layout .ensures), rows-tell)
+    let q = k .before .before in (
+      rows-eight _ _ (q .checked-layout .ensures) (accepted-of q (k .if1 .left)) _
+          (sym (c .before .if2 .taken) ∙ c .before .before .rows-short .ensures) _ (c .refused-layout .ensures),
+      rows-tell,
+    )
 
 put-rows-requires : tie.Need-put-rows-requires
 put-rows-requires c κs =
     let k = c .before .before .before in
-    let q = k .before .before in
-    (q .checked-layout .ensures, rows-fit _ _ (q .checked-layout .ensures) (accepted-of q (k .if1 .left)) (now (q .before .before .before .args .rows)) (sym (c .before .if2 .left) ∙ c .before .before .rows-short .ensures))
+    let q = k .before .before in (
+      q .checked-layout .ensures,
+      rows-fit _ _ (q .checked-layout .ensures) (accepted-of q (k .if1 .left))
+          (now (q .before .before .before .args .rows)) (sym (c .before .if2 .left) ∙ c .before .before .rows-short .ensures),
+    )
 
 returns-3 : tie.Need-returns-3
 returns-3 c =
     let s = c .before .before .before .before .before in
     let k = s .before in
-    let q = k .before .before in
-    (rows-filled _ _ (q .checked-layout .ensures) (accepted-of q (k .if1 .left)) _ (sym (c .before .before .before .before .if2 .left) ∙ s .rows-short .ensures) _ (c .before .before .put-rows .ensures), rows-tell)
+    let q = k .before .before in (
+      rows-filled _ _ (q .checked-layout .ensures) (accepted-of q (k .if1 .left)) _
+          (sym (c .before .before .before .before .if2 .left) ∙ s .rows-short .ensures) _ (c .before .before .put-rows .ensures),
+      rows-tell,
+    )
 
 pub record-rows-spec : {M : Type 1} → statement M
 record-rows-spec =

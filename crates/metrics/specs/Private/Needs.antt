@@ -29,7 +29,8 @@ pub record NeedState (d : Decoded) (i : ℕ) (numbers records skipped tree : Lis
   pub totalled : SizeTree (sizeOf d) (firsts (before d i)) tree totals
 
 -- the need of record i + 1, which is this arrival and of this class, can be asked for; if it is reordered, its packet has not arrived
-pub record NeedInput (d : Decoded) (layout : Layout) (i : ℕ) (arrival : Arrival) (numbers records tree : List ℕ) (count : ℕ) (totals : Totals) (class : Class) : Type 0 where
+pub record NeedInput (d : Decoded) (layout : Layout) (i : ℕ) (arrival : Arrival) (numbers records tree : List ℕ) (count : ℕ)
+    (totals : Totals) (class : Class) : Type 0 where
   pub there : HasRecord d layout i
   pub is : arrival ≡ arrivalAt d i
   pub numbered : NumberTable (firsts (before d i)) numbers count
@@ -54,7 +55,8 @@ countTo counts (suc n) = countTo counts n + getD counts n 0
 -- a need is counted: all counts up to that of a size are one more if the size is at least the need
 pub record Counted (low shift need : ℕ) (old new : List ℕ) : Type 0 where
   pub places : length new ≡ stepCount
-  pub at : (j : ℕ) → j < stepCount → countTo new (suc j) ≡ cond (leb need (low + j * 2 ^ shift)) (countTo old (suc j) + 1) (countTo old (suc j))
+  pub at : (j : ℕ) → j < stepCount → countTo new (suc j) ≡ cond (leb need (low + j * 2 ^ shift)) (countTo old (suc j) + 1)
+      (countTo old (suc j))
 
 -- what some answers need in a measure; all counts up to that of a size are together what a buffer of that size accommodates
 pub record NeedsOf (m : Measure) (low shift : ℕ) (l : List Answer) (needs : Needs) (counts : List ℕ) : Type 0 where

@@ -61,7 +61,8 @@ pub record EngineTables (earlier : List Arrival) (numbers records skipped : List
 
 -- links by the largest n: for each first arrival, `links[number] + more == largest n + 1`; from NextExp on every entry is 0
 pub record LinkTable (more : ℕ) (fs : List Arrival) (links : List ℕ) : Type 0 where
-  pub at : (p : ℕ) → p < length fs → more + getD links (getD fs p noArrival .number) 0 ≡ largestN (take p fs) (getD fs p noArrival .number) + 1
+  pub at : (p : ℕ) → p < length fs → more + getD links (getD fs p noArrival .number) 0
+      ≡ largestN (take p fs) (getD fs p noArrival .number) + 1
   pub ahead : (s : ℕ) → nextExp fs ≤ s → getD links s 0 ≡ 0
 
 -- record i + 1, an arrival of packet `number`, can be noted: the tables and the state are those after the first i arrivals
@@ -75,7 +76,8 @@ pub record NextRecord (numbers records skipped : List ℕ) (state : State) (i nu
 
 -- record i + 1, an arrival of packet `number`, has been noted: the tables and the state are those after it. If `largest` is its largest
 -- n where it is reordered, the links stay links by the largest n
-pub record NotedRecord (i number largest : ℕ) (numbers records skipped : List ℕ) (state : State) (numbers′ records′ skipped′ : List ℕ) (state′ : State) : Type 0 where
+pub record NotedRecord (i number largest : ℕ) (numbers records skipped : List ℕ) (state : State) (numbers′ records′ skipped′ : List ℕ)
+    (state′ : State) : Type 0 where
   pub follows : (l : List Arrival) (a : Arrival) → length l ≡ i → a .number ≡ number → EngineTables l numbers records skipped state
       → EngineTables (l ++ (a ∷ [])) numbers′ records′ skipped′ state′
   pub linked : (l : List Arrival) (a : Arrival) → length l ≡ i → a .number ≡ number → EngineTables l numbers records skipped state

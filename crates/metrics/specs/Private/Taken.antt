@@ -30,7 +30,8 @@ pub record LineRoom (comparing : Bool) (text : List ℕ) (at : ℕ) (out : List 
 
 -- the lines were written to `old` at offset `at`, if they fit; or, comparing, they were compared with the text from there on
 pub record Taken (comparing : Bool) (lines text : List ℕ) (at : ℕ) (old new : List ℕ) (r : Part) : Type 0 where
-  pub listed : comparing ≡ false → (r ≡ record { octets = length lines; whole = true }) × (at + length lines ≤ length old → new ≡ splice at lines old)
+  pub listed : comparing ≡ false → (r ≡ record { octets = length lines; whole = true })
+      × (at + length lines ≤ length old → new ≡ splice at lines old)
   pub compared : comparing ≡ true → Agreed lines (drop at text) r
   pub places : length new ≡ length old
 
@@ -44,5 +45,6 @@ PassedTo d layout text comparing i at old new = Taken comparing (linesTo d layou
 
 -- the pass went over all records or, comparing, ended at the first line that differs
 pub record PassEnded (d : Decoded) (layout : Layout) (text : List ℕ) (comparing : Bool) (old new : List ℕ) (r : PassResult) : Type 0 where
-  pub all : r .part .whole ≡ true → PassedTo d layout text comparing (layout .arrivals) (r .part .octets) old new × (r .counts ≡ counts (answersOf d))
+  pub all : r .part .whole ≡ true → PassedTo d layout text comparing (layout .arrivals) (r .part .octets) old new
+      × (r .counts ≡ counts (answersOf d))
   pub differs : r .part .whole ≡ false → Taken comparing (sampleText d) text 0 old new (r .part)

@@ -40,7 +40,8 @@ fn fill_tree(
     totals: Totals,
 ) -> Totals
     requires { ⌜ FillInput (decode (now file)) layout (now numbers) (now tree) count totals ⌝ }
-    ensures { λ r. ⌜ ((fs : List Arrival) → NumberTable fs (now (numbers .entry)) count → SizeTree (sizeOf (decode (now (file .entry)))) fs (now (tree .entry)) totals
+    ensures { λ r. ⌜ ((fs : List Arrival) → NumberTable fs (now (numbers .entry)) count
+        → SizeTree (sizeOf (decode (now (file .entry)))) fs (now (tree .entry)) totals
         → SizeTree (sizeOf (decode (now (file .entry)))) fs (now (tree .exit)) r × (r .filled ≡ count)) ⌝ }
 {
     let mut total = totals.total;
@@ -106,11 +107,13 @@ pub(crate) fn late_figures(
     totals: Totals,
     class: Class,
 ) -> LateFigures
-    requires { ⌜ FillInput (decode (now file)) layout (now numbers) (now tree) count totals × (1 ≤ s) × (s ≤ sentMost) × Links 1 (now numbers) (now skipped) count ⌝ }
+    requires { ⌜ FillInput (decode (now file)) layout (now numbers) (now tree) count totals × (1 ≤ s) × (s ≤ sentMost)
+        × Links 1 (now numbers) (now skipped) count ⌝ }
     ensures { λ r. ⌜ (r .largest ≤ sentMost) × ((fs : List Arrival) → NumberTable fs (now (numbers .entry)) count
         → SizeTree (sizeOf (decode (now (file .entry)))) fs (now (tree .entry)) totals
         → SizeTree (sizeOf (decode (now (file .entry)))) fs (now (tree .exit)) (r .totals)
-        × IfLate (λ (at : ℕ). (r .largest ≡ largestN fs s) × (has s fs ≡ false → r .offset ≡ byteOffset (sizeOf (decode (now (file .entry)))) fs s)) class) ⌝ }
+        × IfLate (λ (at : ℕ). (r .largest ≡ largestN fs s) × (has s fs ≡ false
+        → r .offset ≡ byteOffset (sizeOf (decode (now (file .entry)))) fs s)) class) ⌝ }
 {
     match class {
         Class::Duplicate(_) => LateFigures {

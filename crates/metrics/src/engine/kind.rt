@@ -52,8 +52,8 @@ pub(crate) fn class_of(
     Class::Reordered(wide(skipped[at]))
 }
 
-// The late time of record i + 1, which is reordered, after `count` first arrivals and with its discontinuity at position `at`; `time` is its
-// arrival time. A position tells its packet, the packet its record, and the record its time.
+// The late time of record i + 1, which is reordered, after `count` first arrivals and with its discontinuity at position `at`; `time` is
+// its arrival time. A position tells its packet, the packet its record, and the record its time.
 pub(crate) fn late_time(
     file: &[u8],
     layout: Layout,
@@ -93,7 +93,8 @@ fn reordered_figures(
     requires { ⌜ HasRecord (decode (now file)) layout i × ClassOf count (Class.Reordered at) (answerAt (decode (now file)) i)
         × NumberTable (firsts (before (decode (now file)) i)) (now numbers) count × RecordTable (before (decode (now file)) i) (now records)
         × (time ≡ arrivalAt (decode (now file)) i .time)
-        × (offset ≡ byteOffset (sizeOf (decode (now file))) (firsts (before (decode (now file)) i)) (arrivalAt (decode (now file)) i .number))
+        × (offset ≡ byteOffset (sizeOf (decode (now file))) (firsts (before (decode (now file)) i))
+        (arrivalAt (decode (now file)) i .number))
         × (largest ≡ largestN (firsts (before (decode (now file)) i)) (arrivalAt (decode (now file)) i .number)) ⌝ }
     ensures { λ r. ⌜ Answer.Reordered r ≡ answerAt (decode (now (file .entry))) i ⌝ }
 {
@@ -123,7 +124,8 @@ pub(crate) fn answer_by(
     requires { ⌜ HasRecord (decode (now file)) layout i × (arrival ≡ arrivalAt (decode (now file)) i)
         × NumberTable (firsts (before (decode (now file)) i)) (now numbers) count × RecordTable (before (decode (now file)) i) (now records)
         × ClassOf count class (answerAt (decode (now file)) i)
-        × IfLate (λ (at : ℕ). (offset ≡ byteOffset (sizeOf (decode (now file))) (firsts (before (decode (now file)) i)) (arrivalAt (decode (now file)) i .number))
+        × IfLate (λ (at : ℕ). (offset ≡ byteOffset (sizeOf (decode (now file))) (firsts (before (decode (now file)) i))
+        (arrivalAt (decode (now file)) i .number))
         × (largest ≡ largestN (firsts (before (decode (now file)) i)) (arrivalAt (decode (now file)) i .number))) class ⌝ }
     ensures { λ r. ⌜ r ≡ answerAt (decode (now (file .entry))) i ⌝ }
 {

@@ -50,7 +50,8 @@ fn note_records(
 ) -> State
     requires { ⌜ FileLayout (decode (now file)) layout × (n ≤ layout .arrivals)
         × EngineTables (before (decode (now file)) 0) (now numbers) (now records) (now skipped) (record { count = 0; next = 1 }) ⌝ }
-    ensures { λ r. ⌜ EngineTables (before (decode (now (file .entry))) n) (now (numbers .exit)) (now (records .exit)) (now (skipped .exit)) r ⌝ }
+    ensures { λ r. ⌜ EngineTables (before (decode (now (file .entry))) n) (now (numbers .exit)) (now (records .exit))
+        (now (skipped .exit)) r ⌝ }
 {
     let mut state = start_state();
     let mut i: u32 = 0;
@@ -73,7 +74,8 @@ fn answer_at(
     skipped: &[u16; PACKET_TABLE_LEN],
     state: State,
 ) -> Answer
-    requires { ⌜ HasRecord (decode (now file)) layout i × EngineTables (before (decode (now file)) i) (now numbers) (now records) (now skipped) state ⌝ }
+    requires { ⌜ HasRecord (decode (now file)) layout i × EngineTables (before (decode (now file)) i) (now numbers) (now records)
+        (now skipped) state ⌝ }
     ensures { λ r. ⌜ r ≡ answerAt (decode (now (file .entry))) i ⌝ }
 {
     let arrival = input::arrival_at(file, layout, i);

@@ -36,7 +36,8 @@ use sample::Layout;
 // this discontinuity as its own.
 fn note_discoverer(discoverers: &mut [u16; PACKET_TABLE_LEN], count: u32, class: Class)
     requires { ⌜ (length (now discoverers) ≡ numberPlaces) × (count ≤ sentMost) × IfLate (λ (at : ℕ). (1 ≤ at) × (at ≤ count)) class ⌝ }
-    ensures { λ _. ⌜ ((l : List Answer) (a : Answer) → ClassOf count class a → DiscoverersAt l (now (discoverers .entry)) → DiscoverersAt (l ++ (a ∷ [])) (now (discoverers .exit))) ⌝ }
+    ensures { λ _. ⌜ ((l : List Answer) (a : Answer) → ClassOf count class a → DiscoverersAt l (now (discoverers .entry))
+        → DiscoverersAt (l ++ (a ∷ [])) (now (discoverers .exit))) ⌝ }
 {
     match class {
         Class::Duplicate(_) => return,
@@ -77,7 +78,8 @@ fn note_to(
     requires { ⌜ FileLayout (decode (now file)) layout × (from ≤ to) × (to ≤ layout .arrivals)
         × EngineTables (before (decode (now file)) from) (now numbers) (now records) (now skipped) start
         × DiscoverersAt (answersTo (decode (now file)) from) (now discoverers) ⌝ }
-    ensures { λ r. ⌜ EngineTables (before (decode (now (file .entry))) to) (now (numbers .exit)) (now (records .exit)) (now (skipped .exit)) r
+    ensures { λ r. ⌜ EngineTables (before (decode (now (file .entry))) to) (now (numbers .exit)) (now (records .exit))
+        (now (skipped .exit)) r
         × DiscoverersAt (answersTo (decode (now (file .entry))) to) (now (discoverers .exit)) ⌝ }
 {
     let mut state = start;
@@ -100,7 +102,8 @@ fn note_discoverers(
     asked: u32,
     discoverers: &mut [u16; PACKET_TABLE_LEN],
 ) -> u32
-    requires { ⌜ FileLayout (decode (now file)) layout × (1 ≤ asked) × (asked ≤ layout .arrivals) × (now discoverers ≡ replicate numberPlaces 0) ⌝ }
+    requires { ⌜ FileLayout (decode (now file)) layout × (1 ≤ asked) × (asked ≤ layout .arrivals)
+        × (now discoverers ≡ replicate numberPlaces 0) ⌝ }
     ensures { λ r. ⌜ (known r ≡ positionOf (answerAt (decode (now (file .entry))) (asked - 1)))
         × DiscoverersAt (answersOf (decode (now (file .entry)))) (now (discoverers .exit)) ⌝ }
 {
@@ -280,7 +283,8 @@ fn list_gaps(
     gaps: &mut [u32],
 )
     requires { ⌜ FileLayout (decode (now file)) layout × (layout .arrivals ≤ length (now gaps))
-        × RecordTable (sampleArrivals (decode (now file))) (now records) × DiscoverersAt (answersOf (decode (now file))) (now discoverers) ⌝ }
+        × RecordTable (sampleArrivals (decode (now file))) (now records)
+        × DiscoverersAt (answersOf (decode (now file))) (now discoverers) ⌝ }
     ensures { λ _. ⌜ now (gaps .exit) ≡ over (gapNumbers (answersOf (decode (now (file .entry))))) (now (gaps .entry)) ⌝ }
 {
     let mut listed = Listed { count: 0, last: 0 };

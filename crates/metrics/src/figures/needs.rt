@@ -181,7 +181,8 @@ fn count_need(counts: &mut [u32; STEPS], low: u64, shift: u32, need: u64)
 
 // The needs after a first arrival of this need.
 fn needs_with(counts: &mut [u32; STEPS], low: u64, shift: u32, needs: Needs, need: u64) -> Needs
-    requires { ⌜ (needs .arrived < arrivalsMost) × (length (now counts) ≡ stepCount) × ((k : ℕ) → k < stepCount → getD (now counts) k 0 < arrivalsMost) ⌝ }
+    requires { ⌜ (needs .arrived < arrivalsMost) × (length (now counts) ≡ stepCount)
+        × ((k : ℕ) → k < stepCount → getD (now counts) k 0 < arrivalsMost) ⌝ }
     ensures { λ r. ⌜ (r ≡ needsWith needs need) × Counted low shift need (now (counts .entry)) (now (counts .exit)) ⌝ }
 {
     count_need(counts, low, shift, need);
@@ -200,7 +201,8 @@ fn needs_after(
     class: Class,
     need: u64,
 ) -> Needs
-    requires { ⌜ (needs .arrived < arrivalsMost) × (length (now counts) ≡ stepCount) × ((k : ℕ) → k < stepCount → getD (now counts) k 0 < arrivalsMost) ⌝ }
+    requires { ⌜ (needs .arrived < arrivalsMost) × (length (now counts) ≡ stepCount)
+        × ((k : ℕ) → k < stepCount → getD (now counts) k 0 < arrivalsMost) ⌝ }
     ensures { λ r. ⌜ ((m : Measure) (count : ℕ) (l : List Answer) (a : Answer) → ClassOf count class a → need ≡ neededFor m a
         → NeedsOf m low shift l needs (now (counts .entry)) → NeedsOf m low shift (l ++ (a ∷ [])) r (now (counts .exit))) ⌝ }
 {

@@ -90,7 +90,8 @@ pub(crate) fn take_all(
     comparing: bool,
 ) -> Part
     requires { ⌜ FileLayout (decode (now file)) layout × LineRoom comparing (now text) 0 (now out) ⌝ }
-    ensures { λ r. ⌜ Taken comparing (sampleText (decode (now (file .entry)))) (now (text .entry)) 0 (now (out .entry)) (now (out .exit)) r ⌝ }
+    ensures { λ r. ⌜ Taken comparing (sampleText (decode (now (file .entry)))) (now (text .entry)) 0 (now (out .entry)) (now (out .exit))
+        r ⌝ }
 {
     let first = take_header(out, text, comparing, layout.sent, layout.arrivals);
     if !first.whole {

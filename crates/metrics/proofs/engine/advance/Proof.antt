@@ -40,8 +40,12 @@ class-of-requires c κs = number (c .before .before .before .before .before .bef
 late-figures-requires : tie.Need-late-figures-requires
 late-figures-requires c κs =
     let s = start (c .before .before .before) in
-    let p = s .pre in
-    (engine-filling _ _ _ (p .0) _ _ _ _ _ (p .2), number s .1, number s .2, links-laid _ _ _ (p .0) _ _ _ _ (p .2 .follows .numbered) (p .2 .linked) .1)
+    let p = s .pre in (
+      engine-filling _ _ _ (p .0) _ _ _ _ _ (p .2),
+      number s .1,
+      number s .2,
+      links-laid _ _ _ (p .0) _ _ _ _ (p .2 .follows .numbered) (p .2 .linked) .1,
+    )
 
 answer-by-requires : tie.Need-answer-by-requires
 answer-by-requires c κs =
@@ -64,7 +68,10 @@ answer-by-requires c κs =
     )
 
 note-requires : tie.Need-note-requires
-note-requires c κs = let s = start (after-class-of (after-late-figures (c .before .before .before .before))) in noting _ _ _ (s .pre .0) _ _ _ _ (s .pre .2 .follows) _ (number s .0)
+note-requires c κs =
+    let s =
+    start (after-class-of (after-late-figures (c .before .before .before .before))) in
+    noting _ _ _ (s .pre .0) _ _ _ _ (s .pre .2 .follows) _ (number s .0)
 
 returns : tie.Need-returns
 returns c =
@@ -72,10 +79,13 @@ returns c =
     let n = number s in
     let f = s .pre .2 .follows in
     let e = after-class-of (after-late-figures (c .before .before .before .before .before .before)) .class-of .ensures in
-    let late = after-late-figures (c .before .before .before .before .before .before) .late-figures .ensures .1 _ (f .numbered) (s .pre .2 .totalled) in (
+    let late =
+    after-late-figures (c .before .before .before .before .before .before) .late-figures .ensures .1 _ (f .numbered)
+    (s .pre .2 .totalled) in (
       c .before .before .before .before .before .answer-by .ensures,
       told (decode (now (s .args .file))) (s .args .i) _ _ _ _ f _ (n .0) (n .1) (n .2) _ e,
-      engine-next _ _ _ (s .pre .0) _ _ _ _ f _ (n .0) (n .1) (n .2) _ e _ _ (late .1) _ _ _ _ (c .before .note .ensures) _ _ (s .pre .2 .linked) (late .0),
+      engine-next _ _ _ (s .pre .0) _ _ _ _ f _ (n .0) (n .1) (n .2) _ e _ _ (late .1) _ _ _ _ (c .before .note .ensures) _ _
+          (s .pre .2 .linked) (late .0),
     )
 
 pub advance-spec : {M : Type 1} → statement M

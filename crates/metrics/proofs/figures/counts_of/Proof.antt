@@ -36,7 +36,8 @@ start l = l .before .before .before
 -- ---- a turn
 
 -- record i + 1 is there
-here : (k : tie.After-kind-of Inv-loop μ-loop) → HasRecord (decode (now (start (head k) .args .file))) (start (head k) .args .layout) (head k .loop .i)
+here : (k : tie.After-kind-of Inv-loop μ-loop) → HasRecord (decode (now (start (head k) .args .file))) (start (head k) .args .layout)
+    (head k .loop .i)
 here k = record { file = start (head k) .pre; inside = k .before .before .before .if1 .taken }
 
 -- the arrivals before it are few
@@ -61,7 +62,8 @@ cast-at : tie.Need-cast-at Inv-loop μ-loop
 cast-at c = omega (arith, c .before .before .before .number-of .ensures .2)
 
 array-write-seen : tie.Need-array-write-seen Inv-loop μ-loop
-array-write-seen c = omega (arith, c .before .before .before .number-of .ensures .2, c .before .before .before .before .before .before .loop .inv .1 .places)
+array-write-seen c =
+    omega (arith, c .before .before .before .number-of .ensures .2, c .before .before .before .before .before .before .loop .inv .1 .places)
 
 next-after-requires : tie.Need-next-after-requires Inv-loop μ-loop
 next-after-requires c κs = c .before .before .before .number-of .ensures .2
@@ -79,7 +81,8 @@ loop-again c =
     let n = k .before .before .number-of .ensures in (
       omega (arith, here k .inside),
       rw (c .next-after .ensures) (seen-next _ _ _ (here k) _ _ (l .inv .1) _ (n .0) (n .2)),
-      counts-seen _ _ _ (here k) _ _ (l .inv .1) _ (n .0) (n .2) (k .kind-of .ensures) (λ m a. c .before .counts-after .ensures _ m a (l .inv .2)),
+      counts-seen _ _ _ (here k) _ _ (l .inv .1) _ (n .0) (n .2) (k .kind-of .ensures)
+          (λ m a. c .before .counts-after .ensures _ m a (l .inv .2)),
     )
 
 returns : tie.Need-returns Inv-loop μ-loop

@@ -19,7 +19,8 @@ returns-2 c = rw (c .if2 .taken)
 
 returns-3 : tie.Need-returns-3
 unfolding kindBy
-returns-3 c = rw (c .if2 .left) (simp (lt-leb (c .before .before .before .args .next) (c .before .before .before .args .number) (omega arith)))
+returns-3 c =
+    rw (c .if2 .left) (simp (lt-leb (c .before .before .before .args .next) (c .before .before .before .args .number) (omega arith)))
 
 pub kind-of-spec : {M : Type 1} → statement M
 kind-of-spec = tie.close (tie.spec returns (λ c. search needs) returns-2 returns-3)

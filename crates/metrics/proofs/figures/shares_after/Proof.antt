@@ -24,7 +24,8 @@ returns-2 c =
 returns-3 : tie.Need-returns-3
 returns-3 c =
     let p = start (c .before .before .before .before) .pre in
-    shared-late _ _ _ (p .0) _ _ _ (if1-left (c .before .before .before .before) .if1 .left) (p .1) (c .before .before .before .before .before .before .if2 .left) _ (c .before .before .before .largest-by-links .ensures .1)
+    shared-late _ _ _ (p .0) _ _ _ (if1-left (c .before .before .before .before) .if1 .left) (p .1)
+    (c .before .before .before .before .before .before .if2 .left) _ (c .before .before .before .largest-by-links .ensures .1)
     _ _ (c .before .n-reordered-after .ensures) (c .n-reordered-after2 .ensures)
 
 pub shares-after-spec : {M : Type 1} → statement M

@@ -25,7 +25,8 @@ abbrev μ-loop : tie.MeasureT-loop
 μ-loop file layout low high numbers₀ links₀ shares₀ i₀ numbers links shares i = layout .arrivals - i
 
 -- record i + 1 is there
-here : (c : tie.After-number-of Inv-loop μ-loop) → HasRecord (decode (now (c .before .before .before .before .before .args .file))) (c .before .before .before .before .before .args .layout) (c .before .before .before .loop .i)
+here : (c : tie.After-number-of Inv-loop μ-loop) → HasRecord (decode (now (c .before .before .before .before .before .args .file)))
+    (c .before .before .before .before .before .args .layout) (c .before .before .before .loop .i)
 here c = record { file = c .before .before .before .before .before .pre; inside = c .before .if1 .taken }
 
 loop-holds : tie.Need-loop-holds Inv-loop μ-loop
@@ -59,13 +60,15 @@ loop-again : tie.Need-loop-again Inv-loop μ-loop
 loop-again c =
     let h = here (c .before .before .before) in (
       omega (arith, h .inside),
-      rw (before-more _ _ _ h) (c .shares-after .ensures _ _ _ (sym (c .before .before .before .number-of .ensures .0)) (c .before .before .before .before .before .before .loop .inv .1)),
+      rw (before-more _ _ _ h) (c .shares-after .ensures _ _ _ (sym (c .before .before .before .number-of .ensures .0))
+          (c .before .before .before .before .before .before .loop .inv .1)),
     )
 
 returns : tie.Need-returns Inv-loop μ-loop
 returns c =
     let d = decode (now (c .before .before .before .before .args .file)) in
-    c .before .before .loop .inv .1 .shares ∙ ap (sharesOf _ _ (sizeOf d)) (take-all (c .before .before .loop .i) (sampleArrivals d) (omega (arith, arrivals-laid _ _ (c .before .before .before .before .pre))))
+    c .before .before .loop .inv .1 .shares ∙ ap (sharesOf _ _ (sizeOf d))
+    (take-all (c .before .before .loop .i) (sampleArrivals d) (omega (arith, arrivals-laid _ _ (c .before .before .before .before .pre))))
 
 pub shares-of-spec : {M : Type 1} → statement M
 shares-of-spec =

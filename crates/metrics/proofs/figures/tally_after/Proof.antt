@@ -1,5 +1,6 @@
 -- `metrics::figures::tally_after` meets its contract: the answer has the class that is given (`ClassOf`). A duplicate and a packet in order
--- leave the tally; of a reordered packet one is added at the place of its extent, which is one of the tally's (`place-lt`). Assumes nothing.
+-- leave the tally; of a reordered packet one is added at the place of its extent, which is one of the tally's (`place-lt`). Assumes
+-- nothing.
 use Prim.Native.Nat.{_+_, _-_}
 use native.Mathlib.Omega.{arith}
 use Rattle.rfc4737.specs.Tally.{oneMoreAt, tallyAfter}
@@ -23,19 +24,43 @@ sub-tally-place : tie.Need-sub-tally-place
 sub-tally-place c = let p = rw (c .before .class .given .1) at (c .before .before .before .pre .3) in omega (arith, p)
 
 mul-tally : tie.Need-mul-tally
-mul-tally c = omega (arith, c .tally-place .ensures, place-lt (c .before .before .before .before .args .count + 1 - c .before .before .class .given .0 .0))
+mul-tally c =
+    omega (
+      arith,
+      c .tally-place .ensures,
+      place-lt (c .before .before .before .before .args .count + 1
+          - c .before .before .class .given .0 .0),
+    )
 
 element-copy-out-tally : tie.Need-element-copy-out-tally
-element-copy-out-tally c = omega (arith, c .tally-place .ensures, place-lt (c .before .before .before .before .args .count + 1 - c .before .before .class .given .0 .0))
+element-copy-out-tally c =
+    omega (
+      arith,
+      c .tally-place .ensures,
+      place-lt (c .before .before .before .before .args .count + 1
+          - c .before .before .class .given .0 .0),
+    )
 
 add-tally : tie.Need-add-tally
 add-tally c = omega (arith, c .before .before .before .before .before .pre .1 (c .before .tally-place .result))
 
 mul-tally-2 : tie.Need-mul-tally-2
-mul-tally-2 c = omega (arith, c .before .tally-place .ensures, place-lt (c .before .before .before .before .before .args .count + 1 - c .before .before .before .class .given .0 .0))
+mul-tally-2 c =
+    omega (
+      arith,
+      c .before .tally-place .ensures,
+      place-lt (c .before .before .before .before .before .args .count + 1
+          - c .before .before .before .class .given .0 .0),
+    )
 
 element-write-tally : tie.Need-element-write-tally
-element-write-tally c = omega (arith, c .before .tally-place .ensures, place-lt (c .before .before .before .before .before .args .count + 1 - c .before .before .before .class .given .0 .0))
+element-write-tally c =
+    omega (
+      arith,
+      c .before .tally-place .ensures,
+      place-lt (c .before .before .before .before .before .args .count + 1
+          - c .before .before .before .class .given .0 .0),
+    )
 
 returns-3 : tie.Need-returns-3
 unfolding tallyAfter oneMoreAt

@@ -46,18 +46,22 @@ abbrev after-number-of : tie.After-tally Inv-loop μ-loop → tie.After-number-o
 after-number-of c = c .before .before .before .before
 
 -- record i + 1 is there
-here : (c : tie.After-class-of Inv-loop μ-loop) → HasRecord (decode (now (start (c .before .before .before) .args .file))) (start (c .before .before .before) .args .layout) (head (c .before .before .before) .loop .i)
+here : (c : tie.After-class-of Inv-loop μ-loop) → HasRecord (decode (now (start (c .before .before .before) .args .file)))
+    (start (c .before .before .before) .args .layout) (head (c .before .before .before) .loop .i)
 here c = record { file = start (c .before .before .before) .pre; inside = c .before .before .before .before .if1 .taken }
 
 -- its class is its answer's
 class-answer : (c : tie.After-class-of Inv-loop μ-loop)
-    → ClassOf (head (c .before .before .before) .loop .state .count) (c .class-of .result) (answerAt (decode (now (start (c .before .before .before) .args .file))) (head (c .before .before .before) .loop .i))
+    → ClassOf (head (c .before .before .before) .loop .state .count) (c .class-of .result)
+    (answerAt (decode (now (start (c .before .before .before) .args .file))) (head (c .before .before .before) .loop .i))
 class-answer c =
     let n = c .before .before .before .number-of .ensures in
-    told (decode (now (start (c .before .before .before) .args .file))) (head (c .before .before .before) .loop .i) _ _ _ _ (head (c .before .before .before) .loop .inv .1) _ (n .0) (n .1) (n .2) _ (c .class-of .ensures)
+    told (decode (now (start (c .before .before .before) .args .file))) (head (c .before .before .before) .loop .i) _ _ _ _
+    (head (c .before .before .before) .loop .inv .1) _ (n .0) (n .1) (n .2) _ (c .class-of .ensures)
 
 -- the first arrivals before it, and the arrivals, are few
-few : (c : tie.After-class-of Inv-loop μ-loop) → (head (c .before .before .before) .loop .state .count ≤ head (c .before .before .before) .loop .i) × (head (c .before .before .before) .loop .i < arrivalsMost)
+few : (c : tie.After-class-of Inv-loop μ-loop) → (head (c .before .before .before) .loop .state .count
+    ≤ head (c .before .before .before) .loop .i) × (head (c .before .before .before) .loop .i < arrivalsMost)
 few c = numbered-le _ _ _ (here c) _ _ (head (c .before .before .before) .loop .inv .1 .numbered)
 
 loop-holds : tie.Need-loop-holds Inv-loop μ-loop
@@ -76,11 +80,22 @@ tally-after-requires c κs =
     let l = head-of-t c .loop in
     let at = c .before in
     let most : (k : ℕ) → getD (tally (answersTo (decode (now (start-of-head (head-of-t c) .args .file))) (l .i))) k 0 ≤ sentMost =
-    λ k. omega (arith, few at, tally-le (answersTo (decode (now (start-of-head (head-of-t c) .args .file))) (l .i)) k, answers-length _ _ _ (here at)) in
-    (rw (l .inv .2) (length-tally _), rw (l .inv .2) most, omega (arith, few at), inside-told _ _ _ (here at) _ _ _ _ (l .inv .1) (at .class-of .result) (class-answer at))
+    λ k. omega (
+      arith,
+      few at,
+      tally-le (answersTo (decode (now (start-of-head (head-of-t c) .args .file))) (l .i)) k,
+      answers-length _ _ _ (here at),
+    ) in (
+      rw (l .inv .2) (length-tally _),
+      rw (l .inv .2) most,
+      omega (arith, few at),
+      inside-told _ _ _ (here at) _ _ _ _ (l .inv .1) (at .class-of .result) (class-answer at),
+    )
 
 note-requires : tie.Need-note-requires Inv-loop μ-loop
-note-requires c κs = noting _ _ _ (here (c .before .before .before .before .before)) _ _ _ _ (head-of-t (c .before .before .before .before) .loop .inv .1) _ (after-number-of (c .before .before .before .before) .number-of .ensures .0)
+note-requires c κs =
+    noting _ _ _ (here (c .before .before .before .before .before)) _ _ _ _ (head-of-t (c .before .before .before .before) .loop .inv .1)
+    _ (after-number-of (c .before .before .before .before) .number-of .ensures .0)
 
 add-i : tie.Need-add-i Inv-loop μ-loop
 add-i c = omega (arith, few (c .before .before .before .before .before .before))
@@ -93,7 +108,8 @@ loop-again c =
     let at = c .before .before .before .before .before .before in
     let l = at .before .before .before .before .before .before .loop in (
       omega (arith, here at .inside),
-      noted-follows _ _ _ (here at) _ _ _ _ (l .inv .1) _ (after-number-of (c .before .before .before .before .before) .number-of .ensures .0) _ _ _ _ _ (c .note .ensures),
+      noted-follows _ _ _ (here at) _ _ _ _ (l .inv .1) _ (after-number-of
+          (c .before .before .before .before .before) .number-of .ensures .0) _ _ _ _ _ (c .note .ensures),
       c .before .before .before .before .tally-after .ensures _ (class-answer at) ∙ tally-next _ _ _ (here at) _ (l .inv .2),
     )
 

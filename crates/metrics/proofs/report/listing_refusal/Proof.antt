@@ -1,5 +1,6 @@
--- `metrics::report::listing_refusal` meets its contract: the file's own refusal comes first, and then 8 exactly if the lines are longer than
--- the room. They are not where there is room for any listing (`sample-within`); else `write_listing` gives their length. Assumes nothing.
+-- `metrics::report::listing_refusal` meets its contract: the file's own refusal comes first, and then 8 exactly if the lines are longer
+-- than the room. They are not where there is room for any listing (`sample-within`); else `write_listing` gives their length. Assumes
+-- nothing.
 use mathlib.Core.Path.{_≡_, sym, ap, _∙_}
 use mathlib.Core.List.{List}
 use Prim.Native.Nat.{ℕ, _≤_}
@@ -44,18 +45,21 @@ returns-2 : tie.Need-returns-2
 returns-2 c =
     let s = start (c .before) in
     let octets = below-fits w8 (now (s .args .file)) (c .before .before .before .shared-slice-known .given) in
-    let fits : length (text s) ≤ s .args .room = omega (arith, c .if2 .taken, sample-within (now (s .args .file)) (s .args .layout) (s .pre) octets) in
+    let fits : length (text s) ≤ s .args .room =
+    omega (arith, c .if2 .taken, sample-within (now (s .args .file)) (s .args .layout) (s .pre) octets) in
     refusal-none (ownRefusal s) (text s) (s .args .room) (sym (own s) ∙ c .before .if1 .left) fits
 
 returns-3 : tie.Need-returns-3
 returns-3 c =
     let s = start (unrefused (c .before)) in
-    refusal-short (ownRefusal s) (text s) (s .args .room) (sym (own s) ∙ unrefused (c .before) .if1 .left) (omega (arith, c .if3 .taken, c .before .before .write-listing .ensures .0))
+    refusal-short (ownRefusal s) (text s) (s .args .room) (sym (own s) ∙ unrefused (c .before) .if1 .left)
+    (omega (arith, c .if3 .taken, c .before .before .write-listing .ensures .0))
 
 returns-4 : tie.Need-returns-4
 returns-4 c =
     let s = start (unrefused (c .before)) in
-    refusal-none (ownRefusal s) (text s) (s .args .room) (sym (own s) ∙ unrefused (c .before) .if1 .left) (omega (arith, c .if3 .left, c .before .before .write-listing .ensures .0))
+    refusal-none (ownRefusal s) (text s) (s .args .room) (sym (own s) ∙ unrefused (c .before) .if1 .left)
+    (omega (arith, c .if3 .left, c .before .before .write-listing .ensures .0))
 
 pub listing-refusal-spec : {M : Type 1} → statement M
 listing-refusal-spec =

@@ -1,5 +1,5 @@
--- `metrics::report::write_listing` meets its contract: a pass that does not compare needs no room, and writes the text where it fits; the length
--- fits 32 bits, as a listing is short (`sample-within`). Assumes nothing.
+-- `metrics::report::write_listing` meets its contract: a pass that does not compare needs no room, and writes the text where it fits; the
+-- length fits 32 bits, as a listing is short (`sample-within`). Assumes nothing.
 use mathlib.Core.Path.{refl, sym, ap, _∙_}
 use mathlib.Core.Bool.{true≢false}
 use native.Mathlib.Omega.{arith}
@@ -21,12 +21,18 @@ abbrev start : tie.After-take-all-arg2 → tie.Start
 start c = c .before .before .before .before
 
 take-all-requires : tie.Need-take-all-requires
-take-all-requires c κs = (c .before .before .before .before .pre, record { room = λ e. absurd (true≢false (sym e)); inside = λ e. absurd (true≢false (sym e)) })
+take-all-requires c κs =
+    (c .before .before .before .before .pre, record { room = λ e. absurd (true≢false (sym e)); inside = λ e. absurd (true≢false (sym e)) })
 
 cast-result : tie.Need-cast-result
 cast-result c =
     let a = start (c .before .before .before .before) .args in
-    omega (arith, ap (λ (r : Part). r .octets) (c .before .before .before .take-all .ensures .listed refl .0), sample-within (now (a .file)) (a .layout) (start (c .before .before .before .before) .pre) (below-fits w8 (now (a .file)) (c .before .before .before .before .before .before .before .shared-slice-known .given)))
+    omega (
+      arith,
+      ap (λ (r : Part). r .octets) (c .before .before .before .take-all .ensures .listed refl .0),
+      sample-within (now (a .file)) (a .layout) (start (c .before .before .before .before) .pre)
+          (below-fits w8 (now (a .file)) (c .before .before .before .before .before .before .before .shared-slice-known .given)),
+    )
 
 returns : tie.Need-returns
 returns c =

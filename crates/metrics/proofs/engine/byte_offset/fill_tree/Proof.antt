@@ -1,6 +1,7 @@
--- `metrics::engine::byte_offset::fill_tree` meets its contract. The loop's invariant: of whatever first arrivals the table has the numbers, if the tree had
--- the first p₀ with their total, it has the first p with theirs; p is at most `count`, and the tree keeps its length. One more is
--- `size-tree-more`; a total fits, with at most 65,535 for each. The measure is what is left of the places. Assumes nothing.
+-- `metrics::engine::byte_offset::fill_tree` meets its contract. The loop's invariant: of whatever first arrivals the table has the
+-- numbers, if the tree had the first p₀ with their total, it has the first p with theirs; p is at most `count`, and the tree keeps its
+-- length. One more is `size-tree-more`; a total fits, with at most 65,535 for each. The measure is what is left of the places. Assumes
+-- nothing.
 use mathlib.Core.Path.{_≡_, refl, _∙_}
 use mathlib.Core.List.{List}
 use Prim.Native.Nat.{ℕ, _-_, _≤_}
@@ -25,7 +26,8 @@ use Rattle.metrics.proofs.engine.byte_offset.fill_tree.Tie as tie
 abbrev Inv-loop : tie.InvT-loop
 Inv-loop file layout numbers tree₀ count total₀ p₀ tree total p =
     (p ≤ count) × (length tree ≡ length tree₀)
-    × ((fs : List Arrival) → NumberTable fs numbers count → SizeTree (sizeOf (decode file)) fs tree₀ (record { filled = p₀; total = total₀ })
+    × ((fs : List Arrival) → NumberTable fs numbers count → SizeTree (sizeOf (decode file)) fs tree₀
+    (record { filled = p₀; total = total₀ })
     → SizeTree (sizeOf (decode file)) fs tree (record { filled = p; total = total }))
 
 abbrev μ-loop : tie.MeasureT-loop
@@ -50,10 +52,16 @@ sizes : (c : tie.After-shared-slice-known Inv-loop μ-loop) (s : ℕ) → sizeOf
 sizes c = size-most (now (c .before .args .file)) (below-fits w8 (now (c .before .args .file)) (c .shared-slice-known .given))
 
 -- the number of a place is that of a packet
-packet : (c : tie.After-wide Inv-loop μ-loop) → (1 ≤ c .wide .result) × (c .wide .result ≤ start (c .before .before .before) .args .layout .sent) × (c .wide .result ≤ sentMost)
+packet : (c : tie.After-wide Inv-loop μ-loop) → (1 ≤ c .wide .result)
+    × (c .wide .result ≤ start (c .before .before .before) .args .layout .sent) × (c .wide .result ≤ sentMost)
 packet c =
     let k = start (c .before .before .before) .pre in
-    omega (arith, k .packets .inside (c .before .before .before .loop .p) (c .before .before .loop-test .taken), c .wide .ensures, k .file .sentFew)
+    omega (
+      arith,
+      k .packets .inside (c .before .before .before .loop .p) (c .before .before .loop-test .taken),
+      c .wide .ensures,
+      k .file .sentFew,
+    )
 
 loop-holds : tie.Need-loop-holds Inv-loop μ-loop
 loop-holds c = let k = c .before .before .pre in (omega (arith, k .totalled .some, k .numbered .all), refl, λ fs n t. t)
@@ -72,10 +80,22 @@ add-total c =
     let l = head (c .before .before .before .before) .loop in
     let k = start-of-size-of (c .before .before .before .before) .pre in
     let t = l .inv .2 (k .fs) (k .numbered) (k .totalled) in
-    omega (arith, total-small _ (sizes (after-shared-slice-known (c .before .before .before .before))) (k .fs) (omega (arith, k .numbered .all, k .few)) _ _ t, c .before .before .before .before .size-of .ensures .1, k .few, c .before .before .before .before .before .before .before .loop-test .taken)
+    omega (
+      arith,
+      total-small _ (sizes (after-shared-slice-known (c .before .before .before .before))) (k .fs)
+          (omega (arith, k .numbered .all, k .few)) _ _ t,
+      c .before .before .before .before .size-of .ensures .1,
+      k .few,
+      c .before .before .before .before .before .before .before .loop-test .taken,
+    )
 
 add-p : tie.Need-add-p Inv-loop μ-loop
-add-p c = omega (arith, start-of-size-of (c .before .before .before .before) .pre .few, c .before .before .before .before .before .before .before .loop-test .taken)
+add-p c =
+    omega (
+      arith,
+      start-of-size-of (c .before .before .before .before) .pre .few,
+      c .before .before .before .before .before .before .before .loop-test .taken,
+    )
 
 loop-less : tie.Need-loop-less Inv-loop μ-loop
 loop-less c = omega (arith, c .before .before .before .before .before .before .before .loop-test .taken)
@@ -89,8 +109,10 @@ loop-again c =
       omega arith,
       c .before .before .add .ensures .places ∙ l .inv .1,
       λ fs n t.
-          size-tree-more _ (sizes (after-shared-slice-known (c .before .before .before .before))) fs (omega (arith, n .all, k .few)) _ _ _ _ _ _ (omega (arith, n .all)) (wide ∙ n .at (l .p) (omega (arith, n .all)))
-          (omega (arith, packet (c .before .before .before .before .before))) (c .before .before .before .before .size-of .ensures .0) (l .inv .2 fs n t) (c .before .before .add .ensures),
+          size-tree-more _ (sizes (after-shared-slice-known (c .before .before .before .before))) fs (omega (arith, n .all, k .few)) _ _ _
+          _ _ _ (omega (arith, n .all)) (wide ∙ n .at (l .p) (omega (arith, n .all)))
+          (omega (arith, packet (c .before .before .before .before .before))) (c .before .before .before .before .size-of .ensures .0)
+          (l .inv .2 fs n t) (c .before .before .add .ensures),
     )
 
 same-length : tie.Need-same-length Inv-loop μ-loop

@@ -1,5 +1,5 @@
--- `metrics::engine::byte_offset::late_figures` meets its contract: only a reordered packet has these figures, so 0 is right for any other class. Of one
--- the largest n is found along the links, and the byte offset by the tree. Assumes nothing.
+-- `metrics::engine::byte_offset::late_figures` meets its contract: only a reordered packet has these figures, so 0 is right for any other
+-- class. Of one the largest n is found along the links, and the byte offset by the tree. Assumes nothing.
 use native.Mathlib.Omega.{arith}
 use borrow.Author.Needs.{needs}
 use Rattle.metrics.proofs.engine.byte_offset.late_figures.Statement.{statement}

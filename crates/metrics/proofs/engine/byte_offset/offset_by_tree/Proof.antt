@@ -1,5 +1,5 @@
--- `metrics::engine::byte_offset::offset_by_tree` meets its contract: `fill_tree` puts all first arrivals into the tree, and then the total less the sum
--- up to the packet's pair is its byte offset (`offset-summed`). Assumes nothing.
+-- `metrics::engine::byte_offset::offset_by_tree` meets its contract: `fill_tree` puts all first arrivals into the tree, and then the
+-- total less the sum up to the packet's pair is its byte offset (`offset-summed`). Assumes nothing.
 use mathlib.Core.Path.{ap, _∙_}
 use Prim.Native.Nat.{ℕ, _-_, _≤_}
 use native.Mathlib.Omega.{arith}
@@ -32,7 +32,12 @@ sub-t15 c =
     let s = known-at t .before in
     let k = s .pre .0 in
     let f = t .fill-tree .ensures (k .fs) (k .numbered) (k .totalled) in
-    omega (arith, c .before .sum-to .ensures .0, total-sum _ (sizes (known-at t)) (k .fs) (omega (arith, k .numbered .all, k .few)) _ _ (s .args .s) (f .1 ∙ k .numbered .all) (s .pre .2) (f .0))
+    omega (
+      arith,
+      c .before .sum-to .ensures .0,
+      total-sum _ (sizes (known-at t)) (k .fs) (omega (arith, k .numbered .all, k .few)) _ _
+          (s .args .s) (f .1 ∙ k .numbered .all) (s .pre .2) (f .0),
+    )
 
 returns : tie.Need-returns
 returns c =
@@ -43,7 +48,8 @@ returns c =
       f .0,
       λ new.
           ap (λ (m : ℕ). u .fill-tree .result .total - m) (c .before .sum-to .ensures .0)
-          ∙ offset-summed _ (sizes (known-at u)) fs (omega (arith, n .all, s .pre .0 .few)) _ _ (s .args .s) (f .1 ∙ n .all) (s .pre .1) (s .pre .2) (f .0) new,
+          ∙ offset-summed _ (sizes (known-at u)) fs (omega (arith, n .all, s .pre .0 .few)) _ _ (s .args .s) (f .1 ∙ n .all) (s .pre .1)
+          (s .pre .2) (f .0) new,
     )
 
 pub offset-by-tree-spec : {M : Type 1} → statement M

@@ -1,4 +1,5 @@
--- `metrics::engine::input::number_of` meets its contract: it is the number of what `arrival_at` reads, with that one's limits. Assumes nothing.
+-- `metrics::engine::input::number_of` meets its contract: it is the number of what `arrival_at` reads, with that one's limits. Assumes
+-- nothing.
 use mathlib.Core.Path.{ap}
 use borrow.Author.Needs.{needs}
 use Rattle.rfc4737.specs.declared.Arrival.{Arrival}

@@ -1,5 +1,5 @@
--- `metrics::engine::kind::answer_by` meets its contract: of a duplicate and of a packet in order the class is the whole answer (`ClassOf`); a
--- reordered packet's is that of `reordered_figures`. Assumes nothing.
+-- `metrics::engine::kind::answer_by` meets its contract: of a duplicate and of a packet in order the class is the whole answer
+-- (`ClassOf`); a reordered packet's is that of `reordered_figures`. Assumes nothing.
 use mathlib.Core.Path.{sym, ap}
 use native.Mathlib.Omega.{arith}
 use Rattle.rfc4737.specs.declared.Arrival.{Arrival}

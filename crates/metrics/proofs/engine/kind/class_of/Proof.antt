@@ -1,5 +1,5 @@
--- `metrics::engine::kind::class_of` meets its contract: each return is one case of `classBy`, by whether the packet has a record and then by
--- NextExp. Assumes nothing.
+-- `metrics::engine::kind::class_of` meets its contract: each return is one case of `classBy`, by whether the packet has a record and then
+-- by NextExp. Assumes nothing.
 use mathlib.Core.Path.{sym, _∙_}
 use borrow.Author.Tests.{eq-eqb, ne-eqb, le-leb, lt-leb}
 use Rattle.metrics.specs.Private.Tables.{classBy}

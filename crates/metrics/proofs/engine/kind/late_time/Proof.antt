@@ -1,5 +1,6 @@
--- `metrics::engine::kind::late_time` meets its contract: the discontinuity's position gives its packet, that its record and that its time, each
--- in the table or the file (`late-packet`, `late-record`); so it is the late time of the answer (`late-time-of`). Assumes nothing.
+-- `metrics::engine::kind::late_time` meets its contract: the discontinuity's position gives its packet, that its record and that its
+-- time, each in the table or the file (`late-packet`, `late-record`); so it is the late time of the answer (`late-time-of`). Assumes
+-- nothing.
 use Prim.Native.Nat.{_≤_}
 use native.Mathlib.Omega.{arith}
 use Rattle.metrics.proofs.AnswersByClass.{late-place, late-packet, late-record, late-time-of}

@@ -1,5 +1,5 @@
--- `metrics::engine::kind::reordered_figures` meets its contract: with the late time of `late_time`, the byte offset and the largest n the answer
--- is whole (`late-whole`). Assumes nothing.
+-- `metrics::engine::kind::reordered_figures` meets its contract: with the late time of `late_time`, the byte offset and the largest n the
+-- answer is whole (`late-whole`). Assumes nothing.
 use Prim.Native.Nat.{_≤_}
 use native.Mathlib.Omega.{arith}
 use Rattle.metrics.proofs.AnswersByClass.{late-place, late-whole}
@@ -23,4 +23,6 @@ returns c =
     late-whole _ _ _ _ _ (p .0) (p .1) _ _ (p .2) (p .3) _ _ _ (c .late-time .ensures) (p .5) (p .6)
 
 pub reordered-figures-spec : {M : Type 1} → statement M
-reordered-figures-spec = tie.close (tie.spec late-time-requires (λ c. omega (arith, place (c .before .before))) (λ c. omega (arith, place (c .before .before))) (λ c. omega (arith, place (c .before .before))) returns)
+reordered-figures-spec =
+    tie.close (tie.spec late-time-requires (λ c. omega (arith, place (c .before .before))) (λ c. omega (arith, place (c .before .before)))
+    (λ c. omega (arith, place (c .before .before))) returns)

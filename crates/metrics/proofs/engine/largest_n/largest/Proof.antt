@@ -1,6 +1,6 @@
--- `metrics::engine::largest_n::largest` meets its contract. The loop's invariant: the numbers from place p to before `count` are above s. Where the one
--- before them is too, p goes back by one (`above-back`); where it is not, or p is 0, the largest n is `count` less p (`largest-back`). The
--- measure is p. Assumes nothing.
+-- `metrics::engine::largest_n::largest` meets its contract. The loop's invariant: the numbers from place p to before `count` are above s.
+-- Where the one before them is too, p goes back by one (`above-back`); where it is not, or p is 0, the largest n is `count` less p
+-- (`largest-back`). The measure is p. Assumes nothing.
 use mathlib.Core.Path.{refl}
 use native.Mathlib.Omega.{arith}
 use borrow.Author.Needs.{needs}

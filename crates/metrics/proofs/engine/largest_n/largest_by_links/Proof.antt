@@ -1,6 +1,7 @@
--- `metrics::engine::largest_n::largest_by_links` meets its contract. The loop's invariant: the numbers from place p to before `count` are above s. Where
--- the one before them is too, so are those that its link passes over (`above-link`), at least itself and at most as many as there are, so
--- that p falls; where it is not, or p is 0, the largest n is `count` less p (`largest-back`). The measure is p. Assumes nothing.
+-- `metrics::engine::largest_n::largest_by_links` meets its contract. The loop's invariant: the numbers from place p to before `count` are
+-- above s. Where the one before them is too, so are those that its link passes over (`above-link`), at least itself and at most as many
+-- as there are, so that p falls; where it is not, or p is 0, the largest n is `count` less p (`largest-back`). The measure is p. Assumes
+-- nothing.
 use mathlib.Core.Path.{refl}
 use Prim.Native.Nat.{_+_, _-_, _≤_}
 use native.Mathlib.Omega.{arith}
@@ -23,13 +24,24 @@ abbrev μ-loop : tie.MeasureT-loop
 
 -- the packet of a place is one of the packets
 packet : (c : tie.Else1 Inv-loop μ-loop) → c .before .wide .result ≤ sentMost
-packet c = rw (c .before .wide .ensures) (c .before .before .before .before .before .pre .1 .packet (c .before .before .before .before .loop .p - 1) (omega (arith, c .before .before .before .loop-test .taken, c .before .before .before .before .loop .inv .order)))
+packet c =
+    rw (c .before .wide .ensures) (c .before .before .before .before .before .pre .1 .packet
+    (c .before .before .before .before .loop .p - 1) (omega (
+      arith,
+      c .before .before .before .loop-test .taken,
+      c .before .before .before .before .loop .inv .order,
+    )))
 
 -- its link leads to a place before it
-link : (c : tie.Else1 Inv-loop μ-loop) → (1 ≤ c .before .before .before .before .before .args .more + getD (now (c .before .before .before .before .before .args .links)) (c .before .wide .result) 0)
-    × (c .before .before .before .before .before .args .more + getD (now (c .before .before .before .before .before .args .links)) (c .before .wide .result) 0 ≤ c .before .before .before .before .loop .p)
+link : (c : tie.Else1 Inv-loop μ-loop) → (1 ≤ c .before .before .before .before .before .args .more
+    + getD (now (c .before .before .before .before .before .args .links)) (c .before .wide .result) 0)
+    × (c .before .before .before .before .before .args .more
+    + getD (now (c .before .before .before .before .before .args .links)) (c .before .wide .result) 0
+    ≤ c .before .before .before .before .loop .p)
 link c =
-    let e = c .before .before .before .before .before .pre .1 .inside (c .before .before .before .before .loop .p - 1) (omega (arith, c .before .before .before .loop-test .taken, c .before .before .before .before .loop .inv .order)) in
+    let e =
+    c .before .before .before .before .before .pre .1 .inside (c .before .before .before .before .loop .p - 1)
+    (omega (arith, c .before .before .before .loop-test .taken, c .before .before .before .before .loop .inv .order)) in
     let k = rw (← c .before .wide .ensures) at e in
     (k .0, omega (arith, k .1, c .before .before .before .loop-test .taken))
 
@@ -41,8 +53,11 @@ sub-result c = omega (arith, c .before .before .before .before .loop .inv .order
 
 returns : tie.Need-returns Inv-loop μ-loop
 returns c =
-    let most = c .before .before .before .before .before .pre .0 in
-    (omega arith, largest-back _ _ _ _ (c .before .before .before .before .loop .inv) (λ low. rw (c .before .wide .ensures) at (c .if1 .taken)))
+    let most = c .before .before .before .before .before .pre .0 in (
+      omega arith,
+      largest-back _ _ _ _ (c .before .before .before .before .loop .inv)
+          (λ low. rw (c .before .wide .ensures) at (c .if1 .taken)),
+    )
 
 sub-p : tie.Need-sub-p Inv-loop μ-loop
 sub-p c = omega (arith, link c)
@@ -61,7 +76,9 @@ loop-less c = omega (arith, link (c .before .before), c .wide2 .ensures, c .befo
 
 loop-again : tie.Need-loop-again Inv-loop μ-loop
 loop-again c =
-    above-link _ _ _ _ _ _ _ _ (c .before .before .before .before .before .before .before .pre .1) (omega arith) (c .before .before .if1 .left) (c .before .before .before .wide .ensures) (c .wide2 .ensures) (c .before .before .before .before .before .before .loop .inv)
+    above-link _ _ _ _ _ _ _ _ (c .before .before .before .before .before .before .before .pre .1) (omega arith)
+    (c .before .before .if1 .left) (c .before .before .before .wide .ensures) (c .wide2 .ensures)
+    (c .before .before .before .before .before .before .loop .inv)
 
 sub-result-2 : tie.Need-sub-result-2 Inv-loop μ-loop
 sub-result-2 c = omega (arith, c .before .loop .inv .order)

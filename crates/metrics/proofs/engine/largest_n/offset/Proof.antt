@@ -1,6 +1,7 @@
--- `metrics::engine::largest_n::offset` meets its contract. The loop's invariant: the sum is the byte offset over the positions passed, given that it is
--- 0 over the first `from`, and at most 65,535 for each; so it fits. One position more is `offset-greater` or `offset-same`, and after the
--- last it is the byte offset over all (`offset-all`). The measure is what is left of the positions. Assumes nothing.
+-- `metrics::engine::largest_n::offset` meets its contract. The loop's invariant: the sum is the byte offset over the positions passed,
+-- given that it is 0 over the first `from`, and at most 65,535 for each; so it fits. One position more is `offset-greater` or
+-- `offset-same`, and after the last it is the byte offset over all (`offset-all`). The measure is what is left of the positions. Assumes
+-- nothing.
 use mathlib.Core.Path.{sym}
 use mathlib.Core.Logic.{⊎-elim}
 use Prim.Native.Nat.{_-_, _*_, _≤_}
@@ -47,7 +48,10 @@ loop-again c =
     )
 
 returns : tie.Need-returns Inv-loop μ-loop
-returns c = let a = c .before .before .before .args in offset-all _ _ _ (sizeOf (decode (now (a .file)))) (a .from) _ _ (c .loop-test .left) (c .before .loop .inv .1)
+returns c =
+    let a =
+    c .before .before .before .args in offset-all _ _ _ (sizeOf (decode (now (a .file)))) (a .from) _ _ (c .loop-test .left)
+    (c .before .loop .inv .1)
 
 pub offset-spec : {M : Type 1} → statement M
 offset-spec =

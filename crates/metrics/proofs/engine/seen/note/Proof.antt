@@ -1,6 +1,6 @@
 -- `metrics::engine::seen::note` meets its contract: a packet with a record is a copy, and all stays (`noted-copy`); below NextExp it is
--- reordered, and its largest n is put where its discontinuity stood (`noted-reordered`); else it is in order, and `note_skipped` fills the places
--- of the packets that it skips (`noted-in-order`). There are places left for one more (`noting-few`). Assumes nothing.
+-- reordered, and its largest n is put where its discontinuity stood (`noted-reordered`); else it is in order, and `note_skipped` fills
+-- the places of the packets that it skips (`noted-in-order`). There are places left for one more (`noting-few`). Assumes nothing.
 use native.Mathlib.Omega.{arith}
 use Rattle.metrics.proofs.NotingArrivals.{noting-few, noted-copy, noted-reordered, noted-in-order}
 use borrow.Author.Needs.{needs}
@@ -17,7 +17,9 @@ add-t25 : tie.Need-add-t25
 add-t25 c = let p = c .before .before .before .pre in omega (arith, noting-few _ _ _ _ _ _ p)
 
 returns-2 : tie.Need-returns-2
-returns-2 c = let p = c .before .before .before .pre in noted-reordered _ _ _ _ _ _ (p .few) _ (p .low) (p .high) (c .before .if1 .left) (c .if2 .taken)
+returns-2 c =
+    let p =
+    c .before .before .before .pre in noted-reordered _ _ _ _ _ _ (p .few) _ (p .low) (p .high) (c .before .if1 .left) (c .if2 .taken)
 
 add-note-skipped : tie.Need-add-note-skipped
 add-note-skipped c = let p = c .before .before .before .before .pre in omega (arith, noting-few _ _ _ _ _ _ p)
@@ -31,7 +33,8 @@ add-t17 c = let p = c .before .before .before .before .before .pre in omega (ari
 returns-3 : tie.Need-returns-3
 returns-3 c =
     let p = c .before .before .before .before .before .pre in
-    noted-in-order _ _ _ _ _ _ (p .few) _ (p .low) (p .high) (c .before .before .before .if1 .left) (c .before .before .if2 .left) _ (c .note-skipped .ensures)
+    noted-in-order _ _ _ _ _ _ (p .few) _ (p .low) (p .high) (c .before .before .before .if1 .left) (c .before .before .if2 .left) _
+    (c .note-skipped .ensures)
 
 pub note-spec : {M : Type 1} → statement M
 note-spec =

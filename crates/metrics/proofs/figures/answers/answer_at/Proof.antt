@@ -1,6 +1,6 @@
--- `metrics::figures::answers::answer_at` meets its contract: the class that the tables give is the answer's (`told`), and `answer_by` makes the answer. For a
--- reordered packet it is given the byte offset, which may be summed from the discontinuity on, as it is 0 over the first arrivals before it
--- (`late-alone`), and the largest n. Assumes nothing.
+-- `metrics::figures::answers::answer_at` meets its contract: the class that the tables give is the answer's (`told`), and `answer_by`
+-- makes the answer. For a reordered packet it is given the byte offset, which may be summed from the discontinuity on, as it is 0 over
+-- the first arrivals before it (`late-alone`), and the largest n. Assumes nothing.
 use mathlib.Core.Path.{_≡_, ap, _∙_}
 use Prim.Native.Nat.{_-_, _≤_}
 use native.Mathlib.Omega.{arith}
@@ -26,22 +26,32 @@ abbrev start : tie.At-match-keys3 → tie.Start
 start c = c .before .before .before .before
 
 -- the number that is read is that of record i + 1
-number : (c : tie.After-arrival-at) → c .arrival-at .result .number ≡ arrivalAt (decode (now (c .before .before .args .file))) (c .before .before .args .i) .number
+number : (c : tie.After-arrival-at) → c .arrival-at .result .number
+    ≡ arrivalAt (decode (now (c .before .before .args .file))) (c .before .before .args .i) .number
 number c = ap (λ (a : Arrival). a .number) (c .arrival-at .ensures .0)
 
 -- its class is the answer's
-class-answer : (c : tie.After-class-of) → ClassOf (c .before .before .before .args .state .count) (c .class-of .result) (answerAt (decode (now (c .before .before .before .args .file))) (c .before .before .before .args .i))
+class-answer : (c : tie.After-class-of) → ClassOf (c .before .before .before .args .state .count) (c .class-of .result)
+    (answerAt (decode (now (c .before .before .before .args .file))) (c .before .before .before .args .i))
 class-answer c =
     let n = c .before .arrival-at .ensures in
-    told (decode (now (c .before .before .before .args .file))) (c .before .before .before .args .i) _ _ _ _ (c .before .before .before .pre .1) _ (number (c .before)) (n .1) (n .2) _ (c .class-of .ensures)
+    told (decode (now (c .before .before .before .args .file))) (c .before .before .before .args .i) _ _ _ _
+    (c .before .before .before .pre .1) _ (number (c .before)) (n .1) (n .2) _ (c .class-of .ensures)
 
 -- where it is reordered, that of such a packet
-late : (c : tie.After-known-told) → ClassOf (start (c .before .before) .args .state .count) (Class.Reordered (c .before .class .given .0 .0)) (answerAt (decode (now (start (c .before .before) .args .file))) (start (c .before .before) .args .i))
+late : (c : tie.After-known-told) → ClassOf (start (c .before .before) .args .state .count)
+    (Class.Reordered (c .before .class .given .0 .0)) (answerAt (decode (now (start (c .before .before) .args .file)))
+    (start (c .before .before) .args .i))
 late c = rw (c .before .class .given .1) at (class-answer (c .before .before .before))
 
 -- there are few first arrivals before it, and their numbers are those of packets
-known : (c : tie.After-known-told) → (start (c .before .before) .args .state .count ≤ sentMost) × Packets (now (start (c .before .before) .args .numbers)) (start (c .before .before) .args .state .count) (start (c .before .before) .args .layout .sent)
-known c = let p = start (c .before .before) .pre in packets _ _ (start (c .before .before) .args .i) (p .0 .file) _ _ (p .1 .numbered) (omega (arith, p .0 .inside))
+known : (c : tie.After-known-told) → (start (c .before .before) .args .state .count ≤ sentMost)
+    × Packets (now (start (c .before .before) .args .numbers)) (start (c .before .before) .args .state .count)
+    (start (c .before .before) .args .layout .sent)
+known c =
+    let p =
+    start (c .before .before) .pre in packets _ _ (start (c .before .before) .args .i) (p .0 .file) _ _ (p .1 .numbered)
+    (omega (arith, p .0 .inside))
 
 class-of-requires : tie.Need-class-of-requires
 class-of-requires c κs = c .arrival-at .ensures .2
@@ -77,13 +87,18 @@ answer-by-requires-3 c κs =
     let d = decode (now (start (c .before .before .before .before) .args .file)) in
     let fs = firsts (before d (start (c .before .before .before .before) .args .i)) in
     let n = number (c .before .before .before .before .before .before) in
-    let alone = ap (byteOffset (sizeOf d) (take (at - 1) fs)) n ∙ late-alone _ _ _ _ _ (p .0) (late (c .before .before)) _ _ (p .1 .numbered) (p .1 .recorded) in (
+    let alone =
+    ap (byteOffset (sizeOf d) (take (at - 1) fs)) n ∙ late-alone _ _ _ _ _ (p .0) (late (c .before .before)) _ _ (p .1 .numbered)
+    (p .1 .recorded) in (
       p .0,
       c .before .before .before .before .before .before .arrival-at .ensures .0,
       p .1 .numbered,
       p .1 .recorded,
       late (c .before .before),
-      (c .before .offset .ensures fs (p .1 .numbered) alone ∙ ap (byteOffset (sizeOf d) fs) n, c .largest .ensures fs (p .1 .numbered) ∙ ap (largestN fs) n),
+      (
+        c .before .offset .ensures fs (p .1 .numbered) alone ∙ ap (byteOffset (sizeOf d) fs) n,
+        c .largest .ensures fs (p .1 .numbered) ∙ ap (largestN fs) n,
+      ),
     )
 
 returns : tie.Need-returns

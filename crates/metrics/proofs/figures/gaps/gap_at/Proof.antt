@@ -1,5 +1,5 @@
--- `metrics::figures::gaps::gap_at` meets its contract: there is no gap where p is no discontinuity (`gap-other`); else `last_to` gives the last
--- discontinuity before p, over which the gap is. Assumes nothing.
+-- `metrics::figures::gaps::gap_at` meets its contract: there is no gap where p is no discontinuity (`gap-other`); else `last_to` gives
+-- the last discontinuity before p, over which the gap is. Assumes nothing.
 use borrow.Author.Needs.{needs}
 use Rattle.metrics.proofs.Discovered.{gap-other}
 use Rattle.metrics.proofs.figures.gaps.gap_at.Statement.{statement}

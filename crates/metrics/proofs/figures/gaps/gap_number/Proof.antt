@@ -1,5 +1,5 @@
--- `metrics::figures::gaps::gap_number` meets its contract: position 0 has no gap (`number-none`), and any other the one that `gap_over` gives
--- (`number-some`). Assumes nothing.
+-- `metrics::figures::gaps::gap_number` meets its contract: position 0 has no gap (`number-none`), and any other the one that `gap_over`
+-- gives (`number-some`). Assumes nothing.
 use mathlib.Core.Path.{sym, ap, _∙_}
 use native.Mathlib.Omega.{arith}
 use Rattle.metrics.specs.Gaps.{gapNumber}

@@ -1,5 +1,5 @@
--- `metrics::figures::gaps::last_to` meets its contract. The loop's invariant: the last discontinuity up to p is the last up to q. It is q if q is
--- marked (`last-here`), else the last before q (`last-before`), and none up to 0. The measure is q. Assumes nothing.
+-- `metrics::figures::gaps::last_to` meets its contract. The loop's invariant: the last discontinuity up to p is the last up to q. It is q
+-- if q is marked (`last-here`), else the last before q (`last-before`), and none up to 0. The measure is q. Assumes nothing.
 use mathlib.Core.Path.{_≡_, refl, sym, _∙_}
 use Prim.Native.Nat.{_≤_}
 use native.Mathlib.Omega.{arith}

@@ -1,5 +1,5 @@
--- `metrics::figures::gaps::listed_after` meets its contract: a duplicate leaves what is listed (`count-same`); after a first arrival its position
--- counts (`count-next`), and is the last discontinuity (`last-moves`) or leaves it (`last-stays`). Assumes nothing.
+-- `metrics::figures::gaps::listed_after` meets its contract: a duplicate leaves what is listed (`count-same`); after a first arrival its
+-- position counts (`count-next`), and is the last discontinuity (`last-moves`) or leaves it (`last-stays`). Assumes nothing.
 use Rattle.metrics.proofs.GapLists.{last-stays, last-moves, count-same, count-next}
 use borrow.Author.Needs.{needs}
 use Rattle.metrics.proofs.figures.gaps.listed_after.Statement.{statement}

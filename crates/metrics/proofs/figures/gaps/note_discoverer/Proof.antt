@@ -1,6 +1,6 @@
--- `metrics::figures::gaps::note_discoverer` meets its contract: the answer has the class that is given (`ClassOf`). A duplicate and a packet in order
--- discover nothing, and the table stays (`marked-same`). A reordered packet is put at its discontinuity, which is one of the positions, where
--- 0 stands there, and else the table stays (`marked-late`). Assumes nothing.
+-- `metrics::figures::gaps::note_discoverer` meets its contract: the answer has the class that is given (`ClassOf`). A duplicate and a
+-- packet in order discover nothing, and the table stays (`marked-same`). A reordered packet is put at its discontinuity, which is one of
+-- the positions, where 0 stands there, and else the table stays (`marked-late`). Assumes nothing.
 use mathlib.Core.Path.{ap, _∙_}
 use native.Mathlib.Omega.{arith}
 use borrow.Author.Tests.{eq-eqb, ne-eqb}
@@ -23,7 +23,8 @@ element-copy-out-if1 : tie.Need-element-copy-out-if1
 element-copy-out-if1 c = let p = rw (c .before .class .given .1) at (c .before .before .before .pre .2) in omega (arith, p)
 
 element-write-discoverers : tie.Need-element-write-discoverers
-element-write-discoverers c = let p = rw (c .before .before .before .class .given .1) at (c .before .before .before .before .before .pre .2) in omega (arith, p)
+element-write-discoverers c =
+    let p = rw (c .before .before .before .class .given .1) at (c .before .before .before .before .before .pre .2) in omega (arith, p)
 
 returns-3 : tie.Need-returns-3
 returns-3 c = λ l a k m.

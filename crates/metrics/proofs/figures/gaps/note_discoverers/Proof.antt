@@ -1,6 +1,7 @@
--- `metrics::figures::gaps::note_discoverers` meets its contract. Before the first record no table has an entry (`follows-start`, `marked-start`). The tables
--- of the records before the one asked for give its class (`told`) and so its position; with the records from it on the discoverers of the
--- whole sample are marked (`answers-end`). The places in the code are the first pass's end (p) and the class (k). Assumes nothing.
+-- `metrics::figures::gaps::note_discoverers` meets its contract. Before the first record no table has an entry (`follows-start`,
+-- `marked-start`). The tables of the records before the one asked for give its class (`told`) and so its position; with the records from
+-- it on the discoverers of the whole sample are marked (`answers-end`). The places in the code are the first pass's end (p) and the class
+-- (k). Assumes nothing.
 use Prim.Native.Nat.{_≤_, _-_}
 use native.Mathlib.Omega.{arith}
 use denote.Ref.{now}
@@ -26,12 +27,15 @@ abbrev sample : tie.After-note-to → Decoded
 sample p = decode (now (p .before .before .before .before .before .before .before .args .file))
 
 -- the record asked for is there
-here : (p : tie.After-note-to) → HasRecord (sample p) (p .before .before .before .before .before .before .before .args .layout) (p .before .before .before .before .before .before .before .args .asked - 1)
-here p = let e = p .before .before .before .before .before .before .before .pre in record { file = e .0; inside = omega (arith, e .1, e .2) }
+here : (p : tie.After-note-to) → HasRecord (sample p) (p .before .before .before .before .before .before .before .args .layout)
+    (p .before .before .before .before .before .before .before .args .asked - 1)
+here p =
+    let e = p .before .before .before .before .before .before .before .pre in record { file = e .0; inside = omega (arith, e .1, e .2) }
 
 -- its class is its answer's
 class-answer : (k : tie.After-class-of)
-    → ClassOf (passed k .note-to .result .count) (k .class-of .result) (answerAt (sample (passed k)) (passed k .before .before .before .before .before .before .before .args .asked - 1))
+    → ClassOf (passed k .note-to .result .count) (k .class-of .result)
+    (answerAt (sample (passed k)) (passed k .before .before .before .before .before .before .before .args .asked - 1))
 class-answer k =
     let n = k .before .before .before .number-of .ensures in
     told (sample (passed k)) _ _ _ _ _ (passed k .note-to .ensures .0) _ (n .0) (n .1) (n .2) _ (k .class-of .ensures)

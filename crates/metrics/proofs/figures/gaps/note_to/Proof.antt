@@ -1,7 +1,7 @@
--- `metrics::figures::gaps::note_to` meets its contract. The loop's invariant: the tables follow the arrivals before i, and the discoverers among them are
--- marked. The class of record i + 1 is its answer's (`told`), so that `note_discoverer` gives the table of one answer more (`answers-next`). The
--- measure is what is left of the records. The places in the code are its loop's head (`head`) and, in a turn, after the class is known (k).
--- Assumes nothing.
+-- `metrics::figures::gaps::note_to` meets its contract. The loop's invariant: the tables follow the arrivals before i, and the
+-- discoverers among them are marked. The class of record i + 1 is its answer's (`told`), so that `note_discoverer` gives the table of one
+-- answer more (`answers-next`). The measure is what is left of the records. The places in the code are its loop's head (`head`) and, in a
+-- turn, after the class is known (k). Assumes nothing.
 use mathlib.Core.Path.{_≡_}
 use Prim.Native.Nat.{_≤_, _<_, _-_}
 use native.Mathlib.Omega.{arith}
@@ -44,7 +44,8 @@ here-k : (k : tie.After-class-of Inv-loop μ-loop) → HasRecord (sample (head k
 here-k k = here (k .before .before .before .before)
 
 -- its class is its answer's
-class-answer : (k : tie.After-class-of Inv-loop μ-loop) → ClassOf (head k .loop .state .count) (k .class-of .result) (answerAt (sample (head k)) (head k .loop .i))
+class-answer : (k : tie.After-class-of Inv-loop μ-loop) → ClassOf (head k .loop .state .count) (k .class-of .result)
+    (answerAt (sample (head k)) (head k .loop .i))
 class-answer k =
     let n = k .before .before .before .number-of .ensures in
     told (sample (head k)) (head k .loop .i) _ _ _ _ (head k .loop .inv .1) _ (n .0) (n .1) (n .2) _ (k .class-of .ensures)
@@ -77,7 +78,8 @@ add-i : tie.Need-add-i Inv-loop μ-loop
 add-i c = omega (arith, few (c .before .before .before .before .before .before))
 
 loop-less : tie.Need-loop-less Inv-loop μ-loop
-loop-less c = let k = c .before .before .before .before .before .before in omega (arith, k .before .before .before .before .loop-test .taken)
+loop-less c =
+    let k = c .before .before .before .before .before .before in omega (arith, k .before .before .before .before .loop-test .taken)
 
 loop-again : tie.Need-loop-again Inv-loop μ-loop
 loop-again c =

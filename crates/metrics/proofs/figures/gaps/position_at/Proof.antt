@@ -1,5 +1,6 @@
--- `metrics::figures::gaps::position_at` meets its contract: after all arrivals the table has the record of the packet's first arrival, which is this
--- one (`position-new`) or an earlier one (`position-copy`). Here s is the start, r the place where the record is read. Assumes nothing.
+-- `metrics::figures::gaps::position_at` meets its contract: after all arrivals the table has the record of the packet's first arrival,
+-- which is this one (`position-new`) or an earlier one (`position-copy`). Here s is the start, r the place where the record is read.
+-- Assumes nothing.
 use mathlib.Core.Path.{_≡_, ap, _∙_}
 use Prim.Native.Nat.{ℕ}
 use native.Mathlib.Omega.{arith}

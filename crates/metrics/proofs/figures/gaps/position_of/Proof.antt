@@ -1,5 +1,6 @@
--- `metrics::figures::gaps::position_of` meets its contract: the answer has the class that is given (`ClassOf`). A duplicate has no position, for which 0
--- stands; any other has the one after `count`, which is not 0 and so stands for itself (`known-some`). Assumes nothing.
+-- `metrics::figures::gaps::position_of` meets its contract: the answer has the class that is given (`ClassOf`). A duplicate has no
+-- position, for which 0 stands; any other has the one after `count`, which is not 0 and so stands for itself (`known-some`). Assumes
+-- nothing.
 use native.Mathlib.Omega.{arith}
 use Rattle.rfc4737.specs.Gaps.{positionOf}
 use Rattle.metrics.proofs.OneArrivalMore.{known-some}

@@ -1,6 +1,6 @@
--- `metrics::figures::gaps::put_gaps` meets its contract: before the first record no table has an entry (`follows-start`, `marked-start`). After the
--- last the tables have the records of all first arrivals (`recorded-all`) and all discoverers (`answers-end`), by which the gaps are
--- listed. Assumes nothing.
+-- `metrics::figures::gaps::put_gaps` meets its contract: before the first record no table has an entry (`follows-start`, `marked-start`).
+-- After the last the tables have the records of all first arrivals (`recorded-all`) and all discoverers (`answers-end`), by which the
+-- gaps are listed. Assumes nothing.
 use native.Mathlib.Omega.{arith}
 use Prim.Native.Nat.{_≤_}
 use denote.Ref.{now}

@@ -1,5 +1,5 @@
--- `metrics::figures::needs::count_need` meets its contract: one more at the index of the first size that is at least the need (`counted-in`), and
--- nothing if there is none (`counted-out`). Assumes nothing.
+-- `metrics::figures::needs::count_need` meets its contract: one more at the index of the first size that is at least the need
+-- (`counted-in`), and nothing if there is none (`counted-out`). Assumes nothing.
 use native.Mathlib.Omega.{arith}
 use borrow.Author.Needs.{needs}
 use Rattle.metrics.proofs.Accommodation.{counted-in, counted-out}

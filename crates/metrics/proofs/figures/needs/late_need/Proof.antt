@@ -1,5 +1,6 @@
--- `metrics::figures::needs::late_need` meets its contract, measure by measure: the extent is told by the class (`need-packets`), the byte offset by the
--- tree, as the packet has not arrived (`need-octets`), and the late time by the record of the discontinuity (`need-time`). Assumes nothing.
+-- `metrics::figures::needs::late_need` meets its contract, measure by measure: the extent is told by the class (`need-packets`), the byte
+-- offset by the tree, as the packet has not arrived (`need-octets`), and the late time by the record of the discontinuity (`need-time`).
+-- Assumes nothing.
 use mathlib.Core.Path.{ap, _∙_}
 use Prim.Native.Nat.{_≤_}
 use native.Mathlib.Omega.{arith}
@@ -55,8 +56,11 @@ returns-2 c =
 
 returns-3 : tie.Need-returns-3
 returns-3 c =
-    let p = c .before .before .before .before .before .before .pre in
-    (rw (c .before .before .enum-told3 .given .1) (need-time _ _ _ (p .classed) _ _ (c .before .late-time .ensures) (c .waiting-time .ensures)), p .totalled)
+    let p = c .before .before .before .before .before .before .pre in (
+      rw (c .before .before .enum-told3 .given .1) (need-time _ _ _ (p .classed) _ _ (c .before .late-time .ensures)
+          (c .waiting-time .ensures)),
+      p .totalled,
+    )
 
 pub late-need-spec : {M : Type 1} → statement M
 late-need-spec =

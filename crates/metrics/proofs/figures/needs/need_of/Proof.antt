@@ -1,5 +1,5 @@
--- `metrics::figures::needs::need_of` meets its contract: a record that is not reordered needs nothing (`need-none`); of a reordered one it is that of
--- `late_need`. Assumes nothing.
+-- `metrics::figures::needs::need_of` meets its contract: a record that is not reordered needs nothing (`need-none`); of a reordered one
+-- it is that of `late_need`. Assumes nothing.
 use borrow.Author.Needs.{needs}
 use Rattle.metrics.proofs.Accommodation.{need-duplicate, need-in-order}
 use Rattle.metrics.proofs.figures.needs.need_of.Statement.{statement}
@@ -9,10 +9,12 @@ late-need-requires : tie.Need-late-need-requires
 late-need-requires c κs = let p = c .before .before .before .before .before .before .pre in rw (c .before .before .class .given .1) at p
 
 returns : tie.Need-returns
-returns c = let p = c .before .before .before .before .pre in (need-duplicate _ _ _ _ (rw (c .enum-told .given .1) at (p .classed)), p .totalled)
+returns c =
+    let p = c .before .before .before .before .pre in (need-duplicate _ _ _ _ (rw (c .enum-told .given .1) at (p .classed)), p .totalled)
 
 returns-2 : tie.Need-returns-2
-returns-2 c = let p = c .before .before .before .before .pre in (need-in-order _ _ _ _ (rw (c .enum-told2 .given .1) at (p .classed)), p .totalled)
+returns-2 c =
+    let p = c .before .before .before .before .pre in (need-in-order _ _ _ _ (rw (c .enum-told2 .given .1) at (p .classed)), p .totalled)
 
 pub need-of-spec : {M : Type 1} → statement M
 need-of-spec =

@@ -1,6 +1,6 @@
--- `metrics::figures::needs::needs_of` meets its contract. The loop's invariant: tables and tree are those of the arrivals before i, and needs and
--- counts are those of their answers. The class of record i + 1 is its answer's (`told`), `need_of` gives its need, and `needs_after` is one answer more
--- (`needs-next`). The measure is what is left of the arrivals. Assumes nothing.
+-- `metrics::figures::needs::needs_of` meets its contract. The loop's invariant: tables and tree are those of the arrivals before i, and
+-- needs and counts are those of their answers. The class of record i + 1 is its answer's (`told`), `need_of` gives its need, and
+-- `needs_after` is one answer more (`needs-next`). The measure is what is left of the arrivals. Assumes nothing.
 use Prim.Native.Nat.{_-_, _≤_, _<_}
 use mathlib.Core.Path.{_≡_, sym, ap, _∙_}
 use native.Mathlib.Omega.{arith}
@@ -25,11 +25,14 @@ use Rattle.metrics.proofs.figures.needs.needs_of.Tie as tie
 
 -- counts₀ to i₀ are the values where the loop begins, counts to i those at its head
 abbrev Inv-loop : tie.InvT-loop
-Inv-loop file layout measure low shift counts₀ numbers₀ records₀ skipped₀ tree₀ state₀ totals₀ needs₀ i₀ counts numbers records skipped tree state totals needs i =
-    (i ≤ layout .arrivals) × NeedState (decode file) i numbers records skipped tree state totals × NeedsOf measure low shift (answersTo (decode file) i) needs counts
+Inv-loop file layout measure low shift counts₀ numbers₀ records₀ skipped₀ tree₀ state₀ totals₀ needs₀ i₀ counts numbers records skipped
+    tree state totals needs i =
+    (i ≤ layout .arrivals) × NeedState (decode file) i numbers records skipped tree state totals
+    × NeedsOf measure low shift (answersTo (decode file) i) needs counts
 
 abbrev μ-loop : tie.MeasureT-loop
-μ-loop file layout measure low shift counts₀ numbers₀ records₀ skipped₀ tree₀ state₀ totals₀ needs₀ i₀ counts numbers records skipped tree state totals needs i = layout .arrivals - i
+μ-loop file layout measure low shift counts₀ numbers₀ records₀ skipped₀ tree₀ state₀ totals₀ needs₀ i₀ counts numbers records skipped tree
+    state totals needs i = layout .arrivals - i
 
 -- ---- places
 
@@ -60,13 +63,17 @@ few : (c : tie.Then1 Inv-loop μ-loop) → c .before .before .loop .i < arrivals
 few c = omega (arith, c .if1 .taken, start c .pre .0 .few)
 
 -- its number is that of a packet
-number : (c : tie.After-class-of Inv-loop μ-loop) → (c .before .before .before .arrival-at .result .number ≡ arrivalAt (decode (now (start (turn c) .args .file))) (head c .loop .i) .number)
+number : (c : tie.After-class-of Inv-loop μ-loop) → (c .before .before .before .arrival-at .result .number
+    ≡ arrivalAt (decode (now (start (turn c) .args .file))) (head c .loop .i) .number)
     × (1 ≤ c .before .before .before .arrival-at .result .number) × (c .before .before .before .arrival-at .result .number ≤ sentMost)
 number c = number-few _ _ _ (here (turn c)) _ (c .before .before .before .arrival-at .ensures .0)
 
 -- its class is its answer's
-classed : (c : tie.After-class-of Inv-loop μ-loop) → ClassOf (head c .loop .state .count) (c .class-of .result) (answerAt (decode (now (start (turn c) .args .file))) (head c .loop .i))
-classed c = told (decode (now (start (turn c) .args .file))) (head c .loop .i) _ _ _ _ (head c .loop .inv .1 .follows) _ (number c .0) (number c .1) (number c .2) _ (c .class-of .ensures)
+classed : (c : tie.After-class-of Inv-loop μ-loop) → ClassOf (head c .loop .state .count) (c .class-of .result)
+    (answerAt (decode (now (start (turn c) .args .file))) (head c .loop .i))
+classed c =
+    told (decode (now (start (turn c) .args .file))) (head c .loop .i) _ _ _ _ (head c .loop .inv .1 .follows) _ (number c .0)
+    (number c .1) (number c .2) _ (c .class-of .ensures)
 
 loop-holds : tie.Need-loop-holds Inv-loop μ-loop
 loop-holds c =
@@ -90,7 +97,9 @@ need-of-requires c κs =
       numbered = state .follows .numbered;
       recorded = state .follows .recorded;
       classed = classed k;
-      new = new-told (decode (now (start (turn k) .args .file))) (head k .loop .i) _ _ _ _ (state .follows) _ (number k .0) (number k .1) (number k .2) _ (k .class-of .ensures);
+      new =
+          new-told (decode (now (start (turn k) .args .file))) (head k .loop .i) _ _ _ _ (state .follows) _ (number k .0) (number k .1)
+          (number k .2) _ (k .class-of .ensures);
       totalled = state .totalled;
     }
 
@@ -123,7 +132,8 @@ loop-again c =
         totalled = size-tree-next _ _ _ h _ _ (need .1);
       },
       needs-next (a .measure) (a .low) (a .shift) _ _ _ h _ _
-          (c .before .before .before .before .before .needs-after .ensures (a .measure) _ (answersTo (decode (now (a .file))) (l .i)) _ (classed k) (need .0) (l .inv .2)),
+          (c .before .before .before .before .before .needs-after .ensures (a .measure) _ (answersTo (decode (now (a .file))) (l .i)) _
+          (classed k) (need .0) (l .inv .2)),
     )
 
 returns : tie.Need-returns Inv-loop μ-loop

@@ -1,5 +1,5 @@
--- `metrics::figures::needs::sum_up` meets its contract. The loop's invariant: before j each count is the sum up to it, from j on all is as it was, and
--- `sum` is that of the first j. The measure is what is left of the places. Assumes nothing.
+-- `metrics::figures::needs::sum_up` meets its contract. The loop's invariant: before j each count is the sum up to it, from j on all is
+-- as it was, and `sum` is that of the first j. The measure is what is left of the places. Assumes nothing.
 use mathlib.Core.Path.{_≡_, refl, sym, _∙_}
 use Prim.Native.Nat.{ℕ, suc, _+_, _-_, _≤_, _<_}
 use native.Mathlib.Omega.{arith}
@@ -23,7 +23,13 @@ loop-holds : tie.Need-loop-holds Inv-loop μ-loop
 loop-holds c = summed-start _ (c .pre .0)
 
 add-sum : tie.Need-add-sum Inv-loop μ-loop
-add-sum c = let l = c .before .before .loop in omega (arith, summed-sum _ _ _ _ (l .inv) (c .before .loop-test .taken), c .before .before .before .pre .1 (l .j) (c .before .loop-test .taken))
+add-sum c =
+    let l =
+    c .before .before .loop in omega (
+      arith,
+      summed-sum _ _ _ _ (l .inv) (c .before .loop-test .taken),
+      c .before .before .before .pre .1 (l .j) (c .before .loop-test .taken),
+    )
 
 loop-again : tie.Need-loop-again Inv-loop μ-loop
 loop-again c = let l = c .before .before .loop in summed-next _ _ _ _ (l .inv) (c .before .loop-test .taken)

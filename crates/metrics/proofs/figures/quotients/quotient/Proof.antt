@@ -1,4 +1,5 @@
--- `metrics::figures::quotients::quotient` meets its contract: it makes both counts f64 and divides once, as the definition does. Assumes nothing.
+-- `metrics::figures::quotients::quotient` meets its contract: it makes both counts f64 and divides once, as the definition does. Assumes
+-- nothing.
 use mathlib.Core.Path.{refl}
 use Rattle.rfc4737.specs.Ratios.{quotient}
 use borrow.Author.Needs.{needs}

@@ -1,5 +1,5 @@
--- `metrics::figures::quotients::ratios_of` meets its contract: the test of L is that of `ratiosBy`, and each of the three figures is a `quotient`.
--- Assumes nothing.
+-- `metrics::figures::quotients::ratios_of` meets its contract: the test of L is that of `ratiosBy`, and each of the three figures is a
+-- `quotient`. Assumes nothing.
 use borrow.Author.Tests.{eq-eqb, ne-eqb}
 use Rattle.metrics.specs.Private.Steps.{ratiosBy}
 use borrow.Author.Needs.{needs}
@@ -13,7 +13,12 @@ returns c = simp (eq-eqb _ _ (c .if1 .taken))
 returns-2 : tie.Need-returns-2
 unfolding ratiosBy
 returns-2 c =
-    simp (ne-eqb _ _ (c .before .before .before .if1 .left), c .before .before .quotient .ensures, c .before .quotient2 .ensures, c .quotient3 .ensures)
+    simp (
+      ne-eqb _ _ (c .before .before .before .if1 .left),
+      c .before .before .quotient .ensures,
+      c .before .quotient2 .ensures,
+      c .quotient3 .ensures,
+    )
 
 pub ratios-of-spec : {M : Type 1} → statement M
 ratios-of-spec =

@@ -1,4 +1,5 @@
--- `metrics::figures::rows::put_row` meets its contract: numbers set one after the other are spliced in (`row-set`); the list stays as long. Assumes nothing.
+-- `metrics::figures::rows::put_row` meets its contract: numbers set one after the other are spliced in (`row-set`); the list stays as
+-- long. Assumes nothing.
 use borrow.Author.Needs.{needs}
 use native.Mathlib.Omega.{arith}
 use denote.Ref.{now}
@@ -31,7 +32,8 @@ slice-write-rows-8 c = simp length-set (omega (arith, c .pre))
 returns : tie.Need-returns
 returns c =
     let r = c .args .r in
-    row-set (c .args .at) (r .kind) (r .position) (r .jump) (r .extent) (r .late) (r .offset) (r .largest) (r .first) (now (c .args .rows)) (c .pre)
+    row-set (c .args .at) (r .kind) (r .position) (r .jump) (r .extent) (r .late) (r .offset) (r .largest) (r .first)
+    (now (c .args .rows)) (c .pre)
 
 pub put-row-spec : {M : Type 1} → statement M
 put-row-spec =

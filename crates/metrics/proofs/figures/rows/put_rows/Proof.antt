@@ -1,6 +1,6 @@
--- `metrics::figures::rows::put_rows` meets its contract. The loop's invariant: the engine knows the arrivals before i, and the list has the rows of
--- their answers from its start. `advance` gives the answer for record i + 1, and its row goes after those (`rows-next`). The measure is what
--- is left of the arrivals. Assumes nothing.
+-- `metrics::figures::rows::put_rows` meets its contract. The loop's invariant: the engine knows the arrivals before i, and the list has
+-- the rows of their answers from its start. `advance` gives the answer for record i + 1, and its row goes after those (`rows-next`). The
+-- measure is what is left of the arrivals. Assumes nothing.
 use Prim.Native.Nat.{ℕ, _-_, _*_, _≤_, _<_}
 use mathlib.Core.Path.{_≡_, ap, _∙_}
 use mathlib.Core.List.{List}
@@ -22,7 +22,8 @@ use Rattle.metrics.proofs.figures.rows.put_rows.Tie as tie
 -- rows₀ to i₀ are the values where the loop begins, rows to i those at its head
 abbrev Inv-loop : tie.InvT-loop
 Inv-loop file layout rows₀ numbers₀ records₀ skipped₀ tree₀ engine₀ i₀ rows numbers records skipped tree engine i =
-    (i ≤ layout .arrivals) × EngineState (decode file) i numbers records skipped tree engine × (rows ≡ over (rowsOf (answersTo (decode file) i)) rows₀)
+    (i ≤ layout .arrivals) × EngineState (decode file) i numbers records skipped tree engine
+    × (rows ≡ over (rowsOf (answersTo (decode file) i)) rows₀)
 
 abbrev μ-loop : tie.MeasureT-loop
 μ-loop file layout rows₀ numbers₀ records₀ skipped₀ tree₀ engine₀ i₀ rows numbers records skipped tree engine i = layout .arrivals - i
@@ -70,7 +71,8 @@ mul-at : tie.Need-mul-at Inv-loop μ-loop
 mul-at c = omega (arith, few (turn (c .before .before)))
 
 put-row-requires : tie.Need-put-row-requires Inv-loop μ-loop
-put-row-requires c κs = rows-room _ _ _ (here (turn (after-tree c))) _ _ (start-of-head (head (after-tree c)) .pre .1) (head (after-tree c) .loop .inv .2)
+put-row-requires c κs =
+    rows-room _ _ _ (here (turn (after-tree c))) _ _ (start-of-head (head (after-tree c)) .pre .1) (head (after-tree c) .loop .inv .2)
 
 add-i : tie.Need-add-i Inv-loop μ-loop
 add-i c = omega (arith, few (turn (after-tree (c .before .before .before .before))))
@@ -86,16 +88,20 @@ loop-again c =
       omega (arith, h .inside),
       step .2,
       rows-next _ _ _ h _ _ (start-of-head (head (after-tree (c .before .before .before .before))) .pre .1) (l .inv .2) _
-          (c .before .before .before .put-row .ensures ∙ ap (λ (r : List ℕ). splice (8 * l .i) r (l .rows)) (c .before .before .before .before .row-of .ensures ∙ ap rowOf (step .0))),
+          (c .before .before .before .put-row .ensures ∙ ap (λ (r : List ℕ). splice (8 * l .i) r (l .rows))
+          (c .before .before .before .before .row-of .ensures ∙ ap rowOf (step .0))),
     )
 
 same-length : tie.Need-same-length Inv-loop μ-loop
-same-length c = rows-kept-to _ _ _ (start-of-head (c .before .before) .pre .0) (c .before .before .loop .inv .0) _ _ (start-of-head (c .before .before) .pre .1) (c .before .before .loop .inv .2)
+same-length c =
+    rows-kept-to _ _ _ (start-of-head (c .before .before) .pre .0) (c .before .before .loop .inv .0) _ _
+    (start-of-head (c .before .before) .pre .1) (c .before .before .loop .inv .2)
 
 returns : tie.Need-returns Inv-loop μ-loop
 returns c =
     let rows₀ = now (start-of-head (c .before .before) .args .rows) in
-    c .before .before .loop .inv .2 ∙ ap (λ (l : List _). over (rowsOf l) rows₀) (answers-end _ _ _ (start-of-head (c .before .before) .pre .0) (c .if1 .left))
+    c .before .before .loop .inv .2 ∙ ap (λ (l : List _). over (rowsOf l) rows₀)
+    (answers-end _ _ _ (start-of-head (c .before .before) .pre .0) (c .if1 .left))
 
 pub put-rows-spec : {M : Type 1} → statement M
 put-rows-spec =

@@ -1,5 +1,5 @@
--- `metrics::report::compare::compare_listing` meets its contract: a buffer of one line has room for each, so that a pass can compare, and `take_all`
--- says how far the text agrees. Assumes nothing.
+-- `metrics::report::compare::compare_listing` meets its contract: a buffer of one line has room for each, so that a pass can compare, and
+-- `take_all` says how far the text agrees. Assumes nothing.
 use mathlib.Core.Path.{refl}
 use borrow.Author.Needs.{needs}
 use Rattle.metrics.proofs.report.compare.compare_listing.Statement.{statement}

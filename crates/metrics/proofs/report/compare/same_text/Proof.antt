@@ -1,5 +1,5 @@
--- `metrics::report::compare::same_text` meets its contract: where not all of the listing agrees the answer is no, else it is that of the test of the
--- octets. Assumes nothing.
+-- `metrics::report::compare::same_text` meets its contract: where not all of the listing agrees the answer is no, else it is that of the
+-- test of the octets. Assumes nothing.
 use borrow.Author.Tests.{not-true, not-false}
 use Rattle.metrics.proofs.report.compare.same_text.Statement.{statement}
 use Rattle.metrics.proofs.report.compare.same_text.Tie as tie

@@ -1,6 +1,6 @@
--- `metrics::report::line_agreement::common` meets its contract. The loop's invariant: what the texts have in common is i octets and what is left of both has
--- in common. An equal octet moves i on (`common-step`); where the other text ends, octets differ or the first text ends, it is i. The
--- measure is what is left of the first text. Assumes nothing.
+-- `metrics::report::line_agreement::common` meets its contract. The loop's invariant: what the texts have in common is i octets and what
+-- is left of both has in common. An equal octet moves i on (`common-step`); where the other text ends, octets differ or the first text
+-- ends, it is i. The measure is what is left of the first text. Assumes nothing.
 use Prim.Native.Nat.{_+_, _-_, _≤_}
 use native.Mathlib.Omega.{arith}
 use native.Mathlib.Nat.{zero-add}
@@ -27,12 +27,16 @@ returns c = sym (c .before .before .loop .inv .1 ∙ common-cut _ _ _ (c .if1 .t
 returns-2 : tie.Need-returns-2 Inv-loop μ-loop
 returns-2 c =
     let l = c .before .before .before .before .before .loop in
-    sym (l .inv .1 ∙ common-stop _ _ (l .i) (c .before .before .before .before .loop-test .taken) (c .before .before .before .if1 .left) (c .if2 .taken))
+    sym (l .inv .1 ∙ common-stop _ _ (l .i) (c .before .before .before .before .loop-test .taken) (c .before .before .before .if1 .left)
+    (c .if2 .taken))
 
 loop-again : tie.Need-loop-again Inv-loop μ-loop
 loop-again c =
-    let l = c .before .before .before .before .before .loop in
-    (omega arith, l .inv .1 ∙ common-step _ _ (l .i) (c .before .before .before .before .loop-test .taken) (c .before .before .before .if1 .left) (c .if2 .left))
+    let l = c .before .before .before .before .before .loop in (
+      omega arith,
+      l .inv .1 ∙ common-step _ _ (l .i) (c .before .before .before .before .loop-test .taken)
+          (c .before .before .before .if1 .left) (c .if2 .left),
+    )
 
 returns-3 : tie.Need-returns-3 Inv-loop μ-loop
 returns-3 c = sym (c .before .loop .inv .1 ∙ common-end _ _ _ (omega arith))

@@ -1,5 +1,5 @@
--- `metrics::report::lines::line_part` meets its contract: comparing, `compare_line` says how far the line's octets agree; else all n are put. The contract
--- says each under its own case, and the other case is absurd there. Assumes nothing.
+-- `metrics::report::lines::line_part` meets its contract: comparing, `compare_line` says how far the line's octets agree; else all n are
+-- put. The contract says each under its own case, and the other case is absurd there. Assumes nothing.
 use mathlib.Core.Path.{refl, sym, _∙_}
 use mathlib.Core.Bool.{true≢false}
 use denote.Ref.{now}
@@ -8,7 +8,10 @@ use Rattle.metrics.proofs.report.lines.line_part.Statement.{statement}
 use Rattle.metrics.proofs.report.lines.line_part.Tie as tie
 
 slice-aggregate-compare-line : tie.Need-slice-aggregate-compare-line
-slice-aggregate-compare-line c = let a = c .before .before .before .before .args in sym (length-take-le (a .n) (now (a .out)) (c .before .before .before .before .pre (c .before .if1 .taken) .0))
+slice-aggregate-compare-line c =
+    let a =
+    c .before .before .before .before .args in sym (length-take-le (a .n) (now (a .out))
+    (c .before .before .before .before .pre (c .before .if1 .taken) .0))
 
 compare-line-requires : tie.Need-compare-line-requires
 compare-line-requires c κs = c .before .before .before .before .pre (c .before .if1 .taken) .1

@@ -1,5 +1,5 @@
--- `metrics::report::lines::take_end` meets its contract: the line is put at its place or, comparing, at the start, where it has room; then it is
--- held against the text (`line-ready`, `line-taken`). Assumes nothing.
+-- `metrics::report::lines::take_end` meets its contract: the line is put at its place or, comparing, at the start, where it has room;
+-- then it is held against the text (`line-ready`, `line-taken`). Assumes nothing.
 use Prim.Native.Nat.{_≤_}
 use native.Mathlib.Omega.{arith}
 use borrow.Author.Needs.{needs}
@@ -20,10 +20,16 @@ few : (c : tie.Start) → length (endLine (c .args .c)) ≤ 93
 few c = omega (arith, end-octets _ (c .pre .1))
 
 line-part-requires : tie.Need-line-part-requires
-line-part-requires c κs = line-ready _ _ _ _ (c .before .before .before .put-end .ensures .0) (few (start (c .before .before .before .before))) (start (c .before .before .before .before) .pre .0) (c .before .before .before .before .put-place .ensures) (c .before .before .before .put-end .ensures .1)
+line-part-requires c κs =
+    line-ready _ _ _ _ (c .before .before .before .put-end .ensures .0) (few (start (c .before .before .before .before)))
+    (start (c .before .before .before .before) .pre .0) (c .before .before .before .before .put-place .ensures)
+    (c .before .before .before .put-end .ensures .1)
 
 returns : tie.Need-returns
-returns c = line-taken _ _ _ _ (c .before .before .before .before .put-end .ensures .0) (few (start (c .before .before .before .before .before))) (start (c .before .before .before .before .before) .pre .0) (c .before .before .before .before .before .put-place .ensures) (c .before .before .before .before .put-end .ensures .1) (c .line-part .ensures)
+returns c =
+    line-taken _ _ _ _ (c .before .before .before .before .put-end .ensures .0) (few (start (c .before .before .before .before .before)))
+    (start (c .before .before .before .before .before) .pre .0) (c .before .before .before .before .before .put-place .ensures)
+    (c .before .before .before .before .put-end .ensures .1) (c .line-part .ensures)
 
 pub take-end-spec : {M : Type 1} → statement M
 take-end-spec =

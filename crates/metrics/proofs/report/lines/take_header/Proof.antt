@@ -1,5 +1,5 @@
--- `metrics::report::lines::take_header` meets its contract: the line is put at the start, which is its place, comparing or not (`same-start`); then
--- it is held against the text (`line-ready`, `line-taken`). Assumes nothing.
+-- `metrics::report::lines::take_header` meets its contract: the line is put at the start, which is its place, comparing or not
+-- (`same-start`); then it is held against the text (`line-ready`, `line-taken`). Assumes nothing.
 use Prim.Native.Nat.{_≤_}
 use native.Mathlib.Omega.{arith}
 use borrow.Author.Needs.{needs}
@@ -20,10 +20,16 @@ few : (c : tie.Start) → length (headerLine (c .args .k) (c .args .a)) ≤ 93
 few c = omega (arith, header-octets _ _ (c .pre .1) (c .pre .2))
 
 line-part-requires : tie.Need-line-part-requires
-line-part-requires c κs = line-ready _ _ _ 0 (c .before .before .before .put-header .ensures .0) (few (start (c .before .before .before))) (start (c .before .before .before) .pre .0) (same-start (start (c .before .before .before) .args .comparing)) (c .before .before .before .put-header .ensures .1)
+line-part-requires c κs =
+    line-ready _ _ _ 0 (c .before .before .before .put-header .ensures .0) (few (start (c .before .before .before)))
+    (start (c .before .before .before) .pre .0) (same-start (start (c .before .before .before) .args .comparing))
+    (c .before .before .before .put-header .ensures .1)
 
 returns : tie.Need-returns
-returns c = line-taken _ _ _ 0 (c .before .before .before .before .put-header .ensures .0) (few (start (c .before .before .before .before))) (start (c .before .before .before .before) .pre .0) (same-start (start (c .before .before .before .before) .args .comparing)) (c .before .before .before .before .put-header .ensures .1) (c .line-part .ensures)
+returns c =
+    line-taken _ _ _ 0 (c .before .before .before .before .put-header .ensures .0) (few (start (c .before .before .before .before)))
+    (start (c .before .before .before .before) .pre .0) (same-start (start (c .before .before .before .before) .args .comparing))
+    (c .before .before .before .before .put-header .ensures .1) (c .line-part .ensures)
 
 pub take-header-spec : {M : Type 1} → statement M
 take-header-spec = tie.close (tie.spec (λ c κs. search needs) line-part-requires (λ c. search needs) returns)

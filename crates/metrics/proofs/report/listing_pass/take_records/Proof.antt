@@ -1,7 +1,8 @@
--- `metrics::report::listing_pass::take_records` meets its contract. The loop's invariant: the engine knows the arrivals before i, the counts are those of
--- their answers, and their lines are written or agree with the text. `advance` gives the answer for record i + 1, whose figures have few
--- digits; a line that differs ends the pass (`passed-stop`), any other is one step more of each part of the invariant (`passed-next`), and
--- where i is A all records are behind (`passed-all`). The measure is what is left of the arrivals. Assumes nothing.
+-- `metrics::report::listing_pass::take_records` meets its contract. The loop's invariant: the engine knows the arrivals before i, the
+-- counts are those of their answers, and their lines are written or agree with the text. `advance` gives the answer for record i + 1,
+-- whose figures have few digits; a line that differs ends the pass (`passed-stop`), any other is one step more of each part of the
+-- invariant (`passed-next`), and where i is A all records are behind (`passed-all`). The measure is what is left of the arrivals. Assumes
+-- nothing.
 use Prim.Native.Nat.{_+_, _-_, _^_, _≤_, _<_}
 use mathlib.Core.Path.{_≡_, sym, ap, _∙_}
 use native.Mathlib.Omega.{arith}
@@ -28,12 +29,14 @@ use Rattle.metrics.proofs.report.listing_pass.take_records.Tie as tie
 -- numbers₀ to i₀ and out₀ are the values where the loop begins, the same without ₀ those at its head, with known for `counts`; out₀ has the
 -- first line
 abbrev Inv-loop : tie.InvT-loop
-Inv-loop file layout out₀ text comparing start numbers₀ records₀ skipped₀ tree₀ engine₀ counts₀ at₀ i₀ out numbers records skipped tree engine known at i =
+Inv-loop file layout out₀ text comparing start numbers₀ records₀ skipped₀ tree₀ engine₀ counts₀ at₀ i₀ out numbers records skipped tree
+    engine known at i =
     (i ≤ layout .arrivals) × EngineState (decode file) i numbers records skipped tree engine × (known ≡ counts (answersTo (decode file) i))
     × PassedTo (decode file) layout text comparing i at out₀ out
 
 abbrev μ-loop : tie.MeasureT-loop
-μ-loop file layout out₀ text comparing start numbers₀ records₀ skipped₀ tree₀ engine₀ counts₀ at₀ i₀ out numbers records skipped tree engine known at i =
+μ-loop file layout out₀ text comparing start numbers₀ records₀ skipped₀ tree₀ engine₀ counts₀ at₀ i₀ out numbers records skipped tree
+    engine known at i =
     layout .arrivals - i
 
 -- ---- places
@@ -57,7 +60,8 @@ abbrev after-advance : tie.After-out Inv-loop μ-loop → tie.After-advance Inv-
 after-advance c = c .before .before .before .before
 
 -- record i + 1 is there
-here : (c : tie.Then1 Inv-loop μ-loop) → HasRecord (decode (now (start (c .before .before) .args .file))) (start (c .before .before) .args .layout) (c .before .before .loop .i)
+here : (c : tie.Then1 Inv-loop μ-loop) → HasRecord (decode (now (start (c .before .before) .args .file)))
+    (start (c .before .before) .args .layout) (c .before .before .loop .i)
 here c = record { file = start (c .before .before) .pre .0; inside = c .if1 .taken }
 
 -- it is one of few
@@ -65,13 +69,20 @@ few : (c : tie.Then1 Inv-loop μ-loop) → c .before .before .loop .i < arrivals
 few c = omega (arith, c .if1 .taken, start (c .before .before) .pre .0 .few)
 
 -- the place after its line
-fits : (c : tie.After-struct-known2 Inv-loop μ-loop) → head (after-arrival-at (after-advance (c .before .before))) .loop .at + c .before .before .before .take-record .result .octets < 2 ^ 64
+fits : (c : tie.After-struct-known2 Inv-loop μ-loop) → head (after-arrival-at (after-advance (c .before .before))) .loop .at
+    + c .before .before .before .take-record .result .octets < 2 ^ 64
 fits c =
     let a = start (head (after-arrival-at (after-advance (c .before .before)))) .args in
     let h = here (after-arrival-at (after-advance (c .before .before)) .before) in
-    let lines = lines-within (now (a .file)) (a .layout) (h .file) (below-fits w8 (now (a .file)) (after-shared-slice-known (head (after-arrival-at (after-advance (c .before .before)))) .shared-slice-known .given)) (head (after-arrival-at (after-advance (c .before .before))) .loop .i + 1) (omega (arith, h .inside)) in
-    taken-fits (start (head (after-arrival-at (after-advance (c .before .before)))) .good .1 .1 .1 .0 .0) (omega (arith, h .file .few, lines))
-    (line-more _ _ _ _ h (head (after-arrival-at (after-advance (c .before .before))) .loop .inv .3) (ap (λ (b : Arrival). b .number) (after-arrival-at (after-advance (c .before .before)) .arrival-at .ensures .0)) (after-advance (c .before .before) .advance .ensures .0) (c .before .before .before .take-record .ensures))
+    let lines =
+    lines-within (now (a .file)) (a .layout) (h .file) (below-fits w8 (now (a .file))
+    (after-shared-slice-known (head (after-arrival-at (after-advance (c .before .before)))) .shared-slice-known .given))
+    (head (after-arrival-at (after-advance (c .before .before))) .loop .i + 1) (omega (arith, h .inside)) in
+    taken-fits (start (head (after-arrival-at (after-advance (c .before .before)))) .good .1 .1 .1 .0 .0)
+    (omega (arith, h .file .few, lines))
+    (line-more _ _ _ _ h (head (after-arrival-at (after-advance (c .before .before))) .loop .inv .3)
+    (ap (λ (b : Arrival). b .number) (after-arrival-at (after-advance (c .before .before)) .arrival-at .ensures .0))
+    (after-advance (c .before .before) .advance .ensures .0) (c .before .before .before .take-record .ensures))
 
 loop-holds : tie.Need-loop-holds Inv-loop μ-loop
 loop-holds c =
@@ -86,7 +97,11 @@ arrival-at-requires : tie.Need-arrival-at-requires Inv-loop μ-loop
 arrival-at-requires c κs = here c
 
 advance-requires : tie.Need-advance-requires Inv-loop μ-loop
-advance-requires c κs = (here (c .before .before .before .before .before), c .before .before .before .before .arrival-at .ensures .0, head (c .before .before .before .before) .loop .inv .1)
+advance-requires c κs = (
+  here (c .before .before .before .before .before),
+  c .before .before .before .before .arrival-at .ensures .0,
+  head (c .before .before .before .before) .loop .inv .1,
+)
 
 add-take-record : tie.Need-add-take-record Inv-loop μ-loop
 add-take-record c = omega (arith, few (after-arrival-at (c .before .before) .before))
@@ -95,22 +110,32 @@ take-record-requires : tie.Need-take-record-requires Inv-loop μ-loop
 take-record-requires c κs =
     let file = now (start (head (after-arrival-at (c .before .before))) .args .file) in
     let l = head (after-arrival-at (c .before .before)) .loop in (
-      record { room = λ e. omega (arith, start (head (after-arrival-at (c .before .before))) .pre .1 .room e, l .inv .3 .places); inside = taken-inside (l .inv .3) },
+      record {
+        room = λ e. omega (arith, start (head (after-arrival-at (c .before .before))) .pre .1 .room e, l .inv .3 .places);
+        inside = taken-inside (l .inv .3);
+      },
       omega (arith, few (after-arrival-at (c .before .before) .before)),
       omega (arith, after-arrival-at (c .before .before) .arrival-at .ensures .1),
-      rw (c .before .before .advance .ensures .0) (answers-within file _ (l .i) (below-fits w8 file (after-shared-slice-known (head (after-arrival-at (c .before .before))) .shared-slice-known .given)) (here (after-arrival-at (c .before .before) .before))),
+      rw (c .before .before .advance .ensures .0) (answers-within file _ (l .i)
+          (below-fits w8 file (after-shared-slice-known (head (after-arrival-at (c .before .before))) .shared-slice-known .given))
+          (here (after-arrival-at (c .before .before) .before))),
     )
 
 part-after-requires : tie.Need-part-after-requires Inv-loop μ-loop
 part-after-requires c κs = fits (c .before)
 
 same-length : tie.Need-same-length Inv-loop μ-loop
-same-length c = c .before .before .before .before .before .take-record .ensures .places ∙ head (after-arrival-at (after-advance (c .before .before .before .before))) .loop .inv .3 .places
+same-length c =
+    c .before .before .before .before .before .take-record .ensures .places
+    ∙ head (after-arrival-at (after-advance (c .before .before .before .before))) .loop .inv .3 .places
 
 returns : tie.Need-returns Inv-loop μ-loop
 returns c =
     rw (c .part-after .ensures)
-    (passed-stop _ _ _ _ (here (after-arrival-at (after-advance (c .before .before .before .before)) .before)) (head (after-arrival-at (after-advance (c .before .before .before .before))) .loop .inv .3) (ap (λ (b : Arrival). b .number) (after-arrival-at (after-advance (c .before .before .before .before)) .arrival-at .ensures .0)) (after-advance (c .before .before .before .before) .advance .ensures .0)
+    (passed-stop _ _ _ _ (here (after-arrival-at (after-advance (c .before .before .before .before)) .before))
+    (head (after-arrival-at (after-advance (c .before .before .before .before))) .loop .inv .3)
+    (ap (λ (b : Arrival). b .number) (after-arrival-at (after-advance (c .before .before .before .before)) .arrival-at .ensures .0))
+    (after-advance (c .before .before .before .before) .advance .ensures .0)
     (c .before .before .before .before .before .take-record .ensures) _ (not-true _ (c .before .if2 .taken)))
 
 add-at : tie.Need-add-at Inv-loop μ-loop
@@ -119,7 +144,8 @@ add-at c = omega (arith, fits (c .before .before))
 counts-after-requires : tie.Need-counts-after-requires Inv-loop μ-loop
 counts-after-requires c κs =
     let r = after-arrival-at (after-advance (c .before .before .before .before)) .before in
-    rw (head (after-arrival-at (after-advance (c .before .before .before .before))) .loop .inv .2) (counts-within _ (omega (arith, answers-length _ _ _ (here r), few r)))
+    rw (head (after-arrival-at (after-advance (c .before .before .before .before))) .loop .inv .2)
+    (counts-within _ (omega (arith, answers-length _ _ _ (here r), few r)))
 
 add-i : tie.Need-add-i Inv-loop μ-loop
 add-i c = omega (arith, few (after-arrival-at (after-advance (c .before .before .before .before .before .before)) .before))
@@ -135,7 +161,9 @@ loop-again c =
       omega (arith, h .inside),
       step .2,
       c .before .counts-after .ensures _ _ _ (l .inv .2) (step .1) ∙ sym (ap counts (answers-next _ _ _ h)),
-      passed-next _ _ _ _ h (l .inv .3) (ap (λ (b : Arrival). b .number) (after-arrival-at (after-advance (c .before .before .before .before .before .before)) .arrival-at .ensures .0)) (step .0) (c .before .before .before .before .before .before .before .take-record .ensures)
+      passed-next _ _ _ _ h (l .inv .3) (ap (λ (b : Arrival). b .number)
+          (after-arrival-at (after-advance (c .before .before .before .before .before .before)) .arrival-at .ensures .0)) (step .0)
+          (c .before .before .before .before .before .before .before .take-record .ensures)
           (not-false _ (c .before .before .before .if2 .left)),
     )
 
