@@ -12,14 +12,14 @@ use Rattle.metrics.specs.declared.SampleAgreement.{SampleAgreement}
 unfoldable pub common : List ℕ → List ℕ → ℕ
 common [] t = 0
 common (x ∷ e) [] = 0
-common (x ∷ e) (layout ∷ t) = cond (eqb x layout) (common e t + 1) 0
+common (x ∷ e) (y ∷ t) = cond (eqb x y) (common e t + 1) 0
 
 -- whether two texts are the same
 unfoldable pub sameText : List ℕ → List ℕ → Bool
 sameText [] [] = true
-sameText [] (layout ∷ t) = false
+sameText [] (y ∷ t) = false
 sameText (x ∷ e) [] = false
-sameText (x ∷ e) (layout ∷ t) = eqb x layout && sameText e t
+sameText (x ∷ e) (y ∷ t) = eqb x y && sameText e t
 
 -- a text against the listing of a sample; with a refusal it is not looked at
 unfoldable pub sampleAgreement : Decoded → List ℕ → SampleAgreement
