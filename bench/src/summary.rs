@@ -60,7 +60,7 @@ fn text(file: &[u8]) -> Result<String, u32> {
     let [packets, octets, times] = MEASURES.map(|measure| least_sizes(&sample, measure, SHARES.map(|share| share.1)));
     for (at, (name, _)) in SHARES.into_iter().enumerate() {
         let (ms, micros) = (times[at] / 1000, times[at] % 1000);
-        let _ = writeln!(text, "{name:>9}{ms:9}.{micros:03} ms{:16}{:15}", packets[at], octets[at]);
+        let _ = writeln!(text, "{name:>9} {ms:8}.{micros:03} ms{:16}{:15}", packets[at], octets[at]);
     }
     text += "\nPackets held is an extent, which can be more than a receiver has to hold. ";
     text += "Packets that never arrived are not counted.\n";
