@@ -20,5 +20,6 @@ mod shortlog_calls;
 mod shortnumbers_calls;
 mod summary_calls;
 mod sweep_calls;
+mod table_calls;
 mod textlog_calls;
 mod worse_calls;
