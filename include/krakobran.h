@@ -20,11 +20,12 @@
  * What a caller may rely on:
  * - No function allocates, keeps a pointer, or has a state of its own. So all may be called from many threads, each with
  *   memory of its own to write to.
- * - KRAKOBRAN_STACK_OCTETS octets of stack suffice for any call.
+ * - KRAKOBRAN_TEXT_STACK_OCTETS octets of stack suffice for krakobran_table_csv, krakobran_table_json and
+ *   krakobran_summary_all, and KRAKOBRAN_STACK_OCTETS for any other call.
  * - Every call sets every figure. In a list or text it writes what it says and leaves the places after that as they were.
  * - Every struct has the same layout on every machine, and none is padded. So each may be compared, saved and loaded as memory,
  *   and the same calls give the same memory. Its numbers are in the machine's order of octets.
- * - A sample file, a log, a record, a report and a summary are the same octets on every machine.
+ * - A sample file, a log, a record, a report, a summary and a table are the same octets on every machine.
  *
  * What is assumed of a machine:
  * - An octet is an unsigned char, and a uint64_t is aligned to 8 octets, which leaves out i386. C11 and C++11 check this here.
@@ -97,24 +98,44 @@ enum {
     KRAKOBRAN_MEASURE_TIME = 2     /* microseconds waited: the late time, 0 if the packet is stamped before its discontinuity */
 };
 
+/* Faults of a line of a text log: what stands where its form breaks first. */
+enum {
+    KRAKOBRAN_FAULT_NONE = 0,            /* of the form, and the number fits 32 bits */
+    KRAKOBRAN_FAULT_BYTE_ORDER_MARK = 1, /* it begins with the byte order mark of UTF-8 */
+    KRAKOBRAN_FAULT_EMPTY_LINE = 2,      /* nothing before the line feed */
+    KRAKOBRAN_FAULT_NO_DIGIT = 3,        /* it begins with no digit, an empty text among it */
+    KRAKOBRAN_FAULT_CARRIAGE_RETURN = 4, /* a carriage return, as before the line feed of a Windows file */
+    KRAKOBRAN_FAULT_NO_LINE_FEED = 5,    /* it ends before its line feed */
+    KRAKOBRAN_FAULT_NUMBER_OVER = 6,     /* a number over 32 bits */
+    KRAKOBRAN_FAULT_MANY_DECIMALS = 7,   /* more than three decimals */
+    KRAKOBRAN_FAULT_OTHER = 8            /* another octet that breaks the form */
+};
+
 /* Limits (MOST), and lengths of lists in places, octets or numbers. */
 enum {
-    KRAKOBRAN_LABEL_MOST = 64,            /* octets of a label, at most */
-    KRAKOBRAN_SENT_MOST = 4096,           /* sent packets (K) of a sample, a receiver or a stream, at most */
-    KRAKOBRAN_ARRIVALS_MOST = 4096,       /* arrivals of a sample (A), at most, and those that a receiver or a stream accepts */
-    KRAKOBRAN_TIME_BACK_MOST = 1000,      /* microseconds by which an arrival may be stamped before the greatest earlier time */
-    KRAKOBRAN_DEGREE_MOST = 100,          /* the greatest n of a degree of n-reordering */
-    KRAKOBRAN_KEPT_MOST = 48,             /* jumps that one stream of a meter keeps, at most */
-    KRAKOBRAN_WINDOW_PLACES = 64,         /* jumps that a receiver keeps, and places that the streams of a meter share */
-    KRAKOBRAN_TALLY_PLACES = 101,         /* places of an extent tally */
-    KRAKOBRAN_SWEEP_TABLE_PLACES = 4096,  /* places of the table that a sweep needs */
-    KRAKOBRAN_ROW_NUMBERS = 8,            /* numbers in the row of a record */
-    KRAKOBRAN_FILE_OCTETS = 57414,        /* octets of the longest sample file */
-    KRAKOBRAN_OWAMP_RECORD_OCTETS = 25,   /* octets of an OWAMP packet record */
-    KRAKOBRAN_REPORT_OCTETS = 262144,     /* octets that suffice for any report */
-    KRAKOBRAN_SUMMARY_OCTETS = 2048,      /* octets that suffice for any summary */
-    KRAKOBRAN_WORDS_OCTETS = 128,         /* octets that suffice for the words of any refusal */
-    KRAKOBRAN_STACK_OCTETS = 40960        /* octets of stack that suffice for any call */
+    KRAKOBRAN_LABEL_MOST = 64,             /* octets of a label, at most */
+    KRAKOBRAN_SENT_MOST = 4096,            /* sent packets (K) of a sample, a receiver or a stream, at most */
+    KRAKOBRAN_ARRIVALS_MOST = 4096,        /* arrivals of a sample (A), at most, and those that a receiver or a stream accepts */
+    KRAKOBRAN_TIME_BACK_MOST = 1000,       /* microseconds by which an arrival may be stamped before the greatest earlier time */
+    KRAKOBRAN_DEGREE_MOST = 100,           /* the greatest n of a degree of n-reordering */
+    KRAKOBRAN_KEPT_MOST = 48,              /* jumps that one stream of a meter keeps, at most */
+    KRAKOBRAN_WINDOW_PLACES = 64,          /* jumps that a receiver keeps, and places that the streams of a meter share */
+    KRAKOBRAN_TALLY_PLACES = 101,          /* places of an extent tally */
+    KRAKOBRAN_SWEEP_TABLE_PLACES = 4096,   /* places of the table that a sweep needs */
+    KRAKOBRAN_ROW_NUMBERS = 8,             /* numbers in the row of a record */
+    KRAKOBRAN_STEP_PLACES = 128,           /* sizes of a buffer that krakobran_accommodated_steps tries */
+    KRAKOBRAN_FILE_OCTETS = 57414,         /* octets of the longest sample file */
+    KRAKOBRAN_OWAMP_RECORD_OCTETS = 25,    /* octets of an OWAMP packet record */
+    KRAKOBRAN_REPORT_OCTETS = 262144,      /* octets that suffice for any report */
+    KRAKOBRAN_SUMMARY_OCTETS = 2048,       /* octets that suffice for any summary */
+    KRAKOBRAN_SUMMARY_ALL_OCTETS = 200704, /* octets that suffice for any summary with all figures */
+    KRAKOBRAN_LABEL_JSON_OCTETS = 139,     /* octets that suffice for any label as the first member of an object of JSON */
+    KRAKOBRAN_TABLE_PARTS = 18,            /* parts of the table of a sample's records */
+    KRAKOBRAN_TABLE_PART_OCTETS = 131072,  /* octets that suffice for any part of it */
+    KRAKOBRAN_WORDS_OCTETS = 128,          /* octets that suffice for the words of any refusal */
+    KRAKOBRAN_STACK_OCTETS = 40960,        /* octets of stack that suffice for any call but three */
+    KRAKOBRAN_TEXT_STACK_OCTETS = 53248    /* octets of stack that suffice for krakobran_table_csv, krakobran_table_json and
+                                              krakobran_summary_all */
 };
 
 /* ---- the sample file
@@ -138,7 +159,7 @@ typedef struct {
     uint64_t arrivals;
 } krakobran_layout;
 
-/* A part of a file: the offset of its first octet, and its octets. A label starts at 2, also an empty one. */
+/* A part of a file or of a text: the offset of its first octet, and its octets. A label starts at 2, also an empty one. */
 typedef struct {
     uint64_t start;
     uint64_t length;
@@ -192,6 +213,14 @@ typedef struct {
 
 /* Reads one line of a text log, with its line feed. The number may be any of 32 bits. Refusals: 14. */
 uint64_t krakobran_log_read_line(const uint8_t *line, uint64_t octets, krakobran_arrival *arrival);
+
+/* Returns what is wrong with one line of a text log, with its line feed: one of KRAKOBRAN_FAULT_NONE and the numbers after
+ * it. A line that krakobran_log_read_line refuses and that has no fault has a time over its range. It has no refusal. */
+uint64_t krakobran_log_line_fault(const uint8_t *line, uint64_t octets);
+
+/* Finds line n of a text, counted from 0, with the line feed that ends it, as a part of the text; the empty part at the end
+ * of the text if there is no line n. It has no refusal. */
+void krakobran_text_line(const uint8_t *text, uint64_t octets, uint64_t n, krakobran_part *part);
 
 /* The same imports of logs whose sequence numbers are short: the lowest 8 or 10 bits. The lists get the full numbers, each
  * found from the greatest number of the lines before it, as krakobran_full_numbers_8 and _10 find them. 6 also for a short
@@ -361,6 +390,13 @@ typedef struct {
     uint64_t arrived;
 } krakobran_accommodated_counts;
 
+/* How many first arrivals there are (L), the greatest need, and how many first arrivals a buffer of each size accommodates. */
+typedef struct {
+    uint64_t arrived;
+    uint64_t greatest;
+    uint64_t counts[KRAKOBRAN_STEP_PLACES];
+} krakobran_steps;
+
 /* What the packet that needs most needs, by each measure. */
 uint64_t krakobran_greatest_needs(const uint8_t *file, uint64_t octets, krakobran_needs *needs);
 
@@ -368,12 +404,17 @@ uint64_t krakobran_greatest_needs(const uint8_t *file, uint64_t octets, krakobra
 uint64_t krakobran_accommodated(const uint8_t *file, uint64_t octets, uint32_t measure, uint64_t size,
                                 krakobran_accommodated_counts *counts);
 
+/* The same for KRAKOBRAN_STEP_PLACES sizes in one pass: at place j for a buffer of low + j * 2^shift. A size may exceed 64
+ * bits: nothing wraps. */
+uint64_t krakobran_accommodated_steps(const uint8_t *file, uint64_t octets, uint32_t measure, uint64_t low, uint32_t shift,
+                                      krakobran_steps *steps);
+
 /* The least size that accommodates at least part in whole of the first arrivals: 95 in 100, or 1 in 1 for all. 9 also for
  * a part outside 1 to whole. */
 uint64_t krakobran_least_size(const uint8_t *file, uint64_t octets, uint32_t measure, uint32_t part, uint32_t whole,
                               uint64_t *size);
 
-/* ---- texts of a sample: report and summary */
+/* ---- texts of a sample: report, summary and table */
 
 /* Writes the report of a sample from the start of out, and the number of its octets to length. Any report fits into
  * KRAKOBRAN_REPORT_OCTETS places. Refusals: the file's; 8 if this one does not fit. */
@@ -398,6 +439,27 @@ uint64_t krakobran_summary_write(const uint8_t *file, uint64_t octets, uint8_t *
 /* The same as one object of JSON and a line feed, with the label; times are in microseconds. It fits into
  * KRAKOBRAN_SUMMARY_OCTETS places too. Refusals: the file's; 8. */
 uint64_t krakobran_summary_json(const uint8_t *file, uint64_t octets, uint8_t *out, uint64_t room, uint64_t *length);
+
+/* Writes the summary with the other figures of the whole sample: the tally of extents, how many packets are n-reordered, the
+ * gaps and the runs. Any such text fits into KRAKOBRAN_SUMMARY_ALL_OCTETS places. Refusals: the file's; 8 if this one does
+ * not fit. */
+uint64_t krakobran_summary_all(const uint8_t *file, uint64_t octets, uint8_t *out, uint64_t room, uint64_t *length);
+
+/* Writes a label as the first member of an object of JSON, with the brace that opens it, from the start of out, and the
+ * number of its octets to length. Any label fits into KRAKOBRAN_LABEL_JSON_OCTETS places. Refusals: 3; 8 if this one does
+ * not fit. */
+uint64_t krakobran_label_json(const uint8_t *label, uint64_t label_octets, uint8_t *out, uint64_t room, uint64_t *length);
+
+/* Writes a part of the table of a sample's records from the start of out, and the number of its octets to length: a line of
+ * names, a line for each record and one with the counts, their values separated by commas. Parts 0 to KRAKOBRAN_TABLE_PARTS
+ * less 1, one after the other, are the whole table; any other part is empty. Any part fits into
+ * KRAKOBRAN_TABLE_PART_OCTETS places. Refusals: the file's; 8 if this one does not fit. */
+uint64_t krakobran_table_csv(const uint8_t *file, uint64_t octets, uint32_t part, uint8_t *out, uint64_t room,
+                             uint64_t *length);
+
+/* The same of one object of JSON and a line feed: the label, every record as an object, and the counts. */
+uint64_t krakobran_table_json(const uint8_t *file, uint64_t octets, uint32_t part, uint8_t *out, uint64_t room,
+                              uint64_t *length);
 
 /* ---- packets that are cut on the way
  *
@@ -604,6 +666,10 @@ KRAKOBRAN_AT(krakobran_needs, time, 16);
 KRAKOBRAN_SIZE(krakobran_accommodated_counts, 16);
 KRAKOBRAN_AT(krakobran_accommodated_counts, accommodated, 0);
 KRAKOBRAN_AT(krakobran_accommodated_counts, arrived, 8);
+KRAKOBRAN_SIZE(krakobran_steps, 16 + 8 * KRAKOBRAN_STEP_PLACES);
+KRAKOBRAN_AT(krakobran_steps, arrived, 0);
+KRAKOBRAN_AT(krakobran_steps, greatest, 8);
+KRAKOBRAN_AT(krakobran_steps, counts, 16);
 KRAKOBRAN_SIZE(krakobran_verdict, 16);
 KRAKOBRAN_AT(krakobran_verdict, agrees, 0);
 KRAKOBRAN_AT(krakobran_verdict, line, 8);
