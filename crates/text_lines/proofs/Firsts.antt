@@ -12,7 +12,7 @@ use lib.ListN.{length, getD, take, drop, length-append, drop-of-length-le}
 use lib.Seq.{drop-cons, drop-at, drop-drop, take-append-seam}
 use Rattle.octets.specs.Text.{lineFeed, inFront, lines}
 use Rattle.octets.proofs.Text.{first-line}
-use Rattle.text_lines.specs.Line.{lineOf, lineStart, FirstLineEnds}
+use Rattle.text_lines.specs.Line.{lineOf, lineStart, linePart, LineThere, FirstLineEnds}
 
 pub feed : (o : ℕ) (t : List ℕ) → o ≡ lineFeed → lineOf 0 (o ∷ t) ≡ o ∷ []
 unfolding lineOf lines
@@ -106,6 +106,26 @@ pub first-part : (text : List ℕ) (at end : ℕ) → FirstLineEnds text at end 
 first-part text at end f =
     let e : end - at ≡ length (lineOf 0 (drop at text)) = omega (arith, f .place) in
     ap (λ (k : ℕ). take k (drop at text)) e ∙ sym (first-taken (drop at text))
+
+-- line n of a text whose start and end are known: it is the first line from its start on
+module _ (n : ℕ) (text : List ℕ) (start end : ℕ) (line : lineOf n text ≡ lineOf 0 (drop start text)) (at : lineStart n text ≡ start)
+    (f : FirstLineEnds text start end) where
+  long : end - start ≡ length (lineOf n text)
+  long =
+      let l : length (lineOf n text) ≡ length (lineOf 0 (drop start text)) = ap length line in
+      omega (arith, l, f .place)
+
+  -- as a part
+  pub part-told : record { start = start; length = end - start } ≡ linePart n text
+  part-told = rw (at, sym long) refl
+
+  pub part-there : LineThere n text
+  part-there =
+      let l : length (lineOf n text) ≡ length (lineOf 0 (drop start text)) = ap length line in
+      record {
+        within = omega (arith, l, at, f .place, f .within);
+        line = rw at (ap (λ (k : ℕ). take k (drop start text)) (sym long) ∙ first-part text start end f ∙ sym line);
+      }
 
 -- ---- the search for the end of the line that begins at `at`
 

@@ -1,8 +1,14 @@
-// Finds line n of a text. The public call is total.
+// Finds line n of a text. The public calls are total.
 ghost use mathlib.Core.Path.{_≡_};
 ghost use Prim.Native.Nat.{_+_, _≤_};
 ghost use lib.ListN.{length, drop};
-ghost use Rattle.text_lines.specs.Line.{lineOf, lineStart, FirstLineEnds};
+ghost use Rattle.text_lines.specs.Line.{lineOf, lineStart, linePart, LineThere, FirstLineEnds};
+
+// A part of a text: the offset of its first octet, and the number of its octets.
+pub struct LinePart {
+    pub start: usize,
+    pub length: usize,
+}
 
 // The offset after the line that begins at `at`: after its line feed, or the end of the text.
 fn line_end(text: &[u8], at: usize) -> usize
@@ -33,13 +39,27 @@ fn line_start(text: &[u8], n: usize) -> usize
     at
 }
 
-// Returns line n of a text, counted from 0, with the line feed that ends it, as a part of the text. If there is no line n, returns the
-// empty part at the end of the text. Cost: O(n + octets).
+// Returns the offset and the length of line n of a text, counted from 0, with the line feed that ends it. If there is no line n, returns
+// the end of the text and 0. Cost: O(n + octets).
+pub fn line_part(text: &[u8], n: usize) -> LinePart
+    ensures { λ r. ⌜ r ≡ linePart n (now (text .entry)) ⌝ }
+    ensures there { λ _. ⌜ LineThere n (now (text .entry)) ⌝ }
+{
+    let start = line_start(text, n);
+    let end = line_end(text, start);
+    LinePart {
+        start,
+        length: end - start,
+    }
+}
+
+// Returns line n of a text as a part of the text: the part that `line_part` tells.
 pub fn line_of(text: &[u8], n: usize) -> &[u8]
     ensures { λ r. ⌜ (now r ≡ lineOf n (now (text .entry)))
         × (r .ptr ≡ (text .entry .ptr .0, lineStart n (now (text .entry)) + text .entry .ptr .1)) ⌝ }
 {
-    let start = line_start(text, n);
-    let end = line_end(text, start);
+    let part = line_part(text, n);
+    let start = part.start;
+    let end = start + part.length;
     &text[start..end]
 }
