@@ -82,6 +82,16 @@ pub start-first : (t : List ℕ) → lineStart 0 t ≡ 0
 unfolding lineStart flatten
 start-first t = refl
 
+-- from the end of the text on every line is empty, and starts there
+none-of : (n : ℕ) → (lineOf n [] ≡ lineOf 0 []) × (lineStart n [] ≡ 0)
+unfolding lineOf lineStart lines flatten
+none-of zero = (refl, refl)
+none-of (suc n) = (refl, refl)
+
+pub none-after : (text : List ℕ) (at n : ℕ) → length text ≤ at
+    → (lineOf n (drop at text) ≡ lineOf 0 (drop at text)) × (lineStart n (drop at text) ≡ 0)
+none-after text at n h = rw (drop-of-length-le text h) (none-of n)
+
 -- the line after the first of what a text has from `at` on
 pub line-after : (text : List ℕ) (at end n : ℕ) → 0 < n → FirstLineEnds text at end
     → lineOf n (drop at text) ≡ lineOf (n - 1) (drop end text)

@@ -1,5 +1,6 @@
 -- `text_lines::line_start` meets its contract. Invariant: line n of the text is line `left` of the text from `at` on (`line-after`), and
--- starts where that does (`start-after`). Measure: the number of lines left. Assumes nothing.
+-- starts where that does (`start-after`). At the end of the text there is no other line (`none-after`). Measure: the number of lines left.
+-- Assumes nothing.
 use Prim.Native.Nat.{ℕ, _+_, _≤_}
 use native.Mathlib.Omega.{arith}
 use native.Mathlib.Nat.{zero-add}
@@ -8,7 +9,7 @@ use borrow.Author.Needs.{needs}
 use denote.Ref.{now}
 use lib.ListN.{length, drop}
 use Rattle.text_lines.specs.Line.{lineOf, lineStart}
-use Rattle.text_lines.proofs.Firsts.{line-after, start-first, start-after}
+use Rattle.text_lines.proofs.Firsts.{none-after, line-after, start-first, start-after}
 use Rattle.text_lines.proofs.line_start.Statement.{statement}
 use Rattle.text_lines.proofs.line_start.Tie as tie
 
@@ -27,16 +28,24 @@ line-end-requires c κs = search needs
 
 loop-again : tie.Need-loop-again Inv-loop μ-loop
 loop-again c =
-    let l = c .before .before .loop in
-    let text = now (c .before .before .before .before .args .text) in
+    let l = c .before .before .before .loop in
+    let text = now (c .before .before .before .before .before .args .text) in
     let e = c .line-end in
-    let some = c .before .loop-test .taken in (
+    let some = c .before .before .loop-test .taken in (
       e .ensures .within,
       l .inv .1 ∙ line-after text (l .at) (e .result) (l .left) some (e .ensures),
       l .inv .2 ∙ start-after text (l .at) (e .result) (l .left) some (e .ensures),
     )
 
-returns : tie.Need-returns Inv-loop μ-loop
+-- the text ends here
+returns-early : tie.Need-returns Inv-loop μ-loop
+returns-early c =
+    let l = c .before .before .loop in
+    let text = now (c .before .before .before .before .args .text) in
+    let n = none-after text (l .at) (l .left) (omega (arith, c .if1 .taken)) in
+    (l .inv .0, l .inv .1 ∙ n .0, omega (arith, l .inv .2, n .1))
+
+returns : tie.Need-returns-2 Inv-loop μ-loop
 returns c =
     let l = c .before .loop in
     let text = now (c .before .before .before .args .text) in
@@ -47,4 +56,4 @@ returns c =
 pub line-start-spec : {M : Type 1} → statement M
 line-start-spec =
     tie.close
-    (tie.spec Inv-loop μ-loop loop-holds line-end-requires (λ c. search needs) (λ c. omega arith) loop-again returns)
+    (tie.spec Inv-loop μ-loop loop-holds returns-early line-end-requires (λ c. search needs) (λ c. omega arith) loop-again returns)
