@@ -3,21 +3,23 @@
 use Prim.Native.Nat.{ℕ, zero, suc, _<_}
 use native.Mathlib.Omega.{arith}
 use mathlib.Core.Bool.{true, false}
-use mathlib.Core.Path.{_≡_, refl, sym, ap, _∙_}
-use mathlib.Core.List.{[], _∷_}
+use mathlib.Core.Path.{_≡_, refl, sym, ap, subst, _∙_}
+use mathlib.Core.List.{List, [], _∷_}
+use lib.ListN.{getD, replicate, getD-replicate}
 use Rattle.rfc4737.specs.declared.Measure.{Measure}
 use Rattle.rfc4737.specs.Refusals.{outside, firstRefusal, askedOutside}
 use Rattle.rfc4737.specs.Arrivals.{count, each, eachAfter}
 use Rattle.rfc4737.specs.Answer.{answers}
 use Rattle.rfc4737.specs.Runs.{arrived}
-use Rattle.rfc4737.specs.Needs.{accommodated}
+use Rattle.rfc4737.specs.Needs.{accommodated, greatestNeed, greatest}
 use Rattle.sample.specs.Decode.{Decoded, refused, decodedRefusal}
 use Rattle.metrics.specs.declared.SampleAccommodated.{SampleAccommodated}
-use Rattle.metrics.specs.Figures.{sampleAccommodated}
+use Rattle.metrics.specs.declared.SampleSteps.{SampleSteps}
+use Rattle.metrics.specs.Figures.{sampleAccommodated, stepCount, StepsOf}
 use Rattle.buffering.specs.declared.SampleLeast.{SampleLeast}
 use Rattle.buffering.specs.Least.{sampleLeast}
 use Rattle.buffering.proofs.Sizes.{least-refused}
-use Rattle.capi.specs.Buffering.{measureOf, withMeasure}
+use Rattle.capi.specs.Buffering.{measureOf, withMeasure, stepsTold}
 
 -- ---- of a refused file
 
@@ -25,6 +27,11 @@ accommodated-none : (m : Measure) (size r : ℕ) → record { refusal = r; accom
     ≡ sampleAccommodated (refused r) m size
 unfolding sampleAccommodated accommodated arrived count answers each eachAfter
 accommodated-none m size r = refl
+
+steps-none : (m : Measure) (low shift r : ℕ) → StepsOf (refused r) m low shift (stepsTold r (replicate (suc (suc stepCount)) 0))
+unfolding accommodated arrived greatestNeed greatest count answers each eachAfter
+steps-none m low shift r =
+    record { refusal = refl; many = refl; most = refl; places = refl; at = λ j few. getD-replicate stepCount j 0 0 few }
 
 -- the refusal of what is asked in no measure is one
 is-refusal : (r : ℕ) → 0 < firstRefusal (r ∷ askedOutside ∷ [])
@@ -44,6 +51,12 @@ module _ (n : ℕ) (d : Decoded) where
     accommodated-in-none size =
         accommodated-none (measureOf n) size r ∙ ap (λ (x : Decoded). sampleAccommodated x (measureOf n) size) (sym none)
 
+    pub steps-in-none : (low shift : ℕ)
+        → StepsOf (withMeasure n d) (measureOf n) low shift (stepsTold r (replicate (suc (suc stepCount)) 0))
+    steps-in-none low shift =
+        subst (λ (x : Decoded). StepsOf x (measureOf n) low shift (stepsTold r (replicate (suc (suc stepCount)) 0))) (sym none)
+        (steps-none (measureOf n) low shift r)
+
     pub least-in-none : (part whole : ℕ) → record { refusal = r; size = 0 } ≡ sampleLeast (withMeasure n d) (measureOf n) part whole
     least-in-none part whole =
         least-refused (refused r) (measureOf n) part whole r refl (λ z. omega (arith, z, f, is-refusal (decodedRefusal d)))
@@ -58,6 +71,12 @@ module _ (n : ℕ) (d : Decoded) where
         → x ≡ sampleAccommodated (withMeasure n d) (measureOf n) size
     accommodated-in size x h =
         h ∙ ap (λ (k : Measure). sampleAccommodated d k size) f ∙ ap (λ (y : Decoded). sampleAccommodated y (measureOf n) size) (sym some)
+
+    pub steps-in : (low shift : ℕ) (x : SampleSteps) (figures : List ℕ) → StepsOf d m low shift x
+        → figures ≡ x .arrived ∷ x .greatest ∷ x .counts
+        → StepsOf (withMeasure n d) (measureOf n) low shift (stepsTold (x .refusal) figures)
+    steps-in low shift x figures h e =
+        rw (e, some, ← f) (record { refusal = h .refusal; many = h .many; most = h .most; places = h .places; at = h .at })
 
     pub least-in : (part whole : ℕ) (x : SampleLeast) → x ≡ sampleLeast d m part whole
         → x ≡ sampleLeast (withMeasure n d) (measureOf n) part whole
