@@ -9,7 +9,7 @@ use mathlib.Core.Path.{_≡_, refl, sym, ap, _∙_}
 use mathlib.Core.List.{List, [], _∷_, _++_, flatten}
 use borrow.Author.Tests.{eq-eqb, ne-eqb}
 use lib.ListN.{length, getD, take, drop, length-append, drop-of-length-le}
-use lib.Seq.{drop-cons, drop-at, drop-drop, take-append-seam}
+use lib.Seq.{take-nil, drop-cons, drop-at, drop-drop, take-append-seam}
 use Rattle.octets.specs.Text.{lineFeed, inFront, lines}
 use Rattle.octets.proofs.Text.{first-line}
 use Rattle.text_lines.specs.Line.{lineOf, lineStart, linePart, LineThere, FirstLineEnds}
@@ -82,15 +82,14 @@ pub start-first : (t : List ℕ) → lineStart 0 t ≡ 0
 unfolding lineStart flatten
 start-first t = refl
 
--- from the end of the text on every line is empty, and starts there
-none-of : (n : ℕ) → (lineOf n [] ≡ lineOf 0 []) × (lineStart n [] ≡ 0)
-unfolding lineOf lineStart lines flatten
-none-of zero = (refl, refl)
-none-of (suc n) = (refl, refl)
+-- at the end of a text there is no line, and each starts there
+pub line-none : (text : List ℕ) (at n : ℕ) → length text ≤ at → lineOf n (drop at text) ≡ lineOf 0 (drop at text)
+unfolding lineOf lines
+line-none text at n h = rw (drop-of-length-le text h) refl
 
-pub none-after : (text : List ℕ) (at n : ℕ) → length text ≤ at
-    → (lineOf n (drop at text) ≡ lineOf 0 (drop at text)) × (lineStart n (drop at text) ≡ 0)
-none-after text at n h = rw (drop-of-length-le text h) (none-of n)
+pub start-last : (text : List ℕ) (at n : ℕ) → length text ≤ at → lineStart n (drop at text) ≡ 0
+unfolding lineStart lines flatten
+start-last text at n h = rw (drop-of-length-le text h, take-nil {A = List ℕ} n) refl
 
 -- the line after the first of what a text has from `at` on
 pub line-after : (text : List ℕ) (at end n : ℕ) → 0 < n → FirstLineEnds text at end

@@ -33,7 +33,7 @@ fn line_start(text: &[u8], n: usize) -> usize
     let mut at = 0;
     let mut left = n;
     while 0 < left {
-        if at == text.len() {
+        if text.len() <= at {
             return at;
         }
         at = line_end(text, at);
@@ -43,7 +43,7 @@ fn line_start(text: &[u8], n: usize) -> usize
 }
 
 // Returns the offset and the length of line n of a text, counted from 0, with the line feed that ends it. If there is no line n, returns
-// the end of the text and 0. Cost: O(octets).
+// the end of the text and 0. Cost: O(octets up to its end).
 pub fn line_part(text: &[u8], n: usize) -> LinePart
     ensures { λ r. ⌜ r ≡ linePart n (now (text .entry)) ⌝ }
     ensures there { λ _. ⌜ LineThere n (now (text .entry)) ⌝ }

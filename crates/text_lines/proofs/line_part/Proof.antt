@@ -17,4 +17,7 @@ returns c =
     )
 
 pub line-part-spec : {M : Type 1} → statement M
-line-part-spec = tie.close (tie.spec (λ c κs. search needs) (λ c κs. search needs) (λ c. omega (arith, c .line-end .ensures .place)) returns)
+line-part-spec =
+    tie.close
+    (tie.spec
+    (λ c κs. search needs) (λ c κs. search needs) (λ c. omega (arith, c .line-end .ensures .place)) returns)

@@ -1,6 +1,6 @@
 -- `text_lines::line_start` meets its contract. Invariant: line n of the text is line `left` of the text from `at` on (`line-after`), and
--- starts where that does (`start-after`). At the end of the text there is no other line (`none-after`). Measure: the number of lines left.
--- Assumes nothing.
+-- starts where that does (`start-after`). At the end of the text there is none (`line-none`). Measure: the number of lines left. Assumes
+-- nothing.
 use Prim.Native.Nat.{ℕ, _+_, _≤_}
 use native.Mathlib.Omega.{arith}
 use native.Mathlib.Nat.{zero-add}
@@ -9,7 +9,7 @@ use borrow.Author.Needs.{needs}
 use denote.Ref.{now}
 use lib.ListN.{length, drop}
 use Rattle.text_lines.specs.Line.{lineOf, lineStart}
-use Rattle.text_lines.proofs.Firsts.{none-after, line-after, start-first, start-after}
+use Rattle.text_lines.proofs.Firsts.{line-none, start-last, line-after, start-first, start-after}
 use Rattle.text_lines.proofs.line_start.Statement.{statement}
 use Rattle.text_lines.proofs.line_start.Tie as tie
 
@@ -26,6 +26,16 @@ loop-holds c = (omega arith, refl, sym (zero-add _))
 line-end-requires : tie.Need-line-end-requires Inv-loop μ-loop
 line-end-requires c κs = search needs
 
+returns : tie.Need-returns Inv-loop μ-loop
+returns c =
+    let l = c .before .before .loop in
+    let text = now (c .before .before .before .before .args .text) in
+    let last = c .if1 .taken in (
+      l .inv .0,
+      l .inv .1 ∙ line-none text (l .at) (l .left) last,
+      omega (arith, l .inv .2, start-last text (l .at) (l .left) last),
+    )
+
 loop-again : tie.Need-loop-again Inv-loop μ-loop
 loop-again c =
     let l = c .before .before .before .loop in
@@ -37,16 +47,8 @@ loop-again c =
       l .inv .2 ∙ start-after text (l .at) (e .result) (l .left) some (e .ensures),
     )
 
--- the text ends here
-returns-early : tie.Need-returns Inv-loop μ-loop
-returns-early c =
-    let l = c .before .before .loop in
-    let text = now (c .before .before .before .before .args .text) in
-    let n = none-after text (l .at) (l .left) (omega (arith, c .if1 .taken)) in
-    (l .inv .0, l .inv .1 ∙ n .0, omega (arith, l .inv .2, n .1))
-
-returns : tie.Need-returns-2 Inv-loop μ-loop
-returns c =
+returns-2 : tie.Need-returns-2 Inv-loop μ-loop
+returns-2 c =
     let l = c .before .loop in
     let text = now (c .before .before .before .args .text) in
     let z : l .left ≡ 0 = omega (arith, c .loop-test .left) in
@@ -56,4 +58,4 @@ returns c =
 pub line-start-spec : {M : Type 1} → statement M
 line-start-spec =
     tie.close
-    (tie.spec Inv-loop μ-loop loop-holds returns-early line-end-requires (λ c. search needs) (λ c. omega arith) loop-again returns)
+    (tie.spec Inv-loop μ-loop loop-holds returns line-end-requires (λ c. search needs) (λ c. omega arith) loop-again returns-2)

@@ -48,8 +48,9 @@ returns c =
     let l = c .before .loop in
     let s = c .before .before in
     let n = s .pre in
-    let e = copy-done 2 (s .args .t3) (empty (s .args .arrived) (s .args .greatest)) (l .j) (omega (arith, n, c .loop-test .left)) (l .inv .1) in
-    told (s .args .arrived) (s .args .greatest) (s .args .t3) (l .figures) n e
+    let a = s .args in
+    let e = copy-done 2 (a .t3) (empty (a .arrived) (a .greatest)) (l .j) (omega (arith, n, c .loop-test .left)) (l .inv .1) in
+    told (a .arrived) (a .greatest) (a .t3) (l .figures) n e
 
 pub step-figures-spec : {M : Type 1} → statement M
 step-figures-spec =
