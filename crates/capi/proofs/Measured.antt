@@ -5,7 +5,7 @@ use native.Mathlib.Omega.{arith}
 use mathlib.Core.Bool.{true, false}
 use mathlib.Core.Path.{_≡_, refl, sym, ap, subst, _∙_}
 use mathlib.Core.List.{List, [], _∷_}
-use lib.ListN.{getD, replicate, getD-replicate}
+use lib.ListN.{replicate, getD-replicate}
 use Rattle.rfc4737.specs.declared.Measure.{Measure}
 use Rattle.rfc4737.specs.Refusals.{outside, firstRefusal, askedOutside}
 use Rattle.rfc4737.specs.Arrivals.{count, each, eachAfter}

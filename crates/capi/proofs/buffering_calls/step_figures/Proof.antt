@@ -1,13 +1,13 @@
 -- `capi::buffering_calls::step_figures` meets its contract. Invariant: the figures are L, the greatest need, the first j counts, and
 -- zeros. A turn stores the next count (`copy-next`). Measure: the number of counts left. Assumes nothing.
-use Prim.Native.Nat.{ℕ, _+_, _-_, _≤_, _<_}
+use Prim.Native.Nat.{ℕ, _+_, _-_, _≤_}
 use native.Mathlib.Omega.{arith}
-use mathlib.Core.Path.{_≡_, refl, sym, ap, _∙_}
+use mathlib.Core.Path.{_≡_, refl, ap, _∙_}
 use mathlib.Core.List.{List, [], _∷_, _++_, append-nil}
 use borrow.Author.Needs.{needs}
 use lib.ListN.{length, take, drop, replicate}
 use Rattle.octets.specs.Memory.{splice}
-use Rattle.octets.proofs.Memory.{copy-start, copy-length, copy-next, copy-done}
+use Rattle.octets.proofs.Memory.{copy-start, copy-next, copy-done}
 use Rattle.metrics.specs.Figures.{stepCount}
 use Rattle.capi.proofs.buffering_calls.step_figures.Statement.{statement}
 use Rattle.capi.proofs.buffering_calls.step_figures.Tie as tie
