@@ -115,7 +115,37 @@ static const krakobran_row small_rows[ARRIVALS] = {
 static const char small_report[] = "sent 6 arrivals 7\n1 1 in 1 0\n2 2 in 2 0\n3 4 in 3 1\n4 6 in 4 1\n5 3 late 5 2 30 100 2\n"
                                    "6 3 copy 5\n7 5 late 6 2 -5 60 0\nend 6 2 1 2 16 0\n";
 static const char small_log[] = "1;0,010\n2;0,020\n4;0,040\n6;0,050\n3;0,070\n3;0,080\n5;0,045\n";
-enum { REPORT = sizeof small_report - 1, LOG = sizeof small_log - 1 };
+/* What a summary with all figures has after the summary, and the table of records. */
+static const char small_more[] =
+    "\nExtents, and how many packets have each:\n    2: 2\n    over 100: 0\n\n"
+    "n, and how many packets are n-reordered:\n    1: 1\n    2: 1\n    3: 0\n    4: 0\n    5: 0\n    6: 0\n"
+    "    7: 0\n    8: 0\n    9: 0\n    10: 0\n\nRecords that have a gap, and the gap in positions:\n"
+    "    4: 1\n\nRuns in order: 2 ended, the sum of their squares 16, packets in the open one 0\n";
+static const char small_csv[] =
+    "record,number,time_us,kind,position,jump_size,extent,late_us,byte_offset,largest_n,first_copy,sent,"
+    "arrivals,arrived,reordered,copies,closed_runs,sum_of_squares,open_run\n"
+    "1,1,10,in_order,1,0,,,,,,,,,,,,,\n"
+    "2,2,20,in_order,2,0,,,,,,,,,,,,,\n"
+    "3,4,40,in_order,3,1,,,,,,,,,,,,,\n"
+    "4,6,50,in_order,4,1,,,,,,,,,,,,,\n"
+    "5,3,70,reordered,5,,2,30,100,2,,,,,,,,,\n"
+    "6,3,80,copy,,,,,,,5,,,,,,,,\n"
+    "7,5,45,reordered,6,,2,-5,60,0,,,,,,,,,\n"
+    ",,,counts,,,,,,,,6,7,6,2,1,2,16,0\n";
+static const char small_json[] =
+    "{\"label\":\"cellar\",\"records\":[\n"
+    "{\"record\":1,\"number\":1,\"time_us\":10,\"kind\":\"in_order\",\"position\":1,\"jump_size\":0},\n"
+    "{\"record\":2,\"number\":2,\"time_us\":20,\"kind\":\"in_order\",\"position\":2,\"jump_size\":0},\n"
+    "{\"record\":3,\"number\":4,\"time_us\":40,\"kind\":\"in_order\",\"position\":3,\"jump_size\":1},\n"
+    "{\"record\":4,\"number\":6,\"time_us\":50,\"kind\":\"in_order\",\"position\":4,\"jump_size\":1},\n"
+    "{\"record\":5,\"number\":3,\"time_us\":70,\"kind\":\"reordered\",\"position\":5,\"extent\":2,"
+    "\"late_us\":30,\"byte_offset\":100,\"largest_n\":2},\n"
+    "{\"record\":6,\"number\":3,\"time_us\":80,\"kind\":\"copy\",\"first_copy\":5},\n"
+    "{\"record\":7,\"number\":5,\"time_us\":45,\"kind\":\"reordered\",\"position\":6,\"extent\":2,"
+    "\"late_us\":-5,\"byte_offset\":60,\"largest_n\":0}\n"
+    "],\"counts\":{\"sent\":6,\"arrivals\":7,\"arrived\":6,\"reordered\":2,\"copies\":1,"
+    "\"closed_runs\":2,\"sum_of_squares\":16,\"open_run\":0}}\n";
+enum { REPORT = sizeof small_report - 1, LOG = sizeof small_log - 1, MORE = sizeof small_more - 1 };
 static uint8_t small[SMALL + 1];
 
 /* Writes a number at a place, the most significant octet first. */
@@ -322,6 +352,43 @@ static void text_logs(void) {
                 arrival->number == single[i].number && arrival->time == single[i].time;
     }
     passed("log_read_line", holds);
+
+    static const struct {
+        const char *line;
+        uint64_t fault;
+    } faults[] = {{"1;5,000\n", KRAKOBRAN_FAULT_NONE},
+                  {"1;18446744073709551,616\n", KRAKOBRAN_FAULT_NONE},
+                  {"\xEF\xBB\xBF"
+                   "1;5\n",
+                   KRAKOBRAN_FAULT_BYTE_ORDER_MARK},
+                  {"\n", KRAKOBRAN_FAULT_EMPTY_LINE},
+                  {"", KRAKOBRAN_FAULT_NO_DIGIT},
+                  {"number;time\n", KRAKOBRAN_FAULT_NO_DIGIT},
+                  {"\r\n", KRAKOBRAN_FAULT_CARRIAGE_RETURN},
+                  {"1;5\r\n", KRAKOBRAN_FAULT_CARRIAGE_RETURN},
+                  {"1;5", KRAKOBRAN_FAULT_NO_LINE_FEED},
+                  {"4294967295;5\n", KRAKOBRAN_FAULT_NONE},
+                  {"4294967296;5\n", KRAKOBRAN_FAULT_NUMBER_OVER},
+                  {"1;5.0000\n", KRAKOBRAN_FAULT_MANY_DECIMALS},
+                  {"1;5,\n", KRAKOBRAN_FAULT_OTHER},
+                  {"1 5\n", KRAKOBRAN_FAULT_OTHER}};
+    holds = 1;
+    for (size_t i = 0; i < sizeof faults / sizeof faults[0]; i++)
+        holds = holds && krakobran_log_line_fault((const uint8_t *)faults[i].line, strlen(faults[i].line)) == faults[i].fault;
+    passed("log_line_fault", holds);
+
+    static const char text[] = "1;5\n\n2;6";
+    static const struct {
+        uint64_t n, start, length;
+    } text_lines[] = {{0, 0, 4}, {1, 4, 1}, {2, 5, 3}, {3, 8, 0}, {UINT64_MAX, 8, 0}};
+    holds = 1;
+    for (size_t i = 0; i < sizeof text_lines / sizeof text_lines[0]; i++) {
+        take_back();
+        krakobran_part *part = FIGURES(krakobran_part);
+        krakobran_text_line((const uint8_t *)text, strlen(text), text_lines[i].n, part);
+        holds = holds && accepted(KRAKOBRAN_NONE) && part->start == text_lines[i].start && part->length == text_lines[i].length;
+    }
+    passed("text_line", holds);
 }
 
 /* Logs whose numbers are the lowest 8 or 10 bits. */
@@ -556,6 +623,30 @@ static void needs_of_it(void) {
     }
     passed("accommodated", holds);
 
+    /* By measure, least size and distance, the same at every place. */
+    static const struct {
+        uint32_t measure, shift;
+        uint64_t low;
+    } steps_asked[] = {{0, 0, 0}, {0, 63, 0},  {0, UINT32_MAX, 0}, {1, 0, 0},          {1, 2, 3},
+                       {1, 0, 60}, {2, 0, 0}, {2, 5, 1},           {2, 64, UINT64_MAX}};
+    holds = 1;
+    for (size_t i = 0; i < sizeof steps_asked / sizeof steps_asked[0]; i++) {
+        uint32_t measure = steps_asked[i].measure, shift = steps_asked[i].shift;
+        uint64_t low = steps_asked[i].low;
+        take_back();
+        krakobran_steps *steps = FIGURES(krakobran_steps);
+        holds = holds && accepted(krakobran_accommodated_steps(small, SMALL, measure, low, shift, steps)) && steps->arrived == 6 &&
+                steps->greatest == (measure == 0 ? 2u : measure == 1 ? 100u : 30u);
+        for (uint64_t j = 0; j < KRAKOBRAN_STEP_PLACES; j++) {
+            /* a size over 64 bits accommodates all, as the greatest does */
+            int over = j > 0 && (shift > 63 || j > (UINT64_MAX - low) >> shift);
+            krakobran_accommodated_counts pair;
+            krakobran_accommodated(small, SMALL, measure, over ? UINT64_MAX : low + (j ? j << shift : 0), &pair);
+            holds = holds && steps->counts[j] == pair.accommodated;
+        }
+    }
+    passed("accommodated_steps", holds);
+
     /* By measure and share, the least size. */
     static const struct {
         uint32_t measure, part, whole;
@@ -632,6 +723,85 @@ static void texts_of_it(void) {
     take_back();
     passed("summary_json, one octet short",
            refused(krakobran_summary_json(small, SMALL, LIST(uint8_t, octets - 1), FIGURES(uint64_t)), KRAKOBRAN_OUTPUT_SHORT));
+
+    size_t summed = strlen(summary);
+    take_back();
+    length = FIGURES(uint64_t);
+    out = lend(summed + MORE + 9);
+    expect(out, summed + MORE);
+    holds = accepted(krakobran_summary_all(small, SMALL, out, summed + MORE + 9, length));
+    passed("summary_all", holds && *length == summed + MORE && memcmp(out, summary, summed) == 0 &&
+                              memcmp(out + summed, small_more, MORE) == 0);
+    take_back();
+    passed("summary_all, one octet short",
+           refused(krakobran_summary_all(small, SMALL, LIST(uint8_t, summed + MORE - 1), FIGURES(uint64_t)),
+                   KRAKOBRAN_OUTPUT_SHORT));
+}
+
+/* The table of a sample's records, part by part. */
+static uint64_t table_part(int json, uint32_t part, uint8_t *out, uint64_t room, uint64_t *length) {
+    return json ? krakobran_table_json(small, SMALL, part, out, room, length)
+                : krakobran_table_csv(small, SMALL, part, out, room, length);
+}
+
+static void table_of_it(void) {
+    static const char *const names[] = {"table_csv", "table_json"}, *const wholes[] = {small_csv, small_json};
+    for (int json = 0; json < 2; json++) {
+        const char *rest = wholes[json];
+        int parts = 1, shorts = 1;
+        char text[100];
+        for (uint32_t part = 0; part < KRAKOBRAN_TABLE_PARTS; part++) {
+            uint64_t octets = 0;
+            take_back();
+            parts = parts && table_part(json, part, lend(KRAKOBRAN_TABLE_PART_OCTETS), KRAKOBRAN_TABLE_PART_OCTETS, &octets) == 0;
+            take_back();
+            uint64_t *length = FIGURES(uint64_t);
+            uint8_t *out = lend(octets + 9);
+            expect(out, octets);
+            parts = parts && accepted(table_part(json, part, out, octets + 9, length)) && *length == octets &&
+                    octets <= strlen(rest) && memcmp(out, rest, octets) == 0;
+            rest += parts ? octets : 0;
+            take_back();
+            shorts = shorts && (octets == 0 || refused(table_part(json, part, LIST(uint8_t, octets - 1), FIGURES(uint64_t)),
+                                                       KRAKOBRAN_OUTPUT_SHORT));
+        }
+        passed(names[json], parts && *rest == 0);
+        snprintf(text, sizeof text, "%s, one octet short", names[json]);
+        passed(text, shorts);
+        take_back();
+        uint64_t *length = FIGURES(uint64_t);
+        uint8_t *out = lend(9);
+        snprintf(text, sizeof text, "%s, a part that there is not", names[json]);
+        passed(text, accepted(table_part(json, KRAKOBRAN_TABLE_PARTS, out, 9, length)) && *length == 0 &&
+                         table_part(json, UINT32_MAX, out, 9, length) == KRAKOBRAN_NONE && *length == 0);
+    }
+}
+
+static void labels(void) {
+    static const char label[] = "a\"b\\", member[] = "{\"label\":\"a\\\"b\\\\\"";
+    enum { MEMBER = sizeof member - 1 };
+    static uint8_t quotes[KRAKOBRAN_LABEL_MOST + 1];
+    memset(quotes, '"', sizeof quotes);
+    take_back();
+    uint64_t *length = FIGURES(uint64_t);
+    uint8_t *out = lend(MEMBER + 9);
+    expect(out, MEMBER);
+    int holds = accepted(krakobran_label_json((const uint8_t *)label, sizeof label - 1, out, MEMBER + 9, length));
+    passed("label_json", holds && *length == MEMBER && memcmp(out, member, MEMBER) == 0);
+    take_back();
+    passed("label_json, one octet short",
+           refused(krakobran_label_json((const uint8_t *)label, sizeof label - 1, LIST(uint8_t, MEMBER - 1), FIGURES(uint64_t)),
+                   KRAKOBRAN_OUTPUT_SHORT));
+    take_back();
+    length = FIGURES(uint64_t);
+    out = lend(KRAKOBRAN_LABEL_JSON_OCTETS);
+    expect(out, KRAKOBRAN_LABEL_JSON_OCTETS);
+    holds = accepted(krakobran_label_json(quotes, KRAKOBRAN_LABEL_MOST, out, KRAKOBRAN_LABEL_JSON_OCTETS, length));
+    passed("label_json of the longest label", holds && *length == KRAKOBRAN_LABEL_JSON_OCTETS);
+    take_back();
+    passed("label_json, refused: label of 65 octets, and no room",
+           refused(krakobran_label_json(quotes, KRAKOBRAN_LABEL_MOST + 1, LIST(uint8_t, 0), FIGURES(uint64_t)),
+                   KRAKOBRAN_LONG_LABEL));
 }
 
 static void two_samples(void) {
@@ -677,12 +847,16 @@ OVER_FILE(worse_first, krakobran_worse(file, octets, small, SMALL - 1, FIGURES(k
 OVER_FILE(worse_second, krakobran_worse(small, SMALL, file, octets, FIGURES(krakobran_worse_link)))
 OVER_FILE(greatest_needs, krakobran_greatest_needs(file, octets, FIGURES(krakobran_needs)))
 OVER_FILE(accommodated, krakobran_accommodated(file, octets, asked, 0, FIGURES(krakobran_accommodated_counts)))
+OVER_FILE(accommodated_steps, krakobran_accommodated_steps(file, octets, asked, 0, 0, FIGURES(krakobran_steps)))
 OVER_FILE(least_size, krakobran_least_size(file, octets, asked, 1, 1, FIGURES(uint64_t)))
 OVER_FILE(least_share, krakobran_least_size(file, octets, KRAKOBRAN_MEASURE_TIME, asked, whole, FIGURES(uint64_t)))
 OVER_FILE(report_write, krakobran_report_write(file, octets, LIST(uint8_t, 200), FIGURES(uint64_t)))
 OVER_FILE(report_check, krakobran_report_check(file, octets, (const uint8_t *)small_report, REPORT, FIGURES(krakobran_verdict)))
 OVER_FILE(summary_write, krakobran_summary_write(file, octets, LIST(uint8_t, 2048), FIGURES(uint64_t)))
 OVER_FILE(summary_json, krakobran_summary_json(file, octets, LIST(uint8_t, 2048), FIGURES(uint64_t)))
+OVER_FILE(summary_all, krakobran_summary_all(file, octets, LIST(uint8_t, 4096), FIGURES(uint64_t)))
+OVER_FILE(table_csv, krakobran_table_csv(file, octets, asked, LIST(uint8_t, 4096), FIGURES(uint64_t)))
+OVER_FILE(table_json, krakobran_table_json(file, octets, asked, LIST(uint8_t, 4096), FIGURES(uint64_t)))
 
 #define FILE_CALL(name) \
     { #name, file_##name }
@@ -694,7 +868,8 @@ static const struct {
     FILE_CALL(rows),         FILE_CALL(counts),         FILE_CALL(tally),        FILE_CALL(gap),         FILE_CALL(n_reordered),
     FILE_CALL(degree),       FILE_CALL(ratios),         FILE_CALL(disorder),     FILE_CALL(sweep),       FILE_CALL(worse_first),
     FILE_CALL(worse_second), FILE_CALL(greatest_needs), FILE_CALL(accommodated), FILE_CALL(least_size),  FILE_CALL(least_share),
-    FILE_CALL(report_write), FILE_CALL(report_check),   FILE_CALL(summary_write), FILE_CALL(summary_json), FILE_CALL(gaps)};
+    FILE_CALL(report_write), FILE_CALL(report_check),   FILE_CALL(summary_write), FILE_CALL(summary_json), FILE_CALL(gaps),
+    FILE_CALL(accommodated_steps), FILE_CALL(summary_all), FILE_CALL(table_csv), FILE_CALL(table_json)};
 
 /* The small sample with one number changed, of this width, and the refusal of that. */
 static const struct {
@@ -757,6 +932,8 @@ static void asked_outside(void) {
                    {"degree, refused: n of 101", file_degree, 101, 0},
                    {"accommodated, refused: measure 3", file_accommodated, 3, 0},
                    {"accommodated, refused: the greatest measure", file_accommodated, UINT32_MAX, 0},
+                   {"accommodated_steps, refused: measure 3", file_accommodated_steps, 3, 0},
+                   {"accommodated_steps, refused: the greatest measure", file_accommodated_steps, UINT32_MAX, 0},
                    {"least_size, refused: measure 3", file_least_size, 3, 0},
                    {"least_size, refused: part 0", file_least_share, 0, 1},
                    {"least_size, refused: part 2 of 1", file_least_share, 2, 1},
@@ -1188,6 +1365,10 @@ static void no_places(void) {
     passed("NULL: log_refused_line of an empty log", length == 0);
     krakobran_arrival arrival;
     passed("NULL: log_read_line of nothing", krakobran_log_read_line(NULL, 0, &arrival) == KRAKOBRAN_LINE_MALFORMED);
+    passed("NULL: log_line_fault of nothing", krakobran_log_line_fault(NULL, 0) == KRAKOBRAN_FAULT_NO_DIGIT);
+    krakobran_part part = {1, 1};
+    krakobran_text_line(NULL, 0, 0, &part);
+    passed("NULL: text_line of no text", part.start == 0 && part.length == 0);
     passed("NULL: log_import_8 and _10 of an empty log",
            krakobran_log_import_8(NULL, 0, 1, NULL, 0, NULL, 0, &length) == KRAKOBRAN_NONE && length == 0 &&
                krakobran_log_import_10(NULL, 0, 1, NULL, 0, NULL, 0, &length) == KRAKOBRAN_NONE && length == 0);
@@ -1204,6 +1385,14 @@ static void no_places(void) {
            krakobran_report_check(file, 8, NULL, 0, &verdict) == KRAKOBRAN_NONE && verdict.agrees == 0 && verdict.line == 1);
     passed("NULL: summary_write, no room", krakobran_summary_write(file, 8, NULL, 0, &length) == KRAKOBRAN_OUTPUT_SHORT);
     passed("NULL: summary_json, no room", krakobran_summary_json(file, 8, NULL, 0, &length) == KRAKOBRAN_OUTPUT_SHORT);
+    passed("NULL: summary_all, no room", krakobran_summary_all(file, 8, NULL, 0, &length) == KRAKOBRAN_OUTPUT_SHORT);
+    passed("NULL: table_csv and table_json, no room",
+           krakobran_table_csv(file, 8, 0, NULL, 0, &length) == KRAKOBRAN_OUTPUT_SHORT &&
+               krakobran_table_json(file, 8, 0, NULL, 0, &length) == KRAKOBRAN_OUTPUT_SHORT);
+    passed("NULL: table_csv and table_json of no arrivals",
+           krakobran_table_csv(file, 8, 1, NULL, 0, &length) == KRAKOBRAN_NONE && length == 0 &&
+               krakobran_table_json(file, 8, 1, NULL, 0, &length) == KRAKOBRAN_NONE && length == 0);
+    passed("NULL: label_json of no label, no room", krakobran_label_json(NULL, 0, NULL, 0, &length) == KRAKOBRAN_OUTPUT_SHORT);
     passed("NULL: sweep of no arrivals",
            krakobran_sweep(file, 8, table, KRAKOBRAN_SWEEP_TABLE_PLACES, NULL, 0, NULL, 0, NULL, 0, NULL, 0) == KRAKOBRAN_NONE);
     passed("NULL: sweep, no room",
@@ -1319,6 +1508,7 @@ static union {
     krakobran_worse_link worse;
     krakobran_needs needs;
     krakobran_accommodated_counts accommodated;
+    krakobran_steps steps;
     krakobran_verdict verdict;
     krakobran_noted noted;
 } given;
@@ -1333,6 +1523,8 @@ CALL(lists_check, krakobran_lists_check(MOST, numbers, MOST, times, MOST))
 CALL(log_import, krakobran_log_import(line, sizeof line - 1, 1, positions, MOST, lates, MOST, &length))
 CALL(log_refused_line, (krakobran_log_refused_line(line, sizeof line - 1, 1, &length), length))
 CALL(log_read_line, krakobran_log_read_line(line, sizeof line - 1, &given.arrival))
+CALL(log_line_fault, krakobran_log_line_fault(line, sizeof line - 1))
+CALL(text_line, (krakobran_text_line(line, sizeof line - 1, 0, &given.part), given.part.start))
 CALL(log_import_8, krakobran_log_import_8(line, sizeof line - 1, 1, positions, MOST, lates, MOST, &length))
 CALL(log_import_10, krakobran_log_import_10(line, sizeof line - 1, 1, positions, MOST, lates, MOST, &length))
 CALL(log_refused_line_8, (krakobran_log_refused_line_8(line, sizeof line - 1, 1, &length), length))
@@ -1355,11 +1547,16 @@ CALL(sweep, krakobran_sweep(file, octets, table, MOST, kinds, MOST, positions, M
 CALL(worse, krakobran_worse(file, octets, file, octets, &given.worse))
 CALL(greatest_needs, krakobran_greatest_needs(file, octets, &given.needs))
 CALL(accommodated, krakobran_accommodated(file, octets, KRAKOBRAN_MEASURE_OCTETS, 100, &given.accommodated))
+CALL(accommodated_steps, krakobran_accommodated_steps(file, octets, KRAKOBRAN_MEASURE_OCTETS, 0, 1, &given.steps))
 CALL(least_size, krakobran_least_size(file, octets, KRAKOBRAN_MEASURE_OCTETS, 99, 100, &length))
 CALL(report_write, krakobran_report_write(file, octets, out, sizeof out, &length))
 CALL(report_check, krakobran_report_check(file, octets, out, sizeof out, &given.verdict))
 CALL(summary_write, krakobran_summary_write(file, octets, out, sizeof out, &length))
 CALL(summary_json, krakobran_summary_json(file, octets, out, sizeof out, &length))
+CALL(summary_all, krakobran_summary_all(file, octets, out, sizeof out, &length))
+CALL(label_json, krakobran_label_json(label, KRAKOBRAN_LABEL_MOST, out, sizeof out, &length))
+CALL(table_csv, krakobran_table_csv(file, octets, 16, out, sizeof out, &length))
+CALL(table_json, krakobran_table_json(file, octets, 16, out, sizeof out, &length))
 CALL(fragment_order, krakobran_fragment_order(MOST, numbers, MOST, times, MOST, lengths, MOST, mores, MOST, offsets, MOST,
                                               kinds, MOST, used, MOST))
 CALL(fragments_of_one,
@@ -1377,10 +1574,13 @@ CALL(refusal_words, krakobran_refusal_words(KRAKOBRAN_LISTS_DIFFER, out, sizeof 
 CALL(version, krakobran_version() == 0)
 
 #define NAMED(name) \
-    { #name, call_##name }
+    { #name, call_##name, KRAKOBRAN_STACK_OCTETS }
+#define NAMED_TEXT(name) \
+    { #name, call_##name, KRAKOBRAN_TEXT_STACK_OCTETS }
 static const struct {
     const char *name;
     void (*call)(void);
+    size_t octets; /* the octets of stack that suffice */
 } calls[] = {NAMED(sample_check),
              NAMED(sample_read),
              NAMED(sample_label),
@@ -1389,6 +1589,8 @@ static const struct {
              NAMED(log_import),
              NAMED(log_refused_line),
              NAMED(log_read_line),
+             NAMED(log_line_fault),
+             NAMED(text_line),
              NAMED(log_import_8),
              NAMED(log_import_10),
              NAMED(log_refused_line_8),
@@ -1411,11 +1613,16 @@ static const struct {
              NAMED(worse),
              NAMED(greatest_needs),
              NAMED(accommodated),
+             NAMED(accommodated_steps),
              NAMED(least_size),
              NAMED(report_write),
              NAMED(report_check),
              NAMED(summary_write),
              NAMED(summary_json),
+             NAMED_TEXT(summary_all),
+             NAMED(label_json),
+             NAMED_TEXT(table_csv),
+             NAMED_TEXT(table_json),
              NAMED(fragment_order),
              NAMED(fragments_of_one),
              NAMED(full_numbers_8),
@@ -1460,7 +1667,7 @@ static void stack_suffices(void) {
         size_t needed = depth(calls[i].call);
         char text[100];
         snprintf(text, sizeof text, "%s: %zu octets of stack", calls[i].name, needed);
-        passed(text, needed <= KRAKOBRAN_STACK_OCTETS && refusal == KRAKOBRAN_NONE);
+        passed(text, needed <= calls[i].octets && refusal == KRAKOBRAN_NONE);
     }
 }
 
@@ -1477,6 +1684,8 @@ int main(void) {
     figures_of_it();
     needs_of_it();
     texts_of_it();
+    table_of_it();
+    labels();
     two_samples();
     damaged_files();
     asked_outside();

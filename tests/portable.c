@@ -13,7 +13,14 @@
 #include <string.h>
 #include "krakobran.h"
 
-enum { MOST = KRAKOBRAN_ARRIVALS_MOST, SPARE = 3, PLACES = MOST + 2 * SPARE, TEXT = KRAKOBRAN_REPORT_OCTETS, EXPORTS = 64, FIGURES = 8 };
+enum {
+    MOST = KRAKOBRAN_ARRIVALS_MOST,
+    SPARE = 3,
+    PLACES = MOST + 2 * SPARE,
+    TEXT = KRAKOBRAN_REPORT_OCTETS,
+    EXPORTS = 64,
+    FIGURES = 2 + KRAKOBRAN_STEP_PLACES
+};
 #define GARBAGE 0xA5A5A5A5A5A5A5A5u
 
 static uint64_t faults;
@@ -317,6 +324,23 @@ static void record_calls(const uint8_t *file, uint64_t octets, const sample *s) 
     hold("duplicates", counts->duplicates, due.duplicates), hold("in order", counts->inorder, due.arrived - due.reordered);
 }
 
+/* Several sizes at once, and some of them one by one. */
+static void step_calls(const uint8_t *file, uint64_t octets, uint32_t measure, uint64_t low) {
+    static krakobran_steps found;
+    uint32_t shift = below(6) ? below(20) : 57 + below(9);
+    krakobran_steps *steps = answer();
+    uint64_t refusal = CALL(accommodated_steps, file, octets, measure, low, shift, steps);
+    answered(2 + KRAKOBRAN_STEP_PLACES, refusal);
+    found = *steps;
+    for (uint64_t j = 0; j < KRAKOBRAN_STEP_PLACES; j += 1 + below(60)) {
+        uint64_t size = j == 0 ? low : shift > 63 || j > (UINT64_MAX - low) >> shift ? UINT64_MAX : low + (j << shift);
+        krakobran_accommodated_counts *held = answer();
+        hold("the refusal of one size", CALL(accommodated, file, octets, measure, size, held), refusal);
+        answered(2, refusal);
+        hold("one of several sizes", found.counts[j], held->accommodated), hold("L of them", found.arrived, held->arrived);
+    }
+}
+
 /* Figures of the whole sample. */
 static void figure_calls(const uint8_t *file, uint64_t octets) {
     krakobran_counts_figures *counts = answer();
@@ -362,6 +386,7 @@ static void figure_calls(const uint8_t *file, uint64_t octets) {
             if (i == 1 && measure < 3)
                 hold("the greatest need suffices for all", held->accommodated, held->arrived);
         }
+        step_calls(file, octets, measure, below(2) ? 0 : greatest[measure] / 2);
     }
 }
 
@@ -395,6 +420,19 @@ static void text_calls(const uint8_t *file, uint64_t octets, const sample *s) {
     lay_uint8_t(out, room);
     refusal = CALL(summary_json, file, octets, out, room, answer());
     written(refusal, room);
+    room = room_for(s ? KRAKOBRAN_SUMMARY_ALL_OCTETS : KRAKOBRAN_SUMMARY_OCTETS);
+    lay_uint8_t(out, room);
+    refusal = CALL(summary_all, file, octets, out, room, answer());
+    written(refusal, room);
+    for (uint32_t part = below(2); part < KRAKOBRAN_TABLE_PARTS + 2; part += s ? 1 : 1 + below(9))
+        for (int json = 0; json < 2; json++) {
+            room = room_for(s && part && part < 17 ? 256 * s->arrivals : 512);
+            room = room > KRAKOBRAN_TABLE_PART_OCTETS ? KRAKOBRAN_TABLE_PART_OCTETS : room;
+            lay_uint8_t(out, room);
+            refusal = json ? CALL(table_json, file, octets, part, out, room, answer())
+                           : CALL(table_csv, file, octets, part, out, room, answer());
+            written(refusal, room);
+        }
     room = room_for(s ? KRAKOBRAN_OWAMP_RECORD_OCTETS * s->arrivals : 64);
     lay_uint8_t(out, room);
     refusal = CALL(owamp_write, file, octets, out, room, answer());
@@ -416,6 +454,24 @@ static void text_calls(const uint8_t *file, uint64_t octets, const sample *s) {
     }
 }
 
+/* Some lines of the text, one of them mostly none: where they stand, and what is wrong with them. */
+static void line_calls(uint64_t length) {
+    for (uint32_t n = below(3), lines = 1 + below(40); n <= lines; n += 1 + below(20)) {
+        krakobran_part *part = answer();
+        CALL_VOID(text_line, text, length, n < lines ? n : UINT64_MAX, part);
+        answered(2, 0);
+        uint64_t start = part->start, octets = part->length;
+        hold("a line is within the text", start <= length && octets <= length - start, 1);
+        hold("no line stands at the end", octets == 0, start == length);
+        krakobran_arrival *arrival = answer();
+        uint64_t refusal = CALL(log_read_line, text + start, octets, arrival);
+        answered(2, refusal);
+        uint64_t fault = CALL(log_line_fault, text + start, octets);
+        hold("a line that is read has no fault", refusal == 0 && fault, 0);
+        octets -= octets && below(2), refusal = CALL(log_line_fault, text + start, octets);
+    }
+}
+
 /* The writers of lists: sample file and text log, and what reads them. */
 static void list_calls(const sample *s) {
     uint64_t room = room_for(s->octets), times_given = s->arrivals - (s->arrivals && below(20) == 0);
@@ -424,6 +480,9 @@ static void list_calls(const sample *s) {
                             times_given, out, room, answer());
     if (written(refusal, room))
         hold("written file", memcmp(out, s->file, s->octets) == 0, 1);
+    room = room_for(KRAKOBRAN_LABEL_JSON_OCTETS);
+    lay_uint8_t(out, room);
+    written(CALL(label_json, s->file + 2, below(8) ? s->label_octets : below(80), out, room, answer()), room);
     CALL(lists_check, s->sent, s->numbers, s->arrivals, s->times, times_given);
     CALL(lists_check, below(2) ? s->sent / 2 : s->sent << 32, s->numbers, s->arrivals, s->times, s->arrivals);
     room = room_for(30 * s->arrivals + 1);
@@ -457,6 +516,7 @@ static void list_calls(const sample *s) {
             ;
         shorts = CALL(log_read_line, text, line, (krakobran_arrival *)answer());
         answered(2, shorts);
+        line_calls(length);
         uint8_t *at = text + (length ? below((uint32_t)length) : 0);
         *at = (uint8_t) "0123456789;,.\n x"[below(16)];
     }
@@ -694,7 +754,36 @@ static const struct {
     {"RFC 4737, 7.2", 10, {1, 2, 3, 4, 7, 5, 6, 8, 9, 10}, {0}},
 };
 
-/* Report, counts, gaps, extents, ratios, disorder and needs of a case. K is its greatest number, and payload sizes are 100. */
+/* The summary with all figures and the table of a sample, in both forms. */
+static void print_texts(const sample *s) {
+    uint64_t length, refusal = krakobran_summary_all(s->file, s->octets, out, TEXT, &length);
+    printf("%.*s", refusal ? 0 : (int)length, (const char *)out);
+    for (int json = 0; json < 2; json++)
+        for (uint32_t part = 0; part < KRAKOBRAN_TABLE_PARTS; part++) {
+            refusal |= json ? krakobran_table_json(s->file, s->octets, part, out, TEXT, &length)
+                            : krakobran_table_csv(s->file, s->octets, part, out, TEXT, &length);
+            printf("%.*s", refusal ? 0 : (int)length, (const char *)out);
+        }
+    printf("refusal %d\n\n", (int)refusal);
+}
+
+/* Lines of a log, each with its fault; and a label as JSON. */
+static void print_lines(void) {
+    static const char log[] = "\xEF\xBB\xBF"
+                              "1;5\n\nnumber;time\n1;5\r\n\r\n4294967296;5\n1;5,0000\n1;5,000\n1;\n1 5\n1;5";
+    krakobran_part part;
+    for (uint64_t n = 0; n == 0 || part.length > 0; n++) {
+        krakobran_text_line((const uint8_t *)log, sizeof log - 1, n, &part);
+        uint64_t fault = krakobran_log_line_fault((const uint8_t *)log + part.start, part.length);
+        printf("line %d: %d octets from %d on, fault %d\n", (int)n, (int)part.length, (int)part.start, (int)fault);
+    }
+    static const char label[] = "the \"cellar\" \\ 2";
+    uint64_t length, refusal = krakobran_label_json((const uint8_t *)label, sizeof label - 1, out, TEXT, &length);
+    printf("%.*s, refusal %d\n", (int)length, (const char *)out, (int)refusal);
+}
+
+/* Report, counts, gaps, extents, ratios, disorder and needs of a case. K is its greatest number, and payload sizes are 100. The first case
+ * has its other texts too. */
 static void print_case(size_t which) {
     static sample s;
     memset(&s, 0, sizeof s);
@@ -728,14 +817,22 @@ static void print_case(size_t which) {
     krakobran_needs needs;
     refusal |= krakobran_greatest_needs(s.file, s.octets, &needs);
     refusal |= krakobran_disorder(s.file, s.octets, &total);
-    printf("needs %d %d %d, disorder %d, refusal %d\n\n", (int)needs.packets, (int)needs.octets, (int)needs.time, (int)total,
+    krakobran_steps steps;
+    refusal |= krakobran_accommodated_steps(s.file, s.octets, KRAKOBRAN_MEASURE_PACKETS, 0, 0, &steps);
+    printf("held by buffers for 0 to %d packets:", (int)steps.greatest);
+    for (uint64_t i = 0; i <= steps.greatest; i++)
+        printf(" %d", (int)steps.counts[i]);
+    printf("\nneeds %d %d %d, disorder %d, refusal %d\n\n", (int)needs.packets, (int)needs.octets, (int)needs.time, (int)total,
            (int)refusal);
+    if (which == 0)
+        print_texts(&s);
 }
 
 int main(int argc, char **argv) {
     if (argc == 2 && strcmp(argv[1], "cases") == 0) {
         for (size_t i = 0; i < sizeof cases / sizeof *cases; i++)
             print_case(i);
+        print_lines();
         return 0;
     }
     rounds_of(argc > 1 ? atoi(argv[1]) : 100);
