@@ -1,17 +1,19 @@
 -- Rows in a lent list. Numbers that are set one after the other are spliced in (`set-next`, `row-set`). There are eight for each record
--- (`rows-length`), and one record more puts its row after those before (`rows-more`, `rows-next`). A row tells its answer: two rows that
--- are the same have the same numbers, the first of which is that of the case (`rows-tell`). Here d is the decoded file, y its layout, i
--- the records before, old and new the list before and now. Assumes nothing.
+-- (`rows-length`), and one record more puts its row after those before (`rows-more`, `rows-next`), up to the last that is wanted
+-- (`rows-wanted`); from the first on these are all (`rows-filled`). A row tells its answer: two rows that are the same have the same
+-- numbers, the first of which is that of the case (`rows-tell`). Here d is the decoded file, y its layout, from the records before the
+-- first row, i those before the next one, old and new the list before and now. Assumes nothing.
 use mathlib.Core.Path.{_≡_, refl, sym, ap, ap₂, subst, _∙_}
-use mathlib.Core.Bool.{Bool, true, false}
+use mathlib.Core.Bool.{Bool, true, false, cond}
 use mathlib.Core.List.{List, [], _∷_, _++_, append-assoc, append-nil}
 use Prim.Native.Nat.{ℕ, zero, suc, _+_, _-_, _*_, _/_, _≤_, _<_}
 use native.Mathlib.Omega.{arith}
-use lib.ListN.{length, getD, set, take, drop, length-append}
+use lib.Dec.{ltb}
+use lib.ListN.{length, getD, set, take, drop, length-append, length-take, length-drop}
 use lib.Seq.{take-append-seam, drop-append-add}
-use borrow.Author.Tests.{ltb-false}
-use Rattle.octets.specs.Memory.{over, splice}
-use Rattle.octets.proofs.Memory.{splice-set, splice-next, splice-length, over-next, over-length}
+use borrow.Author.Tests.{ltb-true, ltb-false}
+use Rattle.octets.specs.Memory.{part, over, splice}
+use Rattle.octets.proofs.Memory.{part-snoc, part-rest, splice-set, splice-next, splice-length, over-next, over-length}
 use Rattle.rfc4737.specs.declared.Answer.{Answer}
 use Rattle.rfc4737.specs.declared.LateTime.{LateTime}
 use Rattle.rfc4737.specs.Answer.{answers}
@@ -21,12 +23,12 @@ use Rattle.sample.specs.declared.Layout.{Layout}
 use Rattle.sample.specs.Decode.{Decoded, refused, accepted, sampleOf, layoutOf}
 use Rattle.sample.specs.Calls.{unlessShort}
 use Rattle.metrics.specs.Sample.{sizeOf, sampleArrivals, answersOf}
-use Rattle.metrics.specs.Records.{before, answerAt, answersTo, HasRecord, FileLayout}
+use Rattle.metrics.specs.Records.{answerAt, HasRecord, FileLayout}
 use Rattle.metrics.specs.Figures.{recordAnswer}
-use Rattle.metrics.specs.Rows.{rowOf, rowsOf, rowAt, rowsShort, RowsTo, RowsTell}
-use Rattle.metrics.proofs.TablesFollow.{arrivals-laid, before-count}
-use Rattle.metrics.proofs.OneArrivalMore.{answers-next, answers-length}
-use Rattle.metrics.proofs.RecordsAsked.{asked-within, at-inside}
+use Rattle.metrics.specs.Rows.{rowOf, rowsOf, rowAt, rowsShort, rowsFrom, RowsTo, RowsTell}
+use Rattle.metrics.specs.Private.Rows.{withRow, PassEnd}
+use Rattle.metrics.proofs.TablesFollow.{arrivals-laid}
+use Rattle.metrics.proofs.RecordsAsked.{asked-within, at-inside, answer-at}
 
 -- ---- numbers set one after the other
 
@@ -71,39 +73,80 @@ unfolding rowsOf
 rows-more [] a = append-nil (rowOf a)
 rows-more (b ∷ l) a = ap (λ (r : List ℕ). rowOf b ++ r) (rows-more l a) ∙ sym (append-assoc (rowOf b) (rowsOf l) (rowOf a))
 
+-- ---- the rows from record from + 1 on
+
 -- before any
-pub rows-none : (d : Decoded) (old : List ℕ) → old ≡ over (rowsOf (answersTo d 0)) old
-unfolding rowsOf answers Rattle.rfc4737.specs.Arrivals.each Rattle.rfc4737.specs.Arrivals.eachAfter
-rows-none d old = refl
+pub rows-none : (d : Decoded) (from : ℕ) (old : List ℕ) → old ≡ over (rowsOf (part from (0 - from) (answersOf d))) old
+unfolding rowsOf
+rows-none d from old = let e : 0 - from ≡ 0 = omega arith in rw e
 
--- the list is as long as it was, after the first i
-pub rows-kept-to : (d : Decoded) (y : Layout) (i : ℕ) → FileLayout d y → i ≤ y .arrivals → (old new : List ℕ) → 8 * y .arrivals ≤ length old
-    → new ≡ over (rowsOf (answersTo d i)) old → length new ≡ length old
-rows-kept-to d y i h most old new room is =
-    let n : length (rowsOf (answersTo d i)) ≡ 8 * i =
-    rows-length (answersTo d i) ∙ ap (λ (n : ℕ). 8 * n) (length-answers (sizeOf d) (before d i) ∙ before-count d y i h most) in
-    ap length is ∙ over-length (rowsOf (answersTo d i)) old (omega (arith, n, most, room))
+-- there are eight numbers for each record after `from` and up to i
+rows-count : (d : Decoded) (y : Layout) (from i : ℕ) → FileLayout d y → i ≤ y .arrivals
+    → length (rowsOf (part from (i - from) (answersOf d))) ≡ 8 * (i - from)
+rows-count d y from i h most =
+    let n : length (answersOf d) ≡ y .arrivals = length-answers (sizeOf d) (sampleArrivals d) ∙ sym (arrivals-laid d y h) in
+    let k : length (part from (i - from) (answersOf d)) ≡ i - from = simp (length-take, length-drop) (omega (arith, n, most)) in
+    rows-length (part from (i - from) (answersOf d)) ∙ ap (λ (n : ℕ). 8 * n) k
 
-module _ (d : Decoded) (y : Layout) (i : ℕ) (h : HasRecord d y i) (old new : List ℕ) (room : 8 * y .arrivals ≤ length old)
-    (is : new ≡ over (rowsOf (answersTo d i)) old) where
-  filled : length (rowsOf (answersTo d i)) ≡ 8 * i
-  filled = rows-length (answersTo d i) ∙ ap (λ (n : ℕ). 8 * n) (answers-length d y i h)
+-- the list is as long as it was
+pub rows-kept : (d : Decoded) (y : Layout) (from i : ℕ) → FileLayout d y → i ≤ y .arrivals → (old new : List ℕ)
+    → i ≤ from + length old / 8
+    → new ≡ over (rowsOf (part from (i - from) (answersOf d))) old → length new ≡ length old
+rows-kept d y from i h most old new room is =
+    let n = rows-count d y from i h most in
+    ap length is ∙ over-length (rowsOf (part from (i - from) (answersOf d))) old (omega (arith, n, room))
 
-  -- the list is as long as it was
-  rows-kept : length new ≡ length old
-  rows-kept = rows-kept-to d y i (h .file) (omega (arith, h .inside)) old new room is
-
+module _ (d : Decoded) (y : Layout) (from i : ℕ) (h : HasRecord d y i) (old new : List ℕ)
+    (is : new ≡ over (rowsOf (part from (i - from) (answersOf d))) old) where
   -- there is room for a row
-  pub rows-room : 8 * i + 8 ≤ length new
-  rows-room = omega (arith, rows-kept, h .inside)
+  pub rows-room : i < from + length old / 8 → from ≤ i → 8 * (i - from) + 8 ≤ length new
+  rows-room room low =
+      let k = rows-kept d y from i (h .file) (omega (arith, h .inside)) old new (omega (arith, room)) is in
+      omega (arith, k, room, low)
 
   -- under record i + 1
-  pub rows-next : (next : List ℕ) → next ≡ splice (8 * i) (rowOf (answerAt d i)) new → next ≡ over (rowsOf (answersTo d (i + 1))) old
-  rows-next next e =
-      e
-      ∙ ap (splice (8 * i) (rowOf (answerAt d i))) is
-      ∙ over-next (8 * i) (rowsOf (answersTo d i)) (rowOf (answerAt d i)) old filled
-      ∙ ap (λ (r : List ℕ). over r old) (sym (ap rowsOf (answers-next d y i h) ∙ rows-more (answersTo d i) (answerAt d i)))
+  pub rows-next : (next : List ℕ) → next ≡ withRow from i (rowOf (answerAt d i)) new
+      → next ≡ over (rowsOf (part from (i + 1 - from) (answersOf d))) old
+  unfolding withRow
+  rows-next next e = e ∙ go (ltb i from) refl
+    where
+      l : List Answer
+      l = answersOf d
+
+      a : Answer
+      a = answerAt d i
+
+      go : (t : Bool) → ltb i from ≡ t
+          → cond t new (splice (8 * (i - from)) (rowOf a) new) ≡ over (rowsOf (part from (i + 1 - from) l)) old
+      go true q =
+          let s : i - from ≡ i + 1 - from = omega (arith, ltb-true i from q) in
+          is ∙ ap (λ (n : ℕ). over (rowsOf (part from n l)) old) s
+      go false q =
+          let low : from ≤ i = ltb-false i from q in
+          let s : i + 1 - from ≡ i - from + 1 = omega arith in
+          let at : from + (i - from) ≡ i = omega arith in
+          let n : length l ≡ y .arrivals = length-answers (sizeOf d) (sampleArrivals d) ∙ sym (arrivals-laid d y (h .file)) in
+          let inside : i < length (sampleArrivals d) = omega (arith, h .inside, arrivals-laid d y (h .file)) in
+          let more : part from (i + 1 - from) l ≡ part from (i - from) l ++ (a ∷ []) =
+          ap (λ (n : ℕ). part from n l) s
+          ∙ part-snoc from (i - from) l a (omega (arith, n, h .inside))
+          ∙ ap (λ (b : Answer). part from (i - from) l ++ (b ∷ [])) (ap (λ (n : ℕ). getD l n a) at ∙ answer-at d a i inside) in
+          ap (splice (8 * (i - from)) (rowOf a)) is
+          ∙ over-next (8 * (i - from)) (rowsOf (part from (i - from) l)) (rowOf a) old
+          (rows-count d y from i (h .file) (omega (arith, h .inside)))
+          ∙ ap (λ (r : List ℕ). over r old) (sym (ap rowsOf more ∙ rows-more (part from (i - from) l) a))
+
+-- after the last wanted
+pub rows-wanted : (d : Decoded) (y : Layout) (from end i : ℕ) → FileLayout d y → (old new : List ℕ)
+    → PassEnd (y .arrivals) from (length old / 8) end → i ≤ end → end ≤ i
+    → new ≡ over (rowsOf (part from (i - from) (answersOf d))) old → new ≡ over (rowsFrom d from (length old)) old
+unfolding rowsFrom
+rows-wanted d y from end i h old new p low high is =
+    let e : i ≡ end = omega (arith, low, high) in
+    is
+    ∙ ap (λ (n : ℕ). over (rowsOf (part from (n - from) (answersOf d))) old) e
+    ∙ ap (λ (l : List Answer). over (rowsOf l) old)
+    (p .enough (answersOf d) (length-answers (sizeOf d) (sampleArrivals d) ∙ sym (arrivals-laid d y h)))
 
 -- ---- what the call answers
 
@@ -132,10 +175,14 @@ module _ (d : Decoded) (y : Layout) (h : FileLayout d y) (a : d ≡ accepted (sa
     unfolding rowsShort
     rows-fit = let k = ltb-false (length old / 8) (y .arrivals) (sym q) in omega (arith, k)
 
-    pub rows-filled : (new : List ℕ) → new ≡ over (rowsOf (answersOf d)) old → RowsTo d old y new
-    unfolding unlessShort
-    rows-filled new f =
+    pub rows-filled : (new : List ℕ) → new ≡ over (rowsFrom d 0 (length old)) old → RowsTo d old y new
+    unfolding unlessShort rowsFrom
+    rows-filled new filled =
         let k = into rowsShort d y h a (length old) false q in
+        let all : part 0 (length old / 8) (answersOf d) ≡ answersOf d =
+        part-rest 0 (length old / 8) (answersOf d)
+        (omega (arith, length-answers (sizeOf d) (sampleArrivals d), arrivals-laid d y h, rows-fit)) in
+        let f : new ≡ over (rowsOf (answersOf d)) old = filled ∙ ap (λ (l : List Answer). over (rowsOf l) old) all in
         record { layout = rw k (h .laid ∙ ap layoutOf a); rows = rw k (f ∙ ap (λ (d : Decoded). over (rowsOf (answersOf d)) old) a) }
 
 -- ---- a row tells its answer
@@ -194,7 +241,7 @@ first-row a r = subst (λ (n : ℕ). take n (rowOf a ++ r) ≡ rowOf a) (row-len
 other-rows : (a : Answer) (r : List ℕ) (n : ℕ) → drop (8 + n) (rowOf a ++ r) ≡ drop n r
 other-rows a r n = subst (λ (m : ℕ). drop (m + n) (rowOf a ++ r) ≡ drop n r) (row-length a) (drop-append-add (rowOf a) r n)
 
-row-at : (z : Answer) (l : List Answer) (i : ℕ) → i < length l → take 8 (drop (8 * i) (rowsOf l)) ≡ rowOf (getD l i z)
+pub row-at : (z : Answer) (l : List Answer) (i : ℕ) → i < length l → take 8 (drop (8 * i) (rowsOf l)) ≡ rowOf (getD l i z)
 unfolding rowsOf
 row-at z [] i h = absurd (omega arith)
 row-at z (a ∷ l) zero h = first-row a (rowsOf l)

@@ -5,7 +5,7 @@ use mathlib.Core.List.{List, [], _∷_, _++_}
 use Prim.Native.Nat.{ℕ, _-_, _*_, _/_}
 use lib.Dec.{ltb}
 use lib.ListN.{length, take, drop}
-use Rattle.octets.specs.Memory.{over}
+use Rattle.octets.specs.Memory.{part, over}
 use Rattle.rfc4737.specs.declared.Answer.{Answer}
 use Rattle.rfc4737.specs.Numbering.{inOrderNumber, reorderedNumber, duplicateNumber, amountOf}
 use Rattle.sample.specs.declared.Layout.{Layout}
@@ -31,16 +31,25 @@ rowsOf (a ∷ l) = rowOf a ++ rowsOf l
 unfoldable pub rowsShort : (arrivals places : ℕ) → Bool
 rowsShort arrivals places = ltb (places / 8) arrivals
 
--- ---- the call
+-- ---- the calls
 
 -- a decoded file where a list of this many places is lent
 abbrev pub rowsInto : Decoded → (places : ℕ) → Decoded
 rowsInto d places = unlessShort (rowsShort (length (sampleArrivals d)) places) d
 
--- the call's answer, and the lent list after it: it has the rows of all records from its start, all else as it was
+-- the answer of the call for all records, and the lent list after it: it has the rows of all records from its start, all else as it was
 pub record RowsTo (d : Decoded) (old : List ℕ) (answer : Layout) (new : List ℕ) : Type 0 where
   pub layout : answer ≡ layoutOf (rowsInto d (length old))
   pub rows : new ≡ over (rowsOf (answersOf (rowsInto d (length old)))) old
+
+-- the rows that a list of this many places has room for, from record from + 1 on
+unfoldable pub rowsFrom : Decoded → (from places : ℕ) → List ℕ
+rowsFrom d from places = rowsOf (part from (places / 8) (answersOf d))
+
+-- the answer of the call that starts at a record, and the lent list after it
+pub record RowsFromTo (d : Decoded) (from : ℕ) (old : List ℕ) (answer : Layout) (new : List ℕ) : Type 0 where
+  pub layout : answer ≡ layoutOf d
+  pub rows : new ≡ over (rowsFrom d from (length old)) old
 
 -- the row at a record, counted from 1
 unfoldable pub rowAt : List ℕ → ℕ → List ℕ

@@ -11,7 +11,7 @@ ghost use Rattle.rfc4737.specs.Reordered.{ReorderedHaveDiscontinuity, OffsetsBo
 ghost use Rattle.sample.specs.Decode.{decode};
 ghost use Rattle.metrics.specs.Figures.{recordAnswer, recordGap, sampleCounts, sampleTally, degreeCounts, sampleDegree, sampleRatios, sampleAccommodated, sampleNeeds, StepsOf};
 ghost use Rattle.metrics.specs.Gaps.{GapsTo, GapsTell};
-ghost use Rattle.metrics.specs.Rows.{RowsTo, RowsTell};
+ghost use Rattle.metrics.specs.Rows.{RowsTo, RowsFromTo, RowsTell};
 ghost use Rattle.listing.specs.Example.{ExampleHolds};
 ghost use Rattle.listing.specs.Room.{listingOctets};
 ghost use Rattle.metrics.specs.Report.{sampleText, ListedTo};
@@ -302,7 +302,17 @@ pub fn record_rows(file: &[u8], rows: &mut [u64]) -> Layout
     if rows_short(layout.arrivals, rows.len()) {
         return refused_layout(OUTPUT_SHORT);
     }
-    put_rows(file, layout, rows);
+    put_rows(file, layout, 0, rows);
+    layout
+}
+
+// The rows of the records after the first `from`, as many as `rows` has room for: as those of `record_rows`, from the start of `rows`, the
+// rest of which stays as it was. The pass ends after the last of these records. With the file's refusal `rows` stays as it was.
+pub fn rows_from(file: &[u8], from: u32, rows: &mut [u64]) -> Layout
+    ensures { λ r. ⌜ RowsFromTo (decode (now (file .entry))) from (now (rows .entry)) r (now (rows .exit)) ⌝ }
+{
+    let layout = checked_layout(file);
+    put_rows(file, layout, from, rows);
     layout
 }
 

@@ -11,7 +11,6 @@ use Rattle.octets.specs.Memory.{put, part}
 use Rattle.octets.proofs.Memory.{taken, part-length, put-length, put-over}
 use Rattle.rfc4737.specs.declared.Arrival.{Arrival}
 use Rattle.rfc4737.specs.declared.Answer.{Answer}
-use Rattle.sample.specs.declared.Layout.{Layout}
 use Rattle.sample.specs.Decode.{Decoded}
 use Rattle.metrics.specs.Rows.{rowOf, rowAt}
 use Rattle.metrics.specs.Records.{arrivalAt}
@@ -62,7 +61,7 @@ records-next json d from i h =
     let f : from + (i - from) ≡ i = omega arith in
     rw (e, f)
 
--- the row of record i + 1, taken from memory
+-- row i + 1, taken from memory
 pub row-taken : (rows : List ℕ) (i : ℕ) → taken (8 * i) 8 rows ≡ rowAt rows (suc i)
 unfolding rowAt
 row-taken rows i =
@@ -76,9 +75,9 @@ row-length rows i h =
     ap (λ (n : ℕ). length (part (8 * i) n rows)) e ∙ part-length (8 * i) 8 rows h
 
 -- record i + 1, written from its row
-pub record-written : (json : Bool) (d : Decoded) (y : Layout) (rows : List ℕ) (i : ℕ) {a : Arrival} {next : ℕ} {old new : List ℕ}
-    → RowsKnown d y rows → i < y .arrivals → a ≡ arrivalAt d i
-    → ((x : Answer) → taken (8 * i) 8 rows ≡ rowOf x → Written 0 next (rowText json i a x) old new)
+pub record-written : (json : Bool) (d : Decoded) (from to : ℕ) (rows : List ℕ) (i : ℕ) {a : Arrival} {next : ℕ} {old new : List ℕ}
+    → RowsKnown d from to rows → from ≤ i → i < to → a ≡ arrivalAt d i
+    → ((x : Answer) → taken (8 * (i - from)) 8 rows ≡ rowOf x → Written 0 next (rowText json i a x) old new)
     → Written 0 next (recordText json d i) old new
-record-written json d y rows i k inside e w =
-    named (ap (λ (a : Arrival). rowText json i a (answerAt d i)) e) (w (answerAt d i) (row-taken rows i ∙ k .row i inside))
+record-written json d from to rows i k low high e w =
+    named (ap (λ (a : Arrival). rowText json i a (answerAt d i)) e) (w (answerAt d i) (row-taken rows (i - from) ∙ k .row i low high))

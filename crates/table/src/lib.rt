@@ -10,10 +10,10 @@ mod parts;
 mod records;
 mod whole;
 
-use rfc4737::judge::ARRIVALS_MOST;
 use rfc4737::refusal::NONE;
 use rfc4737::refusal::OUTPUT_SHORT;
 use sample::WriteAnswer;
+use whole::part_rows;
 use whole::put_part;
 
 // The number of parts of a table.
@@ -22,8 +22,8 @@ pub const PARTS: u32 = 18;
 // Room for any part, in octets.
 pub const PART_OCTETS: usize = 131072;
 
-// The length of the rows of the longest sample: 8 numbers for each record.
-const ROWS_LEN: usize = 8 * ARRIVALS_MOST as usize;
+// The length of the rows of a block of 256 records: 8 numbers for each.
+const ROWS_LEN: usize = 2048;
 
 // Returns the answer of a refused call.
 fn refused(refusal: u32) -> WriteAnswer
@@ -39,7 +39,7 @@ fn write_part(file: &[u8], json: bool, part: u32, out: &mut [u8]) -> WriteAnswer
         × (length (partText json (decode (now (file .entry))) part) ≤ partOctets) × PartsJoin json (decode (now (file .entry))) ⌝ }
 {
     let mut rows = [0u64; ROWS_LEN];
-    let layout = metrics::record_rows(file, &mut rows);
+    let layout = part_rows(file, part, &mut rows);
     let counts = metrics::counts(file).counts;
     let mut none = [0u8; 1];
     let n = put_part(file, layout, &rows, counts, json, part, &mut none);
@@ -59,7 +59,7 @@ fn write_part(file: &[u8], json: bool, part: u32, out: &mut [u8]) -> WriteAnswer
 // Writes a part of a sample's table as comma-separated values: a line with the names of the fields, a line for each record, and a line with
 // the counts. Parts 0 to 17, one after the other, are the whole table; any other part is empty. The part is written to the start of `out`;
 // PART_OCTETS octets have room for any. Refusals: the file's; 8 if `out` is too short. If the call is refused, `out` stays unchanged. Cost:
-// that of `metrics::record_rows`, and 262,144 octets of stack.
+// that of `metrics::record_rows`, and 16,384 octets of stack beside its own.
 pub fn write_csv(file: &[u8], part: u32, out: &mut [u8]) -> WriteAnswer
     ensures { λ r. ⌜ PartTo false (decode (now (file .entry))) part (now (out .entry)) r (now (out .exit)) ⌝ }
     ensures room { λ _. ⌜ length (partText false (decode (now (file .entry))) part) ≤ partOctets ⌝ }

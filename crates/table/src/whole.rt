@@ -10,7 +10,7 @@ ghost use Rattle.summary.specs.Json.{labelMember};
 ghost use Rattle.writing.specs.Parts.{joined, Written};
 ghost use Rattle.table.specs.Text.{startText, endText, recordsFrom, partText, partOctets};
 ghost use Rattle.table.specs.Private.Pieces.{sentPieces, countPieces, runPieces};
-ghost use Rattle.table.specs.Private.Rows.{RowsKnown};
+ghost use Rattle.table.specs.Private.Rows.{RowsKnown, PartRows};
 ghost use Rattle.table.specs.Private.Put.{Put};
 use crate::parts::write_either;
 use crate::parts::write_value;
@@ -123,7 +123,8 @@ fn write_after(out: &mut [u8], json: bool, sent: u32, arrivals: u32, counts: Cou
     write_runs(out, two, json, runs)
 }
 
-// Copies records from + 1 to `to`, one after the other, to the start of `out` if it has room for all of them. Returns their length.
+// Copies records from + 1 to `to`, whose rows are known, one after the other to the start of `out` if it has room for all of them. Returns
+// their length.
 fn put_records(
     file: &[u8],
     layout: Layout,
@@ -133,7 +134,7 @@ fn put_records(
     to: u32,
     out: &mut [u8],
 ) -> usize
-    requires { ⌜ FileLayout (decode (now file)) layout × RowsKnown (decode (now file)) layout (now rows)
+    requires { ⌜ FileLayout (decode (now file)) layout × RowsKnown (decode (now file)) from to (now rows)
         × (from ≤ to) × (to ≤ layout .arrivals) × (to ≤ from + 256) ⌝ }
     ensures { λ r. ⌜ (r ≤ partOctets) × Put r (recordsFrom json (decode (now (file .entry))) from (to - from))
         (now (out .entry)) (now (out .exit)) ⌝ }
@@ -143,7 +144,7 @@ fn put_records(
     let mut i = from;
     while i < to {
         let arrival = sample::arrival(file, layout, i);
-        let start = 8 * (i as usize);
+        let start = 8 * ((i - from) as usize);
         let n = write_record(&mut line, json, i, arrival, &rows[start..start + 8]);
         octets::put_octets(out, at, &line[..n]);
         at += n;
@@ -163,6 +164,18 @@ fn block_start(block: u32, arrivals: u32) -> u32
     arrivals
 }
 
+// Puts the rows of the records of a part to the start of `rows`, and returns the layout of the file. A part without
+// records needs no pass of the engine.
+pub(crate) fn part_rows(file: &[u8], part: u32, rows: &mut [u64]) -> Layout
+    requires { ⌜ length (now rows) ≡ 2048 ⌝ }
+    ensures { λ r. ⌜ FileLayout (decode (now (file .entry))) r × PartRows (decode (now (file .entry))) part (now (rows .exit)) ⌝ }
+{
+    if part == 0 || 16 < part {
+        return sample::check(file);
+    }
+    metrics::rows_from(file, 256 * (part - 1), rows)
+}
+
 // Copies a part of the table to the start of `out` if it has room for it. Returns the length of the part.
 pub(crate) fn put_part(
     file: &[u8],
@@ -173,7 +186,7 @@ pub(crate) fn put_part(
     part: u32,
     out: &mut [u8],
 ) -> usize
-    requires { ⌜ FileLayout (decode (now file)) layout × RowsKnown (decode (now file)) layout (now rows)
+    requires { ⌜ FileLayout (decode (now file)) layout × PartRows (decode (now file)) part (now rows)
         × (c ≡ counts (answersOf (decode (now file)))) ⌝ }
     ensures { λ r. ⌜ (r ≤ partOctets) × Put r (partText json (decode (now (file .entry))) part) (now (out .entry)) (now (out .exit)) ⌝ }
 {

@@ -1,5 +1,6 @@
 // The figures of a sample.
 use crate::listings::list_into;
+use cases::print::write_64;
 use cases::print::write_either;
 use cases::print::write_number;
 use cases::print::write_word;
@@ -130,6 +131,14 @@ fn write_ratios(file: &[u8]) {
         Ratios::Undefined => write_word(b" undefined"),
         Ratios::Known(_) => write_word(b" known"),
     }
+}
+
+// Writes the rows of two records after the first `from`, in a list of 17 places that are 7 before.
+pub(crate) fn write_rows(file: &[u8], from: u32) {
+    let mut rows = [7u64; 17];
+    let layout = metrics::rows_from(file, from, &mut rows);
+    write_number(b"; rows ", layout.refusal as u64);
+    write_64(b",", &rows);
 }
 
 // Writes what each call gives.

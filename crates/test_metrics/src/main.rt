@@ -3,7 +3,8 @@
 // case; then stand its name, the text of its sample, and for
 //   record: the record of which the answer and the gap are written;
 //   n: the n of the degree of n-reordering;
-//   octets: how many octets the listing is written into.
+//   octets: how many octets the listing is written into;
+//   from: the number of records before the two whose rows are written.
 // For `all` each call's refusal is written, 0 for none, and what comes with it; for `listing` the listing.
 mod figures;
 mod listings;
@@ -19,6 +20,7 @@ use cases::text::part;
 use figures::write_all;
 use figures::write_ratio;
 use figures::write_record;
+use figures::write_rows;
 use listings::list;
 use listings::list_into;
 use sample_text::ROOM;
@@ -39,6 +41,8 @@ fn write_case(line: &[u8], file: &[u8]) {
         write_ratio(file, number);
     } else if kind == b'o' {
         list_into(file, number as usize);
+    } else if kind == b'f' {
+        write_rows(file, number);
     }
     write_word(b"\n");
     if kind == b'l' {

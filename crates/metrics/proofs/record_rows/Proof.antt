@@ -1,11 +1,11 @@
--- `metrics::record_rows` meets its contract: the file's own refusal comes first (`rows-refused`), then 8 (`rows-eight`); else the rows have
--- room (`rows-fit`) and are put (`rows-filled`). Assumes nothing.
+-- `metrics::record_rows` meets its contract: the file's own refusal comes first (`rows-refused`), then 8 (`rows-eight`); else the rows
+-- from the first record on are all (`rows-filled`). Assumes nothing.
 use borrow.Author.Needs.{needs}
 use mathlib.Core.Path.{_≡_, sym, _∙_}
 use denote.Ref.{now}
 use Rattle.sample.specs.Decode.{decode, accepted, sampleOf}
 use Rattle.sample.proofs.Accepted.{found-sample}
-use Rattle.metrics.proofs.RowLaws.{rows-refused, rows-eight, rows-fit, rows-filled, rows-tell}
+use Rattle.metrics.proofs.RowLaws.{rows-refused, rows-eight, rows-filled, rows-tell}
 use Rattle.metrics.proofs.record_rows.Statement.{statement}
 use Rattle.metrics.proofs.record_rows.Tie as tie
 
@@ -27,13 +27,7 @@ returns-2 c =
     )
 
 put-rows-requires : tie.Need-put-rows-requires
-put-rows-requires c κs =
-    let k = c .before .before .before in
-    let q = k .before .before in (
-      q .checked-layout .ensures,
-      rows-fit _ _ (q .checked-layout .ensures) (accepted-of q (k .if1 .left))
-          (now (q .before .before .before .args .rows)) (sym (c .before .if2 .left) ∙ c .before .before .rows-short .ensures),
-    )
+put-rows-requires c κs = c .before .before .before .before .before .checked-layout .ensures
 
 returns-3 : tie.Need-returns-3
 returns-3 c =

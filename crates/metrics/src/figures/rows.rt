@@ -1,13 +1,12 @@
-// Every figure of every record, by one pass of the engine: a row of eight numbers for each, one row after the other.
+// Every figure of some records, by one pass of the engine: a row of eight numbers for each, one row after the other.
 ghost use mathlib.Core.Path.{_≡_};
-ghost use Prim.Native.Nat.{_+_, _*_, _≤_};
+ghost use Prim.Native.Nat.{_+_, _-_, _*_, _≤_};
 ghost use lib.ListN.{length};
 ghost use Rattle.octets.specs.Memory.{over, splice};
 ghost use Rattle.sample.specs.Decode.{decode};
-ghost use Rattle.metrics.specs.Sample.{answersOf};
-ghost use Rattle.metrics.specs.Rows.{rowOf, rowsOf, rowsShort};
+ghost use Rattle.metrics.specs.Rows.{rowOf, rowsShort, rowsFrom};
 ghost use Rattle.metrics.specs.Records.{FileLayout};
-ghost use Rattle.metrics.specs.Private.Rows.{rowNumbers};
+ghost use Rattle.metrics.specs.Private.Rows.{rowNumbers, withRow, PassEnd};
 use crate::engine::advance;
 use crate::engine::byte_offset::PAIR_TREE_LEN;
 use crate::engine::fresh_engine;
@@ -98,24 +97,51 @@ fn put_row(rows: &mut [u64], at: usize, r: Row)
     rows[at + 7] = r.first;
 }
 
-// Puts the rows of all records.
-pub(crate) fn put_rows(file: &[u8], layout: Layout, rows: &mut [u64])
-    requires { ⌜ FileLayout (decode (now file)) layout × (8 * layout .arrivals ≤ length (now rows)) ⌝ }
-    ensures { λ _. ⌜ now (rows .exit) ≡ over (rowsOf (answersOf (decode (now (file .entry))))) (now (rows .entry)) ⌝ }
+// Puts the row of record i + 1 after those of records from + 1 to i.
+fn put_answer(rows: &mut [u64], from: u32, i: u32, answer: Answer)
+    requires { ⌜ (from ≤ i → 8 * (i - from) + 8 ≤ length (now rows)) ⌝ }
+    ensures { λ _. ⌜ now (rows .exit) ≡ withRow from i (rowOf answer) (now (rows .entry)) ⌝ }
+{
+    if i < from {
+        return;
+    }
+    let at = 8 * ((i - from) as usize);
+    put_row(rows, at, row_of(answer));
+}
+
+// Returns after how many records a pass may end that is to meet the next `most` records after the first `from`. Past the last record
+// nothing is left to meet: 0.
+fn pass_end(arrivals: u32, from: u32, most: usize) -> u32
+    ensures { λ r. ⌜ PassEnd arrivals from most r ⌝ }
+{
+    if arrivals <= from {
+        return 0;
+    }
+    if most < (arrivals - from) as usize {
+        return from + most as u32;
+    }
+    arrivals
+}
+
+// Puts the rows of the records after the first `from`, as many as there is room for.
+pub(crate) fn put_rows(file: &[u8], layout: Layout, from: u32, rows: &mut [u64])
+    requires { ⌜ FileLayout (decode (now file)) layout ⌝ }
+    ensures { λ _. ⌜ now (rows .exit)
+        ≡ over (rowsFrom (decode (now (file .entry))) from (length (now (rows .entry)))) (now (rows .entry)) ⌝ }
 {
     let mut numbers = [0u16; MAX_FIRST_ARRIVALS];
     let mut records = [0u16; PACKET_TABLE_LEN];
     let mut skipped = [0u16; PACKET_TABLE_LEN];
     let mut tree = [0u32; PAIR_TREE_LEN];
     let mut engine = fresh_engine();
+    let end = pass_end(layout.arrivals, from, rows.len() / 8);
     let mut i: u32 = 0;
-    while i < layout.arrivals {
-        let arrival = input::arrival_at(file, layout, i);
+    while i < end {
         let step = advance(
             file,
             layout,
             i,
-            arrival,
+            input::arrival_at(file, layout, i),
             &mut numbers,
             &mut records,
             &mut skipped,
@@ -123,8 +149,7 @@ pub(crate) fn put_rows(file: &[u8], layout: Layout, rows: &mut [u64])
             engine,
         );
         let answer = step.answer;
-        let at = 8 * (i as usize);
-        put_row(rows, at, row_of(answer));
+        put_answer(rows, from, i, answer);
         engine = step.engine;
         i += 1;
     }

@@ -1,11 +1,11 @@
--- `table::write_part` meets its contract: the rows of all records are filled (`table-ready`), and a first pass finds the length of the
--- part. Then the file's own refusal comes first, and 8 if the part does not fit; else it is put.
--- Here r is where the rows are filled, p the first pass, s the start. Assumes nothing.
-use Prim.Native.Nat.{ℕ, _<_}
+-- `table::write_part` meets its contract: the rows of the part's records are known, and a first pass finds the length of the part. Then
+-- the file's own refusal comes first, and 8 if the part does not fit; else it is put.
+-- Here r is where the rows are known, p the first pass, s the start. Assumes nothing.
+use Prim.Native.Nat.{_<_}
 use native.Mathlib.Omega.{arith}
 use mathlib.Core.Path.{_≡_, sym, ap, _∙_}
 use denote.Ref.{now}
-use lib.ListN.{length, length-replicate}
+use lib.ListN.{length}
 use Rattle.octets.specs.Below.{Octets}
 use Rattle.sample.specs.declared.Layout.{Layout}
 use Rattle.sample.specs.Decode.{decode, decodedRefusal}
@@ -13,17 +13,17 @@ use Rattle.metrics.proofs.FoundInFile.{laid}
 use Rattle.sample.proofs.Output.{output-refused, output-short, output-written}
 use Rattle.table.specs.Text.{partText, PartsJoin}
 use Rattle.table.proofs.Joined.{parts-join}
-use Rattle.table.proofs.Filled.{table-ready, counts-known, answer-is}
+use Rattle.table.proofs.Filled.{counts-known, answer-is}
 use borrow.Author.Needs.{needs}
 use Rattle.table.proofs.write_part.Statement.{statement}
 use Rattle.table.proofs.write_part.Tie as tie
 
 -- ---- places in the code, each by the one after it
 
-abbrev start-at : tie.After-record-rows → tie.Start
+abbrev start-at : tie.After-part-rows → tie.Start
 start-at r = r .before .before .before .before
 
-abbrev rows-at : tie.After-put-part → tie.After-record-rows
+abbrev rows-at : tie.After-put-part → tie.After-part-rows
 rows-at p = p .before .before .before .before .before .before
 
 abbrev start-of : tie.After-put-part → tie.Start
@@ -35,25 +35,17 @@ pass-at e = e .before .before .before
 abbrev counts-at : tie.After-put-part → tie.After-counts
 counts-at p = p .before .before .before .before
 
-octets-of : (r : tie.After-record-rows) → Octets (now (start-at r .args .file))
+octets-of : (r : tie.After-part-rows) → Octets (now (start-at r .args .file))
 octets-of r i = r .before .before .before .shared-slice-known .given i .fits
 
 put-part-requires : tie.Need-put-part-requires
 put-part-requires c κs =
-    let r = c .before .before .before .before .before in
-    let s = start-at r in
-    let long = length-replicate {A = ℕ} 32768 0 in
-    let ready = table-ready (now (s .args .file)) (octets-of r) (r .record-rows .ensures .1) long (r .record-rows .ensures .0) in
-    (ready .0, ready .1, counts-known _ (c .before .before .before .counts .ensures))
+    let known = c .before .before .before .before .before .part-rows .ensures in
+    (known .0, known .1, counts-known _ (c .before .before .before .counts .ensures))
 
 -- the file's own refusal
-own : (p : tie.After-put-part) → rows-at p .record-rows .result .refusal ≡ decodedRefusal (decode (now (start-of p .args .file)))
-own p =
-    let r = rows-at p in
-    let s = start-at r in
-    let long = length-replicate {A = ℕ} 32768 0 in
-    let ready = table-ready (now (s .args .file)) (octets-of r) (r .record-rows .ensures .1) long (r .record-rows .ensures .0) in
-    ap (λ (y : Layout). y .refusal) (ready .0 .laid)
+own : (p : tie.After-put-part) → rows-at p .part-rows .result .refusal ≡ decodedRefusal (decode (now (start-of p .args .file)))
+own p = ap (λ (y : Layout). y .refusal) (rows-at p .part-rows .ensures .0 .laid)
 
 -- the parts are the whole
 joins : (p : tie.After-put-part) → PartsJoin (start-of p .args .json) (decode (now (start-of p .args .file)))
@@ -82,11 +74,9 @@ returns-2 c =
 
 put-part-requires-2 : tie.Need-put-part-requires-2
 put-part-requires-2 c κs =
-    let r = rows-at (c .before .before .before .before .before .before) in
-    let s = start-at r in
-    let long = length-replicate {A = ℕ} 32768 0 in
-    let ready = table-ready (now (s .args .file)) (octets-of r) (r .record-rows .ensures .1) long (r .record-rows .ensures .0) in
-    (ready .0, ready .1, counts-known _ (counts-at (c .before .before .before .before .before .before) .counts .ensures))
+    let p = c .before .before .before .before .before .before in
+    let known = rows-at p .part-rows .ensures in
+    (known .0, known .1, counts-known _ (counts-at p .counts .ensures))
 
 returns-3 : tie.Need-returns-3
 returns-3 c =

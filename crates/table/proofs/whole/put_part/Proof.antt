@@ -12,9 +12,10 @@ use Rattle.sample.specs.declared.Layout.{Layout}
 use Rattle.sample.specs.Decode.{decode}
 use Rattle.writing.proofs.Parts.{stands}
 use Rattle.rfc4737.specs.Runs.{counts}
-use Rattle.metrics.specs.Sample.{answersOf}
+use Rattle.metrics.specs.Sample.{sampleArrivals, answersOf}
 use Rattle.summary.proofs.Escapes.{label-short}
 use Rattle.table.specs.Text.{startText, endText, recordsFrom, blockStart}
+use Rattle.table.specs.Private.Rows.{PartRows}
 use Rattle.table.proofs.Put.{put-none, put-named, line-put}
 use Rattle.table.proofs.Joined.{part-start, part-records, part-end, part-none}
 use borrow.Author.Needs.{needs}
@@ -79,11 +80,19 @@ returns-3 c =
     )
 
 put-records-requires : tie.Need-put-records-requires
+unfolding PartRows
 put-records-requires c κs =
     let s = start-of-records (c .before .before .before) in
     let low = c .before .before .block-start .ensures in
     let high = c .before .block-start2 .ensures in
-    (s .pre .0, s .pre .1, omega (arith, low, high), omega (arith, high), omega (arith, low, high))
+    let d = decode (now (s .args .file)) in
+    let count : s .args .layout .arrivals ≡ length (sampleArrivals d) = ap (λ (y : Layout). y .arrivals) (s .pre .0 .laid) in (
+      s .pre .0,
+      rw (low, high, count) (s .pre .1),
+      omega (arith, low, high),
+      omega (arith, high),
+      omega (arith, low, high),
+    )
 
 returns-4 : tie.Need-returns-4
 returns-4 c =

@@ -55,8 +55,10 @@ write-record-requires c κs =
     let t = c .before .before .before in
     let s = start (t .before) in
     let l = t .before .loop in
-    let inside = t .loop-test .taken in
-    (omega (arith, l .inv .4), row-length (now (s .args .rows)) (l .i) (omega (arith, s .pre .1 .room, s .pre .3, inside)))
+    let inside = t .loop-test .taken in (
+      omega (arith, l .inv .4),
+      row-length (now (s .args .rows)) (l .i - s .args .from) (omega (arith, s .pre .1 .room, l .inv .0, inside)),
+    )
 
 slice-aggregate-put-octets : tie.Need-slice-aggregate-put-octets Inv-loop μ-loop
 slice-aggregate-put-octets c =
@@ -66,7 +68,7 @@ slice-aggregate-put-octets c =
     let l = t .before .loop in
     let inside : l .i < s .args .layout .arrivals = omega (arith, t .loop-test .taken, s .pre .3) in
     let a = arrival-known _ _ (s .pre .0) _ inside (w .before .before .before .arrival .ensures .1) .0 in
-    stands (record-written (s .args .json) _ _ _ (l .i) (s .pre .1) inside a (w .write-record .ensures .0)) .0
+    stands (record-written (s .args .json) _ _ _ _ (l .i) (s .pre .1) (l .inv .0) (t .loop-test .taken) a (w .write-record .ensures .0)) .0
 
 add-at : tie.Need-add-at Inv-loop μ-loop
 add-at c =
@@ -99,7 +101,7 @@ loop-again c =
     let line = recordText (s .args .json) d (l .i) in
     let inside : l .i < s .args .layout .arrivals = omega (arith, t .loop-test .taken, s .pre .3) in
     let a = arrival-known _ _ (s .pre .0) _ inside (w .before .before .before .arrival .ensures .1) .0 in
-    let v = record-written (s .args .json) _ _ _ (l .i) (s .pre .1) inside a (w .write-record .ensures .0) in
+    let v = record-written (s .args .json) _ _ _ _ (l .i) (s .pre .1) (l .inv .0) (t .loop-test .taken) a (w .write-record .ensures .0) in
     let long : l .at + w .write-record .result ≡ l .at + length line = omega (arith, v .place) in (
       omega (arith, l .inv .0),
       omega (arith, t .loop-test .taken),
@@ -132,6 +134,7 @@ put-records-spec =
     μ-loop
     loop-holds
     (λ c κs. search needs)
+    (λ c. search needs)
     (λ c. search needs)
     (λ c. search needs)
     (λ c. search needs)
