@@ -175,9 +175,8 @@ fn write_counts(progress: Progress) -> u32 {
     if progress.end != GOING {
         return progress.end;
     }
-    let state = progress.state;
     let mut out = [0u8; LINE_OCTETS];
-    let answer = follow::counts(state, &mut out);
+    let answer = follow::counts(progress.state.stream, &mut out);
     write_line(&out, answer.length as usize)
 }
 

@@ -1,18 +1,18 @@
 -- Laws of the text of a line and of the call's answer. A late time has a minus only if it is before by more than 0 (`after-amount`,
 -- `before-none`, `before-some`). The octets written for a refusal are its words, or none (`words-read`). A line is refused or not
 -- (`arrival-none`, `arrival-some`, `followed-refused`, `followed-step`), and so is its arrival (`outcome-refused`, `outcome-noted`). The
--- caller's buffer has room for the text or not (`line-short`, `line-written`; `counts-short`, `counts-written`). r is a receiver, l a
--- line, read the arrival read from it, s the step, n the length of the text in `new`, out the caller's buffer. Assumes nothing.
+-- caller's buffer has room for the text or not (`line-short`, `line-written`). r is a receiver, l a line, read the arrival read from it, s
+-- the step, n the length of the text in `new`, out and out′ the caller's buffer before and after the call. Assumes nothing.
 use Prim.Native.Nat.{ℕ, _+_, _≤_, _<_}
 use native.Mathlib.Omega.{arith}
-use mathlib.Core.Path.{_≡_, refl, sym, ap, _∙_}
+use mathlib.Core.Path.{_≡_, refl, sym, ap, subst, _∙_}
 use mathlib.Core.Bool.{Bool, true, false, true≢false, not, _&&_}
 use mathlib.Core.List.{List, [], _∷_, _++_}
-use borrow.Author.Tests.{eq-eqb, ne-eqb, lt-ltb, le-ltb, leb-false}
+use borrow.Author.Tests.{eq-eqb, ne-eqb, lt-ltb, le-ltb, leb-false, ltb-true, ltb-false}
 use lib.Dec.{leb, ltb}
 use lib.ListN.{length, getD, take, List·getD-eq-default}
 use Rattle.octets.specs.Text.{ascii}
-use Rattle.octets.specs.Memory.{put}
+use Rattle.octets.specs.Memory.{over}
 use Rattle.octets.proofs.Memory.{over-first, put-none, put-over}
 use Rattle.decimal.specs.Decimal.{decimalOf}
 use Rattle.rfc4737.specs.declared.LateTime.the-variants.{After, Before}
@@ -20,7 +20,7 @@ use Rattle.rfc4737.specs.Refusals.{outside, refusalIf, firstRefusal, askedOutsi
 use Rattle.listing.specs.Lines.{lateTime}
 use Rattle.sample.specs.declared.WriteAnswer.{WriteAnswer}
 use Rattle.sample.specs.Output.{ifNone, Output}
-use Rattle.sample.proofs.Output.{output-whole, output-short, output-written}
+use Rattle.sample.proofs.Output.{refusal-short, none-refused, output-whole}
 use Rattle.refusals.specs.Words.{allWords, wordsOf, askedRefusal, WordsFit}
 use Rattle.receiver.specs.declared.Outcome.{Outcome}
 use Rattle.receiver.specs.declared.Receiver.{Receiver}
@@ -30,6 +30,7 @@ use Rattle.receiver.specs.Step.{stepOf}
 use Rattle.textlog.specs.declared.LogLine.{LogLine}
 use Rattle.writing.specs.Numbers.{between}
 use Rattle.writing.specs.Parts.{Written, joined}
+use Rattle.writing.proofs.Parts.{stands}
 use Rattle.follow.specs.Text.{arrivalText, notedText, refusalText, outcomeText, lineText, lineOctets}
 use Rattle.follow.specs.Follow.{followed, followedText, followAnswer, FollowedTo}
 
@@ -123,10 +124,15 @@ pub followed-step : (r : Receiver) (l : LogLine) → l .refusal ≡ 0 → stepOf
 unfolding followed
 followed-step r l e = rw (eq-eqb (l .refusal) 0 e) refl
 
--- ---- the call
+-- ---- the calls
 
-module _ (r : Receiver) {l read : LogLine} {s : StepAnswer} {n : ℕ} {old new : List ℕ} (e : read ≡ l) (f : s ≡ followed r read)
-    (w : Written 0 n (lineText read (s .outcome)) old new) where
+-- a text that is written at the start of memory is what the call writes that is lent its octets
+pub text-put : {n : ℕ} {xs old new : List ℕ} (w : Written 0 n xs old new) {out out′ : List ℕ} {answer : WriteAnswer}
+    → Output 0 (take n new) out answer out′ → Output 0 xs out answer out′
+text-put w {out} {out′} {answer} o = subst (λ (l : List ℕ). Output 0 l out answer out′) (stands w .1) o
+
+module _ (r : Receiver) {l read : LogLine} {s : StepAnswer} {out out′ : List ℕ} {answer : WriteAnswer} (e : read ≡ l)
+    (f : s ≡ followed r read) (w : Output 0 (lineText read (s .outcome)) out answer out′) where
   -- the step and the text are the line's
   step-is : s ≡ followed r l
   step-is = f ∙ ap (followed r) e
@@ -135,43 +141,47 @@ module _ (r : Receiver) {l read : LogLine} {s : StepAnswer} {n : ℕ} {old new :
   unfolding followedText
   text-is = rw (step-is, e) refl
 
-  length-is : n ≡ length (followedText r l)
-  length-is =
-      let p : n ≡ 0 + length (lineText read (s .outcome)) = w .place in
-      let q = ap length text-is in
-      omega arith
+  text-of : Output 0 (followedText r l) out answer out′
+  text-of = subst (λ (xs : List ℕ). Output 0 xs out answer out′) text-is w
 
-  pub line-room : n ≤ lineOctets → length (followedText r l) ≤ lineOctets
-  line-room h = omega (arith, length-is, h)
+  pub line-room : length (lineText read (s .outcome)) ≤ lineOctets → length (followedText r l) ≤ lineOctets
+  line-room h = omega (arith, ap length text-is, h)
 
-  pub line-short : (out : List ℕ) → length out < n → FollowedTo r l out (record { refusal = 8; length = 0; state = r }) out
+  -- no room: the text is too long
+  too-long : length out < length (followedText r l)
+      → FollowedTo r l out (record { refusal = answer .refusal; length = 0; state = r }) out′
   unfolding followAnswer
-  line-short out h =
-      let k : length out < length (followedText r l) = omega (arith, length-is, h) in
+  too-long h =
+      let p : answer .refusal ≡ 8 = text-of .refusal ∙ sym (refusal-short 0 (followedText r l) (length out) refl h) in
+      let q : out′ ≡ out = text-of .filled ∙ ap (λ (n : ℕ). ifNone n (over (followedText r l) out) out) p in
       record {
-        answered = rw (lt-ltb (length out) (length (followedText r l)) k) refl;
-        filled = sym (put-none 0 (followedText r l) out (omega (arith, k)));
+        answered = rw (lt-ltb (length out) (length (followedText r l)) h, p) refl;
+        filled = q ∙ sym (put-none 0 (followedText r l) out (omega (arith, h)));
       }
 
-  pub line-written : (out : List ℕ) → n ≤ length out
-      → FollowedTo r l out (record { refusal = s .outcome .refusal; length = n; state = s .state }) (put 0 (take n new) out)
+  -- room
+  fits : length (followedText r l) ≤ length out
+      → FollowedTo r l out (record { refusal = s .outcome .refusal; length = answer .length; state = s .state }) out′
   unfolding followAnswer
-  line-written out h =
-      let k : length (followedText r l) ≤ length out = omega (arith, length-is, h) in
+  fits h =
+      let whole = output-whole 0 (followedText r l) out text-of refl h in
+      let k : 0 + length (followedText r l) ≤ length out = omega (arith, h) in
+      let n : answer .length ≡ length (followedText r l) = ap (λ (a : WriteAnswer). a .length) (whole .0) in
       record {
-        answered = rw (le-ltb (length out) (length (followedText r l)) k, length-is, step-is) refl;
-        filled = ap (λ (xs : List ℕ). put 0 xs out) (w .memory ∙ text-is);
+        answered = rw (le-ltb (length out) (length (followedText r l)) h, n, step-is) refl;
+        filled = whole .1 ∙ sym (put-over 0 [] (followedText r l) out refl k);
       }
 
--- ---- the counts
+  pub line-short : (answer .refusal ≡ 0 → ⊥) → FollowedTo r l out (record { refusal = answer .refusal; length = 0; state = r }) out′
+  line-short z = go (ltb (length out) (length (followedText r l))) refl
+    where
+      go : (t : Bool) → ltb (length out) (length (followedText r l)) ≡ t
+          → FollowedTo r l out (record { refusal = answer .refusal; length = 0; state = r }) out′
+      go true h = too-long (ltb-true (length out) (length (followedText r l)) h)
+      go false h =
+          let whole = output-whole 0 (followedText r l) out text-of refl (ltb-false (length out) (length (followedText r l)) h) in
+          absurd (z (ap (λ (a : WriteAnswer). a .refusal) (whole .0)))
 
--- a text that is written at the start of memory has no room in out, or it has, and is put there
-module _ {n : ℕ} {xs old new : List ℕ} (w : Written 0 n xs old new) (out : List ℕ) where
-  pub counts-short : length out < n → Output 0 xs out (record { refusal = 8; length = 0 }) out
-  counts-short h = output-short 0 xs out refl (omega (arith, w .place, h))
-
-  pub counts-written : n ≤ length out → Output 0 xs out (record { refusal = 0; length = n }) (put 0 (take n new) out)
-  counts-written h =
-      let k : 0 + length xs ≤ length out = omega (arith, w .place, h) in
-      let e : n ≡ length xs = omega (arith, w .place) in
-      output-written 0 xs out refl (omega (arith, k)) e (ap (λ (l : List ℕ). put 0 l out) (w .memory) ∙ put-over 0 [] xs out refl k)
+  pub line-written : answer .refusal ≡ 0
+      → FollowedTo r l out (record { refusal = s .outcome .refusal; length = answer .length; state = s .state }) out′
+  line-written z = fits (none-refused 0 (followedText r l) (length out) (sym (text-of .refusal) ∙ z) .1)

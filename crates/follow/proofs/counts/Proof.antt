@@ -1,28 +1,24 @@
--- `follow::counts` meets its contract: the text of the counts, of at most 256 octets, is put into `out` if it has room (`counts-short`,
--- `counts-written`). Assumes nothing.
+-- `follow::counts` meets its contract: the text of the counts, of at most 256 octets, is written as one (`text-put`). Assumes nothing.
 use native.Mathlib.Omega.{arith}
 use Rattle.writing.proofs.Parts.{stands}
-use Rattle.follow.proofs.Laws.{counts-short, counts-written}
+use Rattle.follow.proofs.Laws.{text-put}
 use borrow.Author.Needs.{needs}
 use Rattle.follow.proofs.counts.Statement.{statement}
 use Rattle.follow.proofs.counts.Tie as tie
 
+slice-aggregate-write-text : tie.Need-slice-aggregate-write-text
+slice-aggregate-write-text c = stands (c .before .before .write-counts .ensures .0) .0
+
+write-text-requires : tie.Need-write-text-requires
+write-text-requires c κs =
+    let written = c .before .before .before .write-counts .ensures in
+    omega (arith, stands (written .0) .0, written .1)
+
 returns : tie.Need-returns
 returns c =
-    let written = c .before .before .write-counts .ensures in
-    (counts-short (written .0) _ (c .if1 .taken), omega (arith, written .0 .place, written .1))
-
-slice-aggregate-put-octets : tie.Need-slice-aggregate-put-octets
-slice-aggregate-put-octets c = stands (c .before .before .before .before .write-counts .ensures .0) .0
-
-returns-2 : tie.Need-returns-2
-returns-2 c =
-    let first = c .before .before .before .before .before in
-    let written = first .before .before .write-counts .ensures in (
-      rw (c .before .before .put-octets .ensures) (counts-written (written .0) _ (first .if1 .left)),
-      omega (arith, written .0 .place, written .1),
-    )
+    let written = c .before .before .before .before .before .before .write-counts .ensures in
+    (text-put (written .0) (c .before .before .write-text .ensures), omega (arith, written .0 .place, written .1))
 
 pub counts-spec : {M : Type 1} → statement M
-counts-spec = tie.close (tie.spec (λ c. search needs) (λ c κs. search needs) returns (λ c. search needs) slice-aggregate-put-octets
-    (λ c κs. search needs) (λ c. search needs) (λ c. search needs) returns-2)
+counts-spec = tie.close (tie.spec (λ c. search needs) (λ c κs. search needs) (λ c. search needs) slice-aggregate-write-text
+    write-text-requires (λ c. search needs) returns)
