@@ -132,6 +132,7 @@ enum {
     KRAKOBRAN_LABEL_JSON_OCTETS = 139,     /* octets that suffice for any label as the first member of an object of JSON */
     KRAKOBRAN_TABLE_PARTS = 18,            /* parts of the table of a sample's records */
     KRAKOBRAN_TABLE_PART_OCTETS = 131072,  /* octets that suffice for any part of it */
+    KRAKOBRAN_FOLLOW_OCTETS = 256,         /* octets that suffice for what is said of any line, and for any counts */
     KRAKOBRAN_WORDS_OCTETS = 128,          /* octets that suffice for the words of any refusal */
     KRAKOBRAN_STACK_OCTETS = 40960,        /* octets of stack that suffice for any call but three */
     KRAKOBRAN_TEXT_STACK_OCTETS = 53248    /* octets of stack that suffice for krakobran_table_csv, krakobran_table_json and
@@ -533,6 +534,20 @@ uint64_t krakobran_receiver_fresh(krakobran_receiver *receiver, uint32_t sent);
  * jump. A receiver that came from krakobran_receiver_fresh and steps is never unfit. With 11 it has accepted
  * KRAKOBRAN_ARRIVALS_MOST arrivals, copies among them: its counts are final, and a fresh receiver takes the next ones. */
 uint64_t krakobran_receiver_step(krakobran_receiver *receiver, uint32_t number, uint64_t time, krakobran_noted *noted);
+
+/* Writes what `krakobran follow` says of a line of a text log from the start of out, and the number of its octets to length:
+ * the arrival, and the outcome that krakobran_receiver_step returned and noted for it. A line that krakobran_log_read_line
+ * refuses makes no step: its text is that refusal's, and refusal and noted are not looked at. Any text fits into
+ * KRAKOBRAN_FOLLOW_OCTETS places. Refusals: 9 if the line has an arrival and refusal and noted are no outcome, as they have a
+ * number over 32 bits (late may have 64), a kind that is no case, or a figure other than 0 that the case does not have; 8. */
+uint64_t krakobran_follow_line(const uint8_t *line, uint64_t octets, uint64_t refusal, const krakobran_noted *noted,
+                               uint8_t *out, uint64_t room, uint64_t *length);
+
+/* Writes the counts that `krakobran follow` prints at its end from the start of out, and the number of their octets to length.
+ * They are numbers of the receiver's stream: arrived, inorder, duplicates, runs.closed and runs.current. Any text fits into
+ * KRAKOBRAN_FOLLOW_OCTETS places. Refusals: 8. */
+uint64_t krakobran_follow_counts(uint32_t arrived, uint32_t inorder, uint32_t duplicates, uint32_t closed,
+                                 uint32_t current, uint8_t *out, uint64_t room, uint64_t *length);
 
 /* ---- short sequence numbers
  *

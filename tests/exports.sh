@@ -25,7 +25,7 @@ check() {
 # name: type, .. in Rattle
 cat "$root"/crates/capi/src/*.rt | tr '\n' ' ' | sed 's/#\[no_mangle\] *pub extern "C" fn /\n@/g' |
     sed -n 's/^@\([a-z0-9_]*\)(\([^)]*\)) *\(-> *\([^ ]*\)\)\{0,1\} .*/\1|\2|\4/p' | sed 's/[a-z0-9_]*: *//g' > "$work/source"
-check crates/capi/src 'u16|u32|u64|&(mut )?\[u(8|16|32|64)\]|&mut \[u(32|64); [A-Z0-9_:]+\]|&mut (Receiver|Meter)' 'u64|' \
+check crates/capi/src 'u16|u32|u64|&(mut )?\[u(8|16|32|64)\]|&(mut )?\[u(32|64); [A-Z0-9_:]+\]|&mut (Receiver|Meter)' 'u64|' \
     < "$work/source" || bad=1
 
 # type name, .. in C, with comments and line breaks removed
@@ -37,7 +37,7 @@ check include/krakobran.h '(const )?(uint(8|16|32|64)_t|krakobran_[a-z_]+) \*[a-
 
 # The forms in the words of the module, so that the three can be compared: a slice is a pointer and a length.
 words='s/ *, */,/g; s/ *| */|/g'
-sed -e 's/&\(mut \)\{0,1\}\[u[0-9]*\]/ptr,i64/g; s/&mut \[u[0-9]*; [^]]*\]/ptr/g; s/&mut [A-Z][a-z]*/ptr/g' \
+sed -e 's/&\(mut \)\{0,1\}\[u[0-9]*\]/ptr,i64/g; s/&\(mut \)\{0,1\}\[u[0-9]*; [^]]*\]/ptr/g; s/&mut [A-Z][a-z]*/ptr/g' \
     -e 's/u\(16\|32\|64\)/i\1/g; s/|$/|void/; s/, *|/|/' -e "$words" "$work/source" | sort > "$work/source.form"
 sed -e 's/\(const \)\{0,1\}[a-z0-9_]* \*[a-z0-9_]*/ptr/g; s/uint\([0-9]*\)_t [a-z0-9_]*/i\1/g; s/|void|/||/; s/uint64_t/i64/' \
     -e "$words" "$work/header" | sort > "$work/header.form"

@@ -1237,6 +1237,90 @@ static void saved_and_loaded(void) {
     passed("a receiver, saved and loaded", holds && memcmp(&kept, &loaded, sizeof kept) == 0);
 }
 
+/* ---- what `krakobran follow` says */
+
+/* Whether follow_line writes this text of a line and an outcome, and is refused with 8 where it is one octet too long. */
+static int says(const char *line, uint64_t refusal, krakobran_noted noted, const char *text) {
+    const uint8_t *read = (const uint8_t *)line;
+    size_t octets = strlen(text);
+    take_back();
+    uint64_t *length = FIGURES(uint64_t);
+    uint8_t *out = lend(octets + 9);
+    expect(out, octets);
+    int holds = accepted(krakobran_follow_line(read, strlen(line), refusal, &noted, out, octets + 9, length));
+    holds = holds && *length == octets && memcmp(out, text, octets) == 0;
+    take_back();
+    return holds && refused(krakobran_follow_line(read, strlen(line), refusal, &noted, LIST(uint8_t, octets - 1),
+                                                  FIGURES(uint64_t)),
+                            KRAKOBRAN_OUTPUT_SHORT);
+}
+
+/* Whether follow_line is refused with 9, with room and without. */
+static int says_nothing(uint64_t refusal, krakobran_noted noted) {
+    static const uint8_t line[] = "5;0,071\n";
+    take_back();
+    int holds = refused(krakobran_follow_line(line, sizeof line - 1, refusal, &noted, LIST(uint8_t, KRAKOBRAN_FOLLOW_OCTETS),
+                                              FIGURES(uint64_t)),
+                        KRAKOBRAN_ASKED_OUTSIDE);
+    take_back();
+    return holds && refused(krakobran_follow_line(line, sizeof line - 1, refusal, &noted, LIST(uint8_t, 0), FIGURES(uint64_t)),
+                            KRAKOBRAN_ASKED_OUTSIDE);
+}
+
+static void followed(void) {
+    static const char line[] = "5;0,071\n", malformed[] = "refused 14: a line not of the form, or a value over the field's range\n";
+    static const krakobran_noted none = {0, 0, 0, 0}, garbage = {9, 9, 9, 9};
+    passed("follow_line, in order", says(line, 0, (krakobran_noted){KRAKOBRAN_IN_ORDER, 3, 0, 0}, "5 at 71 us: in order, jump 3\n"));
+    passed("follow_line, reordered, late after and before",
+           says(line, 0, (krakobran_noted){KRAKOBRAN_REORDERED_AFTER, 0, 1, 30}, "5 at 71 us: late by 1 packet, 30 us\n") &&
+               says(line, 0, (krakobran_noted){KRAKOBRAN_REORDERED_BEFORE, 0, 2, UINT64_MAX},
+                    "5 at 71 us: late by 2 packets, -18446744073709551615 us\n"));
+    passed("follow_line, a copy", says(line, 0, (krakobran_noted){KRAKOBRAN_DUPLICATE, 0, 0, 0}, "5 at 71 us: copy\n"));
+    passed("follow_line, beyond the window",
+           says(line, 0, (krakobran_noted){KRAKOBRAN_BEYOND_AFTER, 0, 1, 640},
+                "5 at 71 us: late by more than 1 packet, beyond the window\n") &&
+               says(line, 0, (krakobran_noted){KRAKOBRAN_BEYOND_BEFORE, 0, UINT32_MAX, 20},
+                    "5 at 71 us: late by more than 4294967295 packets, beyond the window\n"));
+    passed("follow_line, a refused step", says(line, KRAKOBRAN_TIME_BACK, none,
+                                               "5 at 71 us: refused 7: arrival time over 1,000 below the greatest earlier time\n") &&
+                                              says(line, UINT32_MAX, none, "5 at 71 us: refused 4294967295: \n"));
+    passed("follow_line, a line that is malformed", says("5;0,071", 0, none, malformed) && says("", UINT64_MAX, garbage, malformed));
+    int holds = says_nothing((uint64_t)1 << 32, none) && says_nothing(0, garbage);
+    for (uint64_t kind = 0; kind < 7; kind++) {
+        int late = kind == 1 || kind == 2 || kind == 4 || kind == 5;
+        const krakobran_noted over[] = {{kind, (uint64_t)1 << 32, 0, 0}, {kind, 0, (uint64_t)1 << 32, 0}, {kind, 1, 0, 0},
+                                        {kind, 0, 1, 0},                 {kind, 0, 0, 1},                 {kind, 0, 0, 0}};
+        for (size_t i = 0; i < sizeof over / sizeof over[0]; i++) {
+            int outcome = kind < 6 && (i == 2 ? kind == 0 : i == 3 || i == 4 ? late : i == 5);
+            holds = holds && (outcome || says_nothing(0, over[i]));
+        }
+    }
+    passed("follow_line, refused: no outcome", holds);
+
+    static const char counts[] = "accepted 7, in order 4, reordered 2, copies 1, closed runs 1, open run 0\n";
+    enum { COUNTS = sizeof counts - 1 };
+    take_back();
+    uint64_t *length = FIGURES(uint64_t);
+    uint8_t *out = lend(COUNTS + 9);
+    expect(out, COUNTS);
+    holds = accepted(krakobran_follow_counts(6, 4, 1, 1, 0, out, COUNTS + 9, length));
+    passed("follow_counts", holds && *length == COUNTS && memcmp(out, counts, COUNTS) == 0);
+    take_back();
+    passed("follow_counts, one octet short",
+           refused(krakobran_follow_counts(6, 4, 1, 1, 0, LIST(uint8_t, COUNTS - 1), FIGURES(uint64_t)), KRAKOBRAN_OUTPUT_SHORT));
+    take_back();
+    length = FIGURES(uint64_t);
+    out = lend(KRAKOBRAN_FOLLOW_OCTETS);
+    expect(out, KRAKOBRAN_FOLLOW_OCTETS);
+    passed("follow_counts of the greatest numbers",
+           accepted(krakobran_follow_counts(UINT32_MAX, 0, UINT32_MAX, UINT32_MAX, UINT32_MAX, out, KRAKOBRAN_FOLLOW_OCTETS,
+                                            length)) &&
+               memcmp(out, "accepted 8589934590, in order 0, reordered 4294967295, ", 55) == 0);
+    passed("NULL: follow_line and follow_counts, no room",
+           krakobran_follow_line(NULL, 0, 0, &none, NULL, 0, length) == KRAKOBRAN_OUTPUT_SHORT &&
+               krakobran_follow_counts(0, 0, 0, 0, 0, NULL, 0, length) == KRAKOBRAN_OUTPUT_SHORT);
+}
+
 static void meters(void) {
     take_back();
     krakobran_meter *meter = lend(sizeof *meter);
@@ -1490,6 +1574,7 @@ static void nothing_of_the_stack(void) {
 /* Each call of the library by a name of its own, on the longest input that it accepts. */
 static const uint8_t line[] = "1;18446744073709551,615\n";
 static const uint32_t record = MOST - 2;
+static const krakobran_noted no_note;
 static krakobran_receiver receiver;
 static krakobran_meter meter;
 static uint64_t refusal, length;
@@ -1565,6 +1650,8 @@ CALL(full_numbers_8, krakobran_full_numbers_8(MOST, shorts, MOST, times, MOST, p
 CALL(full_numbers_10, krakobran_full_numbers_10(MOST, shorts, 64, times, 64, positions, MOST))
 CALL(receiver_fresh, krakobran_receiver_fresh(&receiver, MOST))
 CALL(receiver_step, krakobran_receiver_step(&receiver, 1, 9000, &given.noted))
+CALL(follow_line, krakobran_follow_line(line, sizeof line - 1, KRAKOBRAN_NUMBER_OUTSIDE, &no_note, out, sizeof out, &length))
+CALL(follow_counts, krakobran_follow_counts(MOST, 1, 0, 1, 0, out, sizeof out, &length))
 CALL(receiver_step_8, krakobran_receiver_step_8(&receiver, 43, 9000, &given.noted))
 CALL(receiver_step_10, krakobran_receiver_step_10(&receiver, 299, 9000, &given.noted))
 CALL(meter_new, (krakobran_meter_new(&meter), meter.first.stream.arrived))
@@ -1629,6 +1716,8 @@ static const struct {
              NAMED(full_numbers_10),
              NAMED(receiver_fresh),
              NAMED(receiver_step),
+             NAMED(follow_line),
+             NAMED(follow_counts),
              NAMED(receiver_step_8),
              NAMED(receiver_step_10),
              NAMED(meter_new),
@@ -1696,6 +1785,7 @@ int main(void) {
     early_arrivals();
     receivers();
     saved_and_loaded();
+    followed();
     meters();
     words_and_version();
     no_places();

@@ -628,6 +628,32 @@ static void receiver_calls(const sample *s) {
     }
 }
 
+/* What is said of lines: those of a sample's arrivals, some of them cut, with what a step noted or with other figures; and its counts. */
+static void follow_calls(const sample *s) {
+    static krakobran_receiver r;
+    krakobran_receiver_fresh(&r, (uint32_t)s->sent);
+    for (uint32_t i = 0; i < s->arrivals; i++) {
+        char line[64];
+        unsigned long long time = s->times[i];
+        int octets = snprintf(line, sizeof line, "%u;%llu,%03u\n", (unsigned)s->numbers[i], time / 1000, (unsigned)(time % 1000));
+        krakobran_noted noted;
+        uint64_t refusal = krakobran_receiver_step(&r, s->numbers[i], s->times[i], &noted), room = room_for(KRAKOBRAN_FOLLOW_OCTETS);
+        uint64_t *const all[] = {&refusal, &noted.kind, &noted.jump, &noted.extent, &noted.late};
+        for (int j = 0; j < 5; j++) {
+            uint32_t how = below(16);
+            if (how < 2)
+                *all[j] = how ? below(7) : draw();
+        }
+        uint64_t length = (uint64_t)octets - (below(9) == 0);
+        lay_uint8_t(out, room);
+        written(CALL(follow_line, (const uint8_t *)line, length, refusal, &noted, out, room, answer()), room);
+    }
+    uint64_t room = room_for(KRAKOBRAN_FOLLOW_OCTETS);
+    const krakobran_stream *n = &r.stream;
+    lay_uint8_t(out, room);
+    written(CALL(follow_counts, n->arrived, n->inorder, n->duplicates, n->runs.closed, n->runs.current, out, room, answer()), room);
+}
+
 static void hash_meter(const krakobran_meter *m) {
     hash_stream(&m->first.stream), hash_marks(m->first.marks), hash_stream(&m->second.stream), hash_marks(m->second.marks);
     hash_places(&m->places);
@@ -699,6 +725,7 @@ static void over_sample(const sample *s) {
     list_calls(s);
     arrival_calls(s);
     receiver_calls(s);
+    follow_calls(s);
     meter_calls(s);
 }
 

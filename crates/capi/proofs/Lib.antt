@@ -1,4 +1,5 @@
 -- The walks and laws that functions share. Assumes nothing.
+mod Followed
 mod Measured
 mod PassedOn
 mod SteppedAndTold

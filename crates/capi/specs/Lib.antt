@@ -8,5 +8,6 @@ pub mod Worse
 pub mod Buffering
 pub mod Checker
 pub mod Outcomes
+pub mod Follow
 pub mod Receiver
 pub mod Version

@@ -8,6 +8,7 @@ mod buffering_calls;
 mod checker_calls;
 mod disorder_calls;
 mod figures;
+mod follow_calls;
 mod fragments_calls;
 mod line_faults_calls;
 mod meter_calls;
