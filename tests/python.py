@@ -245,6 +245,20 @@ same("the window: exact, the second jump", fed(65).step(3, 660), (Kind.REORDERED
 saved = fed(65).save()
 same("Receiver.save", len(saved), 1328)
 same("Receiver.load", krakobran.Receiver.load(saved).step(3, 660), (Kind.REORDERED_AFTER, 0, 64, 640))
+
+# a log that is followed, and what the command prints of it
+followed = krakobran.Receiver(5)
+log = (ROOT / "crates/cmd_follow/stdin").read_bytes().splitlines(keepends=True)
+lines = [followed.follow(line) for line in log]
+same("Receiver.follow and counts_text, as the command", "".join(line.text for line in lines) + followed.counts_text(),
+     (ROOT / "crates/cmd_follow/stdout").read_text())  # fmt: skip
+same("Receiver.follow, a copy", krakobran.Receiver.load(saved).follow("2;0,65\n"), (0, (Kind.DUPLICATE, 0, 0, 0), "2 at 650 us: copy\n"))
+same("Receiver.follow, beyond the window", krakobran.Receiver.load(saved).follow(b"1;0.66\n"),
+     (0, (Kind.BEYOND_AFTER, 0, 64, 640), "1 at 660 us: late by more than 64 packets, beyond the window\n"))  # fmt: skip
+same("Receiver.follow, refused", [krakobran.Receiver(5).follow(line) for line in ("6;1\n", "6;1")],
+     [(6, (Kind.IN_ORDER, 0, 0, 0), f"6 at 1000 us: refused 6: {krakobran.refusal_words(6)}\n"),
+      (14, (Kind.IN_ORDER, 0, 0, 0), f"refused 14: {krakobran.refusal_words(14)}\n")])  # fmt: skip
+
 two = krakobran.Meter()
 two.start(2, 130)
 two.step(2, 2, 10)

@@ -43,6 +43,7 @@ FILE_OCTETS = 57414
 OWAMP_RECORD_OCTETS = 25
 REPORT_OCTETS = 262144
 SUMMARY_OCTETS = 2048
+FOLLOW_OCTETS = 256
 WORDS_OCTETS = 128
 
 
@@ -178,6 +179,14 @@ class Noted(NamedTuple):
     late: int
 
 
+class Followed(NamedTuple):
+    """What a receiver says of a line of a text log: the refusal (0 for none), what it notes, and the text, with its line feed."""
+
+    refusal: int
+    noted: Noted
+    text: str
+
+
 class Stream(NamedTuple):
     """The numbers that a step decides by: K, first arrivals (L), duplicates, in-order packets, the next expected number, how many jumps are
     kept, the greatest time of the accepted arrivals, the runs as in `Counts`, and the number of the last jump dropped (0 for none)."""
@@ -283,6 +292,8 @@ _CALLS = {
     "full_numbers_10": [c_uint32] + _list(c_uint16) + _list(c_uint64) + _list(c_uint32),
     "receiver_fresh": _RECEIVER + [c_uint32],
     "receiver_step": _RECEIVER + [c_uint32, c_uint64] + _FIGURES,
+    "follow_line": _TEXT + [c_uint64] + _FIGURES + _OUT + _FIGURES,
+    "follow_counts": [c_uint32] * 5 + _OUT + _FIGURES,
     "receiver_step_8": _RECEIVER + [c_uint16, c_uint64] + _FIGURES,
     "receiver_step_10": _RECEIVER + [c_uint16, c_uint64] + _FIGURES,
     "meter_new": _METER,
@@ -735,6 +746,20 @@ class Receiver:
         """Steps by an arrival. Refused, and then unchanged: 10 for an unfit state, 11, 6, 7, 10 for a reordered packet with no greater kept
         jump."""
         return _noted("receiver_step", self._state, _fitting(number, c_uint32), time)
+
+    def follow(self, line: Union[str, bytes]) -> Followed:
+        """Steps by a line of a text log, with its line feed, and says of it what `krakobran follow` does. Nothing is raised: a refused line
+        has its refusal, 14 or one of `step`, and leaves the receiver unchanged."""
+        read, arrival, noted = _text(_encoded(line)), _figures(2), _figures(4)
+        refusal = _calls["log_read_line"](*read, arrival) or _calls["receiver_step"](self._state, *arrival, noted)
+        text = _written("follow_line", read, refusal, noted, room=FOLLOW_OCTETS).decode("ascii")
+        return Followed(refusal, Noted(Kind(noted[0]), *noted[1:]), text)
+
+    def counts_text(self) -> str:
+        """The receiver's counts, as `krakobran follow` prints them at its end."""
+        of = self.stream
+        counts = of.arrived, of.inorder, of.duplicates, of.closed, of.current
+        return _written("follow_counts", counts, room=FOLLOW_OCTETS).decode("ascii")
 
     def step_8(self, short: int, time: int) -> Noted:
         """Steps by the number found of a short one of 8 bits. Refused as `step`, 6 also for a short number over its width."""
