@@ -194,6 +194,13 @@ pub mod c {
         ) -> u64;
         pub fn krakobran_receiver_fresh(receiver: *mut State, sent: u32) -> u64;
         pub fn krakobran_receiver_step(receiver: *mut State, number: u32, time: u64, noted: *mut Noted) -> u64;
+        pub fn krakobran_follow_line(
+            line: *const u8, octets: u64, refusal: u64, noted: *const Noted, out: *mut u8, room: u64, length: *mut u64,
+        ) -> u64;
+        pub fn krakobran_follow_counts(
+            arrived: u32, inorder: u32, duplicates: u32, closed: u32, current: u32, out: *mut u8, room: u64,
+            length: *mut u64,
+        ) -> u64;
         pub fn krakobran_receiver_step_8(receiver: *mut State, number: u16, time: u64, noted: *mut Noted) -> u64;
         pub fn krakobran_receiver_step_10(receiver: *mut State, number: u16, time: u64, noted: *mut Noted) -> u64;
         pub fn krakobran_version() -> u64;

@@ -4,8 +4,8 @@ use crate::boundary::{Meter, Reference, LIBRARY, LIBRARY_NAME};
 use crate::compare::{self, Buffers, Seen};
 use crate::generate::{arrival_list, sample_case, state_case};
 use crate::{
-    checker, disorder, fragments, gaps, meter, needs, records, rows, shortlog, shortnumbers, summary, sweep, text, words,
-    worse,
+    checker, disorder, follow, fragments, gaps, meter, needs, records, rows, shortlog, shortnumbers, summary, sweep,
+    text, words, worse,
 };
 
 /// How many generated inputs a run takes.
@@ -55,6 +55,7 @@ pub fn run(seed: u64, amounts: &Amounts) -> bool {
         .and_then(|()| disorder::compare(seed, amounts.samples, &mut seen))
         .and_then(|()| shortnumbers::compare(seed, amounts.samples, amounts.lists, amounts.states, &mut seen))
         .and_then(|()| fragments::compare(seed, amounts.samples, &mut seen))
+        .and_then(|()| follow::compare(seed, amounts.lists, amounts.states, &mut seen))
         .and_then(|()| meter::compare(seed, amounts.lists, amounts.states, &mut seen));
     print!("{}", seen.table());
     println!(

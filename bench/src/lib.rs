@@ -9,6 +9,7 @@ pub mod compare;
 pub mod definition;
 pub mod diff;
 pub mod disorder;
+pub mod follow;
 pub mod fragments;
 pub mod gaps;
 pub mod generate;

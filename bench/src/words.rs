@@ -8,7 +8,7 @@ const CALLS: &str = include_str!("../../docs/CALLS.md");
 const HEADER: &str = include_str!("../../include/krakobran.h");
 
 /// The words of a refusal: its row in the table.
-fn words(refusal: u64) -> Option<&'static str> {
+pub fn words(refusal: u64) -> Option<&'static str> {
     let start = format!("| {refusal} | ");
     let row = CALLS.lines().find_map(|line| line.strip_prefix(&start))?;
     row.strip_suffix(" |").filter(|_| refusal != 0)
