@@ -333,6 +333,10 @@ uint64_t krakobran_answer(const uint8_t *file, uint64_t octets, uint32_t record,
  * KRAKOBRAN_ROW_NUMBERS for each row. 8 if it has fewer rows than A. */
 uint64_t krakobran_rows(const uint8_t *file, uint64_t octets, krakobran_row *rows, uint64_t numbers);
 
+/* The same for the records after the first `from`, as many as the list has rows: fills it from its start. So a short list takes
+ * the records in blocks: with 256 rows from 0, 256, 512 and so on. */
+uint64_t krakobran_rows_from(const uint8_t *file, uint64_t octets, uint32_t from, krakobran_row *rows, uint64_t numbers);
+
 /* The counts of a sample. */
 uint64_t krakobran_counts(const uint8_t *file, uint64_t octets, krakobran_counts_figures *counts);
 

@@ -519,6 +519,19 @@ static void records_of_it(void) {
         holds = holds && same_row(&rows[i], &small_rows[i]);
     passed("rows", holds);
 
+    int blocks = 1;
+    for (uint32_t from = 0; from <= ARRIVALS + 1; from++) {
+        size_t many = from < ARRIVALS ? ARRIVALS - from : 0;
+        many = many < 2 ? many : 2;
+        take_back();
+        rows = lend(3 * sizeof *rows);
+        expect(rows, many * sizeof *rows);
+        blocks = blocks && accepted(krakobran_rows_from(small, SMALL, from, rows, 3 * KRAKOBRAN_ROW_NUMBERS - 1));
+        for (size_t i = 0; i < many; i++)
+            blocks = blocks && same_row(&rows[i], &small_rows[from + i]);
+    }
+    passed("rows from a record on, two at most", blocks);
+
     take_back();
     uint32_t *list = lend((ARRIVALS + 1) * sizeof *list);
     expect(list, ARRIVALS * sizeof *list);
@@ -833,6 +846,7 @@ OVER_FILE(sample_label, krakobran_sample_label(file, octets, FIGURES(krakobran_p
 OVER_FILE(owamp_write, krakobran_owamp_write(file, octets, LIST(uint8_t, 175), FIGURES(uint64_t)))
 OVER_FILE(answer, krakobran_answer(file, octets, asked, FIGURES(krakobran_row)))
 OVER_FILE(rows, krakobran_rows(file, octets, lend(7 * sizeof(krakobran_row)), 56))
+OVER_FILE(rows_from, krakobran_rows_from(file, octets, 1, lend(7 * sizeof(krakobran_row)), 56))
 OVER_FILE(gaps, krakobran_gaps(file, octets, LIST(uint32_t, 7)))
 OVER_FILE(counts, krakobran_counts(file, octets, FIGURES(krakobran_counts_figures)))
 OVER_FILE(tally, krakobran_tally(file, octets, (uint32_t *)lend_figures(404)))
@@ -869,7 +883,8 @@ static const struct {
     FILE_CALL(degree),       FILE_CALL(ratios),         FILE_CALL(disorder),     FILE_CALL(sweep),       FILE_CALL(worse_first),
     FILE_CALL(worse_second), FILE_CALL(greatest_needs), FILE_CALL(accommodated), FILE_CALL(least_size),  FILE_CALL(least_share),
     FILE_CALL(report_write), FILE_CALL(report_check),   FILE_CALL(summary_write), FILE_CALL(summary_json), FILE_CALL(gaps),
-    FILE_CALL(accommodated_steps), FILE_CALL(summary_all), FILE_CALL(table_csv), FILE_CALL(table_json)};
+    FILE_CALL(accommodated_steps), FILE_CALL(summary_all), FILE_CALL(table_csv), FILE_CALL(table_json),
+    FILE_CALL(rows_from)};
 
 /* The small sample with one number changed, of this width, and the refusal of that. */
 static const struct {
@@ -1463,6 +1478,7 @@ static void no_places(void) {
     passed("NULL: owamp_write of no arrivals",
            krakobran_owamp_write(file, 8, NULL, 0, &length) == KRAKOBRAN_NONE && length == 0);
     passed("NULL: rows of no arrivals", krakobran_rows(file, 8, NULL, 0) == KRAKOBRAN_NONE);
+    passed("NULL: rows from a record on, no room", krakobran_rows_from(small, SMALL, 1, NULL, 0) == KRAKOBRAN_NONE);
     passed("NULL: rows, no room", krakobran_rows(small, SMALL, NULL, 0) == KRAKOBRAN_OUTPUT_SHORT);
     passed("NULL: report_write, no room", krakobran_report_write(file, 8, NULL, 0, &length) == KRAKOBRAN_OUTPUT_SHORT);
     passed("NULL: report_check of an empty report",
@@ -1620,6 +1636,7 @@ CALL(owamp_reversed, krakobran_owamp_import(reversed, recorded, MOST, positions,
 CALL(owamp_write, krakobran_owamp_write(file, octets, out, sizeof out, &length))
 CALL(answer, krakobran_answer(file, octets, record, &given.row))
 CALL(rows, krakobran_rows(file, octets, rows, sizeof rows / 8))
+CALL(rows_from, krakobran_rows_from(file, octets, 256, rows, sizeof rows / 8))
 CALL(gaps, krakobran_gaps(file, octets, positions, MOST))
 CALL(counts, krakobran_counts(file, octets, &given.counts))
 CALL(tally, krakobran_tally(file, octets, tally))
@@ -1688,6 +1705,7 @@ static const struct {
              NAMED(owamp_write),
              NAMED(answer),
              NAMED(rows),
+             NAMED(rows_from),
              NAMED(gaps),
              NAMED(counts),
              NAMED(tally),

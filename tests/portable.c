@@ -299,6 +299,15 @@ static void record_calls(const uint8_t *file, uint64_t octets, const sample *s) 
     if (s && refusal == 0)
         for (uint32_t i = 0; i < many; i++)
             same_row((const krakobran_row *)(const void *)rows + i, due.rows + i);
+    uint32_t from = many / 3, some = from + 5 < many ? 5 : many - from;
+    room = KRAKOBRAN_ROW_NUMBERS * 5 + 3;
+    lay_uint64_t(rows, room);
+    refusal = CALL(rows_from, file, octets, from, (krakobran_row *)(void *)rows, room);
+    if (s)
+        filled_uint64_t(rows, refusal ? 0 : KRAKOBRAN_ROW_NUMBERS * some, room);
+    if (s && refusal == 0)
+        for (uint32_t i = 0; i < some; i++)
+            same_row((const krakobran_row *)(const void *)rows + i, due.rows + from + i);
     room = room_for(many);
     lay_uint32_t(positions, room);
     refusal = CALL(gaps, file, octets, positions, room);

@@ -122,6 +122,8 @@ def try_case(name, sent, numbers, times, rows, gaps, tally, counts, ratios, diso
     same(f"{name}: label, layout, lists", (sample.label, sample.layout, sample.lists()),
          (name, (len(name), sent, len(numbers)), ([100] * sent, numbers, times)))  # fmt: skip
     same(f"{name}: records", sample.records(), rows)
+    for start, most in ((0, 2), (1, len(rows)), (len(rows), 3), (len(rows) + 1, 1)):
+        same(f"{name}: records from {start} on", sample.records_from(start, most), rows[start : start + most])
     same(f"{name}: answer", [sample.answer(record) for record in records], rows)
     same(f"{name}: sweep", sample.sweep(), [(row.kind, row.position, row.extent, row.late) for row in rows])
     same(f"{name}: gap", [sample.gap(record) for record in records], [gaps.get(record) for record in records])

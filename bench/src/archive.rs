@@ -150,6 +150,7 @@ pub mod c {
         pub fn krakobran_owamp_write(file: *const u8, octets: u64, out: *mut u8, room: u64, length: *mut u64) -> u64;
         pub fn krakobran_answer(file: *const u8, octets: u64, record: u32, row: *mut Row) -> u64;
         pub fn krakobran_rows(file: *const u8, octets: u64, rows: *mut Row, numbers: u64) -> u64;
+        pub fn krakobran_rows_from(file: *const u8, octets: u64, from: u32, rows: *mut Row, numbers: u64) -> u64;
         pub fn krakobran_counts(file: *const u8, octets: u64, counts: *mut Counts) -> u64;
         pub fn krakobran_tally(file: *const u8, octets: u64, tally: *mut u32) -> u64;
         pub fn krakobran_gap(file: *const u8, octets: u64, record: u32, gap: *mut Gap) -> u64;

@@ -17,6 +17,11 @@ fn by_library(file: &[u8], rows: &mut [u64]) -> u32 {
     narrow(unsafe { c::krakobran_rows(f, octets, r.cast(), numbers) })
 }
 
+fn from_on(file: &[u8], from: u32, rows: &mut [u64]) -> u32 {
+    let ((f, octets), (r, numbers)) = (given(file), lent(rows));
+    narrow(unsafe { c::krakobran_rows_from(f, octets, from, r.cast(), numbers) })
+}
+
 // The reference.
 
 /// Case, position, jump size, extent, late time, byte offset, largest n and first copy; 0 where a case does not have one.
@@ -74,6 +79,18 @@ fn one(random: &mut Random, file: &[u8], records: &[u32], seen: &mut Seen) -> Re
     if (a, &left) != (b, &right) {
         let at = left.iter().zip(&right).position(|(l, r)| l != r);
         return Err(format!("left {a}, right {b}, first difference at number {at:?} of {room}\n"));
+    }
+    let (from, some) = (random.below(needed / NUMBERS + 3), random.below(40));
+    let mut block = vec![c::LENT; some];
+    let mut due = block.clone();
+    let refusal = from_on(file, from as u32, &mut block);
+    seen.call("rows_from", refusal);
+    let all = if a == 0 { &left[..needed] } else { &[] };
+    for (place, &number) in due[..some / NUMBERS * NUMBERS].iter_mut().zip(all.iter().skip(NUMBERS * from)) {
+        *place = number;
+    }
+    if a != OUTPUT_SHORT && (refusal, &block) != (a, &due) {
+        return Err(format!("rows from {from} on: {refusal}, {block:?}, of all rows {due:?}\n"));
     }
     for &record in records.iter().filter(|_| a == 0) {
         let single = answer(file, record);

@@ -270,6 +270,7 @@ _CALLS = {
     "owamp_write": _TEXT + _OUT + _FIGURES,
     "answer": _TEXT + [c_uint32] + _FIGURES,
     "rows": _TEXT + _list(c_uint64),
+    "rows_from": _TEXT + [c_uint32] + _list(c_uint64),
     "counts": _TEXT + _FIGURES,
     "tally": _TEXT + [ctypes.POINTER(c_uint32)],
     "gap": _TEXT + [c_uint32] + _FIGURES,
@@ -503,6 +504,14 @@ class Sample:
         """The figures of every record, in one pass."""
         numbers = _room(ROW_NUMBERS * self._layout.arrivals, c_uint64)
         _call("rows", self._file, numbers)
+        flat = list(numbers[0])
+        return [_row(flat[i : i + ROW_NUMBERS]) for i in range(0, len(flat), ROW_NUMBERS)]
+
+    def records_from(self, start: int, most: int) -> List[Row]:
+        """The figures of at most so many records, the first `start` left out: records()[start : start + most]."""
+        count = max(0, min(most, self._layout.arrivals - start))
+        numbers = _room(ROW_NUMBERS * count, c_uint64)
+        _call("rows_from", self._file, _fitting(start, c_uint32), numbers)
         flat = list(numbers[0])
         return [_row(flat[i : i + ROW_NUMBERS]) for i in range(0, len(flat), ROW_NUMBERS)]
 

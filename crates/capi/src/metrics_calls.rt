@@ -13,7 +13,7 @@ ghost use Rattle.octets.specs.Memory.{over};
 ghost use Rattle.sample.specs.Decode.{decode, decodedRefusal};
 ghost use Rattle.metrics.specs.Sample.{answersOf};
 ghost use Rattle.metrics.specs.Figures.{recordAnswer, recordGap, sampleCounts, sampleTally, degreeCounts, sampleDegree, sampleRatios};
-ghost use Rattle.metrics.specs.Rows.{rowOf, rowsOf, rowsInto};
+ghost use Rattle.metrics.specs.Rows.{rowOf, rowsOf, rowsInto, rowsFrom};
 ghost use Rattle.metrics.specs.Gaps.{gapsInto, gapNumbers};
 ghost use Rattle.metrics.specs.Report.{ListedTo};
 ghost use Rattle.capi.specs.Sample.{writeTold};
@@ -39,6 +39,16 @@ pub extern "C" fn krakobran_rows(file: &[u8], rows: &mut [u64]) -> u64
         (now (rows .entry))) ⌝ }
 {
     let layout = metrics::record_rows(file, rows);
+    layout.refusal as u64
+}
+
+// Fills a list with the rows of the records after the first `from`, as many as it has room for.
+#[no_mangle]
+pub extern "C" fn krakobran_rows_from(file: &[u8], from: u32, rows: &mut [u64]) -> u64
+    ensures { λ r. ⌜ (r ≡ decodedRefusal (decode (now (file .entry))))
+        × (now (rows .exit) ≡ over (rowsFrom (decode (now (file .entry))) from (length (now (rows .entry)))) (now (rows .entry))) ⌝ }
+{
+    let layout = metrics::rows_from(file, from, rows);
     layout.refusal as u64
 }
 
