@@ -1,8 +1,8 @@
 #!/usr/bin/env python3
 """Tries bindings/python/krakobran.py against the shared object of this checkout, every call of it: the cases P1 to P11 of
 crates/rfc4737/specs/Cases.antt with the figures that stand there, the report's example and the summary's, the tables of the other crates'
-Cases.antt, and a refusal of each number. It holds the binding to the header too: the same calls, numbers and words. A line for each case;
-status 1 if one fails."""
+Cases.antt, what the command prints, and a refusal of each number. It holds the binding to the header too: the same calls, numbers and
+words. A line for each case; status 1 if one fails."""
 
 import json
 import os
@@ -17,7 +17,7 @@ sys.path.insert(0, str(ROOT / "bindings/python"))
 sys.dont_write_bytecode = True
 
 import krakobran  # noqa: E402
-from krakobran import Kind, Measure, Noted, Refused, Row, Sample  # noqa: E402
+from krakobran import Fault, Kind, Measure, Noted, Refused, Row, Sample  # noqa: E402
 
 run = failed = 0
 
@@ -107,6 +107,53 @@ def report_of(sent, numbers, rows, counts):
     return "\n".join(lines + [f"end {arrived} {reordered} {duplicates} {closed} {squares} {current}\n"])
 
 
+FIELDS = "record number time_us kind position jump_size extent late_us byte_offset largest_n first_copy".split()
+COUNT_FIELDS = "sent arrivals arrived reordered copies closed_runs sum_of_squares open_run".split()
+
+
+def fields(record, number, time, row):
+    """The named fields of a record."""
+    late_us = -row.late if row.kind == Kind.REORDERED_BEFORE else row.late
+    figures = {
+        Kind.IN_ORDER: ("in_order", {"position": row.position, "jump_size": row.jump}),
+        Kind.DUPLICATE: ("copy", {"first_copy": row.first}),
+    }.get(row.kind, ("reordered", {"position": row.position, "extent": row.extent, "late_us": late_us, "byte_offset": row.offset,
+                                   "largest_n": row.largest}))  # fmt: skip
+    return {"record": record, "number": number, "time_us": time, "kind": figures[0], **figures[1]}
+
+
+def csv_line(values):
+    """A line of the table, of the fields that have a value."""
+    return ",".join(str(values.get(name, "")) for name in FIELDS + COUNT_FIELDS) + "\n"
+
+
+def try_tables(name, sample, rows, counts):
+    """Every record with named fields."""
+    arrivals = zip(range(1, len(rows) + 1), sample.lists().numbers, sample.lists().times, rows)
+    records = [fields(*arrival) for arrival in arrivals]
+    arrived, reordered, duplicates, _, *runs = counts
+    of_counts = dict(zip(COUNT_FIELDS, [sample.layout.sent, len(rows), arrived, reordered, duplicates, *runs]))
+    lines = [csv_line(record) for record in records]
+    same(f"{name}: table_csv", sample.table_csv(),
+         "".join([",".join(FIELDS + COUNT_FIELDS) + "\n", *lines, csv_line({"kind": "counts", **of_counts})]))  # fmt: skip
+    text = sample.table_json()
+    same(f"{name}: table_json", json.loads(text), {"label": name, "records": records, "counts": of_counts})
+    same(f"{name}: table_json, a line for each record", text.count("\n"), len(rows) + 2 + (not rows))
+    same(f"{name}: table_json begins with label_json", text.startswith(krakobran.label_json(name) + ',"records":[\n'), True)
+
+
+def all_figures(sample, rows, gaps, tally, counts):
+    """The figures that a summary leaves out, as text."""
+    lines = ["", "Extents, and how many packets have each:"]
+    lines += [f"    {extent}: {packets}" for extent, packets in sorted(tally.items())] + ["    over 100: 0"]
+    lines += ["", "n, and how many packets are n-reordered:"]
+    lines += [f"    {n}: {sum(row.largest >= n for row in rows)}" for n in range(1, 11)]
+    lines += ["", "Records that have a gap, and the gap in positions:"] + [f"    {record}: {gap}" for record, gap in sorted(gaps.items())]
+    closed, squares, current = counts[4:]
+    lines += ["", f"Runs in order: {closed} ended, the sum of their squares {squares}, packets in the open one {current}", ""]
+    return sample.summary() + "\n".join(lines)
+
+
 def need(measure, row):
     """What a record needs of a buffer."""
     time = row.late if row.kind == Kind.REORDERED_AFTER else 0
@@ -137,6 +184,8 @@ def try_case(name, sent, numbers, times, rows, gaps, tally, counts, ratios, diso
         same(f"{name}: degree {n}", sample.degree(n), some / arrived if arrived else None)
     same(f"{name}: disorder", sample.disorder(), disorder)
     try_needs(name, sample, rows, arrived)
+    try_tables(name, sample, rows, counts)
+    same(f"{name}: summary_all", sample.summary_all(), all_figures(sample, rows, gaps, tally, counts))
     same(f"{name}: report", sample.report(), report_of(sent, numbers, rows, counts))
     same(f"{name}: check", sample.check(sample.report()), (True, 0))
     same(f"{name}: check, a line less", sample.check(sample.report()[: -len("end 0 0 0 0 0 0\n")])[0], False)
@@ -152,6 +201,9 @@ def try_needs(name, sample, rows, arrived):
         sizes = sorted(set(needs) | {0, 1, 2**64 - 1})
         same(f"{name}: accommodated, {measure.name}", [sample.accommodated(measure, size) for size in sizes],
              [(sum(n <= size for n in needs), arrived) for size in sizes])  # fmt: skip
+        for low, shift in ((0, 0), (1, 1), (max(needs, default=0), 0), (0, 57), (3, 64), (2**64 - 1, 2**32 - 1)):
+            same(f"{name}: accommodated_steps, {measure.name}, from {low} by 2^{shift}", sample.accommodated_steps(measure, low, shift),
+                 (arrived, max(needs, default=0), [sum(n <= low + (j << min(shift, 64)) for n in needs) for j in range(128)]))  # fmt: skip
         shares = [(1, 2), (9, 10), (95, 100), (7, 7)]
         same(f"{name}: least_size, {measure.name}", [sample.least_size(measure, *share) for share in shares],
              [min(s for s in sizes if part * arrived <= whole * sum(n <= s for n in needs)) for part, whole in shares])  # fmt: skip
@@ -193,6 +245,20 @@ same("the link: summary as JSON",
      [(size["waiting_time_us"], size["packets_held"], size["octets_held"]) for size in of_link["least_sizes"]],
      [tuple(link.least_size(measure, share, 100) for measure in (Measure.TIME, Measure.PACKETS, Measure.OCTETS))
       for share in (50, 90, 95, 99, 100)])  # fmt: skip
+tabled = Sample.open(ROOT / "crates/cmd_table/stdin")
+same("the table: as JSON", tabled.table_json(), (ROOT / "crates/cmd_table/stdout").read_text())
+
+
+def printed(sample, program, argument):
+    """What a program of the command prints of a sample."""
+    words = [str(ROOT / "target/bin" / program), argument]
+    return subprocess.run(words, input=sample.octets, stdout=subprocess.PIPE, check=False).stdout.decode("ascii")
+
+
+for name, sample in (("example", example), ("link", link), ("table", tabled)):
+    same(f"the {name}: table_csv, as the command prints it", sample.table_csv(), printed(sample, "cmd_table", "csv"))
+    same(f"the {name}: table_json, as the command prints it", sample.table_json(), printed(sample, "cmd_table", "json"))
+    same(f"the {name}: summary_all, as the command prints it", sample.summary_all(), printed(sample, "cmd_summary", "all"))
 log = (ROOT / "examples/supplier.log").read_bytes()
 same("the link: from_log", Sample.from_log(log, 290, 100).octets, link.octets)
 same("the link: log, read again", krakobran.import_log(link.log(), 290), link.lists()[1:])
@@ -213,6 +279,18 @@ same("import_log", krakobran.import_log("1;4,5\n2;4.5\n3;45\n", 3), ([1, 2, 3], 
 same("refused_line", [krakobran.refused_line(text, 2) for text in (b"", b"1;1\n", b"1;1\n3;1\nx\n")], [0, 0, 2])
 same("check_lists", krakobran.check_lists(2, [1, 2], [0, 0]), None)
 same("read_line", [krakobran.read_line(line) for line in (b"7;4,05\n", "0;0\n")], [(7, 4050), (0, 0)])
+FAULTS = {
+    b"\xef\xbb\xbf1;5\n": Fault.BYTE_ORDER_MARK, b"\n": Fault.EMPTY_LINE, b"number;time\n": Fault.NO_DIGIT, b"": Fault.NO_DIGIT,
+    b"1;5\r\n": Fault.CARRIAGE_RETURN, b"\r\n": Fault.CARRIAGE_RETURN, b"1;5": Fault.NO_LINE_FEED, b"4294967296;5\n": Fault.NUMBER_OVER,
+    b"1;5,0000\n": Fault.MANY_DECIMALS, b"1;5,000\n": Fault.NONE, b"1;18446744073709551,616\n": Fault.NONE, b"1;\n": Fault.OTHER,
+    b"1;5,\n": Fault.OTHER, b"1 5\n": Fault.OTHER,
+}  # fmt: skip
+same("line_fault", {line: krakobran.line_fault(line) for line in FAULTS}, FAULTS)
+same("text_line", [krakobran.text_line("ä\n\nlast", n) for n in (0, 1, 2, 3, 2**64 - 1)], ["ä\n".encode(), b"\n", b"last", b"", b""])
+same("text_line, no text", krakobran.text_line(b"", 0), b"")
+same("text_line, the refused line", krakobran.text_line(b"1;1\nx\n", krakobran.refused_line(b"1;1\nx\n", 1) - 1), b"x\n")
+same("label_json", [krakobran.label_json(label) for label in ("", b"roof", 'a "b" \\', "Käfer", '"' * 64)],
+     ['{"label":""', '{"label":"roof"', '{"label":"a \\"b\\" \\\\"', '{"label":"Käfer"', '{"label":"' + '\\"' * 64 + '"'])  # fmt: skip
 short_8, short_10 = b"100;1\n200;2\n255;3\n0;4\n3;5\n254;6\n", "500;1\n1000;2\n1023;3\n0;4\n5;5\n1020;6\n"
 at = [1000, 2000, 3000, 4000, 5000, 6000]
 same("import_log, 8 bits", krakobran.import_log(short_8, 259, 8), ([100, 200, 255, 256, 259, 254], at))
@@ -277,6 +355,7 @@ far = Sample.of("", [9], [1], [4294967295000000])
 refused("refused 1", 1, lambda: Sample(b""))
 refused("refused 2", 2, lambda: Sample(example.octets + b"\0"))
 refused("refused 3", 3, lambda: Sample.of("x" * 65, [1], [], []))
+refused("refused 3, a label as JSON", 3, lambda: krakobran.label_json("x" * 65))
 refused("refused 4", 4, lambda: Sample.of("", [], [], []))
 refused("refused 4, a receiver", 4, lambda: krakobran.Receiver(4097))
 refused("refused 4, a log", 4, lambda: krakobran.import_log(b"x\n", 0))
@@ -289,6 +368,7 @@ refused("refused 9, a gap", 9, lambda: example.gap(0))
 refused("refused 9, n", 9, lambda: example.degree(101))
 refused("refused 9, n of counts", 9, lambda: example.n_reordered(0))
 refused("refused 9, a measure", 9, lambda: example.accommodated(3, 0))
+refused("refused 9, a measure of steps", 9, lambda: example.accommodated_steps(3))
 refused("refused 9, a part", 9, lambda: example.least_size(Measure.TIME, 2, 1))
 refused("refused 10", 10, lambda: unfit.step(1, 0))
 refused("refused 11", 11, lambda: full.step(1, 0))
@@ -344,10 +424,11 @@ table = dict(re.findall(r"^\| (\d+) \| (.*) \|$", (ROOT / "docs/CALLS.md").read_
 same("the words of refusals", {n: krakobran.refusal_words(int(n)) for n in table}, table)
 same("the words of an exception", str(Refused(14, 2)), "refused 14, line 2: a line not of the form, or a value over the field's range")
 limits = header[header.index("/* Limits") : header.index("/* ---- the sample file")]
-numbers_of = {name: int(n) for name, n in re.findall(r"KRAKOBRAN_(\w+) = (\d+)", limits) if name != "STACK_OCTETS"}
+numbers_of = {name: int(n) for name, n in re.findall(r"KRAKOBRAN_(\w+) = (\d+)", limits) if not name.endswith("STACK_OCTETS")}
 same("limits and lengths", {name: getattr(krakobran, name, None) for name in numbers_of}, numbers_of)
 same("cases", {f"{kind.name} = {kind.value}" for kind in Kind} - set(re.findall(r"KRAKOBRAN_(\w+ = \d)", header)), set())
 same("measures", {f"MEASURE_{m.name} = {m.value}" for m in Measure} - set(re.findall(r"KRAKOBRAN_(\w+ = \d)", header)), set())
+same("faults", {f"FAULT_{fault.name} = {fault.value}" for fault in Fault} ^ set(re.findall(r"KRAKOBRAN_(FAULT_\w+ = \d)", header)), set())
 same("the version", f'#define KRAKOBRAN_VERSION "{krakobran.VERSION}"' in header, True)
 
 same("the version of the library", krakobran.library_version(), krakobran.VERSION)

@@ -39,11 +39,16 @@ WINDOW_PLACES = 64
 TALLY_PLACES = 101
 SWEEP_TABLE_PLACES = 4096
 ROW_NUMBERS = 8
+STEP_PLACES = 128
+TABLE_PARTS = 18
 FILE_OCTETS = 57414
 OWAMP_RECORD_OCTETS = 25
 REPORT_OCTETS = 262144
+TABLE_PART_OCTETS = 131072
 SUMMARY_OCTETS = 2048
 FOLLOW_OCTETS = 256
+SUMMARY_ALL_OCTETS = 200704
+LABEL_JSON_OCTETS = 139
 WORDS_OCTETS = 128
 
 
@@ -75,6 +80,20 @@ class Measure(enum.IntEnum):
     PACKETS = 0
     OCTETS = 1
     TIME = 2
+
+
+class Fault(enum.IntEnum):
+    """What is wrong first with a line of a text log."""
+
+    NONE = 0  # it is of the form, and its number fits; if it is refused with 14, its time is over the range
+    BYTE_ORDER_MARK = 1
+    EMPTY_LINE = 2
+    NO_DIGIT = 3  # it does not begin with a digit, or is empty
+    CARRIAGE_RETURN = 4
+    NO_LINE_FEED = 5
+    NUMBER_OVER = 6  # its number is over 32 bits
+    MANY_DECIMALS = 7  # its time has more than three decimals
+    OTHER = 8
 
 
 # ---- answers
@@ -153,6 +172,14 @@ class Needs(NamedTuple):
     packets: int
     octets: int
     time: int
+
+
+class Steps(NamedTuple):
+    """First arrivals (L), the greatest need, and how many first arrivals each of the 128 sizes accommodates."""
+
+    arrived: int
+    greatest: int
+    counts: List[int]
 
 
 class Verdict(NamedTuple):
@@ -261,6 +288,8 @@ _CALLS = {
     "log_import": _TEXT + [c_uint32] + _ARRIVALS + _FIGURES,
     "log_refused_line": _TEXT + [c_uint32] + _FIGURES,
     "log_read_line": _TEXT + _FIGURES,
+    "log_line_fault": _TEXT,
+    "text_line": _TEXT + [c_uint64] + _FIGURES,
     "log_import_8": _TEXT + [c_uint32] + _ARRIVALS + _FIGURES,
     "log_import_10": _TEXT + [c_uint32] + _ARRIVALS + _FIGURES,
     "log_refused_line_8": _TEXT + [c_uint32] + _FIGURES,
@@ -283,11 +312,16 @@ _CALLS = {
     "worse": _TEXT + _TEXT + _FIGURES,
     "greatest_needs": _TEXT + _FIGURES,
     "accommodated": _TEXT + [c_uint32, c_uint64] + _FIGURES,
+    "accommodated_steps": _TEXT + [c_uint32, c_uint64, c_uint32] + _FIGURES,
     "least_size": _TEXT + [c_uint32, c_uint32, c_uint32] + _FIGURES,
     "report_write": _TEXT + _OUT + _FIGURES,
     "report_check": _TEXT + _TEXT + _FIGURES,
     "summary_write": _TEXT + _OUT + _FIGURES,
     "summary_json": _TEXT + _OUT + _FIGURES,
+    "summary_all": _TEXT + _OUT + _FIGURES,
+    "label_json": _TEXT + _OUT + _FIGURES,
+    "table_csv": _TEXT + [c_uint32] + _OUT + _FIGURES,
+    "table_json": _TEXT + [c_uint32] + _OUT + _FIGURES,
     "fragment_order": [c_uint32] + _ARRIVALS + _list(c_uint16) + _list(c_uint8) + _list(c_uint16) + _OUT + _OUT,
     "full_numbers_8": [c_uint32] + _list(c_uint16) + _list(c_uint64) + _list(c_uint32),
     "full_numbers_10": [c_uint32] + _list(c_uint16) + _list(c_uint64) + _list(c_uint32),
@@ -305,7 +339,7 @@ _CALLS = {
 }
 """The parameters of each call, in the header's order. Figures are passed as numbers of 64 bits."""
 
-_NO_REFUSAL = ("log_refused_line", "log_refused_line_8", "log_refused_line_10", "meter_new")
+_NO_RESULT = ("log_refused_line", "log_refused_line_8", "log_refused_line_10", "text_line", "meter_new")
 
 
 def _found() -> ctypes.CDLL:
@@ -330,7 +364,7 @@ def _bound() -> dict:
         except AttributeError:
             raise ImportError(f"{library._name} has no krakobran_{name}: it is not of version {VERSION}") from None
         call.argtypes = parameters
-        call.restype = None if name in _NO_REFUSAL else c_uint64
+        call.restype = None if name in _NO_RESULT else c_uint64
         calls[name] = call
     if calls["version"]() // 1000 != _number(VERSION) // 1000:
         raise ImportError(f"{library._name} is of version {_version(calls['version']())}, and not {VERSION}")
@@ -589,6 +623,14 @@ class Sample:
         _call("accommodated", self._file, _fitting(measure, c_uint32), _fitting(size, c_uint64), counts)
         return Share(*counts)
 
+    def accommodated_steps(self, measure: Measure, low: int = 0, shift: int = 0) -> Steps:
+        """What buffers of 128 sizes accommodate, from `low` on and 2^shift apart; and the greatest need. One call is one pass over the
+        file, as one of `accommodated` is. Refused: 9 for a measure that is none."""
+        steps = _figures(2 + STEP_PLACES)
+        sizes = _fitting(low, c_uint64), _fitting(shift, c_uint32)
+        _call("accommodated_steps", self._file, _fitting(measure, c_uint32), sizes, steps)
+        return Steps(steps[0], steps[1], steps[2:])
+
     def least_size(self, measure: Measure, part: int, whole: int) -> int:
         """The least size of a buffer that accommodates at least `part` in `whole` of the first arrivals. Refused: 9 for a measure that is
         none, and for a part outside 1 to whole."""
@@ -600,6 +642,19 @@ class Sample:
     def report(self) -> str:
         """The report."""
         return _written("report_write", self._file, room=REPORT_OCTETS).decode("ascii")
+
+    def table_csv(self) -> str:
+        """Every record with named fields: a line of names, a line for each record, and one for the counts, separated by commas."""
+        return self._table("table_csv")
+
+    def table_json(self) -> str:
+        """The same as one object of JSON and a line feed, with the label."""
+        return self._table("table_json")
+
+    def _table(self, name: str) -> str:
+        """The parts of a table, one after the other."""
+        parts = (_written(name, self._file, part, room=TABLE_PART_OCTETS) for part in range(TABLE_PARTS))
+        return b"".join(parts).decode("ascii")
 
     def check(self, report: Union[str, bytes]) -> Verdict:
         """Whether a report is the one that the sample must give, or the number of its first wrong line."""
@@ -615,6 +670,10 @@ class Sample:
         """The same as one object of JSON, with the label; times are in microseconds."""
         return _written("summary_json", self._file, room=SUMMARY_OCTETS).decode("ascii")
 
+    def summary_all(self) -> str:
+        """The summary, and the other figures of the whole sample: tally of extents, n-reordering for n = 1 to 10, gaps, runs."""
+        return _written("summary_all", self._file, room=SUMMARY_ALL_OCTETS).decode("ascii")
+
     def log(self) -> bytes:
         """The arrivals as a text log."""
         lists = self.lists()
@@ -628,6 +687,12 @@ class Sample:
 def _row(figures: Sequence[int]) -> Row:
     """A row of eight numbers."""
     return Row(Kind(figures[0]), *figures[1:])
+
+
+def label_json(label: Union[str, bytes]) -> str:
+    """The start of an object of JSON, with a label as its first member: `{"label":"roof"`. A quote and a backslash are escaped, and
+    nothing else, since a sample's label has nothing else that needs it. Refused: 3."""
+    return _written("label_json", _text(_encoded(label)), room=LABEL_JSON_OCTETS).decode("utf-8", "surrogatepass")
 
 
 def worse(first: Sample, second: Sample) -> Worse:
@@ -667,6 +732,19 @@ def read_line(line: Union[str, bytes]) -> Tuple[int, int]:
     arrival = _figures(2)
     _call("log_read_line", _text(_encoded(line)), arrival)
     return arrival[0], arrival[1]
+
+
+def line_fault(line: Union[str, bytes]) -> Fault:
+    """What is wrong first with one line of a text log, given with its line feed: why it is refused with 14."""
+    return Fault(_calls["log_line_fault"](*_text(_encoded(line))))
+
+
+def text_line(text: Union[str, bytes], n: int) -> bytes:
+    """Line n of a text, here from 0, with its line feed; empty if there is none."""
+    octets, part = _encoded(text), _figures(2)
+    # No text has as many lines as octets and one more, and the library counts up to n.
+    _call("text_line", _text(octets), min(_fitting(n, c_uint64), len(octets)), part)
+    return octets[part[0] : part[0] + part[1]]
 
 
 def import_owamp(records: bytes, sent: int) -> Tuple[List[int], List[int]]:
