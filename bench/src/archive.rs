@@ -55,6 +55,21 @@ pub mod c {
         Noted: kind jump extent late;
     }
 
+    /// How many sizes of a buffer are tried at once.
+    pub const STEPS: usize = 128;
+
+    #[repr(C)]
+    #[derive(Clone, Copy, PartialEq, Eq, Debug)]
+    pub struct Steps {
+        pub arrived: u64,
+        pub greatest: u64,
+        pub counts: [u64; STEPS],
+    }
+
+    impl Steps {
+        pub const LENT: Steps = Steps { arrived: LENT, greatest: LENT, counts: [LENT; STEPS] };
+    }
+
     #[repr(C)]
     #[derive(Clone, Copy, PartialEq, Eq, Debug)]
     pub struct Runs {
@@ -129,6 +144,8 @@ pub mod c {
         ) -> u64;
         pub fn krakobran_log_refused_line(log: *const u8, octets: u64, sent: u32, line: *mut u64);
         pub fn krakobran_log_read_line(line: *const u8, octets: u64, arrival: *mut Arrival) -> u64;
+        pub fn krakobran_log_line_fault(line: *const u8, octets: u64) -> u64;
+        pub fn krakobran_text_line(text: *const u8, octets: u64, n: u64, part: *mut Part);
         pub fn krakobran_log_import_8(
             log: *const u8, octets: u64, sent: u32, numbers: *mut u32, number_places: u64, times: *mut u64,
             time_places: u64, arrivals: *mut u64,
@@ -171,6 +188,9 @@ pub mod c {
         pub fn krakobran_accommodated(
             file: *const u8, octets: u64, measure: u32, size: u64, counts: *mut Accommodated,
         ) -> u64;
+        pub fn krakobran_accommodated_steps(
+            file: *const u8, octets: u64, measure: u32, low: u64, shift: u32, steps: *mut Steps,
+        ) -> u64;
         pub fn krakobran_least_size(
             file: *const u8, octets: u64, measure: u32, part: u32, whole: u32, size: *mut u64,
         ) -> u64;
@@ -180,6 +200,14 @@ pub mod c {
         ) -> u64;
         pub fn krakobran_summary_write(file: *const u8, octets: u64, out: *mut u8, room: u64, length: *mut u64) -> u64;
         pub fn krakobran_summary_json(file: *const u8, octets: u64, out: *mut u8, room: u64, length: *mut u64) -> u64;
+        pub fn krakobran_summary_all(file: *const u8, octets: u64, out: *mut u8, room: u64, length: *mut u64) -> u64;
+        pub fn krakobran_label_json(label: *const u8, octets: u64, out: *mut u8, room: u64, length: *mut u64) -> u64;
+        pub fn krakobran_table_csv(
+            file: *const u8, octets: u64, part: u32, out: *mut u8, room: u64, length: *mut u64,
+        ) -> u64;
+        pub fn krakobran_table_json(
+            file: *const u8, octets: u64, part: u32, out: *mut u8, room: u64, length: *mut u64,
+        ) -> u64;
         pub fn krakobran_fragment_order(
             sent: u32, numbers: *const u32, number_count: u64, times: *const u64, time_count: u64, lengths: *const u16,
             length_count: u64, mores: *const u8, more_count: u64, offsets: *const u16, offset_count: u64,
@@ -528,6 +556,7 @@ pub fn layout() {
         "worse_link" c::Worse: link start length;
         "needs" c::Needs: packets octets time;
         "accommodated_counts" c::Accommodated: accommodated arrived;
+        "steps" c::Steps: arrived greatest counts;
         "verdict" c::Verdict: agrees line;
         "noted" c::Noted: kind jump extent late;
         "runs" c::Runs: closed squares current;

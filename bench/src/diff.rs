@@ -5,7 +5,7 @@ use crate::compare::{self, Buffers, Seen};
 use crate::generate::{arrival_list, sample_case, state_case};
 use crate::{
     checker, disorder, follow, fragments, gaps, meter, needs, records, rows, shortlog, shortnumbers, summary, sweep,
-    text, words, worse,
+    tables, text, words, worse,
 };
 
 /// How many generated inputs a run takes.
@@ -49,6 +49,7 @@ pub fn run(seed: u64, amounts: &Amounts) -> bool {
         .and_then(|()| gaps::compare(seed, amounts.samples, &mut seen))
         .and_then(|()| needs::compare(seed, amounts.samples, &mut seen))
         .and_then(|()| summary::compare(seed, amounts.samples, &mut seen))
+        .and_then(|()| tables::compare(seed, amounts.samples, &mut seen))
         .and_then(|()| words::compare(&mut seen))
         .and_then(|()| worse::compare(seed, amounts.samples, &mut seen))
         .and_then(|()| checker::compare(seed, amounts.samples, &mut seen))

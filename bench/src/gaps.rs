@@ -26,7 +26,7 @@ struct Jump {
 }
 
 /// Fills a list that is zeroed: the jumps in order, then the gap of each over its neighbour before, if that was discovered earlier.
-fn fill(sample: &Sample, gaps: &mut [u32]) {
+pub fn fill(sample: &Sample, gaps: &mut [u32]) {
     let mut seen = [false; MOST_SENT + 1];
     let mut jumps: Vec<Jump> = Vec::new();
     let (mut next_expected, mut position) = (1, 0);

@@ -23,6 +23,7 @@ pub mod shortlog;
 pub mod shortnumbers;
 pub mod summary;
 pub mod sweep;
+pub mod tables;
 pub mod text;
 pub mod time;
 pub mod words;

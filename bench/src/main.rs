@@ -15,7 +15,8 @@ const USAGE: &str = "\
 bench cases [samples [lists [states]]]         self-check of the reference
 bench diff [samples [lists [states [seed]]]]   library against reference, call by call
 bench time [TABLE..]                           library and reference measured: all tables, or listing, figures, degrees, others, text,
-                                               records, checker, sweep, rows, needs, summary, disorder, fragments, steps, short, meter
+                                               records, checker, sweep, rows, gaps, needs, summary, tables, disorder, fragments, steps,
+                                               short, meter
 bench steps in-order|window library|reference TIMES
                                                feeds 4,096 arrivals so many times, for counting instructions
 bench layout                                   sizes and offsets of the structs that the library is called with

@@ -1,5 +1,5 @@
 //! What a receiver that restores order needs: the greatest needs of a sample, how many first arrivals a buffer accommodates, and
-//! the least buffer for a share of them. The archive's three calls, and a plain Rust implementation beside them: RFC 4737 has the
+//! the least buffer for a share of them. The archive's four calls, and a plain Rust implementation beside them: RFC 4737 has the
 //! needs as reordering extent (4.2.2), late time offset (4.2.3) and byte offset (4.2.4); in order, or before its discontinuity, is 0.
 
 use std::hint::black_box;
@@ -32,6 +32,14 @@ fn accommodated_by_library(file: &[u8], measure: u32, size: u64) -> (u32, [u64; 
     let mut a = c::Accommodated::LENT;
     let refusal = unsafe { c::krakobran_accommodated(f, octets, measure, size, &mut a) };
     (narrow(refusal), [a.accommodated, a.arrived])
+}
+
+/// The refusal, L, the greatest need, and how many first arrivals buffers of the sizes low, low + 2^shift and so on accommodate.
+fn steps_by_library(file: &[u8], measure: u32, low: u64, shift: u32) -> (u32, c::Steps) {
+    let (f, octets) = given(file);
+    let mut steps = c::Steps::LENT;
+    let refusal = unsafe { c::krakobran_accommodated_steps(f, octets, measure, low, shift, &mut steps) };
+    (narrow(refusal), steps)
 }
 
 /// The refusal, and the least size that accommodates part in whole of the first arrivals.
@@ -124,6 +132,26 @@ fn accommodated_by_reference(file: &[u8], measure: u32, size: u64) -> (u32, [u64
                 counts[1] += 1;
             });
             (0, counts)
+        }
+    }
+}
+
+/// Of the needs in rising order, those before the first that is greater than the size. No need has over 64 bits.
+fn steps_by_reference(file: &[u8], measure: u32, low: u64, shift: u32) -> (u32, c::Steps) {
+    let none = c::Steps { arrived: 0, greatest: 0, counts: [0; c::STEPS] };
+    match check(file) {
+        Err(refusal) => (refusal, none),
+        Ok(_) if measure > TIME => (OUTSIDE, none),
+        Ok(sample) => {
+            let mut needs = Vec::with_capacity(sample.arrivals.len());
+            each_need(&sample, measure, |need| needs.push(u128::from(need)));
+            needs.sort_unstable();
+            let counts = std::array::from_fn(|step| {
+                let size = u128::from(low) + ((step as u128) << shift.min(64));
+                needs.partition_point(|&need| need <= size) as u64
+            });
+            let greatest = needs.last().map_or(0, |&need| need as u64);
+            (0, c::Steps { arrived: needs.len() as u64, greatest, counts })
         }
     }
 }
@@ -222,6 +250,14 @@ fn one(random: &mut Random, file: &[u8], seen: &mut Seen) -> Result<(), String> 
             same(&format!("accommodated, measure {measure}, size {size}"), found, due)?;
             seen.call("accommodated", due.0);
         }
+        let any = random.draw();
+        let low = random.pick(&[0, least.1, greatest / 2, greatest, any, u64::MAX]);
+        let last = random.between(0, 64 - greatest.leading_zeros() as usize) as u32;
+        let shift = random.pick(&[0, last, last, last.saturating_sub(6), 57, 63, 64, 127, 128, u32::MAX]);
+        let steps = steps_by_reference(file, measure, low, shift);
+        let found = steps_by_library(file, measure, low, shift);
+        same(&format!("steps, measure {measure}, from {low} by 2^{shift}"), found, steps)?;
+        seen.call("accommodated steps", steps.0);
         if least.0 == 0 && least.1 > 0 {
             seen.kind(match measure {
                 PACKETS => "least size: packets",
@@ -240,8 +276,8 @@ fn one(random: &mut Random, file: &[u8], seen: &mut Seen) -> Result<(), String> 
 
 // The measurement.
 
-/// Nanoseconds of a call: the greatest needs, and for each measure what half of the greatest need accommodates and the least size for
-/// 95 in 100.
+/// Nanoseconds of a call: the greatest needs, and for each measure what half of the greatest need accommodates, what 128 sizes up to
+/// it do, and the least size for 95 in 100.
 pub fn time(orders: &[Order], amounts: &[usize]) {
     println!("{:30} {:>5} {:>11} {:>11} {:>6}", "needs", "A", "library", "reference", "ratio");
     for &order in orders {
@@ -259,6 +295,12 @@ pub fn time(orders: &[Order], amounts: &[usize]) {
                     calls(|| accommodated_by_reference(black_box(f), kind, half)),
                 ]);
                 row(&format!("accommodated, {name} {order:?}"), many, held);
+                let shift = (u64::BITS - greatest[kind as usize].leading_zeros()).saturating_sub(7);
+                let steps = measure([
+                    calls(|| steps_by_library(black_box(f), kind, 0, shift)),
+                    calls(|| steps_by_reference(black_box(f), kind, 0, shift)),
+                ]);
+                row(&format!("128 sizes, {name} {order:?}"), many, steps);
                 let least = measure([
                     calls(|| least_by_library(black_box(f), kind, 95, 100)),
                     calls(|| least_by_reference(black_box(f), kind, 95, 100)),

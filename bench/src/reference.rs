@@ -891,9 +891,9 @@ pub fn degree_of_answers<E: Engine>(file: &[u8], n: u32) -> Degree {
 // The listing.
 
 /// Text in a lent buffer that has room for all of it.
-struct Text<'a> {
-    out: &'a mut [u8],
-    length: usize,
+pub struct Text<'a> {
+    pub out: &'a mut [u8],
+    pub length: usize,
 }
 
 /// The digits of 00 to 99.
@@ -910,14 +910,14 @@ const PAIRS: [u8; 200] = {
 
 impl Text<'_> {
     #[inline(always)]
-    fn word(&mut self, word: &[u8]) {
+    pub fn word(&mut self, word: &[u8]) {
         self.out[self.length..self.length + word.len()].copy_from_slice(word);
         self.length += word.len();
     }
 
     /// A decimal number and one octet after it.
     #[inline(always)]
-    fn number(&mut self, mut number: u64, after: u8) {
+    pub fn number(&mut self, mut number: u64, after: u8) {
         let mut digits = [0; 21];
         digits[20] = after;
         let mut at = 20;

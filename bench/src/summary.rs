@@ -1,18 +1,24 @@
-//! The summary of a sample: the archive's call, and a plain Rust implementation beside it.
+//! The summary of a sample, as text, as JSON and with all figures, and a label in JSON: the archive's calls, and a plain Rust
+//! implementation beside them.
 
 use std::fmt::Write;
 use std::hint::black_box;
 
 use crate::archive::{c, given, lent, one_figure};
 use crate::compare::Seen;
-use crate::disorder;
 use crate::generate::{measured, sample_case, Order, Random};
 use crate::needs::{least_sizes, MEASURES};
-use crate::reference::{check, counts, n_reordered, number_and_time, Sample, Written, OUTPUT_SHORT};
+use crate::reference::{
+    check, counts, each_answer, n_reordered, number_and_time, Answer, Sample, Swift, Written, LABEL_COUNT, MOST_LABEL,
+    OUTPUT_SHORT,
+};
 use crate::time::{calls, measure, row};
+use crate::{disorder, gaps};
 
-/// Octets that suffice for any summary.
+/// Octets that suffice for any summary; for one with all figures; for a label in JSON.
 const ROOM: usize = 2048;
+const ALL_ROOM: usize = 200_704;
+const LABEL_ROOM: usize = 139;
 const SHARES: [(&str, u32); 5] = [("50 %", 50), ("90 %", 90), ("95 %", 95), ("99 %", 99), ("all", 100)];
 
 // The library's call.
@@ -22,15 +28,32 @@ const SHARES: [(&str, u32); 5] = [("50 %", 50), ("90 %", 90), ("95 %", 95), ("99
 enum Form {
     Text,
     Json,
+    All,
+}
+
+impl Form {
+    fn room(self) -> usize {
+        match self {
+            Form::Text | Form::Json => ROOM,
+            Form::All => ALL_ROOM,
+        }
+    }
 }
 
 fn by_library(form: Form, file: &[u8], out: &mut [u8]) -> Written {
     let call = match form {
         Form::Text => c::krakobran_summary_write,
         Form::Json => c::krakobran_summary_json,
+        Form::All => c::krakobran_summary_all,
     };
     let ((f, octets), (o, room)) = (given(file), lent(out));
     let (refusal, length) = one_figure(|w| unsafe { call(f, octets, o, room, w) });
+    Written { refusal, length }
+}
+
+fn label_by_library(label: &[u8], out: &mut [u8]) -> Written {
+    let ((l, octets), (o, room)) = (given(label), lent(out));
+    let (refusal, length) = one_figure(|w| unsafe { c::krakobran_label_json(l, octets, o, room, w) });
     Written { refusal, length }
 }
 
@@ -79,12 +102,57 @@ fn text(file: &[u8]) -> Result<String, u32> {
     Ok(text)
 }
 
+/// The summary, and the figures of the whole sample that it leaves out.
+fn all(file: &[u8]) -> Result<String, u32> {
+    let mut text = text(file)?;
+    let sample = check(file)?;
+    let (mut extents, mut degrees) = ([0; 101], [0; 11]);
+    each_answer::<Swift>(&sample, |_, _, answer| {
+        if let Answer::Reordered { extent, largest_n, .. } = answer {
+            extents[if extent <= 100 { extent as usize } else { 0 }] += 1;
+            degrees[largest_n.min(10) as usize] += 1;
+        }
+    });
+    text += "\nExtents, and how many packets have each:\n";
+    for (extent, packets) in extents.into_iter().enumerate().skip(1).filter(|&(_, packets)| packets > 0) {
+        let _ = writeln!(text, "    {extent}: {packets}");
+    }
+    let _ = writeln!(text, "    over 100: {}", extents[0]);
+    text += "\nn, and how many packets are n-reordered:\n";
+    for n in 1..=10 {
+        let _ = writeln!(text, "    {n}: {}", degrees[n..].iter().sum::<u32>());
+    }
+    text += "\nRecords that have a gap, and the gap in positions:\n";
+    let mut positions = vec![0; sample.arrivals.len()];
+    gaps::fill(&sample, &mut positions);
+    for (record, gap) in (1..).zip(positions).filter(|&(_, gap)| gap > 0) {
+        let _ = writeln!(text, "    {record}: {gap}");
+    }
+    let count = counts(file);
+    let _ = write!(text, "\nRuns in order: {} ended, the sum of their squares {}", count.closed_runs, count.squares);
+    let _ = writeln!(text, ", packets in the open one {}", count.open_run);
+    Ok(text)
+}
+
+/// The start of an object of JSON with a label, in which a quote and a backslash have a backslash before them.
+pub fn label_member(label: &[u8]) -> Vec<u8> {
+    let mut text = br#"{"label":""#.to_vec();
+    for &octet in label {
+        if octet == b'"' || octet == b'\\' {
+            text.push(b'\\');
+        }
+        text.push(octet);
+    }
+    text.push(b'"');
+    text
+}
+
 /// The same figures as one object of JSON.
 fn json(file: &[u8]) -> Result<String, u32> {
     let sample = check(file)?;
     let count = counts(file);
     let (sent, arrived, copies) = (sample.sizes.len(), count.first_arrivals, count.duplicates);
-    let label = String::from_utf8_lossy(sample.label).replace('\\', "\\\\").replace('"', "\\\"");
+    let label = String::from_utf8_lossy(&label_member(sample.label)).into_owned();
     let [packets, octets, times] = MEASURES.map(|measure| least_sizes(&sample, measure, SHARES.map(|share| share.1)));
     let sizes: Vec<String> = SHARES
         .into_iter()
@@ -96,10 +164,8 @@ fn json(file: &[u8]) -> Result<String, u32> {
             )
         })
         .collect();
-    let mut text = format!(
-        r#"{{"label":"{label}","sent":{sent},"arrived":{arrived},"copies":{copies},"least_sizes":[{}]"#,
-        sizes.join(",")
-    );
+    let mut text =
+        format!(r#"{label},"sent":{sent},"arrived":{arrived},"copies":{copies},"least_sizes":[{}]"#, sizes.join(","));
     let (lost, back) = ((arrived as usize) < sent, steps_back(&sample));
     let _ = write!(text, r#","packets_lost":{lost},"clock_steps_back":{back}"#);
     let [one, three] = [1, 3].map(|n| n_reordered(file, n).reordered);
@@ -115,15 +181,26 @@ fn by_reference(form: Form, file: &[u8], out: &mut [u8]) -> Written {
     let text = match form {
         Form::Text => text(file),
         Form::Json => json(file),
+        Form::All => all(file),
     };
+    written(text.as_ref().map(String::as_bytes).map_err(|&refusal| refusal), out)
+}
+
+/// Puts a text at the start of what is lent, if it is not refused and has room.
+pub fn written(text: Result<&[u8], u32>, out: &mut [u8]) -> Written {
     match text {
         Err(refusal) => Written { refusal, length: 0 },
         Ok(text) if text.len() > out.len() => Written { refusal: OUTPUT_SHORT, length: 0 },
         Ok(text) => {
-            out[..text.len()].copy_from_slice(text.as_bytes());
+            out[..text.len()].copy_from_slice(text);
             Written { refusal: 0, length: text.len() as u32 }
         }
     }
+}
+
+fn label_by_reference(label: &[u8], out: &mut [u8]) -> Written {
+    let text = label_member(label);
+    written(if label.len() > MOST_LABEL { Err(LABEL_COUNT) } else { Ok(&text) }, out)
 }
 
 // The comparison.
@@ -133,22 +210,52 @@ pub fn compare(seed: u64, samples: u64, seen: &mut Seen) -> Result<(), String> {
     for index in 0..samples {
         let random = &mut Random::new(seed ^ 0x73_756d, index);
         let file = sample_case(seed, index).file;
-        for (form, name) in [(Form::Text, "summary"), (Form::Json, "summary as JSON")] {
-            let room = if random.once_in(8) { random.below(1000) } else { ROOM };
-            let mut left = vec![0xA7; room];
-            let mut right = left.clone();
-            let a = by_library(form, &file, &mut left);
-            let b = by_reference(form, &file, &mut right);
-            seen.call(name, a.refusal);
-            if (a, &left) != (b, &right) {
-                let [left, right] = [left, right].map(|octets| String::from_utf8_lossy(&octets).into_owned());
-                return Err(format!(
-                    "{name} of sample {index} of seed {seed}:\n left {a:?}\n{left}\nright {b:?}\n{right}\n"
-                ));
-            }
+        for (form, name) in
+            [(Form::Text, "summary"), (Form::Json, "summary as JSON"), (Form::All, "summary with all figures")]
+        {
+            let room = if random.once_in(8) { random.below(1000) } else { form.room() };
+            same(name, room, seen, |out| by_library(form, &file, out), |out| by_reference(form, &file, out))
+                .map_err(|text| format!("sample {index} of seed {seed}: {text}"))?;
         }
+        if random.once_in(2) {
+            let whole = all(&file).map_or(0, |text| text.len());
+            let room = (whole + random.below(3)).saturating_sub(1);
+            same(
+                "summary with all figures",
+                room,
+                seen,
+                |out| by_library(Form::All, &file, out),
+                |out| by_reference(Form::All, &file, out),
+            )
+            .map_err(|text| format!("sample {index} of seed {seed}: {text}"))?;
+        }
+        let octets = random.pick(&[b"\"\\ a~\0\x7F\xFF", b"\"\\\"\\\"\\\"\\", b"kilning!"]);
+        let many = if random.once_in(4) { random.pick(&[0, 63, 64, 65, 300]) } else { random.below(66) };
+        let label: Vec<u8> = (0..many).map(|_| random.pick(octets)).collect();
+        let room = if random.once_in(2) { random.below(LABEL_ROOM + 1) } else { LABEL_ROOM };
+        same("label as JSON", room, seen, |out| label_by_library(&label, out), |out| label_by_reference(&label, out))
+            .map_err(|text| format!("label {label:?}: {text}"))?;
     }
     Ok(())
+}
+
+/// One call by both, each with so much room.
+pub fn same(
+    name: &'static str,
+    room: usize,
+    seen: &mut Seen,
+    library: impl FnOnce(&mut [u8]) -> Written,
+    reference: impl FnOnce(&mut [u8]) -> Written,
+) -> Result<(), String> {
+    let mut left = vec![0xA7; room];
+    let mut right = left.clone();
+    let (a, b) = (library(&mut left), reference(&mut right));
+    seen.call(name, a.refusal);
+    if (a, &left) == (b, &right) {
+        return Ok(());
+    }
+    let [left, right] = [left, right].map(|octets| String::from_utf8_lossy(&octets).into_owned());
+    Err(format!("{name} in {room} octets:\n left {a:?}\n{left}\nright {b:?}\n{right}\n"))
 }
 
 // The measurement.
@@ -160,13 +267,15 @@ pub fn time(orders: &[Order], amounts: &[usize]) {
         for &many in amounts {
             let file = measured(order, many).file();
             let f = &file[..];
-            let mut outs = [[0; ROOM]; 2];
-            let [l, r] = outs.each_mut();
-            let all = measure([
-                calls(|| by_library(Form::Text, black_box(f), l)),
-                calls(|| by_reference(Form::Text, black_box(f), r)),
-            ]);
-            row(&format!("{order:?}"), many, all);
+            let mut outs = [(); 2].map(|()| vec![0; ALL_ROOM]);
+            for (form, name) in [(Form::Text, ""), (Form::All, "with all figures, ")] {
+                let [l, r] = outs.each_mut();
+                let all = measure([
+                    calls(|| by_library(form, black_box(f), &mut l[..form.room()])),
+                    calls(|| by_reference(form, black_box(f), &mut r[..form.room()])),
+                ]);
+                row(&format!("{name}{order:?}"), many, all);
+            }
         }
     }
 }

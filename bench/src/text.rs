@@ -1,5 +1,5 @@
-//! Text logs: the archive's three calls, a plain Rust implementation of the same papers beside them, logs to compare the two
-//! on, and what they cost.
+//! Text logs, their lines and what is wrong with them: the archive's calls, a plain Rust implementation of the same papers beside
+//! them, logs to compare the two on, and what they cost.
 
 use std::hint::black_box;
 
@@ -53,6 +53,19 @@ fn read_line_by_library(line: &[u8]) -> (u32, u64, u64) {
     let mut arrival = c::Arrival::LENT;
     let refusal = unsafe { c::krakobran_log_read_line(l, octets, &mut arrival) };
     (narrow(refusal), arrival.number, arrival.time)
+}
+
+fn line_fault_by_library(line: &[u8]) -> u64 {
+    let (l, octets) = given(line);
+    unsafe { c::krakobran_log_line_fault(l, octets) }
+}
+
+/// Offset and length of line n of a text, from 0.
+fn text_line_by_library(text: &[u8], n: usize) -> (u64, u64) {
+    let (t, octets) = given(text);
+    let mut part = c::Part::LENT;
+    unsafe { c::krakobran_text_line(t, octets, n as u64, &mut part) };
+    (part.start, part.length)
 }
 
 fn write_by_library(sent: u32, numbers: &[u32], times: &[u64], out: &mut [u8]) -> Written {
@@ -115,6 +128,60 @@ fn read_line(text: &[u8]) -> (u32, u64, u64) {
         Some((number, time, [])) => (0, u64::from(number), time),
         _ => (LINE_MALFORMED, 0, 0),
     }
+}
+
+const FORMED: u64 = 0;
+const BYTE_ORDER_MARK: u64 = 1;
+const EMPTY_LINE: u64 = 2;
+const NO_DIGIT: u64 = 3;
+const CARRIAGE_RETURN: u64 = 4;
+const NO_LINE_FEED: u64 = 5;
+const NUMBER_OVER: u64 = 6;
+const MANY_DECIMALS: u64 = 7;
+const OTHER: u64 = 8;
+
+/// What is wrong with a line, by the octets from where its form breaks on.
+fn stray(rest: &[u8]) -> u64 {
+    match rest {
+        [] => NO_LINE_FEED,
+        [b'\r', ..] => CARRIAGE_RETURN,
+        _ => OTHER,
+    }
+}
+
+/// What is wrong with a line first.
+fn line_fault(line: &[u8]) -> u64 {
+    let Some((number, _, rest)) = digits(line) else {
+        return match line {
+            [0xEF, 0xBB, 0xBF, ..] => BYTE_ORDER_MARK,
+            [b'\n', ..] => EMPTY_LINE,
+            [b'\r', ..] => CARRIAGE_RETURN,
+            _ => NO_DIGIT,
+        };
+    };
+    if number > u64::from(u32::MAX) {
+        return NUMBER_OVER;
+    }
+    let Some(time) = rest.strip_prefix(b";") else { return stray(rest) };
+    let Some((_, _, mut rest)) = digits(time) else { return stray(time) };
+    if let [b',' | b'.', decimals @ ..] = rest {
+        rest = match digits(decimals) {
+            None => return stray(decimals),
+            Some((_, 1..=3, rest)) => rest,
+            Some(_) => return MANY_DECIMALS,
+        };
+    }
+    match rest {
+        [b'\n', ..] => FORMED,
+        _ => stray(rest),
+    }
+}
+
+/// Offset and length of line n of a text, from 0, with its line feed; the empty part at its end if there is none.
+fn text_line(text: &[u8], n: usize) -> (u64, u64) {
+    let mut lines = text.split_inclusive(|&octet| octet == b'\n').map(|line| line.len() as u64);
+    let start = lines.by_ref().take(n).sum();
+    (start, lines.next().unwrap_or(0))
 }
 
 /// How many lines a log has, none of them refused; else the refusal, and the number of the refused line, from 1, or 0 where K is
@@ -364,6 +431,13 @@ fn one(random: &mut Random, log: &[u8], sent: u32, seen: &mut Seen) -> Result<()
         if left != right {
             return Err(format!("a line\n left {left:?}\nright {right:?}\n"));
         }
+        faults(random, line, right.0, seen)?;
+    }
+    let at = random.below(places + 2);
+    let (line, found) = (text_line_by_library(log, at), text_line(log, at));
+    seen.call("line of a text", 0);
+    if line != found {
+        return Err(format!("line {at} of a text\n left {line:?}\nright {found:?}\n"));
     }
     let most = if a.refusal == 0 { a.arrivals as usize } else { n.min(t) };
     let one_short = usize::from(random.once_in(20) && most > 0);
@@ -383,6 +457,39 @@ fn one(random: &mut Random, log: &[u8], sent: u32, seen: &mut Seen) -> Result<()
     }
     Ok(())
 }
+
+/// What is wrong with a line, and with the same line damaged; nothing is with one that is not refused.
+fn faults(random: &mut Random, line: &[u8], refusal: u32, seen: &mut Seen) -> Result<(), String> {
+    let mut other = if line.len() < 100 { damaged(random, line.to_vec()) } else { Vec::new() };
+    match random.below(8) {
+        0 => drop(other.splice(..0, b"\xEF\xBB\xBF"[..random.between(1, 3)].iter().copied())),
+        1 => drop(other.splice(other.len().saturating_sub(1).., *b"\r\n")),
+        2 => other.extend(b"\n;"),
+        _ => {}
+    }
+    for (line, refused) in [(line, refusal != 0), (&other, read_line(&other).0 != 0)] {
+        let (left, right) = (line_fault_by_library(line), line_fault(line));
+        seen.call("fault of a line", 0);
+        seen.kind(FAULTS[right as usize]);
+        if left != right || right != FORMED && !refused {
+            let line = String::from_utf8_lossy(line);
+            return Err(format!("fault of {line:?}, refused {refused}\n left {left}\nright {right}\n"));
+        }
+    }
+    Ok(())
+}
+
+const FAULTS: [&str; 9] = [
+    "line fault: none",
+    "line fault: byte order mark",
+    "line fault: empty line",
+    "line fault: no digit",
+    "line fault: carriage return",
+    "line fault: no line feed",
+    "line fault: number over",
+    "line fault: many decimals",
+    "line fault: other",
+];
 
 // The measurement.
 

@@ -5,7 +5,9 @@ use std::hint::black_box;
 use crate::boundary::{Meter, Reference, LIBRARY, LIBRARY_NAME};
 use crate::generate::{measured, Order};
 use crate::reference::*;
-use crate::{checker, disorder, fragments, gaps, meter, needs, records, rows, shortnumbers, summary, sweep, text};
+use crate::{
+    checker, disorder, fragments, gaps, meter, needs, records, rows, shortnumbers, summary, sweep, tables, text,
+};
 
 const AMOUNTS: [usize; 3] = [256, 1024, 4096];
 const ORDERS: [Order; 3] = [Order::InOrder, Order::Shuffled, Order::Reversed];
@@ -64,7 +66,7 @@ pub fn measure<const N: usize>(mut columns: [Calls; N]) -> [f64; N] {
 }
 
 /// The tables in their order, each by its name.
-const TABLES: [(&str, fn()); 17] = [
+const TABLES: [(&str, fn()); 18] = [
     ("listing", || each(listings, "listing", ["lanes", "swift"])),
     ("figures", || each(figures, "figure", ["by answers", "swift"])),
     ("degrees", degrees),
@@ -77,6 +79,7 @@ const TABLES: [(&str, fn()); 17] = [
     ("gaps", || gaps::time(&ORDERS, &AMOUNTS)),
     ("needs", || needs::time(&ORDERS, &AMOUNTS)),
     ("summary", || summary::time(&ORDERS, &AMOUNTS)),
+    ("tables", || tables::time(&ORDERS, &AMOUNTS)),
     ("disorder", || disorder::time(&ORDERS, &AMOUNTS)),
     ("fragments", || fragments::time(&AMOUNTS)),
     ("steps", receiver_steps),
