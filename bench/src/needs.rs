@@ -156,6 +156,31 @@ fn steps_by_reference(file: &[u8], measure: u32, low: u64, shift: u32) -> (u32, 
     }
 }
 
+/// The same with no sort: each need is counted at the first size that accommodates it, and the counts are summed up.
+fn steps_by_buckets(file: &[u8], measure: u32, low: u64, shift: u32) -> (u32, c::Steps) {
+    let mut steps = c::Steps { arrived: 0, greatest: 0, counts: [0; c::STEPS] };
+    match check(file) {
+        Err(refusal) => (refusal, steps),
+        Ok(_) if measure > TIME => (OUTSIDE, steps),
+        Ok(sample) => {
+            each_need(&sample, measure, |need| {
+                steps.arrived += 1;
+                steps.greatest = need.max(steps.greatest);
+                let step = if need <= low { 0 } else { (need - low - 1).checked_shr(shift).unwrap_or(0) + 1 };
+                if let Some(count) = steps.counts.get_mut(step as usize) {
+                    *count += 1;
+                }
+            });
+            let mut sum = 0;
+            steps.counts.iter_mut().for_each(|count| {
+                sum += *count;
+                *count = sum;
+            });
+            (0, steps)
+        }
+    }
+}
+
 /// The needs in rising order have the size at the last place of the share, which is rounded up.
 fn least_by_reference(file: &[u8], measure: u32, part: u32, whole: u32) -> (u32, u64) {
     match check(file) {
@@ -257,6 +282,7 @@ fn one(random: &mut Random, file: &[u8], seen: &mut Seen) -> Result<(), String> 
         let steps = steps_by_reference(file, measure, low, shift);
         let found = steps_by_library(file, measure, low, shift);
         same(&format!("steps, measure {measure}, from {low} by 2^{shift}"), found, steps)?;
+        same("steps by buckets", steps_by_buckets(file, measure, low, shift), steps)?;
         seen.call("accommodated steps", steps.0);
         if least.0 == 0 && least.1 > 0 {
             seen.kind(match measure {
@@ -298,7 +324,7 @@ pub fn time(orders: &[Order], amounts: &[usize]) {
                 let shift = (u64::BITS - greatest[kind as usize].leading_zeros()).saturating_sub(7);
                 let steps = measure([
                     calls(|| steps_by_library(black_box(f), kind, 0, shift)),
-                    calls(|| steps_by_reference(black_box(f), kind, 0, shift)),
+                    calls(|| steps_by_buckets(black_box(f), kind, 0, shift)),
                 ]);
                 row(&format!("128 sizes, {name} {order:?}"), many, steps);
                 let least = measure([
