@@ -433,7 +433,7 @@ fn one(random: &mut Random, log: &[u8], sent: u32, seen: &mut Seen) -> Result<()
         }
         faults(random, line, right.0, seen)?;
     }
-    let at = random.below(places + 2);
+    let at = if random.once_in(20) { random.draw() as usize } else { random.below(places + 2) };
     let (line, found) = (text_line_by_library(log, at), text_line(log, at));
     seen.call("line of a text", 0);
     if line != found {

@@ -742,8 +742,7 @@ def line_fault(line: Union[str, bytes]) -> Fault:
 def text_line(text: Union[str, bytes], n: int) -> bytes:
     """Line n of a text, here from 0, with its line feed; empty if there is none."""
     octets, part = _encoded(text), _figures(2)
-    # No text has as many lines as octets and one more, and the library counts up to n.
-    _call("text_line", _text(octets), min(_fitting(n, c_uint64), len(octets)), part)
+    _call("text_line", _text(octets), _fitting(n, c_uint64), part)
     return octets[part[0] : part[0] + part[1]]
 
 
