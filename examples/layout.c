@@ -62,6 +62,10 @@ int main(void) {
     SIZE(accommodated_counts);
     FIELD(accommodated_counts, accommodated);
     FIELD(accommodated_counts, arrived);
+    SIZE(steps);
+    FIELD(steps, arrived);
+    FIELD(steps, greatest);
+    FIELD(steps, counts);
     SIZE(verdict);
     FIELD(verdict, agrees);
     FIELD(verdict, line);
