@@ -44,9 +44,9 @@
 /* The version of this header and of the library that it was installed with. Names that are there stay within one major
  * version, and so do the layouts; before 1.0.0 they may change with the minor version. */
 #define KRAKOBRAN_VERSION_MAJOR 0
-#define KRAKOBRAN_VERSION_MINOR 11
-#define KRAKOBRAN_VERSION_PATCH 1
-#define KRAKOBRAN_VERSION "0.11.1"
+#define KRAKOBRAN_VERSION_MINOR 12
+#define KRAKOBRAN_VERSION_PATCH 0
+#define KRAKOBRAN_VERSION "0.12.0"
 
 #ifdef __cplusplus
 extern "C" {

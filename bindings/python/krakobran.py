@@ -27,7 +27,7 @@ import os
 from ctypes import c_char_p, c_uint8, c_uint16, c_uint32, c_uint64
 from typing import List, NamedTuple, Optional, Sequence, Tuple, Union
 
-VERSION = "0.11.1"
+VERSION = "0.12.0"
 
 LABEL_MOST = 64
 SENT_MOST = 4096

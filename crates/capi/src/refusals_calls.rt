@@ -39,5 +39,5 @@ pub extern "C" fn krakobran_refusal_words(
 pub extern "C" fn krakobran_version() -> u64
     ensures { λ r. ⌜ r ≡ version ⌝ }
 {
-    11_001
+    12_000
 }
