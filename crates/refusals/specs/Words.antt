@@ -17,7 +17,7 @@ allWords =
     ∷ ascii "sequence number outside 1 to K; a short number over its width, or of which the number found is outside 1 to K"
     ∷ ascii "arrival time over 1,000 below the greatest earlier time"
     ∷ ascii "lent output too short"
-    ∷ ascii "record outside 1 to A, n outside 1 to 100, a share's part outside 1 to its whole, or no such measure or refusal"
+    ∷ ascii "record outside 1 to A, n outside 1 to 100, a share's part outside 1 to its whole, or no such measure, refusal or outcome"
     ∷ ascii "state of a receiver or of a meter unfit, or a reordered packet with no greater kept jump"
     ∷ ascii "receiver has accepted 4,096 arrivals"
     ∷ ascii "lists of arrivals that differ in length: those of numbers and of times, or any two of the lists of fragments"

@@ -66,7 +66,7 @@ fn words_above_6(refusal: u32, out: &mut [u8]) -> WriteAnswer
         ),
         8 => write_whole(b"lent output too short", out),
         9 => write_whole(
-            b"record outside 1 to A, n outside 1 to 100, a share's part outside 1 to its whole, or no such measure or refusal",
+            b"record outside 1 to A, n outside 1 to 100, a share's part outside 1 to its whole, or no such measure, refusal or outcome",
             out,
         ),
         10 => write_whole(

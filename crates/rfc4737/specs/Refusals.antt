@@ -37,7 +37,7 @@ timeBack = 7
 abbrev pub outputShort : ℕ
 outputShort = 8
 
--- 9: record outside 1 to A, n outside 1 to 100, a share's part outside 1 to its whole, or no such measure or refusal
+-- 9: record outside 1 to A, n outside 1 to 100, a share's part outside 1 to its whole, or no such measure, refusal or outcome
 abbrev pub askedOutside : ℕ
 askedOutside = 9
 
