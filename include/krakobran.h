@@ -65,7 +65,7 @@ enum {
     KRAKOBRAN_TIME_BACK = 7,       /* arrival time over 1,000 below the greatest earlier time */
     KRAKOBRAN_OUTPUT_SHORT = 8,    /* lent output too short */
     KRAKOBRAN_ASKED_OUTSIDE = 9,   /* record outside 1 to A, n outside 1 to 100, a share's part outside 1 to its whole, or no
-                                      such measure or refusal */
+                                      such measure, refusal or outcome */
     KRAKOBRAN_STATE_UNFIT = 10,    /* state of a receiver or of a meter unfit, or a reordered packet with no greater kept
                                       jump */
     KRAKOBRAN_STATE_FULL = 11,     /* receiver has accepted 4,096 arrivals; or a stream of a meter has */
