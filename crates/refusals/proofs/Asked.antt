@@ -36,7 +36,7 @@ words-fit =
     record {
       most = λ n.
           let h = longest-most allWords n in
-          let e : longest allWords ≡ 111 = refl in
+          let e : longest allWords ≡ 120 = refl in
           omega arith;
     }
 
