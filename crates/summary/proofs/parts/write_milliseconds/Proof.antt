@@ -17,13 +17,9 @@ returns c =
     let e3 = e4 .before .before .before .before in
     let e2 = e3 .before .before .before .before .before in
     let e1 = e2 .before .before .before .before in (
-      then (e1 .write-word .ensures .0)
-          (then (e2 .write-column .ensures .0)
-          (then (e3 .write-word2 .ensures .0)
-          (then (e4 .write-number .ensures .0)
-          (then (e5 .write-number2 .ensures .0)
-          (then (e6 .write-number3 .ensures .0)
-          (then (e7 .write-word3 .ensures .0) (nothing _ _))))))),
+      then (e1 .write-word .ensures .0) (then (e2 .write-column .ensures .0)
+          (then (e3 .write-word2 .ensures .0) (then (e4 .write-number .ensures .0) (then (e5 .write-number2 .ensures .0)
+          (then (e6 .write-number3 .ensures .0) (then (e7 .write-word3 .ensures .0) (nothing _ _))))))),
       omega (
         arith,
         e1 .write-word .ensures .1,
