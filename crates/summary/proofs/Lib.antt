@@ -2,5 +2,5 @@
 mod Pieces
 mod Back
 pub mod Escapes
-mod Sections
 mod Counted
+mod Sections

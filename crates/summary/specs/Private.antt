@@ -1,2 +1,2 @@
 -- What private functions say to each other: no public contract reaches these definitions. Assumes nothing.
-pub mod Limits
+pub mod Lines

@@ -1,24 +1,35 @@
-// Writes the figures of a whole sample that its summary leaves out. Each function writes at an offset of a buffer that has room, and
-// returns the offset after what it wrote.
+// Writes the figures of a whole sample that its summary leaves out, line by line. A function `write_..` writes at an offset of a buffer
+// that has room, a function `put_..` if the buffer has room. Each returns the offset after its text.
 ghost use mathlib.Core.Path.{_≡_};
-ghost use Prim.Native.Nat.{_+_, _-_, _*_, _≤_};
-ghost use lib.ListN.{length, getD};
-ghost use Rattle.rfc4737.specs.Tally.{tally};
-ghost use Rattle.rfc4737.specs.Ratios.{nReordered};
+ghost use mathlib.Core.List.{List, _++_};
+ghost use Prim.Native.Nat.{_+_, _*_, _≤_};
+ghost use lib.ListN.{length};
+ghost use Rattle.rfc4737.specs.declared.Answer.{Answer};
 ghost use Rattle.sample.specs.Decode.{decode};
+ghost use Rattle.sample.specs.Output.{Output};
 ghost use Rattle.metrics.specs.Sample.{answersOf};
-ghost use Rattle.metrics.specs.Records.{FileLayout};
-ghost use Rattle.summary.specs.All.{pairLine, extentLine, sectionLine, linesTo, section, overLine, runsLine, countLines, moreText};
+ghost use Rattle.summary.specs.All.{pairLine, extentLine, overLine, runsLine, countLines, moreText, allOctets};
 ghost use Rattle.writing.specs.Parts.{Written};
-ghost use Rattle.summary.specs.Private.Limits.{mostOf, GapList};
+ghost use Rattle.writing.specs.Put.{Put};
+ghost use Rattle.summary.specs.Private.Lines.{figureLine, figureLines, DegreesOf, CountsOf, FiguresOf};
 use crate::parts::write_between;
 use crate::parts::write_number;
 use crate::parts::write_word;
-use rfc4737::judge::ARRIVALS_MOST;
-use sample::Layout;
+use rfc4737::Runs;
+use rfc4737::refusal::NONE;
+use rfc4737::refusal::OUTPUT_SHORT;
+use sample::WriteAnswer;
 
-// The greatest number of records of a sample.
-const MAX_RECORDS: usize = ARRIVALS_MOST as usize;
+// The greatest n with a line of its n-reordered packets.
+pub(crate) const MAX_DEGREE: usize = 10;
+
+// The greatest length of a line of two numbers.
+const MAX_PAIR: usize = 47;
+
+// The greatest length of the line about extents over 100, and of the line with the runs.
+const MAX_OVER: usize = 40;
+
+const MAX_RUNS: usize = 140;
 
 // What the lines of a section are about.
 pub(crate) enum Kind {
@@ -39,15 +50,6 @@ fn write_pair(out: &mut [u8], at: usize, first: u32, second: u32) -> usize
     write_word(out, four, b"\n")
 }
 
-// Returns the number of packets with an extent; for 0, the number of packets with an extent over 100.
-fn packets_with(file: &[u8], extent: usize) -> u32
-    requires { ⌜ extent ≤ 100 ⌝ }
-    ensures { λ r. ⌜ r ≡ getD (tally (answersOf (decode (now (file .entry))))) extent 0 ⌝ }
-{
-    let tally = metrics::tally(file).tally;
-    tally[extent]
-}
-
 // Writes the line of an extent or of a record unless its figure is 0.
 fn write_nonzero(out: &mut [u8], at: usize, n: u32, figure: u32) -> usize
     requires { ⌜ at + 47 ≤ length (now out) ⌝ }
@@ -59,83 +61,16 @@ fn write_nonzero(out: &mut [u8], at: usize, n: u32, figure: u32) -> usize
     write_pair(out, at, n, figure)
 }
 
-// Returns the number of n-reordered packets.
-fn reordered_by(file: &[u8], n: u32) -> u32
-    requires { ⌜ (1 ≤ n) × (n ≤ 100) ⌝ }
-    ensures { λ r. ⌜ r ≡ nReordered n (answersOf (decode (now (file .entry)))) ⌝ }
-{
-    metrics::n_reordered(file, n).reordered
-}
-
-// Returns the gap of record n as a number.
-fn gap_of(gaps: &[u32; MAX_RECORDS], n: u32) -> u32
-    requires { ⌜ (1 ≤ n) × (n ≤ 4096) ⌝ }
-    ensures { λ r. ⌜ r ≡ getD (now (gaps .entry)) (n - 1) 0 ⌝ }
-{
-    let index = (n - 1) as usize;
-    gaps[index]
-}
-
-// Writes the line for `n`.
-fn write_line(
-    out: &mut [u8],
-    at: usize,
-    file: &[u8],
-    gaps: &[u32; MAX_RECORDS],
-    kind: Kind,
-    n: u32,
-) -> usize
-    requires { ⌜ (at + 47 ≤ length (now out)) × (1 ≤ n) × (n ≤ mostOf kind) × GapList (answersOf (decode (now file))) (now gaps) ⌝ }
-    ensures { λ r. ⌜ Written at r (sectionLine kind (answersOf (decode (now (file .entry)))) n) (now (out .entry)) (now (out .exit))
-        × (r ≤ at + 47) ⌝ }
+// Writes the line of `n` and its figure to the start of `line`.
+fn write_line(line: &mut [u8], kind: Kind, n: u32, figure: u32) -> usize
+    requires { ⌜ 47 ≤ length (now line) ⌝ }
+    ensures { λ r. ⌜ Written 0 r (figureLine kind n figure) (now (line .entry)) (now (line .exit)) × (r ≤ 47) ⌝ }
 {
     match kind {
-        Kind::Extent => write_nonzero(out, at, n, packets_with(file, n as usize)),
-        Kind::Degree => write_pair(out, at, n, reordered_by(file, n)),
-        Kind::Gap => write_nonzero(out, at, n, gap_of(gaps, n)),
+        Kind::Extent => write_nonzero(line, 0, n, figure),
+        Kind::Degree => write_pair(line, 0, n, figure),
+        Kind::Gap => write_nonzero(line, 0, n, figure),
     }
-}
-
-// Writes the lines for 1 to `count`.
-fn write_lines(
-    out: &mut [u8],
-    start: usize,
-    file: &[u8],
-    gaps: &[u32; MAX_RECORDS],
-    kind: Kind,
-    count: u32,
-) -> usize
-    requires { ⌜ (start + 47 * count ≤ length (now out)) × (count ≤ mostOf kind) × GapList (answersOf (decode (now file))) (now gaps) ⌝ }
-    ensures { λ r. ⌜ Written start r (linesTo kind (answersOf (decode (now (file .entry)))) count) (now (out .entry)) (now (out .exit))
-        × (r ≤ start + 47 * count) ⌝ }
-{
-    let mut at = start;
-    let mut n: u32 = 0;
-    while n < count {
-        n += 1;
-        at = write_line(out, at, file, gaps, kind, n);
-    }
-    at
-}
-
-// Writes a section: its head, and the lines for 1 to `count`.
-fn write_section(
-    out: &mut [u8],
-    at: usize,
-    file: &[u8],
-    gaps: &[u32; MAX_RECORDS],
-    head: &[u8],
-    kind: Kind,
-    count: u32,
-) -> usize
-    requires { ⌜ (at + (length (now head) + 47 * count) ≤ length (now out)) × (count ≤ mostOf kind)
-        × GapList (answersOf (decode (now file))) (now gaps) ⌝ }
-    ensures { λ r. ⌜ Written at r (section (now (head .entry)) kind (answersOf (decode (now (file .entry)))) count) (now (out .entry))
-        (now (out .exit))
-        × (r ≤ at + (length (now (head .entry)) + 47 * count)) ⌝ }
-{
-    let one = write_word(out, at, head);
-    write_lines(out, one, file, gaps, kind, count)
 }
 
 // Writes the number of packets with an extent over 100.
@@ -162,52 +97,155 @@ fn write_runs(out: &mut [u8], at: usize, closed: u32, squares: u32, current: u32
     write_between(out, two, b"", current as u64, b"\n")
 }
 
-// Writes the tally of extents and the numbers of n-reordered packets.
-fn write_counts(out: &mut [u8], at: usize, file: &[u8], gaps: &[u32; MAX_RECORDS]) -> usize
-    requires { ⌜ (at + 5400 ≤ length (now out)) × GapList (answersOf (decode (now file))) (now gaps) ⌝ }
-    ensures { λ r. ⌜ Written at r (countLines (answersOf (decode (now (file .entry))))) (now (out .entry)) (now (out .exit))
-        × (r ≤ at + 5400) ⌝ }
+// Copies a text.
+fn put_text(out: &mut [u8], at: usize, text: &[u8]) -> usize
+    requires { ⌜ at + length (now text) ≤ 200704 ⌝ }
+    ensures { λ r. ⌜ Put at r (now (text .entry)) (now (out .entry)) (now (out .exit)) ⌝ }
 {
-    let one = write_section(
+    octets::put_octets(out, at, text);
+    at + text.len()
+}
+
+// Copies a line for each figure.
+fn put_lines(out: &mut [u8], start: usize, kind: Kind, figures: &[u32]) -> usize
+    requires { ⌜ (length (now figures) ≤ 4096) × (start + 47 * length (now figures) ≤ 200704) ⌝ }
+    ensures { λ r. ⌜ Put start r (figureLines kind (now (figures .entry)) (length (now (figures .entry)))) (now (out .entry))
+        (now (out .exit)) × (r ≤ start + 47 * length (now (figures .entry))) ⌝ }
+{
+    let mut line = [0u8; MAX_PAIR];
+    let mut at = start;
+    let mut i: usize = 0;
+    while i < figures.len() {
+        let n = write_line(&mut line, kind, i as u32 + 1, figures[i]);
+        at = put_text(out, at, &line[..n]);
+        i += 1;
+    }
+    at
+}
+
+// Copies a section: its head, and a line for each figure.
+fn put_section(out: &mut [u8], at: usize, head: &[u8], kind: Kind, figures: &[u32]) -> usize
+    requires { ⌜ (length (now figures) ≤ 4096) × (at + (length (now head) + 47 * length (now figures)) ≤ 200704) ⌝ }
+    ensures { λ r. ⌜ Put at r (now (head .entry) ++ figureLines kind (now (figures .entry)) (length (now (figures .entry))))
+        (now (out .entry)) (now (out .exit))
+        × (r ≤ at + (length (now (head .entry)) + 47 * length (now (figures .entry)))) ⌝ }
+{
+    let one = put_text(out, at, head);
+    put_lines(out, one, kind, figures)
+}
+
+// Finds the numbers of n-reordered packets for n = 1 to MAX_DEGREE. Cost: a pass over the file for each n.
+pub(crate) fn degrees_of(file: &[u8]) -> [u32; MAX_DEGREE]
+    ensures { λ r. ⌜ DegreesOf (answersOf (decode (now (file .entry)))) r ⌝ }
+{
+    let mut degrees = [0u32; MAX_DEGREE];
+    let mut i: usize = 0;
+    while i < MAX_DEGREE {
+        degrees[i] = metrics::n_reordered(file, i as u32 + 1).reordered;
+        i += 1;
+    }
+    degrees
+}
+
+// Copies the line with the number of packets with an extent over 100.
+fn put_over(out: &mut [u8], at: usize, packets: u32) -> usize
+    requires { ⌜ at + 40 ≤ 200704 ⌝ }
+    ensures { λ r. ⌜ Put at r (overLine packets) (now (out .entry)) (now (out .exit)) × (r ≤ at + 40) ⌝ }
+{
+    let mut line = [0u8; MAX_OVER];
+    let n = write_over(&mut line, 0, packets);
+    put_text(out, at, &line[..n])
+}
+
+// Copies the line with the runs.
+fn put_runs(out: &mut [u8], at: usize, closed: u32, squares: u32, current: u32) -> usize
+    requires { ⌜ at + 140 ≤ 200704 ⌝ }
+    ensures { λ r. ⌜ Put at r (runsLine closed squares current) (now (out .entry)) (now (out .exit)) × (r ≤ at + 140) ⌝ }
+{
+    let mut line = [0u8; MAX_RUNS];
+    let n = write_runs(&mut line, 0, closed, squares, current);
+    put_text(out, at, &line[..n])
+}
+
+// Copies the tally of extents and the numbers of n-reordered packets.
+fn put_counts(out: &mut [u8], at: usize, tally: &[u32], degrees: &[u32]) -> usize
+    requires { ⌜ (at ≤ 2048) × (length (now tally) ≡ 101) × (length (now degrees) ≡ 10) ⌝ }
+    ensures { λ r. ⌜ (r ≤ at + 5400) × ((l : List Answer) → CountsOf l (now (tally .entry)) (now (degrees .entry))
+        → Put at r (countLines l) (now (out .entry)) (now (out .exit))) ⌝ }
+{
+    let one = put_section(
         out,
         at,
-        file,
-        gaps,
         b"\nExtents, and how many packets have each:\n",
         Kind::Extent,
-        100,
+        &tally[1..101],
     );
-    let two = write_over(out, one, packets_with(file, 0));
-    write_section(
+    let two = put_over(out, one, tally[0]);
+    put_section(
         out,
         two,
-        file,
-        gaps,
         b"\nn, and how many packets are n-reordered:\n",
         Kind::Degree,
-        10,
+        degrees,
     )
 }
 
-// Writes all figures that the summary leaves out.
-pub(crate) fn write_more(file: &[u8], layout: Layout, out: &mut [u8], at: usize) -> usize
-    requires { ⌜ FileLayout (decode (now file)) layout × (at ≤ 2048) × (200704 ≤ length (now out)) ⌝ }
-    ensures { λ r. ⌜ Written at r (moreText (answersOf (decode (now (file .entry)))) (layout .arrivals)) (now (out .entry))
-        (now (out .exit)) × (r ≤ 200704) ⌝ }
+// Copies the summary and the other figures to the start of `out` if it has room for them. Returns the length of the text.
+fn put_all(
+    out: &mut [u8],
+    summary: &[u8],
+    tally: &[u32],
+    degrees: &[u32],
+    gaps: &[u32],
+    runs: Runs,
+) -> usize
+    requires { ⌜ (length (now summary) ≤ 2048) × (length (now tally) ≡ 101) × (length (now degrees) ≡ 10) × (length (now gaps) ≤ 4096) ⌝ }
+    ensures { λ r. ⌜ (r ≤ 200704) × ((l : List Answer)
+        → FiguresOf l (now (tally .entry)) (now (degrees .entry)) (now (gaps .entry)) runs
+        → Put 0 r (now (summary .entry) ++ moreText l (length (now (gaps .entry)))) (now (out .entry)) (now (out .exit))) ⌝ }
 {
-    let counts = metrics::counts(file).counts;
-    let runs = counts.runs;
-    let mut gaps = [0u32; MAX_RECORDS];
-    metrics::record_gaps(file, &mut gaps);
-    let one = write_counts(out, at, file, &gaps);
-    let two = write_section(
+    let one = put_text(out, 0, summary);
+    let two = put_counts(out, one, tally, degrees);
+    let three = put_section(
         out,
-        one,
-        file,
-        &gaps,
+        two,
         b"\nRecords that have a gap, and the gap in positions:\n",
         Kind::Gap,
-        layout.arrivals,
+        gaps,
     );
-    write_runs(out, two, runs.closed, runs.squares, runs.current)
+    put_runs(out, three, runs.closed, runs.squares, runs.current)
+}
+
+// Writes the summary and the other figures to the start of `out` if nothing was refused and `out` has room for them. The first `put_all`
+// only finds the length of the text, since a refused call must leave `out` unchanged.
+pub(crate) fn hand_over_all(
+    refusal: u32,
+    out: &mut [u8],
+    summary: &[u8],
+    tally: &[u32],
+    degrees: &[u32],
+    gaps: &[u32],
+    runs: Runs,
+) -> WriteAnswer
+    requires { ⌜ (length (now summary) ≤ 2048) × (length (now tally) ≡ 101) × (length (now degrees) ≡ 10) × (length (now gaps) ≤ 4096) ⌝ }
+    ensures { λ r. ⌜ ((l : List Answer) → FiguresOf l (now (tally .entry)) (now (degrees .entry)) (now (gaps .entry)) runs
+        → Output refusal (now (summary .entry) ++ moreText l (length (now (gaps .entry)))) (now (out .entry)) r (now (out .exit))
+        × (length (now (summary .entry) ++ moreText l (length (now (gaps .entry)))) ≤ allOctets)) ⌝ }
+{
+    let mut none = [0u8; 1];
+    let n = put_all(&mut none, summary, tally, degrees, gaps, runs);
+    if refusal != NONE {
+        return WriteAnswer { refusal, length: 0 };
+    }
+    if out.len() < n {
+        return WriteAnswer {
+            refusal: OUTPUT_SHORT,
+            length: 0,
+        };
+    }
+    put_all(out, summary, tally, degrees, gaps, runs);
+    WriteAnswer {
+        refusal: NONE,
+        length: n as u32,
+    }
 }

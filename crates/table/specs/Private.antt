@@ -1,4 +1,3 @@
 -- What private functions and proofs say to each other. Assumes nothing.
 pub mod Pieces
 pub mod Rows
-pub mod Put

@@ -8,10 +8,10 @@ ghost use Rattle.metrics.specs.Sample.{answersOf};
 ghost use Rattle.metrics.specs.Records.{FileLayout};
 ghost use Rattle.summary.specs.Json.{labelMember};
 ghost use Rattle.writing.specs.Parts.{joined, Written};
+ghost use Rattle.writing.specs.Put.{Put};
 ghost use Rattle.table.specs.Text.{startText, endText, recordsFrom, partText, partOctets};
 ghost use Rattle.table.specs.Private.Pieces.{sentPieces, countPieces, runPieces};
 ghost use Rattle.table.specs.Private.Rows.{RowsKnown, PartRows};
-ghost use Rattle.table.specs.Private.Put.{Put};
 use crate::parts::write_either;
 use crate::parts::write_value;
 use crate::parts::write_word;
@@ -136,7 +136,7 @@ fn put_records(
 ) -> usize
     requires { ⌜ FileLayout (decode (now file)) layout × RowsKnown (decode (now file)) from to (now rows)
         × (from ≤ to) × (to ≤ layout .arrivals) × (to ≤ from + 256) ⌝ }
-    ensures { λ r. ⌜ (r ≤ partOctets) × Put r (recordsFrom json (decode (now (file .entry))) from (to - from))
+    ensures { λ r. ⌜ (r ≤ partOctets) × Put 0 r (recordsFrom json (decode (now (file .entry))) from (to - from))
         (now (out .entry)) (now (out .exit)) ⌝ }
 {
     let mut line = [0u8; MAX_LINE];
@@ -188,7 +188,7 @@ pub(crate) fn put_part(
 ) -> usize
     requires { ⌜ FileLayout (decode (now file)) layout × PartRows (decode (now file)) part (now rows)
         × (c ≡ counts (answersOf (decode (now file)))) ⌝ }
-    ensures { λ r. ⌜ (r ≤ partOctets) × Put r (partText json (decode (now (file .entry))) part) (now (out .entry)) (now (out .exit)) ⌝ }
+    ensures { λ r. ⌜ (r ≤ partOctets) × Put 0 r (partText json (decode (now (file .entry))) part) (now (out .entry)) (now (out .exit)) ⌝ }
 {
     if 17 < part {
         return 0;

@@ -1,7 +1,7 @@
 -- `table::write_part` meets its contract: the rows of the part's records are known, and a first pass finds the length of the part. Then
 -- the file's own refusal comes first, and 8 if the part does not fit; else it is put.
 -- Here r is where the rows are known, p the first pass, s the start. Assumes nothing.
-use Prim.Native.Nat.{_<_}
+use Prim.Native.Nat.{ℕ, _≤_, _<_}
 use native.Mathlib.Omega.{arith}
 use mathlib.Core.Path.{_≡_, sym, ap, _∙_}
 use denote.Ref.{now}
@@ -11,6 +11,7 @@ use Rattle.sample.specs.declared.Layout.{Layout}
 use Rattle.sample.specs.Decode.{decode, decodedRefusal}
 use Rattle.metrics.proofs.FoundInFile.{laid}
 use Rattle.sample.proofs.Output.{output-refused, output-short, output-written}
+use Rattle.writing.proofs.Put.{put-start}
 use Rattle.table.specs.Text.{partText, PartsJoin}
 use Rattle.table.proofs.Joined.{parts-join}
 use Rattle.table.proofs.Filled.{counts-known, answer-is}
@@ -57,7 +58,7 @@ returns : tie.Need-returns
 returns c =
     let p = c .before .before .before .before in
     let n = p .put-part .ensures in
-    (answer-is (c .refused .ensures) (output-refused _ _ _ _ (own p) (c .before .if1 .taken)), omega (arith, n .0, n .1 .count), joins p)
+    (answer-is (c .refused .ensures) (output-refused _ _ _ _ (own p) (c .before .if1 .taken)), omega (arith, n .0, n .1 .place), joins p)
 
 returns-2 : tie.Need-returns-2
 returns-2 c =
@@ -65,10 +66,10 @@ returns-2 c =
     let n = p .put-part .ensures in
     let a = start-of p .args in
     let short : length (now (a .out)) < length (partText (a .json) (decode (now (a .file))) (a .part)) =
-    omega (arith, n .1 .count, c .before .if2 .taken) in (
+    omega (arith, n .1 .place, c .before .if2 .taken) in (
       answer-is (c .refused2 .ensures)
           (output-short _ _ _ (sym (own p) ∙ c .before .before .if1 .left) short),
-      omega (arith, n .0, n .1 .count),
+      omega (arith, n .0, n .1 .place),
       joins p,
     )
 
@@ -85,10 +86,12 @@ returns-3 c =
     let p = pass-at first in
     let n = p .put-part .ensures in
     let again = c .before .before .put-part2 .ensures in
-    let room = second .if2 .left in (
-      output-written _ _ _ (sym (own p) ∙ first .if1 .left) (omega (arith, n .1 .count, room)) (n .1 .count)
-          (again .1 .over-start (omega (arith, n .1 .count, room))),
-      omega (arith, n .0, n .1 .count),
+    let a = start-of p .args in
+    let count : p .put-part .result ≡ length (partText (a .json) (decode (now (a .file))) (a .part)) = omega (arith, n .1 .place) in
+    let fits : length (partText (a .json) (decode (now (a .file))) (a .part)) ≤ length (now (a .out)) =
+    omega (arith, count, second .if2 .left) in (
+      output-written _ _ _ (sym (own p) ∙ first .if1 .left) fits count (put-start (again .1) fits),
+      omega (arith, n .0, n .1 .place),
       joins p,
     )
 

@@ -16,7 +16,7 @@ use Rattle.metrics.specs.Sample.{sampleArrivals, answersOf}
 use Rattle.summary.proofs.Escapes.{label-short}
 use Rattle.table.specs.Text.{startText, endText, recordsFrom, blockStart}
 use Rattle.table.specs.Private.Rows.{PartRows}
-use Rattle.table.proofs.Put.{put-none, put-named, line-put}
+use Rattle.writing.proofs.Put.{put-nothing, put-named, line-put}
 use Rattle.table.proofs.Joined.{part-start, part-records, part-end, part-none}
 use borrow.Author.Needs.{needs}
 use Rattle.table.proofs.whole.put_part.Statement.{statement}
@@ -39,7 +39,7 @@ start-of-records c = start (c .before .before)
 returns : tie.Need-returns
 returns c =
     let s = c .before .before .before .before in
-    (omega arith, put-named (part-none (s .args .json) (decode (now (s .args .file))) (s .args .part) (c .if1 .taken)) (put-none _))
+    (omega arith, put-named (part-none (s .args .json) (decode (now (s .args .file))) (s .args .part) (c .if1 .taken)) (put-nothing 0 _))
 
 slice-aggregate-put-octets : tie.Need-slice-aggregate-put-octets
 slice-aggregate-put-octets c = stands (c .before .before .before .write-after .ensures .0) .0
@@ -54,7 +54,7 @@ returns-2 c =
           (ap (λ (c : Counts). endText (s .args .json) (s .args .layout .sent) (s .args .layout .arrivals) c) (s .pre .2)
           ∙ ap (λ (y : Layout). endText (s .args .json) (y .sent) (y .arrivals) (counts (answersOf d))) (s .pre .0 .laid)
           ∙ part-end (s .args .json) d (s .args .part) (w .before .before .if2 .taken))
-          (line-put (w .write-after .ensures .0) (c .before .before .put-octets .ensures)),
+          (line-put (omega arith) (w .write-after .ensures .0) (c .before .before .put-octets .ensures)),
     )
 
 write-before-requires : tie.Need-write-before-requires
@@ -76,7 +76,7 @@ returns-3 c =
       put-named
           (ap (λ (l : List ℕ). startText (s .args .json) l) (w .before .label .ensures .0)
           ∙ part-start (s .args .json) d (s .args .part) (k .if3 .taken))
-          (line-put (w .write-before .ensures .0) (c .before .before .put-octets2 .ensures)),
+          (line-put (omega arith) (w .write-before .ensures .0) (c .before .before .put-octets2 .ensures)),
     )
 
 put-records-requires : tie.Need-put-records-requires

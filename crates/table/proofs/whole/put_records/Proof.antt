@@ -2,19 +2,18 @@
 -- room for them, and have at most 512 octets each. The measure is the number of records left.
 -- w is the place after a record was written to the line, p the place after the line was copied, t the turn of the loop, l the values at its
 -- head, s the start. Assumes nothing.
-use Prim.Native.Nat.{ℕ, _+_, _-_, _*_, _≤_, _<_}
+use Prim.Native.Nat.{ℕ, _-_, _*_, _≤_, _<_}
 use native.Mathlib.Omega.{arith}
-use mathlib.Core.Path.{_≡_, ap, _∙_}
-use mathlib.Core.List.{List}
+use mathlib.Core.Path.{_≡_, refl, ap}
 use denote.Ref.{now}
 use lib.ListN.{length}
-use Rattle.octets.specs.Memory.{put}
 use Rattle.sample.specs.Decode.{decode}
 use Rattle.metrics.proofs.FoundInFile.{arrival-known}
 use Rattle.writing.proofs.Parts.{stands}
-use Rattle.table.specs.Text.{recordText, recordsFrom}
-use Rattle.table.specs.Private.Put.{Put}
-use Rattle.table.proofs.Put.{put-none, put-next, put-named, put-found, put-counted, records-next, row-length, record-written}
+use Rattle.table.specs.Text.{recordsFrom}
+use Rattle.writing.specs.Put.{Put}
+use Rattle.writing.proofs.Put.{put-nothing, put-then, put-named, line-put}
+use Rattle.table.proofs.FromRows.{records-next, row-length, record-written}
 use borrow.Author.Needs.{needs}
 use Rattle.table.proofs.whole.put_records.Statement.{statement}
 use Rattle.table.proofs.whole.put_records.Tie as tie
@@ -25,7 +24,7 @@ Inv-loop file layout rows json from to out₀ line₀ at₀ i₀ out line at i =
     (from ≤ i)
     × (i ≤ to)
     × (at ≤ 512 * (i - from))
-    × Put at (recordsFrom json (decode file) from (i - from)) out₀ out
+    × Put 0 at (recordsFrom json (decode file) from (i - from)) out₀ out
     × (length line ≡ 512)
 
 abbrev μ-loop : tie.MeasureT-loop
@@ -48,7 +47,7 @@ loop-holds c =
     let s = c .before .before .before in
     let e : 0 ≡ s .args .from - s .args .from = omega arith in
     let text = ap (λ (n : ℕ). recordsFrom (s .args .json) (decode (now (s .args .file))) (s .args .from) n) e in
-    (omega arith, s .pre .2, omega arith, put-named text (put-none _), search needs)
+    (omega arith, s .pre .2, omega arith, put-named text (put-nothing 0 _), search needs)
 
 write-record-requires : tie.Need-write-record-requires Inv-loop μ-loop
 write-record-requires c κs =
@@ -97,19 +96,14 @@ loop-again c =
     let l = t .before .loop in
     let s = start (t .before) in
     let d = decode (now (s .args .file)) in
-    let text = recordsFrom (s .args .json) d (s .args .from) (l .i - s .args .from) in
-    let line = recordText (s .args .json) d (l .i) in
     let inside : l .i < s .args .layout .arrivals = omega (arith, t .loop-test .taken, s .pre .3) in
     let a = arrival-known _ _ (s .pre .0) _ inside (w .before .before .before .arrival .ensures .1) .0 in
-    let v = record-written (s .args .json) _ _ _ _ (l .i) (s .pre .1) (l .inv .0) (t .loop-test .taken) a (w .write-record .ensures .0) in
-    let long : l .at + w .write-record .result ≡ l .at + length line = omega (arith, v .place) in (
+    let v = record-written (s .args .json) _ _ _ _ (l .i) (s .pre .1) (l .inv .0) (t .loop-test .taken) a (w .write-record .ensures .0) in (
       omega (arith, l .inv .0),
       omega (arith, t .loop-test .taken),
       omega (arith, l .inv .2, l .inv .0, w .write-record .ensures .1),
-      put-counted long
-          (put-named (records-next (s .args .json) d (s .args .from) (l .i) (l .inv .0))
-          (put-found (p .put-octets .ensures ∙ ap (λ (x : List ℕ). put (l .at) x (l .out)) (stands v .1))
-          (put-next (l .at) text line _ (l .inv .3)))),
+      put-named (records-next (s .args .json) d (s .args .from) (l .i) (l .inv .0))
+          (put-then (l .inv .3) (line-put refl v (p .put-octets .ensures))),
       search needs,
     )
 
