@@ -10,7 +10,6 @@ use Rattle.octets.specs.Memory.{part}
 use Rattle.octets.proofs.Memory.{taken, part-length}
 use Rattle.rfc4737.specs.declared.Arrival.{Arrival}
 use Rattle.rfc4737.specs.declared.Answer.{Answer}
-use Rattle.sample.specs.declared.Layout.{Layout}
 use Rattle.sample.specs.Decode.{Decoded}
 use Rattle.metrics.specs.Rows.{rowOf, rowAt}
 use Rattle.metrics.specs.Records.{arrivalAt}
