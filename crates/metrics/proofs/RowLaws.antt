@@ -1,16 +1,16 @@
--- Rows in a lent list. Numbers that are set one after the other are spliced in (`set-next`, `row-set`). There are eight for each record
--- (`rows-length`), and one record more puts its row after those before (`rows-more`, `rows-next`), up to the last that is wanted
--- (`rows-wanted`); from the first on these are all (`rows-filled`). A row tells its answer: two rows that are the same have the same
--- numbers, the first of which is that of the case (`rows-tell`). Here d is the decoded file, y its layout, from the records before the
--- first row, i those before the next one, old and new the list before and now. Assumes nothing.
+-- Rows in a lent list. Numbers that are set one after the other are spliced in (`set-next`, `row-set`), and eight of them are a row
+-- (`eight`). There are eight for each record (`rows-length`), and one record more puts its row after those before (`rows-more`,
+-- `rows-next`), up to the last that is wanted (`rows-wanted`); from the first on these are all (`rows-filled`). A row tells its answer: two
+-- rows that are the same have the same numbers, the first of which is that of the case (`rows-tell`). Here d is the decoded file, y its
+-- layout, from the records before the first row, i those before the next one, old and new the list before and now. Assumes nothing.
 use mathlib.Core.Path.{_≡_, refl, sym, ap, ap₂, subst, _∙_}
 use mathlib.Core.Bool.{Bool, true, false, cond}
 use mathlib.Core.List.{List, [], _∷_, _++_, append-assoc, append-nil}
 use Prim.Native.Nat.{ℕ, zero, suc, _+_, _-_, _*_, _/_, _≤_, _<_}
 use native.Mathlib.Omega.{arith}
 use lib.Dec.{ltb}
-use lib.ListN.{length, getD, set, take, drop, length-append, length-take, length-drop}
-use lib.Seq.{take-append-seam, drop-append-add}
+use lib.ListN.{length, getD, set, take, drop, length-append, length-take, length-drop, drop-of-length-le}
+use lib.Seq.{take-append-seam, drop-append-add, drop-cons}
 use borrow.Author.Tests.{ltb-true, ltb-false}
 use Rattle.octets.specs.Memory.{part, over, splice}
 use Rattle.octets.proofs.Memory.{part-snoc, part-rest, splice-set, splice-next, splice-length, over-next, over-length}
@@ -54,6 +54,24 @@ row-set at a b c d e f g h old room =
       set-next at 6 (a ∷ b ∷ c ∷ d ∷ e ∷ f ∷ []) old g refl (omega arith),
     )
     (set-next at 7 (a ∷ b ∷ c ∷ d ∷ e ∷ f ∷ g ∷ []) old h refl (omega arith))
+
+-- the numbers from j on are that at j and those after it
+number-next : (l : List ℕ) (j : ℕ) {t : List ℕ} → j < length l → drop (suc j) l ≡ t → drop j l ≡ getD l j 0 ∷ t
+number-next l j h q = drop-cons l j 0 h ∙ ap (λ (t : List ℕ). getD l j 0 ∷ t) q
+
+-- the eight numbers of a list of eight
+pub eight : (l : List ℕ) → length l ≡ 8
+    → l ≡ getD l 0 0 ∷ getD l 1 0 ∷ getD l 2 0 ∷ getD l 3 0 ∷ getD l 4 0 ∷ getD l 5 0 ∷ getD l 6 0 ∷ getD l 7 0 ∷ []
+eight l e =
+    number-next l 0 (omega (arith, e))
+    (number-next l 1 (omega (arith, e))
+    (number-next l 2 (omega (arith, e))
+    (number-next l 3 (omega (arith, e))
+    (number-next l 4 (omega (arith, e))
+    (number-next l 5 (omega (arith, e))
+    (number-next l 6 (omega (arith, e))
+    (number-next l 7 (omega (arith, e))
+    (drop-of-length-le l {i = 8} (omega (arith, e))))))))))
 
 -- ---- rows
 

@@ -11,7 +11,7 @@ ghost use Rattle.rfc4737.specs.Reordered.{ReorderedHaveDiscontinuity, OffsetsBo
 ghost use Rattle.sample.specs.Decode.{decode};
 ghost use Rattle.metrics.specs.Figures.{recordAnswer, recordGap, sampleCounts, sampleTally, degreeCounts, sampleDegree, sampleRatios, sampleAccommodated, sampleNeeds, StepsOf};
 ghost use Rattle.metrics.specs.Gaps.{GapsTo, GapsTell};
-ghost use Rattle.metrics.specs.Rows.{RowsTo, RowsFromTo, RowsTell};
+ghost use Rattle.metrics.specs.Rows.{rowOf, RowsTo, RowsFromTo, RowsTell};
 ghost use Rattle.listing.specs.Example.{ExampleHolds};
 ghost use Rattle.listing.specs.Room.{listingOctets};
 ghost use Rattle.metrics.specs.Report.{sampleText, ListedTo};
@@ -41,7 +41,14 @@ use report::compare::compare_listing;
 use report::compare::same_text;
 use report::listing_refusal;
 use report::write_listing;
+use rfc4737::Answer;
 use rfc4737::Measure;
+use rfc4737::numbering::DUPLICATE;
+use rfc4737::numbering::IN_ORDER;
+use rfc4737::numbering::REORDERED_AFTER;
+use rfc4737::numbering::REORDERED_BEFORE;
+use rfc4737::numbering::amount;
+use rfc4737::numbering::by_direction;
 use rfc4737::refusal::NONE;
 use rfc4737::refusal::OUTPUT_SHORT;
 use sample::Layout;
@@ -287,6 +294,39 @@ pub fn record_gaps(file: &[u8], gaps: &mut [u32]) -> Layout
     }
     put_gaps(file, layout, gaps);
     layout
+}
+
+// The row of an answer: the number of its case, position, jump size, extent, amount of the late time, byte offset, largest n, and the
+// record of the first copy; figures that it lacks are 0. The case tells the direction of the late time.
+pub fn row_of(answer: Answer) -> [u64; 8]
+    ensures { λ r. ⌜ r ≡ rowOf answer ⌝ }
+{
+    match answer {
+        Answer::Duplicate(d) => [DUPLICATE as u64, 0, 0, 0, 0, 0, 0, d.first as u64],
+        Answer::InOrder(d) => [
+            IN_ORDER as u64,
+            d.position as u64,
+            d.jump as u64,
+            0,
+            0,
+            0,
+            0,
+            0,
+        ],
+        Answer::Reordered(d) => {
+            let late = d.late;
+            [
+                by_direction(REORDERED_AFTER, REORDERED_BEFORE, late) as u64,
+                d.position as u64,
+                0,
+                d.extent as u64,
+                amount(late),
+                d.offset as u64,
+                d.largest as u64,
+                0,
+            ]
+        }
+    }
 }
 
 // Every figure of every record, in rows of eight numbers from the start of a lent list: one pass, as that of `listing`. With a refusal,

@@ -1,17 +1,12 @@
--- A row as a list of its numbers, a row put among others, and how far a pass goes for some rows. Assumes nothing.
+-- A row put among others, and how far a pass goes for some rows. Assumes nothing.
 use mathlib.Core.Path.{_≡_}
 use mathlib.Core.Bool.{cond}
-use mathlib.Core.List.{List, [], _∷_}
+use mathlib.Core.List.{List}
 use Prim.Native.Nat.{ℕ, _+_, _-_, _*_, _≤_}
 use lib.Dec.{ltb}
 use lib.ListN.{length}
 use Rattle.octets.specs.Memory.{part, splice}
 use Rattle.rfc4737.specs.declared.Answer.{Answer}
-use Rattle.metrics.specs.declared.figures.rows.Row.{Row}
-
-abbrev pub rowNumbers : Row → List ℕ
-rowNumbers r =
-    r .kind ∷ r .position ∷ r .jump ∷ r .extent ∷ r .late ∷ r .offset ∷ r .largest ∷ r .first ∷ []
 
 -- a list after the row of record i + 1 was put among those from record from + 1 on; a record before these has no place there
 unfoldable pub withRow : (from i : ℕ) → (row rows : List ℕ) → List ℕ

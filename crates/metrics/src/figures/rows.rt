@@ -6,33 +6,16 @@ ghost use Rattle.octets.specs.Memory.{over, splice};
 ghost use Rattle.sample.specs.Decode.{decode};
 ghost use Rattle.metrics.specs.Rows.{rowOf, rowsShort, rowsFrom};
 ghost use Rattle.metrics.specs.Records.{FileLayout};
-ghost use Rattle.metrics.specs.Private.Rows.{rowNumbers, withRow, PassEnd};
+ghost use Rattle.metrics.specs.Private.Rows.{withRow, PassEnd};
 use crate::engine::advance;
 use crate::engine::byte_offset::PAIR_TREE_LEN;
 use crate::engine::fresh_engine;
 use crate::engine::input;
 use crate::engine::seen::MAX_FIRST_ARRIVALS;
 use crate::engine::seen::PACKET_TABLE_LEN;
+use crate::row_of;
 use rfc4737::Answer;
-use rfc4737::numbering::DUPLICATE;
-use rfc4737::numbering::IN_ORDER;
-use rfc4737::numbering::REORDERED_AFTER;
-use rfc4737::numbering::REORDERED_BEFORE;
-use rfc4737::numbering::amount;
-use rfc4737::numbering::by_direction;
 use sample::Layout;
-
-// The figures of a record; those that it lacks are 0.
-struct Row {
-    pub kind: u64,
-    pub position: u64,
-    pub jump: u64,
-    pub extent: u64,
-    pub late: u64,
-    pub offset: u64,
-    pub largest: u64,
-    pub first: u64,
-}
 
 // Whether a list of `places` places is too short for the rows of `arrivals` records.
 pub(crate) fn rows_short(arrivals: u32, places: usize) -> bool
@@ -41,60 +24,19 @@ pub(crate) fn rows_short(arrivals: u32, places: usize) -> bool
     places / 8 < arrivals as usize
 }
 
-// The row of an answer.
-fn row_of(answer: Answer) -> Row
-    ensures { λ r. ⌜ rowNumbers r ≡ rowOf answer ⌝ }
-{
-    match answer {
-        Answer::Duplicate(d) => Row {
-            kind: DUPLICATE as u64,
-            position: 0,
-            jump: 0,
-            extent: 0,
-            late: 0,
-            offset: 0,
-            largest: 0,
-            first: d.first as u64,
-        },
-        Answer::InOrder(d) => Row {
-            kind: IN_ORDER as u64,
-            position: d.position as u64,
-            jump: d.jump as u64,
-            extent: 0,
-            late: 0,
-            offset: 0,
-            largest: 0,
-            first: 0,
-        },
-        Answer::Reordered(d) => {
-            let late = d.late;
-            Row {
-                kind: by_direction(REORDERED_AFTER, REORDERED_BEFORE, late) as u64,
-                position: d.position as u64,
-                jump: 0,
-                extent: d.extent as u64,
-                late: amount(late),
-                offset: d.offset as u64,
-                largest: d.largest as u64,
-                first: 0,
-            }
-        }
-    }
-}
-
 // Puts a row at a place.
-fn put_row(rows: &mut [u64], at: usize, r: Row)
+fn put_row(rows: &mut [u64], at: usize, row: [u64; 8])
     requires { ⌜ at + 8 ≤ length (now rows) ⌝ }
-    ensures { λ _. ⌜ now (rows .exit) ≡ splice at (rowNumbers r) (now (rows .entry)) ⌝ }
+    ensures { λ _. ⌜ now (rows .exit) ≡ splice at row (now (rows .entry)) ⌝ }
 {
-    rows[at] = r.kind;
-    rows[at + 1] = r.position;
-    rows[at + 2] = r.jump;
-    rows[at + 3] = r.extent;
-    rows[at + 4] = r.late;
-    rows[at + 5] = r.offset;
-    rows[at + 6] = r.largest;
-    rows[at + 7] = r.first;
+    rows[at] = row[0];
+    rows[at + 1] = row[1];
+    rows[at + 2] = row[2];
+    rows[at + 3] = row[3];
+    rows[at + 4] = row[4];
+    rows[at + 5] = row[5];
+    rows[at + 6] = row[6];
+    rows[at + 7] = row[7];
 }
 
 // Puts the row of record i + 1 after those of records from + 1 to i.
@@ -106,7 +48,8 @@ fn put_answer(rows: &mut [u64], from: u32, i: u32, answer: Answer)
         return;
     }
     let at = 8 * ((i - from) as usize);
-    put_row(rows, at, row_of(answer));
+    let row = row_of(answer);
+    put_row(rows, at, row);
 }
 
 // Returns after how many records a pass may end that is to meet the next `most` records after the first `from`. Past the last record

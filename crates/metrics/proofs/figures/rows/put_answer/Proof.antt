@@ -27,7 +27,7 @@ returns-2 c =
     let a = start c .args in
     rw (le-ltb (a .i) (a .from) (c .before .before .before .before .before .if1 .left))
     (c .before .before .put-row .ensures
-    ∙ ap (λ (r : List ℕ). splice (8 * (a .i - a .from)) r (now (a .rows))) (c .before .before .before .row-of .ensures))
+    ∙ ap (λ (r : List ℕ). splice (8 * (a .i - a .from)) r (now (a .rows))) (c .before .before .before .before .row-of .ensures))
 
 pub put-answer-spec : {M : Type 1} → statement M
 put-answer-spec =
