@@ -1,8 +1,9 @@
 -- What the receiver holds. It passes a packet on as soon as all smaller numbers have arrived (`Prompt`), so it holds only packets with a
--- number greater than the least one that is missing (`Missing`), and no more than the byte offset of that one (`held-offset`). Where that
--- one comes later, it needs at least what is held now (`comes`), so never more is held than the greatest need (`never-more`). A number that
--- is not overtaken finds all greater ones held, so at least its byte offset (`offset-held`). Here w is the waiting time, t a time, s a
--- number, fs first arrivals, ps packets, z the size of each packet, m the measure. Assumes nothing.
+-- number greater than the least missing one (`Missing`), and no more than the byte offset of that one (`held-offset`). If that one comes
+-- later, it needs at least what is held now (`comes`), so the receiver never holds more than the greatest need (`never-more`). A number
+-- that is not overtaken finds all greater ones held, so at least its byte offset (`offset-held`).
+-- Here w is the waiting time, t a time, s a number, fs first arrivals, ps packets, z the size of each packet, m the measure. Assumes
+-- nothing.
 use mathlib.Core.Path.{_≡_, refl, sym, ap, subst, _∙_}
 use mathlib.Core.Bool.{Bool, true, false, cond, not, _&&_, _||_, true≢false}
 use mathlib.Core.List.{List, [], _∷_, _++_, append-nil, append-assoc, map-append}
@@ -30,7 +31,7 @@ use Rattle.buffering.proofs.InTime.{due, arrivals-pass, received-more}
 
 -- ---- what is held
 
--- of packets of which all that have a number above s are held
+-- if all packets with a number above s are held
 held-above : (size : ℕ → ℕ) (s : ℕ) (ps : List Packet) → All (λ (p : Packet). s < p .arrival .number → p .passed ≡ false) ps
     → byteOffset size (arrivalsOf ps) s ≤ held size ps
 unfolding held byteOffset
@@ -44,7 +45,7 @@ held-above size s (p ∷ ps) h =
     go k true q = rw (h .0 (ltb-true s (p .arrival .number) q)) (omega (arith, k))
     go k false q = omega (arith, k)
 
--- of packets of which only those are held
+-- if only those are held
 held-only : (size : ℕ → ℕ) (s : ℕ) (ps : List Packet) → All (λ (p : Packet). p .arrival .number ≤ s → p .passed ≡ true) ps
     → held size ps ≤ byteOffset size (arrivalsOf ps) s
 unfolding held byteOffset
@@ -73,7 +74,7 @@ settled-all ps (suc n) h =
     join (settledTo ps n) (has (suc n) (arrivalsOf ps) || overtaken (suc n) ps) (settled-all ps n (λ s g l. h s g (omega (arith, l))))
     (on-left (has (suc n) (arrivalsOf ps)) (overtaken (suc n) ps) (h (suc n) (omega arith) (omega arith)))
 
--- of a packet: it was passed on if all smaller numbers have arrived
+-- a packet was passed on if all smaller numbers have arrived
 abbrev Prompt : List Arrival → Packet → Type 0
 Prompt fs p = ((s : ℕ) → 1 ≤ s → s < p .arrival .number → has s fs ≡ true) → p .passed ≡ true
 
@@ -159,7 +160,7 @@ module _ (w : ℕ) where
       (arrivals-until t (received w fs) ∙ kept fs .arrivals)
       (held-above size s (until w t (received w fs)) (above-held s (until w t (received w fs)) e))
 
-  -- what is held falls
+  -- the sum held falls
   held-pass : (size : ℕ → ℕ) (ready : Arrival → Bool) (ps : List Packet) → held size (passOn ready ps) ≤ held size ps
   unfolding held passOn
   held-pass size ready [] = omega arith
@@ -230,7 +231,7 @@ missing fs (suc k) = go (missing fs k)
     go : Missing fs k → Missing fs (suc k)
     go m = pick m (leb (m .at) k) refl
 
--- ---- what is needed when it comes
+-- ---- the need of that number when it arrives
 
 module _ (m : Measure) (size : ℕ → ℕ) where
   greatest-grows : (after before : List Arrival) → greatestNeed m (answers size before) ≤ greatestNeed m (answers size (before ++ after))
@@ -244,7 +245,7 @@ module _ (m : Measure) (size : ℕ → ℕ) where
       (need-least m (answers size before) (answerTo size before a) .0) in
       omega (arith, g, h)
 
-  -- where a packet needs at least the sum of z over the greater numbers before it, that of a number that has not arrived is reached
+  -- if a packet needs at least the sum of z over the greater numbers before it, that sum is reached for a number that has not arrived
   module _ (z : ℕ → ℕ) (needs : (fs : List Arrival) (a : Arrival) → byteOffset z fs (a .number) ≤ neededFor m (firstAnswer size fs a)) where
     offset-grows : (l : List Arrival) (a : Arrival) (s : ℕ) → byteOffset z (firsts l) s ≤ byteOffset z (firsts (l ++ (a ∷ []))) s
     offset-grows l a s =
@@ -280,7 +281,7 @@ module _ (m : Measure) (size : ℕ → ℕ) where
             (need-least m (answers size before) (answerTo size before a) .1) in
             omega (arith, y, g, greatest-grows after (before ++ (a ∷ [])))
 
--- ---- what a first arrival needs
+-- ---- the need of a first arrival
 
 module _ (size : ℕ → ℕ) (fs : List Arrival) (a : Arrival) where
   pub needs-octets : byteOffset size fs (a .number) ≤ neededFor Measure.Octets (firstAnswer size fs a)
@@ -347,7 +348,7 @@ never-more m size z needs w k before after h all = go (leb (i .at) k) refl
         (λ a g. omega (arith, g, n)) fs (all-firsts (λ (a : Arrival). a .number ≤ k) before h)) in
         omega (arith, least, e)
 
--- ---- as it is stated
+-- ---- the theorem
 
 pub holds-offset : HoldsOffset
 unfolding inTime

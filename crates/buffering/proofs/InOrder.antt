@@ -1,6 +1,7 @@
--- The receiver restores order. Settling passes on every packet that has no smaller number to wait for (`settled-build`), and a number that
--- is overtaken afterwards had none either (`overtaken-settled`); so nothing is left behind (`settle-order`), after each arrival and between
--- two. Here w is the waiting time, t a time, n and s numbers, ps and qs packets, fs first arrivals. Assumes nothing.
+-- The receiver restores order. Settling passes on every packet that has no smaller number to wait for (`settled-build`), and a number
+-- that is overtaken afterwards had none either (`overtaken-settled`). So no packet is left behind (`settle-order`), after each arrival
+-- and between two.
+-- Here w is the waiting time, t a time, n and s numbers, ps and qs packets, fs first arrivals. Assumes nothing.
 use mathlib.Core.Path.{_≡_, refl, sym, subst}
 use mathlib.Core.Bool.{true, false, _&&_, _||_, true≢false}
 use mathlib.Core.List.{List, [], _∷_, _++_}
@@ -23,7 +24,7 @@ settled-build ps (suc n) h =
     join (settledTo ps n) (has (suc n) (arrivalsOf ps) || overtaken (suc n) ps) (settled-build ps n (λ s g l. h s g (omega (arith, l))))
     (h (suc n) (omega arith) (omega arith))
 
--- one that was passed on overtakes all smaller numbers
+-- a packet that was passed on overtakes all smaller numbers
 abbrev Overtakes : List Packet → Packet → Type 0
 Overtakes ps q = q .passed ≡ true → (s : ℕ) → s < q .arrival .number → overtaken s ps ≡ true
 
@@ -37,7 +38,7 @@ passed-overtakes (p ∷ ps) = (
       (k e s l)) ps (passed-overtakes ps),
 )
 
--- what is overtaken after settling had no smaller number to wait for
+-- a number that is overtaken after settling had no smaller number to wait for
 overtaken-settled : (ps qs : List Packet) (n : ℕ) → All (Overtakes ps) qs
     → overtaken n (passOn (λ (a : Arrival). settledTo ps (a .number - 1)) qs) ≡ true → settledTo ps (n - 1) ≡ true
 unfolding overtaken passOn

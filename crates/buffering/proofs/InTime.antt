@@ -1,9 +1,10 @@
 -- Which arrivals the receiver finds in time. Whatever it has passed on, it has waited for every smaller number that has not arrived: a
--- number greater than that one arrived more than w before (`Patient`). This stays so until a later time, under an arrival, and when it
--- settles; and all that arrived more than w before were passed on. So a new number is overtaken exactly if one greater than it is overdue
--- (`overtaken-overdue`). Where times do not go back, the discontinuity is the first to fall due of all with a greater number, so one is
--- overdue exactly if the late time is over w (`late-overdue`); of a packet in order none has a greater number (`none-above`). Here w is the
--- waiting time, t and u are times, s is a number, l arrivals, fs first arrivals, a the next, ps packets. Assumes nothing.
+-- number greater than that one arrived more than w before (`Patient`). This stays so as time passes, with an arrival, and when it
+-- settles; and all packets that arrived more than w before were passed on. So a new number is overtaken exactly if one greater than it is
+-- overdue (`overtaken-overdue`). If times do not go back, the discontinuity falls due first of all greater numbers, so one is overdue
+-- exactly if the late time is over w (`late-overdue`); for a packet in order no number is greater (`none-above`).
+-- Here w is the waiting time, t and u are times, s is a number, l arrivals, fs first arrivals, a the next one, ps packets. Assumes
+-- nothing.
 use mathlib.Core.Path.{_≡_, refl, sym, ap, subst, _∙_}
 use mathlib.Core.Bool.{Bool, true, false, cond, not, _&&_, _||_, true≢false}
 use mathlib.Core.Option.{some}
@@ -28,7 +29,7 @@ use Rattle.rfc4737.proofs.Packets.{all-firsts, ordered-firsts}
 use Rattle.rfc4737.proofs.Offsets.{below-next}
 use Rattle.buffering.specs.Restoring.{Packet, arrivalsOf, overtaken, passOn, settledTo, settle, overdue, until, receive, received, inTime}
 
--- ---- what is overdue
+-- ---- overdue packets
 
 -- one arrival is stamped no later than another
 abbrev pub NotBack : Arrival → Arrival → Type 0
@@ -68,7 +69,7 @@ module _ (w : ℕ) where
       (λ q. on-left (ltb s (b .number) && ltb (b .time + w) t) (overdue w t s (l ++ m)) q)
       (λ q. on-right (ltb s (b .number) && ltb (b .time + w) t) (overdue w t s (l ++ m)) (overdue-more t s l m q))
 
-  -- any one is for all smaller numbers
+  -- a packet is overdue for all smaller numbers
   abbrev Shows : ℕ → List Arrival → Arrival → Type 0
   Shows t l b = (s : ℕ) → s < b .number → ltb (b .time + w) t ≡ true → overdue w t s l ≡ true
 
@@ -82,9 +83,9 @@ module _ (w : ℕ) where
         (k s h e)) l (overdue-one t l),
   )
 
-  -- ---- what the receiver keeps
+  -- ---- the receiver's invariant
 
-  -- of a packet: if it was passed on, each smaller number that has not arrived was waited for
+  -- if a packet was passed on, each smaller number that has not arrived was waited for
   abbrev Waited : ℕ → List Arrival → Packet → Type 0
   Waited t fs p = p .passed ≡ true → (s : ℕ) → 1 ≤ s → s < p .arrival .number → has s fs ≡ false → overdue w t s fs ≡ true
 
@@ -101,7 +102,7 @@ module _ (w : ℕ) where
       (λ q. let k = both (p .passed) (ltb s (p .arrival .number)) q in h .0 (k .0) s g (ltb-true s (p .arrival .number) (k .1)) n)
       (λ q. overtaken-waited t fs ps s (h .1) g n q)
 
-  -- those that become ready
+  -- the packets that become ready
   patient-pass : (t : ℕ) (fs : List Arrival) (ready : Arrival → Bool) (ps : List Packet) → Patient t fs ps
       → All (λ (p : Packet). Waited t fs (record { arrival = p .arrival; passed = ready (p .arrival) })) ps
       → Patient t fs (passOn ready ps)
@@ -124,7 +125,7 @@ module _ (w : ℕ) where
   arrivals-pass ready [] = refl
   arrivals-pass ready (p ∷ ps) = ap (λ (l : List Arrival). p .arrival ∷ l) (arrivals-pass ready ps)
 
-  -- nor takes one back
+  -- and takes no packet back
   overtaken-pass : (ready : Arrival → Bool) (s : ℕ) (ps : List Packet) → overtaken s ps ≡ true → overtaken s (passOn ready ps) ≡ true
   unfolding passOn overtaken
   overtaken-pass ready s [] e = e
@@ -136,7 +137,7 @@ module _ (w : ℕ) where
       (λ q. on-right ((p .passed || ready (p .arrival)) && ltb s (p .arrival .number)) (overtaken s (passOn ready ps))
       (overtaken-pass ready s ps q))
 
-  -- where all that waited are passed on, what is overdue overtakes
+  -- if all packets that waited are passed on, what is overdue overtakes
   overdue-passed : (ready : Arrival → Bool) (t s : ℕ) → ((a : Arrival) → ltb (a .time + w) t ≡ true → ready a ≡ true)
       → (ps : List Packet) → overdue w t s (arrivalsOf ps) ≡ true → overtaken s (passOn ready ps) ≡ true
   unfolding passOn overtaken overdue
@@ -166,7 +167,7 @@ module _ (w : ℕ) where
           let i : suc n ≡ s = omega (arith, m, l) in
           subst (λ (r : ℕ). (has r (arrivalsOf ps) || overtaken r ps) ≡ true) i last
 
-  -- ---- what it keeps under each step
+  -- ---- the invariant after each step
 
   record Keeps (t : ℕ) (fs : List Arrival) (ps : List Packet) : Type 0 where
     arrivals : arrivalsOf ps ≡ fs
@@ -198,7 +199,7 @@ module _ (w : ℕ) where
         patient = all-weaken {P = Waited u fs} {Q = Waited t fs} (λ p q e s g l n. overdue-later u t s h fs (q e s g l n)) ps (k .patient);
       }
 
-  -- what is passed on by the time t
+  -- the packets passed on by the time t
   abbrev pub due : ℕ → List Packet → Arrival → Bool
   due t ps a = ltb (a .time + w) t || overdue w t (a .number) (arrivalsOf ps)
 
@@ -291,7 +292,7 @@ module _ (w : ℕ) where
 
   -- ---- the figures
 
-  -- none is overdue where all that have a greater number came at most w before
+  -- no packet is overdue if all greater numbers came at most w before
   none-overdue : (t s : ℕ) (l : List Arrival) → All (λ (b : Arrival). s < b .number → t ≤ b .time + w) l → overdue w t s l ≡ false
   unfolding overdue
   none-overdue t s [] h = refl
@@ -301,7 +302,7 @@ module _ (w : ℕ) where
       go true q = le-ltb (b .time + w) t (h .0 (ltb-true s (b .number) q))
       go false q = refl
 
-  -- the discontinuity is the first to be due
+  -- the discontinuity is the first to fall due
   late-after : (t s : ℕ) (before l : List Arrival) → Ordered NotBack l → All (By t) l
       → leb (waitingTime (lateFrom t (firstAbove s (eachAfter placeAfter before l)))) w ≡ not (overdue w t s l)
   unfolding overdue firstAbove eachAfter lateFrom elapsed
@@ -335,7 +336,7 @@ module _ (w : ℕ) where
       none-overdue t s fs (all-weaken {P = λ (b : Arrival). b .number < nextExp fs} {Q = λ (b : Arrival). s < b .number → t ≤ b .time + w}
       (λ b q g. absurd (omega (arith, q, g, h))) fs (below-next fs))
 
-  -- a first arrival is accommodated exactly if none is overdue
+  -- a first arrival is accommodated exactly if no greater number is overdue
   first-accommodated : (size : ℕ → ℕ) (fs : List Arrival) (a : Arrival) → Ordered NotBack fs → All (By (a .time)) fs
       → accommodates Measure.Time w (firstAnswer size fs a) ≡ not (overdue w (a .time) (a .number) fs)
   unfolding inOrderAnswer reorderedAnswer

@@ -1,7 +1,7 @@
--- What `Restores` says, of arrivals and of a file. The test `stepsBack` gives the order of the times (`steps-ordered`), so the arrivals in
--- time are those of `all-in-time`. What is held at any moment is held after some of the arrivals, where `never-more` bounds it
--- (`most-held`), and it is at least the need of every packet, since with the greatest waiting time each is in time and finds its byte
--- offset held (`held-needed`). Here w is the waiting time, l arrivals, a the next, k is K, z the size of each packet. Assumes nothing.
+-- `Restores`, for arrivals and for a file. The test `stepsBack` gives the order of the times (`steps-ordered`), so the arrivals in time
+-- are those of `all-in-time`. The most that is held is held after some of the arrivals, where `never-more` bounds it (`most-held`). It is
+-- at least the need of every packet, since with the greatest waiting time each is in time and finds its byte offset held (`held-needed`).
+-- Here w is the waiting time, l arrivals, a the next one, k is K, z the size of each packet. Assumes nothing.
 use mathlib.Core.Path.{_≡_, refl, sym, ap, subst, _∙_}
 use mathlib.Core.Bool.{Bool, true, false, not}
 use mathlib.Core.List.{List, [], _∷_, _++_, append-nil, append-assoc, map, foldl-map}
@@ -54,7 +54,7 @@ steps-ordered t (a ∷ l) e =
 -- ---- the most that is held
 
 module _ (w : ℕ) (z : ℕ → ℕ) where
-  -- after one arrival more
+  -- after the next arrival
   abbrev now-held : List Arrival → Arrival → ℕ
   now-held l a = held z (received w (firsts (l ++ (a ∷ []))))
 
@@ -67,12 +67,12 @@ module _ (w : ℕ) (z : ℕ → ℕ) where
   unfolding mostHeld
   most-most l a n h g = rw (each-more _ l a) (greatest-most (each _ l) _ n h g)
 
-  -- what is held now is no more than the most
+  -- the sum held now is at most the greatest
   held-most : (l : List Arrival) → held z (received w (firsts l)) ≤ mostHeld w z l
   unfolding held received firsts mostHeld
   held-most = snoc-ind (λ (l : List Arrival). held z (received w (firsts l)) ≤ mostHeld w z l) (λ l a h. most-least l a .1) (omega arith)
 
--- never more than the greatest need, where all packets come in the end
+-- never more than the greatest need, if all packets arrive
 module _ (m : Measure) (size z : ℕ → ℕ) (needs : (fs : List Arrival) (a : Arrival)
     → byteOffset z fs (a .number) ≤ neededFor m (firstAnswer size fs a)) (w k : ℕ) where
   abbrev Low : List Arrival → Type 0
@@ -139,9 +139,9 @@ module _ (w : ℕ) (size : ℕ → ℕ) where
           let m = most-least w size l a .0 in
           rw e (need-most Measure.Octets (answers size l) (answerTo size l a) _ (omega (arith, i, m)) (omega (arith, j, m)))
 
--- ---- as it is stated
+-- ---- the theorem
 
--- of arrivals of the packets 1 to k
+-- for arrivals of the packets 1 to k
 of-packets : (k : ℕ) (size : ℕ → ℕ) (l : List Arrival) → All (OfPackets k) l → Restores k size l
 unfolding inTimeCount accommodated count
 of-packets k size l of =
@@ -184,7 +184,7 @@ of-packets k size l of =
     packets : (w : ℕ) → AllArrive k l → mostHeld w (λ _. 1) l ≤ greatestNeed Measure.Packets (answers size l)
     packets = never Measure.Packets (λ _. 1) (needs-packets size)
 
--- of the arrivals of a file, of which there are none if it is refused
+-- for the arrivals of a file; a refused file has none
 pub restores : (file : List ℕ) → Octets file → RestoresFile (decode file)
 restores file o = go (decode file) refl
   where

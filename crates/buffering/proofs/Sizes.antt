@@ -1,7 +1,7 @@
--- The search for the least size. A greater buffer accommodates no fewer, so a size that is too small shows all smaller ones to be
--- (`too-small`), and the bounds close in on the least size (`closer-high`, `closer-low`, `closed-between`, `met`), of which there is one
--- (`one-least`): the definition's (`sizes-are-least`, `found-least`). Here m is the measure, l some answers, part and whole the share.
--- Assumes nothing.
+-- The search for the least size. A greater buffer accommodates no fewer, so if a size is too small, so are all smaller ones
+-- (`too-small`). The bounds close in on the least size (`closer-high`, `closer-low`, `closed-between`, `met`), of which there is one
+-- (`one-least`): the definition's (`sizes-are-least`, `found-least`).
+-- Here m is the measure, l some answers, part and whole the share. Assumes nothing.
 use mathlib.Core.Path.{_≡_, refl, sym, ap, subst, _∙_}
 use mathlib.Core.Bool.{Bool, true, false, cond}
 use mathlib.Core.List.{List, [], _∷_}
@@ -29,7 +29,7 @@ use Rattle.buffering.specs.Private.{Between, FirstEnough}
 -- ---- the least size
 
 module _ (m : Measure) (part whole : ℕ) (l : List Answer) where
-  -- what is smaller than a size that is too small is too
+  -- a size smaller than one that is too small is too small
   too-small : (a b : ℕ) → a ≤ b → (Enough m part whole l b → ⊥) → Enough m part whole l a → ⊥
   too-small a b h n e = n (omega (arith, e, mul-le-mul-left whole (accommodated-grows m l a b h)))
 
@@ -37,7 +37,7 @@ module _ (m : Measure) (part whole : ℕ) (l : List Answer) where
   pub not-enough : (size : ℕ) → leb (part * arrived l) (whole * accommodated m size l) ≡ false → Enough m part whole l size → ⊥
   not-enough size q e = let k = leb-false (part * arrived l) (whole * accommodated m size l) q in omega (arith, e, k)
 
-  -- at first: from nothing to the greatest need
+  -- the bounds at first: 0 and the greatest need
   pub start : part ≤ whole → Between m part whole l (record { low = 0; high = greatestNeed m l })
   start h =
       record {
@@ -47,11 +47,11 @@ module _ (m : Measure) (part whole : ℕ) (l : List Answer) where
       }
 
   module _ (b : Bounds) (h : Between m part whole l b) (middle : ℕ) where
-    -- a size between that is enough
+    -- a size between them that is enough is the new high one
     pub closer-high : b .low ≤ middle → Enough m part whole l middle → Between m part whole l (record { low = b .low; high = middle })
     closer-high g e = record { order = g; enough = e; small = h .small }
 
-    -- one that is not
+    -- a size below the high one that is too small moves the low one past it
     pub closer-low : middle < b .high → (Enough m part whole l middle → ⊥)
         → Between m part whole l (record { low = middle + 1; high = b .high })
     closer-low g n =
@@ -66,26 +66,26 @@ module _ (m : Measure) (part whole : ℕ) (l : List Answer) where
         go true e = ltb-true size (b .high) e
         go false e = absurd (too-small (b .high) size (ltb-false size (b .high) e) n (h .enough))
 
-    -- the low one is enough
+    -- if the low one is enough, both bounds are the low one
     pub closed : Enough m part whole l (b .low) → Between m part whole l (record { low = b .low; high = b .low })
     closed e = record { order = omega arith; enough = e; small = h .small }
 
-    -- a size is too small
+    -- a size that is too small moves the low one past it
     pub closed-above : (below : ℕ) → (Enough m part whole l below → ⊥) → Between m part whole l (record { low = below + 1; high = b .high })
     closed-above below n = closer-low b h below (under below n) n
 
-    -- and a greater one is enough
+    -- and a greater one that is enough is the new high one
     pub closed-between : (below top : ℕ) → b .low ≤ top → below < top → (Enough m part whole l below → ⊥) → Enough m part whole l top
         → Between m part whole l (record { low = below + 1; high = top })
     closed-between below top g k n e = closer-low (record { low = b .low; high = top }) (closer-high b h top g e) below k n
 
-  -- at last: both are the least
+  -- when the bounds meet, they are the least size
   pub met : (b : Bounds) → Between m part whole l b → b .high ≤ b .low → Least m part whole l (b .low)
   met b h g =
       let e : b .high ≡ b .low = omega (arith, h .order) in
       record { enough = rw e at (h .enough); least = h .small }
 
-  -- there is one
+  -- there is one least size
   one : (a b : ℕ) → Least m part whole l a → Least m part whole l b → (s t : Bool) → ltb a b ≡ s → ltb b a ≡ t → a ≡ b
   one a b h g true t e q = absurd (g .least a (ltb-true a b e) (h .enough))
   one a b h g false true e q = absurd (h .least b (ltb-true b a q) (g .enough))
@@ -96,25 +96,25 @@ module _ (m : Measure) (part whole : ℕ) (l : List Answer) where
 module _ (m : Measure) (part whole : ℕ) (l : List Answer) (low shift all : ℕ) (counts : List ℕ) (same : all ≡ arrived l)
     (is : (j : ℕ) → j < stepCount → getD counts j 0 ≡ accommodated m (low + j * 2 ^ shift) l) (at : ℕ)
     (f : FirstEnough part whole all counts at) where
-  -- a size whose count is enough is, one whose count is not is not
+  -- a size is enough exactly if its count is
   by-count : (j : ℕ) (t : Bool) → j < stepCount → leb (part * all) (whole * getD counts j 0) ≡ t
       → leb (part * arrived l) (whole * accommodated m (low + j * 2 ^ shift) l) ≡ t
   by-count j t few e = rw (same, is j few) at e
 
-  -- the first size is
+  -- if the index found is 0, the first size is enough
   pub first-is : at ≡ 0 → Enough m part whole l low
   first-is z =
       let e = by-count 0 true (omega arith) (rw z at (f .found (omega (arith, z)))) in
       let k : low + 0 * 2 ^ shift ≡ low = omega arith in
       rw k at (leb-true (part * arrived l) (whole * accommodated m (low + 0 * 2 ^ shift) l) e)
 
-  -- the one before is not
+  -- else the size before the one found is not enough
   pub before-not : (at ≡ 0 → ⊥) → Enough m part whole l (low + (at - 1) * 2 ^ shift) → ⊥
   before-not n =
       not-enough m part whole l (low + (at - 1) * 2 ^ shift)
       (by-count (at - 1) false (omega (arith, n, f .within)) (f .before (at - 1) (omega (arith, n))))
 
-  -- the one after it is, if there is one
+  -- and the size after that is enough, if the index found is one of the counts
   pub after-is : (at ≡ 0 → ⊥) → at < stepCount → Enough m part whole l (low + (at - 1) * 2 ^ shift + 2 ^ shift)
   after-is n few =
       let e = leb-true (part * arrived l) (whole * accommodated m (low + at * 2 ^ shift) l) (by-count at true few (f .found few)) in
@@ -125,7 +125,7 @@ module _ (m : Measure) (part whole : ℕ) (l : List Answer) (low shift all : ℕ
       let r : low + at * 2 ^ shift ≡ low + (at - 1) * 2 ^ shift + 2 ^ shift = omega (arith, q) in
       rw r at e
 
-  -- there is one if the sizes reach over more than is left
+  -- the index found is one of the counts if the sizes reach over more than is left
   pub one-after : (high : ℕ) → high - low < stepCount * 2 ^ shift → 2 ^ shift < high - (low + (at - 1) * 2 ^ shift) → at < stepCount
   one-after high reach left = go (ltb at stepCount) refl
     where
@@ -136,7 +136,7 @@ module _ (m : Measure) (part whole : ℕ) (l : List Answer) (low shift all : ℕ
           let p : (at - 1) * 2 ^ shift ≡ 127 * 2 ^ shift = ap (λ (n : ℕ). n * 2 ^ shift) k in
           absurd (omega (arith, p, reach, left))
 
--- ---- what is known of it
+-- ---- theorems on the least size
 
 pub one-least : OneLeast
 one-least = record { same = λ m part whole l a b h g. one m part whole l a b h g (ltb a b) (ltb b a) refl refl }
@@ -194,7 +194,7 @@ found-least m part whole l size h found = one-least .same m part whole l size _ 
 
 -- ---- the answer
 
--- of no answers
+-- the least size for no answers
 least-none : (m : Measure) (part whole : ℕ) → 0 ≡ leastSize m part whole []
 unfolding leastSize greatestNeed Rattle.rfc4737.specs.Needs.greatest firstEnough
 least-none m part whole = refl

@@ -21,7 +21,7 @@ firstEnough m part whole l zero size = size
 firstEnough m part whole l (suc steps) size =
     cond (leb (part * arrived l) (whole * accommodated m size l)) size (firstEnough m part whole l steps (size + 1))
 
--- the least size that does: the first from 0 on; the greatest need always does
+-- the least size that is enough: the first from 0 on; the greatest need always is
 unfoldable pub leastSize : Measure → ℕ → ℕ → List Answer → ℕ
 leastSize m part whole l = firstEnough m part whole l (greatestNeed m l) 0
 
@@ -36,7 +36,7 @@ unfoldable pub sampleLeast : Decoded → Measure → ℕ → ℕ → SampleLeast
 sampleLeast d m part whole =
     record { refusal = askedRefusal d 1 whole part; size = leastSize m part whole (shareAnswers d part whole) }
 
--- ---- what is known of it
+-- ---- theorems on the least size
 
 -- a buffer of this size accommodates at least `part` in `whole` of the first arrivals
 abbrev pub Enough : Measure → ℕ → ℕ → List Answer → ℕ → Type 0

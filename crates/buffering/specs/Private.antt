@@ -1,4 +1,4 @@
--- What the search keeps, which no public contract reaches. Assumes nothing.
+-- The invariant of the search; no public contract reaches these definitions. Assumes nothing.
 use mathlib.Core.Path.{_≡_}
 use mathlib.Core.Bool.{true, false}
 use Prim.Native.Nat.{ℕ, _*_, _≤_, _<_}

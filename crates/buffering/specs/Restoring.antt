@@ -55,11 +55,11 @@ overdue w t s (b ∷ l) = (ltb s (b .number) && ltb (b .time + w) t) || overdue 
 unfoldable pub until : ℕ → ℕ → List Packet → List Packet
 until w t ps = settle (passOn (λ (a : Arrival). ltb (a .time + w) t || overdue w t (a .number) (arrivalsOf ps)) ps)
 
--- a first arrival comes
+-- the packets after the next first arrival
 unfoldable pub receive : ℕ → List Packet → Arrival → List Packet
 receive w ps a = settle (until w (a .time) ps ++ (record { arrival = a; passed = false } ∷ []))
 
--- after some first arrivals
+-- the packets after some first arrivals
 unfoldable pub received : ℕ → List Arrival → List Packet
 received w fs = foldl (receive w) [] fs
 
@@ -67,67 +67,68 @@ received w fs = foldl (receive w) [] fs
 unfoldable pub inTime : ℕ → List Arrival → Arrival → Bool
 inTime w earlier a = not (has (a .number) earlier) && not (overtaken (a .number) (until w (a .time) (received w (firsts earlier))))
 
--- how many arrivals are
+-- how many arrivals are first ones and in time
 unfoldable pub inTimeCount : ℕ → List Arrival → ℕ
 inTimeCount w l = count (λ (b : Bool). b) (each (inTime w) l)
 
--- the sum of the sizes of the packets that it holds; their number, if each size is 1
+-- the sum of the sizes of the packets that the receiver holds; their number, if each size is 1
 unfoldable pub held : (ℕ → ℕ) → List Packet → ℕ
 held size [] = 0
 held size (p ∷ ps) = cond (p .passed) 0 (size (p .arrival .number)) + held size ps
 
--- the most that it ever holds: the greatest of what it holds after each arrival
+-- the most that it ever holds: the greatest sum after any arrival
 unfoldable pub mostHeld : ℕ → (ℕ → ℕ) → List Arrival → ℕ
 mostHeld w size l = greatest (each (λ (earlier : List Arrival) (a : Arrival). held size (received w (firsts (earlier ++ (a ∷ []))))) l)
 
--- ---- what the figures say of it
+-- ---- what the figures say of the receiver
 
 -- each of the packets 1 to k arrives
 abbrev pub AllArrive : ℕ → List Arrival → Type 0
 AllArrive k l = (s : ℕ) → 1 ≤ s → s ≤ k → has s l ≡ true
 
--- a waiting time, a storage in octets and a number of places that are enough at once: every first arrival is in time, and neither more
+-- a waiting time, a storage in octets and one in packets that are enough together: every first arrival is in time, and neither more
 -- octets nor more packets are ever held
 pub record EnoughAtOnce (size : ℕ → ℕ) (l : List Arrival) (wait octets packets : ℕ) : Type 0 where
   pub intime : inTimeCount wait l ≡ length (firsts l)
   pub storage : mostHeld wait size l ≤ octets
   pub places : mostHeld wait (λ _. 1) l ≤ packets
 
--- of arrivals l of the packets 1 to k with these sizes, for every waiting time w. That all packets arrive is a premise where something is
--- said of what is held: a packet that waits for one that never comes is held although no late time, extent or byte offset tells of it
+-- for arrivals l of the packets 1 to k with these sizes, and for every waiting time w. What bounds the packets held assumes that all
+-- packets arrive: a packet that waits for one that never comes is held, and no late time, extent or byte offset shows it
 pub record Restores (k : ℕ) (size : ℕ → ℕ) (l : List Arrival) : Type 0 where
-  -- where the clock does not step back, the arrivals in time are, record by record, those that a buffer of the time w accommodates; so
-  -- there are as many
+  -- if the clock does not step back, the arrivals in time are, record by record, those that a buffer of the time w accommodates; so there
+  -- are as many
   pub which : (w : ℕ) → stepsBack 0 l ≡ false → each (inTime w) l ≡ map (accommodates Measure.Time w) (answers size l)
   pub many : (w : ℕ) → stepsBack 0 l ≡ false → inTimeCount w l ≡ accommodated Measure.Time w (answers size l)
-  -- where all packets arrive, never more octets are held than the greatest need says, nor more packets
+  -- if all packets arrive, never more octets are held than the greatest need in octets, nor more packets than that in packets
   pub octets : (w : ℕ) → AllArrive k l → mostHeld w size l ≤ greatestNeed Measure.Octets (answers size l)
   pub packets : (w : ℕ) → AllArrive k l → mostHeld w (λ _. 1) l ≤ greatestNeed Measure.Packets (answers size l)
-  -- where besides the clock does not step back and w is at least the greatest waiting time needed, just as many octets
+  -- if, besides, the clock does not step back and w is at least the greatest waiting time needed, the most octets held are exactly the
+  -- greatest need
   pub most : (w : ℕ) → AllArrive k l → stepsBack 0 l ≡ false → greatestNeed Measure.Time (answers size l) ≤ w
       → mostHeld w size l ≡ greatestNeed Measure.Octets (answers size l)
-  -- so the three greatest needs are enough at once
+  -- so the three greatest needs are enough together
   pub enough : AllArrive k l → stepsBack 0 l ≡ false
       → EnoughAtOnce size l (greatestNeed Measure.Time (answers size l)) (greatestNeed Measure.Octets (answers size l))
       (greatestNeed Measure.Packets (answers size l))
 
--- of the sample of a decoded file; a refused one has the empty sample
+-- for the sample of a decoded file; a refused file has the empty sample
 abbrev pub RestoresFile : Decoded → Type 0
 RestoresFile d = Restores (length (sampleOf d .sizes)) (sizeOf d) (sampleArrivals d)
 
--- for any waiting time and clock, with packets lost or not: a packet in time finds at least its byte offset held, and until the next
+-- for any waiting time and any clock, with packets lost or not: a packet in time finds at least its byte offset held, and until the next
 -- arrival the receiver holds no more than before
 pub record HoldsOffset : Type 0 where
   pub found : (w : ℕ) (size : ℕ → ℕ) (before : List Arrival) (a : Arrival) → inTime w before a ≡ true
       → neededFor Measure.Octets (answerTo size before a) ≤ held size (until w (a .time) (received w (firsts before)))
   pub falls : (w t : ℕ) (size : ℕ → ℕ) (ps : List Packet) → held size (until w t ps) ≤ held size ps
 
--- of some packets, each with a smaller number than one of `all` that was passed on was passed on too
+-- each of some packets with a smaller number than one of `all` that was passed on has been passed on too
 abbrev pub NoneBehind : List Packet → List Packet → Type 0
 NoneBehind all [] = Unit
 NoneBehind all (p ∷ ps) = (overtaken (p .arrival .number) all ≡ true → p .passed ≡ true) × NoneBehind all ps
 
--- it restores order: at no moment does it hold a packet with a smaller number than one that it has passed on
+-- the receiver restores order: at no time does it hold a packet with a smaller number than one that it has passed on
 pub record RestoresOrder : Type 0 where
   pub after : (w : ℕ) (fs : List Arrival) → NoneBehind (received w fs) (received w fs)
   pub between : (w t : ℕ) (ps : List Packet) → NoneBehind (until w t ps) (until w t ps)

@@ -52,7 +52,7 @@ fn first_enough(counts: &[u32; STEPS], part: u32, whole: u32, all: u32) -> usize
     j
 }
 
-// A shift with which STEPS sizes reach over a distance, the least from 0 on. 57 is always enough, as STEPS is 2^7.
+// The least shift with which STEPS sizes reach over `distance`. 57 is always enough, as STEPS is 2^7.
 fn shift_for(distance: u64) -> u32
     ensures { λ r. ⌜ (r ≤ 57) × (distance < stepCount * 2 ^ r) ⌝ }
 {
@@ -100,9 +100,9 @@ fn narrowed(file: &[u8], measure: Measure, part: u32, whole: u32, b: Bounds) -> 
     }
 }
 
-// The least size of a buffer that accommodates at least `part` in `whole` of the first arrivals. One pass over the sample, and one for each
-// seven binary digits of the greatest need, each O(A + K), and O(A log K + K) in octets. What the size means for a receiver that restores
-// order is carried by `restores`.
+// The least size of a buffer that accommodates at least `part` in `whole` of the first arrivals. One pass over the sample, and one more
+// for every seven binary digits of the greatest need; each pass is O(A + K), and O(A log K + K) in octets. The contract `restores` says
+// what the size means for a receiver that restores order.
 pub fn least(file: &[u8], measure: Measure, part: u32, whole: u32) -> SampleLeast
     ensures { λ r. ⌜ r ≡ sampleLeast (decode (now (file .entry))) measure part whole ⌝ }
     ensures restores { λ _. ⌜ RestoresFile (decode (now (file .entry))) ⌝ }

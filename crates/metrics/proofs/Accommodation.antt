@@ -1,17 +1,18 @@
--- Needs by one answer more. A need is counted at the index of the first size that is at least it (`step-low`, `step-past`), so all counts
--- up to a size's are together one more exactly if the size is enough (`counted-in`, `counted-out`). So a pass finds counts and greatest
--- need one record after the other (`after-duplicate`, `after-first`); no count passes the number of the answers (`needs-few`). Then the
--- need of a record by its class, and that the tree can be filled. Here m is the measure, the sizes are low + j * 2^shift, l some answers,
--- a the next and k its class. Assumes nothing.
+-- The needs of a sample, answer by answer. A need is counted at the index of the first size that is enough for it (`step-low`,
+-- `step-past`), so the sum of the counts up to a size grows by 1 exactly if the size is enough (`counted-in`, `counted-out`). So a pass
+-- finds counts and greatest need record by record (`after-duplicate`, `after-first`); no count exceeds the number of answers
+-- (`needs-few`). The summed counts are those of the definition (`steps-made`). Last, the need of a record by its class, and that the tree
+-- can be filled.
+-- Here m is the measure, the sizes are low + j * 2^shift, l some answers, a the next one and k its class. Assumes nothing.
 use mathlib.Core.Path.{_≡_, refl, sym, ap, _∙_}
 use mathlib.Core.Bool.{Bool, true, false, cond, not}
-use mathlib.Core.List.{List, [], _∷_, _++_}
+use mathlib.Core.List.{List, [], _∷_, _++_, map}
 use Prim.Native.Nat.{ℕ, zero, suc, _+_, _-_, _*_, _/_, _^_, _≤_, _<_}
-use native.Mathlib.Nat.{div-lt-iff-lt-mul, div-eq-of-lt, lt-of-lt-of-le, pow-le-pow-right, zero-lt-suc}
+use native.Mathlib.Nat.{suc-mul, div-lt-iff-lt-mul, div-eq-of-lt, lt-of-lt-of-le, pow-le-pow-right, zero-lt-suc}
 use native.Mathlib.Omega.{arith}
 use lib.Dec.{eqb, leb, ltb}
 use lib.ListN.{length, getD, set, replicate, length-set}
-use lib.Seq.{getD-set-same, getD-set-other}
+use lib.Seq.{getD-set-same, getD-set-other, ext-getD}
 use lib.Pow.{pow-pos}
 use borrow.Author.Tests.{le-ltb, le-leb, lt-leb, leb-true, leb-false, ltb-true, ltb-false, eqb-true, eqb-false}
 use Rattle.rfc4737.specs.declared.Answer.{Answer}
@@ -20,8 +21,8 @@ use Rattle.rfc4737.specs.Runs.{isDuplicate, arrived}
 use Rattle.rfc4737.proofs.Needs.{count-few, need-more, accommodated-more}
 use Rattle.rfc4737.proofs.Folds.{arrived-more, length-answers}
 use Rattle.sample.specs.declared.Layout.{Layout}
-use Rattle.sample.specs.Decode.{Decoded}
-use Rattle.metrics.specs.Figures.{stepCount}
+use Rattle.sample.specs.Decode.{Decoded, decodedRefusal}
+use Rattle.metrics.specs.Figures.{stepCount, sizesFrom, sampleSteps}
 use Rattle.metrics.specs.Records.{before, answerAt, answersTo, FileLayout, HasRecord}
 use Rattle.metrics.specs.Sample.{sizeOf, sampleArrivals, answersOf}
 use Rattle.rfc4737.specs.Judge.{arrivalsMost}
@@ -33,6 +34,7 @@ use Rattle.metrics.specs.Private.Tables.{ClassOf}
 use Rattle.metrics.specs.declared.engine.byte_offset.Totals.{Totals}
 use Rattle.metrics.specs.declared.engine.kind.Class.{Class}
 use Rattle.metrics.specs.declared.figures.needs.Needs.{Needs}
+use Rattle.metrics.specs.declared.SampleSteps.{SampleSteps}
 use Rattle.rfc4737.specs.declared.Arrival.{Arrival}
 use Rattle.rfc4737.specs.declared.DuplicateFigures.{DuplicateFigures}
 use Rattle.rfc4737.proofs.Lists.{zeros}
@@ -46,7 +48,7 @@ use Rattle.metrics.proofs.OneArrivalMore.{answers-next}
 -- ---- counts by size
 
 module _ (counts : List ℕ) (at : ℕ) (inside : at < length counts) where
-  -- one more at a place leaves the sums below it
+  -- adding 1 at index `at` leaves the sums below it
   one-below : (n : ℕ) → n ≤ at → countTo (set counts at (getD counts at 0 + 1)) n ≡ countTo counts n
   unfolding countTo
   one-below zero h = refl
@@ -55,7 +57,7 @@ module _ (counts : List ℕ) (at : ℕ) (inside : at < length counts) where
       let g = getD-set-other counts at n (getD counts at 0 + 1) 0 (λ (e : n ≡ at). omega (arith, e)) in
       rw (e, g) refl
 
-  -- adds one to the first that has it
+  -- adds 1 to the first sum that includes it
   one-here : (n : ℕ) → n ≡ at → countTo (set counts at (getD counts at 0 + 1)) (suc n) ≡ countTo counts (suc n) + 1
   unfolding countTo
   one-here n here =
@@ -64,7 +66,7 @@ module _ (counts : List ℕ) (at : ℕ) (inside : at < length counts) where
       rw here (getD-set-same counts at (getD counts at 0 + 1) 0 inside) in
       omega (arith, e, g)
 
-  -- and to all above
+  -- and to all sums above
   one-above : (n : ℕ) → at ≤ n → countTo (set counts at (getD counts at 0 + 1)) (suc n) ≡ countTo counts (suc n) + 1
   unfolding countTo
   one-above zero h = one-here zero (omega arith)
@@ -85,7 +87,7 @@ module _ (counts : List ℕ) (at : ℕ) (inside : at < length counts) where
 
 module _ (low shift need : ℕ) (counts : List ℕ) (places : length counts ≡ stepCount) (step : ℕ)
     (is : (j : ℕ) → leb step j ≡ leb need (low + j * 2 ^ shift)) where
-  -- a need counted at the index of the first size that is at least it
+  -- a need is counted at the index of the first size that is enough for it
   pub counted-in : step < stepCount → Counted low shift need counts (set counts step (getD counts step 0 + 1))
   counted-in h =
       record {
@@ -93,7 +95,7 @@ module _ (low shift need : ℕ) (counts : List ℕ) (places : length counts ≡ 
         at = λ j few. one-more counts step (omega (arith, places)) j (leb need (low + j * 2 ^ shift)) (is j);
       }
 
-  -- a need above all sizes
+  -- a need above all sizes is not counted
   pub counted-out : stepCount ≤ step → Counted low shift need counts counts
   counted-out h =
       record {
@@ -102,7 +104,7 @@ module _ (low shift need : ℕ) (counts : List ℕ) (places : length counts ≡ 
             ∙ lt-leb step j (omega (arith, few)) in rw e refl;
       }
 
--- the first size that is at least a need: `low`, or the first past it
+-- the first size that is enough for a need: `low`, or the first past it
 pub step-low : (low shift need : ℕ) → need ≤ low → (j : ℕ) → leb 0 j ≡ leb need (low + j * 2 ^ shift)
 step-low low shift need h j = le-leb 0 j (omega arith) ∙ sym (le-leb need (low + j * 2 ^ shift) (omega arith))
 
@@ -165,7 +167,7 @@ module _ (old new : List ℕ) (sum j : ℕ) (s : SummedTo old new sum j) (few : 
           let n = eqb-false k j q in
           getD-set-other new j k (sum + getD new j 0) 0 n ∙ s .done k (omega (arith, h, n))
 
--- ---- one answer more
+-- ---- the next answer
 
 -- a duplicate leaves the greatest need
 greatest-same : (m : Measure) (l : List Answer) (a : Answer) → neededFor m a ≡ 0 → greatestNeed m (l ++ (a ∷ [])) ≡ greatestNeed m l
@@ -210,9 +212,9 @@ module _ (m : Measure) (low shift : ℕ) (l : List Answer) (needs : Needs) (coun
       → NeedsOf m low shift l needs counts → NeedsOf m low shift (l ++ (a ∷ [])) (needsWith needs need) new
   after-reordered at need a k = after-first need a (rw (k .is) refl)
 
--- ---- few
+-- ---- bounds
 
--- no count passes the number of the answers
+-- no count exceeds the number of answers
 pub needs-few : (m : Measure) (low shift : ℕ) (l : List Answer) (needs : Needs) (counts : List ℕ) → NeedsOf m low shift l needs counts
     → (needs .arrived ≤ length l) × ((j : ℕ) → j < stepCount → countTo counts (suc j) ≤ length l)
 unfolding arrived accommodated
@@ -235,19 +237,19 @@ first-count m low shift l needs counts h =
     let e = h .at 0 (omega arith) in
     omega (arith, e) ∙ ap (λ (size : ℕ). accommodated m size l) same
 
--- no sum of a whole sample passes the greatest number of arrivals
-pub steps-few : (d : Decoded) (y : Layout) → FileLayout d y → (m : Measure) (low shift : ℕ) (needs : Needs) (counts : List ℕ)
+-- no sum of a whole sample exceeds the greatest number of arrivals
+pub steps-few : (d : Decoded) (layout : Layout) → FileLayout d layout → (m : Measure) (low shift : ℕ) (needs : Needs) (counts : List ℕ)
     → NeedsOf m low shift (answersOf d) needs counts → (j : ℕ) → j < stepCount → countTo counts (suc j) ≤ arrivalsMost
-steps-few d y h m low shift needs counts n j few =
+steps-few d layout h m low shift needs counts n j few =
     omega (
       arith,
       needs-few m low shift (answersOf d) needs counts n .1 j few,
       length-answers (sizeOf d) (sampleArrivals d),
-      arrivals-laid d y h,
+      arrivals-laid d layout h,
       h .few,
     )
 
--- of none
+-- the needs of no answers
 none-counted : (n k : ℕ) → countTo (replicate n 0) k ≡ 0
 unfolding countTo
 none-counted n zero = refl
@@ -257,10 +259,56 @@ pub needs-none : (m : Measure) (low shift : ℕ) → NeedsOf m low shift [] (rec
 unfolding arrived accommodated count greatestNeed Rattle.rfc4737.specs.Needs.greatest
 needs-none m low shift = record { many = refl; most = refl; places = refl; at = λ j few. none-counted stepCount (suc j) }
 
--- under record i + 1
-pub needs-next : (m : Measure) (low shift : ℕ) (d : Decoded) (y : Layout) (i : ℕ) → HasRecord d y i → (needs : Needs) (counts : List ℕ)
+-- the needs after record i + 1
+pub needs-next : (m : Measure) (low shift : ℕ) (d : Decoded) (layout : Layout) (i : ℕ) → HasRecord d layout i
+    → (needs : Needs) (counts : List ℕ)
     → NeedsOf m low shift (answersTo d i ++ (answerAt d i ∷ [])) needs counts → NeedsOf m low shift (answersTo d (i + 1)) needs counts
-needs-next m low shift d y i h needs counts n = rw (answers-next d y i h) n
+needs-next m low shift d layout i h needs counts n = rw (answers-next d layout i h) n
+
+-- ---- the counts of several sizes
+
+module _ (f : ℕ → ℕ) (step : ℕ) where
+  length-sizes : (n low : ℕ) → length (map f (sizesFrom low step n)) ≡ n
+  unfolding sizesFrom
+  length-sizes zero low = refl
+  length-sizes (suc n) low = ap suc (length-sizes n (low + step))
+
+  at-size : (n low j : ℕ) → j < n → getD (map f (sizesFrom low step n)) j 0 ≡ f (low + j * step)
+  unfolding sizesFrom
+  at-size zero low j h = absurd (omega arith)
+  at-size (suc n) low zero h = ap f (omega arith)
+  at-size (suc n) low (suc j) h =
+      let e : low + step + j * step ≡ low + suc j * step = omega (arith, suc-mul j step) in
+      at-size n (low + step) j (omega arith) ∙ ap f e
+
+-- counts that are right one by one are those of the definition
+pub steps-made : (m : Measure) (low shift : ℕ) (l : List Answer) (counts : List ℕ) → length counts ≡ stepCount
+    → ((j : ℕ) → j < stepCount → getD counts j 0 ≡ accommodated m (low + j * 2 ^ shift) l)
+    → counts ≡ map (λ (size : ℕ). accommodated m size l) (sizesFrom low (2 ^ shift) stepCount)
+steps-made m low shift l counts places at =
+    let f : ℕ → ℕ = λ size. accommodated m size l in
+    ext-getD 0 counts (map f (sizesFrom low (2 ^ shift) stepCount)) (places ∙ sym (length-sizes f (2 ^ shift) stepCount low))
+    (λ j h. at j (omega (arith, h, places)) ∙ sym (at-size f (2 ^ shift) stepCount low j (omega (arith, h, places))))
+
+-- each part of the definition
+module _ (d : Decoded) (m : Measure) (low shift : ℕ) (r : SampleSteps) (is : r ≡ sampleSteps d m low shift) where
+  pub steps-refusal : r .refusal ≡ decodedRefusal d
+  unfolding sampleSteps
+  steps-refusal = ap (λ (s : SampleSteps). s .refusal) is
+
+  pub steps-arrived : r .arrived ≡ arrived (answersOf d)
+  unfolding sampleSteps
+  steps-arrived = ap (λ (s : SampleSteps). s .arrived) is
+
+  pub steps-greatest : r .greatest ≡ greatestNeed m (answersOf d)
+  unfolding sampleSteps
+  steps-greatest = ap (λ (s : SampleSteps). s .greatest) is
+
+  pub steps-count : (j : ℕ) → j < stepCount → getD (r .counts) j 0 ≡ accommodated m (low + j * 2 ^ shift) (answersOf d)
+  unfolding sampleSteps
+  steps-count j few =
+      ap (λ (s : SampleSteps). getD (s .counts) j 0) is
+      ∙ at-size (λ (size : ℕ). accommodated m size (answersOf d)) (2 ^ shift) stepCount low j few
 
 -- ---- the need of a record, by its class after `count` first arrivals
 
@@ -286,9 +334,9 @@ module _ (count at : ℕ) (a : Answer) (k : ClassOf count (Class.Reordered at) a
 -- ---- the tree
 
 -- the tree can be filled where a need is asked for
-pub need-filling : (d : Decoded) (y : Layout) (i : ℕ) (arrival : Arrival) (numbers records tree : List ℕ) (count : ℕ) (totals : Totals)
+pub need-filling : (d : Decoded) (layout : Layout) (i : ℕ) (arrival : Arrival) (numbers records tree : List ℕ) (count : ℕ) (totals : Totals)
     (k : Class)
-    → NeedInput d y i arrival numbers records tree count totals k → FillInput d y numbers tree count totals
-need-filling d y i arrival numbers records tree count totals k p =
-    let q = packets d y i (p .there .file) numbers count (p .numbered) (omega (arith, p .there .inside)) in
+    → NeedInput d layout i arrival numbers records tree count totals k → FillInput d layout numbers tree count totals
+need-filling d layout i arrival numbers records tree count totals k p =
+    let q = packets d layout i (p .there .file) numbers count (p .numbered) (omega (arith, p .there .inside)) in
     record { file = p .there .file; few = q .0; packets = q .1; fs = firsts (before d i); numbered = p .numbered; totalled = p .totalled }

@@ -1,10 +1,9 @@
--- How far a text agrees with the lines of a listing. Lines of which all agrees have their length in common with the text, so that a line
--- more adds what it has in common with the rest of the text (`agreed-more`, by `common-after`). Where lines differ, less than all of them
--- agrees, so that what stands after them adds nothing and the whole does not agree either (`agreed-stop`, by `common-part`). Last, what
--- is answered: with a refusal nothing is compared (`agreed-refused`); without one the text is the listing exactly if all of the listing
--- agrees and is as long as the text (`agreed-accepted`, by `same-common`). Here line is the one after lines, rest what stands after them,
--- at the place after lines that agree, p how far a line or a listing agrees, d the decoded file, y its layout and own that the layout's
--- refusal is the file's. Assumes nothing.
+-- How far a text agrees with the lines of a listing. If some lines agree whole, the next line adds what it has in common with the rest of
+-- the text (`agreed-more`, by `common-after`). If they differ, nothing after them counts, and the whole listing does not agree either
+-- (`agreed-stop`, by `common-part`). Last, the call's answer: with a refusal nothing is compared (`agreed-refused`); without one the text
+-- is the listing exactly if all of the listing agrees and the text is as long (`agreed-accepted`, by `same-common`).
+-- Here line is the one after lines, rest all that follows them, at the offset after lines that agree, p how far a line or a listing
+-- agrees, d the decoded file, and own that the layout's refusal is the file's. Assumes nothing.
 use Prim.Native.Nat.{ℕ, zero, suc, _+_, _<_}
 use mathlib.Core.Path.{_≡_, refl, sym, ap, _∙_}
 use mathlib.Core.Bool.{Bool, true, false, _&&_}
@@ -43,7 +42,7 @@ agreed-more lines line text at p a b =
       whole = b .whole ∙ sym (rw (after, long) same);
     }
 
--- where lines differ, what stands after them is not looked at
+-- where lines differ, what stands after them is not read
 pub agreed-stop : (lines rest text : List ℕ) (p : Part) → Agreed lines text p → p .whole ≡ false → Agreed (lines ++ rest) text p
 agreed-stop lines rest text p a w =
     let e : common lines text ≡ length lines → ⊥ = eqb-false _ _ (sym (a .whole) ∙ w) in
@@ -57,13 +56,13 @@ agreed-stop lines rest text p a w =
 
 -- ---- the call
 
-module _ (d : Decoded) (y : Layout) (h : FileLayout d y) (text : List ℕ) where
-  -- the refusal that is found
-  own : y .refusal ≡ decodedRefusal d
-  own = ap (λ (y : Layout). y .refusal) (h .laid)
+module _ (d : Decoded) (layout : Layout) (h : FileLayout d layout) (text : List ℕ) where
+  -- the layout has the file's refusal
+  own : layout .refusal ≡ decodedRefusal d
+  own = ap (λ (layout : Layout). layout .refusal) (h .laid)
 
-  -- with one the text is not looked at
-  pub agreed-refused : (y .refusal ≡ 0 → ⊥) → record { refusal = y .refusal; octets = 0; same = false } ≡ sampleAgreement d text
+  -- with one the text is not read
+  pub agreed-refused : (layout .refusal ≡ 0 → ⊥) → record { refusal = layout .refusal; octets = 0; same = false } ≡ sampleAgreement d text
   unfolding sampleAgreement
   agreed-refused n = rw own (go (decodedRefusal d) (λ e. n (own ∙ e)))
     where
@@ -74,7 +73,7 @@ module _ (d : Decoded) (y : Layout) (h : FileLayout d y) (text : List ℕ) where
       go (suc r) n = refl
 
   -- without one it is compared
-  pub agreed-accepted : y .refusal ≡ 0 → (p : Part) → Agreed (sampleText d) text p → (same : Bool)
+  pub agreed-accepted : layout .refusal ≡ 0 → (p : Part) → Agreed (sampleText d) text p → (same : Bool)
       → same ≡ (p .whole && eqb (p .octets) (length text))
       → record { refusal = 0; octets = p .octets; same = same } ≡ sampleAgreement d text
   unfolding sampleAgreement

@@ -1,13 +1,14 @@
--- The answer for record i + 1, by the class that the tables give it (`told`). A packet with a record has arrived, so that it is a
--- duplicate; one without has not: from NextExp on it is in order, and below it is reordered, has a discontinuity, and `skipped` has its
--- position. By the same tests one that is reordered by the tables has not arrived (`new-told`), and one that has not and is below NextExp
--- is reordered by them (`late-told`). Then the figures of a record whose answer is a reordered packet's: no other packet has such an
--- answer, and its extent gives the position of its discontinuity (`late-classed`), which is one of the positions (`late-place`). The
--- table of numbers has the packet there, and the table of records that packet's record, at which that first arrival stands
--- (`first-stands`), so that the time there is the discontinuity's (`late-time`). With it, the byte offset and the largest n the answer is
--- whole (`late-answer`); over those before the discontinuity the offset is 0 (`late-alone`). Here d is the decoded file, y its layout, f
--- that the tables are those of the i records before, n the arrival's number, k its class, at the position of its discontinuity, count the
--- first arrivals, and p a place among them. Assumes nothing.
+-- The answer for record i + 1, by the class that the tables give it (`told`). A packet with a record has arrived, so it is a duplicate;
+-- one without has not: from NextExp on it is in order, and below NextExp it is reordered, has a discontinuity, and `skipped` has its
+-- position. By the same tests, a packet that is reordered by the tables has not arrived (`new-told`), and one that has not arrived and is
+-- below NextExp is reordered by them (`late-told`).
+-- Then the figures of a record whose answer is reordered. Its extent gives the position of its discontinuity (`late-classed`), which is
+-- one of the positions (`late-place`). The table of numbers has the packet of that position, and the table of records that packet's
+-- record, which is that first arrival (`first-stands`); so the time there is the discontinuity's (`late-time`). With the late time, the
+-- byte offset and the largest n the answer is complete (`late-answer`); over the first arrivals before the discontinuity the offset is 0
+-- (`late-alone`).
+-- Here d is the decoded file, f that the tables are those of the i records before, n the arrival's number, k its class, at the position
+-- of its discontinuity, count the number of first arrivals, and p an index among them. Assumes nothing.
 use mathlib.Core.Path.{_≡_, refl, sym, ap, _∙_}
 use mathlib.Core.Bool.{Bool, true, false, cond, true≢false}
 use mathlib.Core.List.{List}
@@ -65,7 +66,7 @@ untold-answer size fs a count at p c e q = rw (c, e, q)
 module _ (d : Decoded) (i : ℕ) (numbers records skipped : List ℕ) (state : State)
     (f : EngineTables (before d i) numbers records skipped state) (n : ℕ) (is : n ≡ arrivalAt d i .number) (low : 1 ≤ n)
     (high : n ≤ sentMost) where
-  -- what no class tells of it, if it is reordered
+  -- the figures of a reordered packet that its class does not have
   abbrev figures : ReorderedFigures
   figures = untold (sizeOf d) (firsts (before d i)) (arrivalAt d i)
 
@@ -156,7 +157,7 @@ record LateRecord (d : Decoded) (i at : ℕ) : Type 0 where
   is : discontinuity (firsts (before d i)) (arrivalAt d i .number) ≡ some place
   answer : answerAt d i ≡ reorderedAnswer (sizeOf d) (firsts (before d i)) (arrivalAt d i) (some place)
 
--- where its discontinuity stands
+-- the position of its discontinuity
 late-found : (d : Decoded) (i at : ℕ) (h : LateRecord d i at)
     → (1 ≤ at) × (at ≤ length (firsts (before d i))) × (getD (firsts (before d i)) (at - 1) noArrival .time ≡ h .place .time)
     × (byteOffset (sizeOf d) (take (at - 1) (firsts (before d i))) (arrivalAt d i .number) ≡ 0)
@@ -169,10 +170,10 @@ same-figures : {f g : ReorderedFigures} → Answer.Reordered f ≡ Answer.Reorde
 same-figures e = cc
 
 -- a record whose answer is that of a reordered packet is such
-late-classed : (d : Decoded) (y : Layout) (i : ℕ) → HasRecord d y i → (count at : ℕ) → count ≡ length (firsts (before d i))
+late-classed : (d : Decoded) (layout : Layout) (i : ℕ) → HasRecord d layout i → (count at : ℕ) → count ≡ length (firsts (before d i))
     → ClassOf count (Class.Reordered at) (answerAt d i) → LateRecord d i at
 unfolding isInOrder inOrderAnswer reorderedAnswer extentFrom
-late-classed d y i h count at all c =
+late-classed d layout i h count at all c =
     go (has (arrivalAt d i .number) (before d i)) refl (leb (nextExp (firsts (before d i))) (arrivalAt d i .number)) refl
   where
     go : (t : Bool) → has (arrivalAt d i .number) (before d i) ≡ t → (u : Bool)
@@ -193,8 +194,8 @@ late-classed d y i h count at all c =
         let extent = ap (λ (f : ReorderedFigures). f .extent) (same-figures (sym answer ∙ c .is)) in
         record { place = k .at; position = omega (arith, extent, all, f .low, f .high); is = k .is; answer = answer }
 
--- a first arrival among the first i arrivals stands at one of their records
-module _ (d : Decoded) (y : Layout) (i : ℕ) (h : FileLayout d y) (most : i ≤ y .arrivals) (p : ℕ)
+-- a first arrival among the first i arrivals is one of their records
+module _ (d : Decoded) (layout : Layout) (i : ℕ) (h : FileLayout d layout) (most : i ≤ layout .arrivals) (p : ℕ)
     (inside : p < length (firsts (before d i))) where
   -- its packet has arrived
   arrived : has (getD (firsts (before d i)) p noArrival .number) (before d i) ≡ true
@@ -203,9 +204,9 @@ module _ (d : Decoded) (y : Layout) (i : ℕ) (h : FileLayout d y) (most : i ≤
   -- its record is one of the first i
   first-record : (1 ≤ firstRecord (getD (firsts (before d i)) p noArrival .number) (before d i))
       × (firstRecord (getD (firsts (before d i)) p noArrival .number) (before d i) ≤ i)
-  first-record = omega (arith, record-some _ (before d i) arrived, before-count d y i h most)
+  first-record = omega (arith, record-some _ (before d i) arrived, before-count d layout i h most)
 
-  -- and it stands there
+  -- and the arrival of that record
   first-stands : arrivalAt d (firstRecord (getD (firsts (before d i)) p noArrival .number) (before d i) - 1)
       ≡ getD (firsts (before d i)) p noArrival
   first-stands =
@@ -213,48 +214,49 @@ module _ (d : Decoded) (y : Layout) (i : ℕ) (h : FileLayout d y) (most : i ≤
       sym (getD-take i (sampleArrivals d) r noArrival (omega (arith, first-record))) ∙ first-at noArrival (before d i) p inside
 
   -- its number is that of a packet
-  first-number : (1 ≤ getD (firsts (before d i)) p noArrival .number) × (getD (firsts (before d i)) p noArrival .number ≤ y .sent)
+  first-number : (1 ≤ getD (firsts (before d i)) p noArrival .number) × (getD (firsts (before d i)) p noArrival .number ≤ layout .sent)
   first-number =
       let r = firstRecord (getD (firsts (before d i)) p noArrival .number) (before d i) - 1 in
       let n = h .numbers r (omega (arith, first-record)) in
       omega (arith, n, ap (λ (a : Arrival). a .number) first-stands)
 
 -- there are few first arrivals, and their numbers are those of packets
-pub packets : (d : Decoded) (y : Layout) (i : ℕ) → FileLayout d y → (numbers : List ℕ) (count : ℕ)
-    → NumberTable (firsts (before d i)) numbers count → i ≤ y .arrivals → (count ≤ sentMost) × Packets numbers count (y .sent)
-packets d y i h numbers count n most = (
-  omega (arith, n .all, length-firsts (before d i), before-count d y i h most, h .few),
+pub packets : (d : Decoded) (layout : Layout) (i : ℕ) → FileLayout d layout → (numbers : List ℕ) (count : ℕ)
+    → NumberTable (firsts (before d i)) numbers count → i ≤ layout .arrivals → (count ≤ sentMost) × Packets numbers count (layout .sent)
+packets d layout i h numbers count n most = (
+  omega (arith, n .all, length-firsts (before d i), before-count d layout i h most, h .few),
   record {
     inside = λ p g. let low : p < length (firsts (before d i)) = omega (arith, n .all) in
-        omega (arith, n .at p low, first-number d y i h most p low);
+        omega (arith, n .at p low, first-number d layout i h most p low);
   },
 )
 
-module _ (d : Decoded) (y : Layout) (i at count : ℕ) (h : HasRecord d y i) (class : ClassOf count (Class.Reordered at) (answerAt d i))
+module _ (d : Decoded) (layout : Layout) (i at count : ℕ) (h : HasRecord d layout i)
+    (class : ClassOf count (Class.Reordered at) (answerAt d i))
     (numbers records : List ℕ)
     (nums : NumberTable (firsts (before d i)) numbers count) (recs : RecordTable (before d i) records) where
   -- record i + 1 is reordered
   late : LateRecord d i at
-  late = late-classed d y i h count at (nums .all) class
+  late = late-classed d layout i h count at (nums .all) class
 
   -- record i + 1 is one of the records
-  most : i ≤ y .arrivals
+  most : i ≤ layout .arrivals
   most = omega (arith, h .inside)
 
   -- a discontinuity is at one of the positions
   pub late-place : (1 ≤ at) × (at ≤ count) × (count ≤ i)
   late-place =
       let f = late-found d i at late in
-      omega (arith, f .0, f .1, nums .all, length-firsts (before d i), before-length d y i h)
+      omega (arith, f .0, f .1, nums .all, length-firsts (before d i), before-length d layout i h)
 
-  -- its place in the list of first arrivals
+  -- its index in the list of first arrivals
   inside : at - 1 < length (firsts (before d i))
   inside = omega (arith, late-place, nums .all)
 
   -- its packet is one of the packets
   pub late-packet : (1 ≤ getD numbers (at - 1) 0) × (getD numbers (at - 1) 0 ≤ sentMost)
   late-packet =
-      omega (arith, packets d y i (h .file) numbers count nums most .1 .inside (at - 1) (omega (arith, late-place)), h .file .sentFew)
+      omega (arith, packets d layout i (h .file) numbers count nums most .1 .inside (at - 1) (omega (arith, late-place)), h .file .sentFew)
 
   -- the table of records has its record
   same-packet : getD records (getD numbers (at - 1) 0) 0 ≡ firstRecord (getD (firsts (before d i)) (at - 1) noArrival .number) (before d i)
@@ -264,13 +266,13 @@ module _ (d : Decoded) (y : Layout) (i at count : ℕ) (h : HasRecord d y i) (cl
 
   -- and its record is one before record i + 1
   pub late-record : (1 ≤ getD records (getD numbers (at - 1) 0) 0) × (getD records (getD numbers (at - 1) 0) 0 ≤ i)
-  late-record = omega (arith, same-packet, first-record d y i (h .file) most (at - 1) inside)
+  late-record = omega (arith, same-packet, first-record d layout i (h .file) most (at - 1) inside)
 
   -- which has the discontinuity's time
   late-time : arrivalAt d (getD records (getD numbers (at - 1) 0) 0 - 1) .time ≡ late .place .time
   late-time =
       ap (λ (r : ℕ). arrivalAt d (r - 1) .time) same-packet
-      ∙ ap (λ (a : Arrival). a .time) (first-stands d y i (h .file) most (at - 1) inside)
+      ∙ ap (λ (a : Arrival). a .time) (first-stands d layout i (h .file) most (at - 1) inside)
       ∙ late-found d i at late .2
 
   -- the answer, from its parts

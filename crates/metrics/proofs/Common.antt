@@ -1,9 +1,9 @@
--- How many octets two texts have in common. Octet by octet: where i octets agree, the number is i and what is left of both has in common;
--- an equal octet moves i on (`common-step`), and where octets differ or a text ends it is i. Two texts are the same if what they have in
--- common is all of both (`same-common`, by induction over both). A line, and what stands after it: if less than the line agrees the rest is
--- not looked at (`common-part`), and if all of it does the rest is compared with the rest of the text (`common-after`), both by induction
--- over the line. Last, a line put at the start of a buffer is what is read there (`line-read`). Here e is the text that must be given, t
--- the other. Assumes nothing.
+-- How many octets two texts have in common, octet by octet. If the first i octets agree, the number is i plus that of the rests; an equal
+-- octet moves i on (`common-step`), and where octets differ or a text ends the number is i. Two texts are the same if they have all of
+-- both in common (`same-common`, by induction over both). Of a line and what follows it: if less than the line agrees, what follows is
+-- not read (`common-part`); if all of it does, what follows is compared with the rest of the text (`common-after`), both by induction
+-- over the line. Last, a line written at the start of a buffer is what is read there (`line-read`).
+-- Here e is the expected text, t the other. Assumes nothing.
 use Prim.Native.Nat.{ℕ, suc, _+_, _-_, _≤_, _<_}
 use mathlib.Core.Path.{_≡_, refl}
 use mathlib.Core.Bool.{Bool, true, false, cond, _&&_}
@@ -26,7 +26,7 @@ common-nil [] = refl
 common-nil (x ∷ e) = refl
 
 module _ (e t : List ℕ) (i : ℕ) where
-  -- one octet more that agrees
+  -- the next octet that agrees
   pub common-step : i < length e → i < length t → getD e i 0 ≡ getD t i 0
       → i + common (drop i e) (drop i t) ≡ i + 1 + common (drop (i + 1) e) (drop (i + 1) t)
   unfolding common
@@ -88,7 +88,7 @@ same-common (x ∷ e) (y ∷ t) = go (eqb x y) (same-common e t)
 
 -- ---- a line, and what stands after it
 
--- where not all of it agrees, what stands after it is not looked at
+-- where not all of it agrees, what stands after it is not read
 pub common-part : (line rest t : List ℕ) → common line t < length line → common (line ++ rest) t ≡ common line t
 unfolding common
 common-part [] rest t h = absurd (omega arith)

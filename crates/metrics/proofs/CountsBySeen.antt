@@ -1,9 +1,10 @@
--- The counts need no more of the arrivals than which packets have arrived, and NextExp. A packet that has arrived is below NextExp
--- (`has-below`, by induction over the first arrivals), so that NextExp goes by every arrival alike (`next-arrival`); and a packet has
--- arrived if it had, or if it is the one marked (`seen-more`). By these an arrival's kind is that of its answer. Counts go by the kind
--- alone, so that an answer of this kind with any figures counts as the record's own (`kind-told`), and counts that take a step by the
--- class are right with the kind (`counts-seen`). Here l are the arrivals or the answers so far, a the next one, fs first arrivals, s the
--- number of any packet, n that of record i + 1, f that the table has the packets before it, and g any figures. Assumes nothing.
+-- The counts depend on two things: which packets have arrived, and NextExp. A packet that has arrived is below NextExp (`has-below`, by
+-- induction over the first arrivals), so NextExp goes by every arrival alike (`next-arrival`); and after an arrival a packet has arrived
+-- if it had before, or if it is the one marked (`seen-more`). So an arrival's kind is that of its answer. Counts go by the kind alone, so
+-- an answer of this kind with any figures counts as the record's own (`kind-told`), and counts that take a step by the class are right
+-- with the kind (`counts-seen`).
+-- Here l are the arrivals or the answers so far, a the next one, fs first arrivals, s the number of any packet, n that of record i + 1, f
+-- that the table has the packets before it, and g any figures. Assumes nothing.
 use mathlib.Core.Path.{_≡_, refl, sym, ap, _∙_}
 use mathlib.Core.Bool.{Bool, true, false, cond, _||_, or-true, or-false, true≢false}
 use mathlib.Core.List.{List, [], _∷_, _++_}
@@ -54,7 +55,7 @@ seen-start d =
       expected = refl;
     }
 
--- ---- one arrival more
+-- ---- the next arrival
 
 -- a packet among some first arrivals is below their NextExp
 pub has-below : (s : ℕ) (fs : List Arrival) → has s fs ≡ true → s < nextExp fs
@@ -101,7 +102,7 @@ marked-one seen n s room = go (eqb n s) refl
     go true e = rw (← eqb-true n s e) (getD-set-same seen n true false room ∙ sym (or-true (getD seen n false)))
     go false e = getD-set-other seen n s true false (λ q. eqb-false n s e (sym q)) ∙ sym (or-false (getD seen s false))
 
--- the table under one arrival more
+-- the table after the next arrival
 seen-more : (l : List Arrival) (a : Arrival) (seen : List Bool) (next : ℕ) → a .number ≤ sentMost → SeenPackets l seen next
     → SeenPackets (l ++ (a ∷ [])) (set seen (a .number) true) (nextAfter next (a .number))
 seen-more l a seen next high f =
@@ -111,11 +112,12 @@ seen-more l a seen next high f =
       expected = rw (f .expected) (sym (next-arrival l a));
     }
 
-module _ (d : Decoded) (y : Layout) (i : ℕ) (there : HasRecord d y i) (seen : List Bool) (next : ℕ) (f : SeenPackets (before d i) seen next)
+module _ (d : Decoded) (layout : Layout) (i : ℕ) (there : HasRecord d layout i) (seen : List Bool) (next : ℕ)
+    (f : SeenPackets (before d i) seen next)
     (n : ℕ) (is : n ≡ arrivalAt d i .number) (high : n ≤ sentMost) where
-  -- the table under record i + 1
+  -- the table after record i + 1
   pub seen-next : SeenPackets (before d (i + 1)) (set seen n true) (nextAfter next n)
-  seen-next = rw (before-more d y i there, is) (seen-more (before d i) (arrivalAt d i) seen next (rw is at high) f)
+  seen-next = rw (before-more d layout i there, is) (seen-more (before d i) (arrivalAt d i) seen next (rw is at high) f)
 
   -- the class by the table counts as the answer
   kind-told : (l : List Answer) (g : ReorderedFigures) → counts (l ++ (answerBy 0 (kindBy seen next n) g ∷ []))
@@ -135,10 +137,10 @@ module _ (d : Decoded) (y : Layout) (i : ℕ) (there : HasRecord d y i) (seen : 
       go false true = counts-more l _ ∙ sym (counts-more l _)
       go false false = counts-more l _ ∙ sym (counts-more l _)
 
-  -- the counts under record i + 1
+  -- the counts after record i + 1
   pub counts-seen : {k : Class} {r : Counts} → k ≡ kindBy seen next n
       → ((m : ℕ) (a : Answer) → ClassOf m k a → r ≡ counts (answersTo d i ++ (a ∷ [])))
       → r ≡ counts (answersTo d (i + 1))
   counts-seen e h =
       let g : ReorderedFigures = record { position = 0; extent = 0; late = LateTime.After 0; offset = 0; largest = 0 } in
-      h 0 _ (record { figures = g; is = rw e }) ∙ kind-told (answersTo d i) g ∙ sym (ap counts (answers-next d y i there))
+      h 0 _ (record { figures = g; is = rw e }) ∙ kind-told (answersTo d i) g ∙ sym (ap counts (answers-next d layout i there))

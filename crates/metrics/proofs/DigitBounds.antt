@@ -5,7 +5,7 @@
 -- one of these or, refused, that of no packet (`answer-bounded`). Of counts (`counts-within`): each is at most the number of answers, and
 -- the squares of runs are together at most the square of 4,096.
 -- Here earlier are the arrivals before a, t is an arrival's time, fs are first arrivals, s is a packet's number, file the octets, w the
--- sample that they decode to, y its layout and i the records before. Assumes nothing.
+-- sample that they decode to i the number of records before. Assumes nothing.
 use mathlib.Core.Path.{_≡_, refl}
 use mathlib.Core.Bool.{Bool, true, false, cond}
 use mathlib.Core.List.{List}
@@ -110,10 +110,11 @@ time-most file o i = go (decode file) refl
     go (accepted w) e = time-fits file w e o i
 
 -- no arrival of a file is over 1,000 later than one after it
-back-most : (file : List ℕ) (y : Layout) → Octets file → (i : ℕ) → HasRecord (decode file) y i
+back-most : (file : List ℕ) (layout : Layout) → Octets file → (i : ℕ) → HasRecord (decode file) layout i
     → All (λ (b : Arrival). b .time ≤ arrivalAt (decode file) i .time + backMost) (before (decode file) i)
-back-most file y o i h =
-    all-take _ noArrival (sampleArrivals (decode file)) i (λ j k. go (decode file) refl j (omega arith) (inside-laid (decode file) y i h))
+back-most file layout o i h =
+    all-take _ noArrival (sampleArrivals (decode file)) i (λ j k. go (decode file) refl j (omega arith)
+    (inside-laid (decode file) layout i h))
   where
     go : (d : Decoded) → decode file ≡ d → (j : ℕ) → j ≤ i → i < length (sampleArrivals d)
         → arrivalAt d j .time ≤ arrivalAt d i .time + backMost
@@ -121,21 +122,21 @@ back-most file y o i h =
     go (accepted w) e j p q = times-within file w e o noArrival j i p q
 
 -- the answer for any record of a file of octets
-pub answers-within : (file : List ℕ) (y : Layout) (i : ℕ) → Octets file → HasRecord (decode file) y i
+pub answers-within : (file : List ℕ) (layout : Layout) (i : ℕ) → Octets file → HasRecord (decode file) layout i
     → AnswerWithin (answerAt (decode file) i)
-answers-within file y i o h =
+answers-within file layout i o h =
     answer-within (sizeOf (decode file)) (size-most file o) (before (decode file) i)
-    (omega (arith, before-length (decode file) y i h, h .inside, h .file .few))
+    (omega (arith, before-length (decode file) layout i h, h .inside, h .file .few))
     (arrivalAt (decode file) i)
     (omega (arith, h .file .numbers i (h .inside), h .file .sentFew))
     (time-most file o i)
-    (back-most file y o i h)
+    (back-most file layout o i h)
 
 -- the figures of a reordered packet that `answer` gives of a file of octets are bounded
-pub answer-bounded : (file : List ℕ) (y : Layout) → FileLayout (decode file) y → Octets file → (asked : ℕ)
+pub answer-bounded : (file : List ℕ) (layout : Layout) → FileLayout (decode file) layout → Octets file → (asked : ℕ)
     → FiguresBounded (recordAnswer (decode file) asked .answer)
 unfolding recordAnswer
-answer-bounded file y h o asked = go (eqb (recordRefusal (decode file) asked) 0) refl
+answer-bounded file layout h o asked = go (eqb (recordRefusal (decode file) asked) 0) refl
   where
     d : Decoded
     d = decode file
@@ -146,10 +147,10 @@ answer-bounded file y h o asked = go (eqb (recordRefusal (decode file) asked) 0)
     go true e =
         let z : recordRefusal d asked ≡ 0 = eqb-true _ 0 e in
         let r = record-inside d asked z in
-        let k : HasRecord d y (asked - 1) = record { file = h; inside = omega (arith, r, arrivals-laid d y h) } in
+        let k : HasRecord d layout (asked - 1) = record { file = h; inside = omega (arith, r, arrivals-laid d layout h) } in
         rw (answer-known d asked z (Answer.InOrder (record { position = 0; jump = 0 })))
         (figures-bounded (sizeOf d) (size-most file o) (before d (asked - 1)) (arrivalAt d (asked - 1))
-        (omega (arith, before-length d y (asked - 1) k, k .inside, h .few)) (h .numbers (asked - 1) (k .inside) .0))
+        (omega (arith, before-length d layout (asked - 1) k, k .inside, h .few)) (h .numbers (asked - 1) (k .inside) .0))
 
 -- the counts of at most 4,096 answers
 pub counts-within : (l : List Answer) → length l ≤ arrivalsMost → CountsWithin (counts l)

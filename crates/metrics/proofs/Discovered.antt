@@ -1,9 +1,10 @@
--- The gap of a position from a table of discoverers, looked through downward. First the last discontinuity up to a position in the table,
--- `lastTo`, one position at a time. A position is marked in the table exactly if it is a discontinuity (`marked-some`), so the neighbour
--- of a position is the last marked one before it (`neighbour-known`, by induction over the positions), and the gap is that over it
--- (`gap-known`). Hence the three answers: none where p is not marked (`gap-other`), none where nothing is marked before it (`gap-first`),
--- and else by the two entries, of which the smaller is the earlier discoverer (`gap-near`). Here l are the answers, discoverers the
--- table, m that it has their discoverers, p the position, q one before it and b the neighbour. Assumes nothing.
+-- The gap of a position from a table of discoverers, read downward. First `lastTo`, the last discontinuity up to a position in the table,
+-- one position at a time. A position is marked in the table exactly if it is a discontinuity (`marked-some`), so the neighbour of a
+-- position is the last marked one before it (`neighbour-known`, by induction over the positions), and the gap is that over it
+-- (`gap-known`). Hence the three cases: no gap if p is not marked (`gap-other`), none if nothing is marked before it (`gap-first`), and
+-- else by the two entries, of which the smaller is the earlier discoverer (`gap-near`).
+-- Here l are the answers, discoverers the table, m that it has their discoverers, p the position, q one before it and b the neighbour.
+-- Assumes nothing.
 use mathlib.Core.Path.{_≡_, refl, sym, ap, _∙_}
 use mathlib.Core.Bool.{Bool, true, false, cond, not}
 use mathlib.Core.List.{List}
@@ -23,13 +24,13 @@ use Rattle.metrics.proofs.OneArrivalMore.{known-some}
 -- ---- the last discontinuity of a table up to a position
 
 module _ (discoverers : List ℕ) where
-  -- by what stands at a position
+  -- by the entry at a position
   last-suc : (q : ℕ) (t : Bool) → eqb (getD discoverers (suc q) 0) 0 ≡ t
       → lastTo discoverers (suc q) ≡ cond t (lastTo discoverers q) (suc q)
   unfolding lastTo
   last-suc q t e = rw e
 
-  -- it is the position itself, if there is one there
+  -- it is the position itself, if that is a discontinuity
   pub last-here : (q : ℕ) → 0 < q → (getD discoverers q 0 ≡ 0 → ⊥) → lastTo discoverers q ≡ q
   last-here zero low h = absurd (omega arith)
   last-here (suc q) low h = last-suc q false (ne-eqb _ 0 h)

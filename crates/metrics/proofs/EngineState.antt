@@ -1,9 +1,9 @@
--- What the engine knows: the tables, the links and the tree. Before any record all are zeros (`engine-start`). Since the numbers of the
--- first arrivals are those of packets, the links can be gone along (`links-laid`) and the tree can be filled (`engine-filling`). Under
--- record i + 1 the tables and links are those that noting leaves, given that the record is linked by its largest n where it is reordered
--- (`linked-next`); and a tree of some first arrivals is one of these and more (`size-tree-grown`). So all is known under it
--- (`engine-next`). Here d is the decoded file, y its layout, i the records before, f that the tables follow them, k the class of record i
--- + 1, late what is known where it is reordered, n that it is noted, t the totals, and a prime marks what is after it. Assumes nothing.
+-- The state of the engine: the tables, the links and the tree. Before any record all are zeros (`engine-start`). The numbers of the first
+-- arrivals are those of packets, so the links can be followed (`links-laid`) and the tree can be filled (`engine-filling`). After record
+-- i + 1 the tables and links are those that noting leaves, if a reordered record is linked by its largest n (`linked-next`); and a tree
+-- of some first arrivals stays one when others follow (`size-tree-grown`). So the state after record i + 1 is known (`engine-next`).
+-- Here d is the decoded file, i the number of records before, f that the tables follow them, k the class of record i + 1, late its
+-- figures if it is reordered, n that it is noted, t the totals, and a prime marks the values after it. Assumes nothing.
 use mathlib.Core.Path.{_≡_, refl}
 use mathlib.Core.Bool.{Bool, true, false}
 use mathlib.Core.List.{List, [], _∷_, _++_}
@@ -51,12 +51,12 @@ size-tree-grown size fs more tree t k =
       whole = rw same (k .whole);
     }
 
-module _ (d : Decoded) (y : Layout) (i : ℕ) (h : HasRecord d y i) where
-  -- so it does under record i + 1
+module _ (d : Decoded) (layout : Layout) (i : ℕ) (h : HasRecord d layout i) where
+  -- so does the tree after record i + 1
   pub size-tree-next : (tree : List ℕ) (t : Totals) → SizeTree (sizeOf d) (firsts (before d i)) tree t
       → SizeTree (sizeOf d) (firsts (before d (i + 1))) tree t
   size-tree-next tree t k =
-      rw (before-more d y i h, firsts-more (before d i) (arrivalAt d i)) (go (has (arrivalAt d i .number) (firsts (before d i))) refl)
+      rw (before-more d layout i h, firsts-more (before d i) (arrivalAt d i)) (go (has (arrivalAt d i .number) (firsts (before d i))) refl)
     where
       go : (b : Bool) → has (arrivalAt d i .number) (firsts (before d i)) ≡ b
           → SizeTree (sizeOf d) (withArrival (firsts (before d i)) (arrivalAt d i)) tree t
@@ -65,12 +65,12 @@ module _ (d : Decoded) (y : Layout) (i : ℕ) (h : HasRecord d y i) where
           rw (with-first (firsts (before d i)) (arrivalAt d i) e)
           (size-tree-grown (sizeOf d) (firsts (before d i)) (arrivalAt d i ∷ []) tree t k)
 
-  -- links can be gone along
+  -- the links can be followed
   pub links-laid : (more : ℕ) (numbers links : List ℕ) (count : ℕ) → NumberTable (firsts (before d i)) numbers count
       → LinkTable more (firsts (before d i)) links
       → (count ≤ sentMost) × Links more numbers links count
   links-laid more numbers links count n l =
-      let k = packets d y i (h .file) numbers count n (omega (arith, h .inside)) in
+      let k = packets d layout i (h .file) numbers count n (omega (arith, h .inside)) in
       (k .0, linked-links more (firsts (before d i)) numbers links count n (λ p g. omega (arith, k .1 .inside p g, h .file .sentFew)) l)
 
   module _ (numbers records skipped : List ℕ) (state : State) (f : EngineTables (before d i) numbers records skipped state) where
@@ -79,27 +79,27 @@ module _ (d : Decoded) (y : Layout) (i : ℕ) (h : HasRecord d y i) where
         (late : IfLate (λ (at : ℕ). (largest ≡ largestN (firsts (before d i)) number) × R) k)
         (numbers′ records′ skipped′ : List ℕ) (state′ : State)
         (n : NotedRecord i number largest numbers records skipped state numbers′ records′ skipped′ state′) where
-      -- the links under record i + 1, which is linked by its largest n
+      -- the links after record i + 1, which is linked by its largest n
       pub linked-next : LinkTable 1 (firsts (before d i)) skipped → LinkTable 1 (firsts (before d (i + 1))) skipped′
       linked-next l =
-          noted-linked d y i h numbers records skipped state f number is largest numbers′ records′ skipped′ state′ n
+          noted-linked d layout i h numbers records skipped state f number is largest numbers′ records′ skipped′ state′ n
           (λ new behind. late-told d i numbers records skipped state f number is low high k e late new behind .0) l
 
-      -- all that is known under it
+      -- the state after record i + 1
       pub engine-next : (tree′ : List ℕ) (totals′ : Totals) → LinkTable 1 (firsts (before d i)) skipped
           → SizeTree (sizeOf d) (firsts (before d i)) tree′ totals′
           → EngineState d (i + 1) numbers′ records′ skipped′ tree′ (record { noted = state′; totals = totals′ })
       engine-next tree′ totals′ l t =
           record {
-            follows = noted-follows d y i h numbers records skipped state f number is largest numbers′ records′ skipped′ state′ n;
+            follows = noted-follows d layout i h numbers records skipped state f number is largest numbers′ records′ skipped′ state′ n;
             linked = linked-next l;
             totalled = size-tree-next tree′ totals′ t;
           }
 
   -- the tree can be filled
   pub engine-filling : (numbers records skipped tree : List ℕ) (engine : Engine) → EngineState d i numbers records skipped tree engine
-      → FillInput d y numbers tree (engine .noted .count) (engine .totals)
+      → FillInput d layout numbers tree (engine .noted .count) (engine .totals)
   engine-filling numbers records skipped tree engine r =
       let n = r .follows .numbered in
-      let k = packets d y i (h .file) numbers (engine .noted .count) n (omega (arith, h .inside)) in
+      let k = packets d layout i (h .file) numbers (engine .noted .count) n (omega (arith, h .inside)) in
       record { file = h .file; few = k .0; packets = k .1; fs = firsts (before d i); numbered = n; totalled = r .totalled }

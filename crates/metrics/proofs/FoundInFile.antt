@@ -1,8 +1,8 @@
--- What is read in a file by its layout, as sample's contracts promise it. The layout that the check answers has K and A in their limits and
--- numbers from 1 to K (`laid`, by what the file decodes to: of an accepted one its limits say it, and a refused one has a layout of no
--- packets and no arrivals). So a number that is read lies in its limits (`arrival-known`).
--- Here d is what the file decodes to, y the layout, h that it is the file's, i the place of a record from 0, a what is read there, and s a
--- packet's number. Assumes nothing.
+-- Reading a file by its layout, as sample's contracts promise it. The layout that the check returns has K and A within their limits and
+-- numbers from 1 to K (`laid`): an accepted file by its limits, and a refused one since its layout has no packets and no arrivals. So
+-- every number that is read is within its limits (`arrival-known`).
+-- Here d is the decoded file, h that the layout is the file's, i the index of a record from 0, a the arrival read there, and s a packet's
+-- number. Assumes nothing.
 use mathlib.Core.Path.{_≡_, refl, ap, _∙_}
 use mathlib.Core.List.{List}
 use Prim.Native.Nat.{ℕ, _+_, _*_, _-_, _≤_, _<_}
@@ -22,7 +22,7 @@ use Rattle.metrics.specs.Sample.{sizeOf}
 use Rattle.metrics.specs.Records.{arrivalAt, FileLayout}
 
 module _ (file : List ℕ) where
-  -- the check's answer lays the file out
+  -- the check's answer is the file's layout
   pub laid : Octets file → FileLayout (decode file) (layoutOf (decode file))
   laid o = go (decode file) refl
     where
@@ -32,9 +32,9 @@ module _ (file : List ℕ) where
           let m = accepted-limits file s e o in
           record { laid = refl; sentFew = omega arith; few = omega arith; numbers = number-within file s e o noArrival }
 
-  module _ (y : Layout) (h : FileLayout (decode file) y) where
+  module _ (layout : Layout) (h : FileLayout (decode file) layout) where
     -- the arrival of record i + 1, and within which limits its number lies
-    pub arrival-known : (i : ℕ) {a : Arrival} → i < y .arrivals → ArrivalOfSample file y i a
+    pub arrival-known : (i : ℕ) {a : Arrival} → i < layout .arrivals → ArrivalOfSample file layout i a
         → (a ≡ arrivalAt (decode file) i) × (1 ≤ a .number) × (a .number ≤ sentMost)
     arrival-known i g e =
         let q = e (h .laid) g in
@@ -42,17 +42,17 @@ module _ (file : List ℕ) where
         let n = h .numbers i g in
         (q, omega (arith, m, n), omega (arith, m, n, h .sentFew))
 
-    -- its octets are there
-    pub arrival-inside : (i : ℕ) {from : ℕ} → i < y .arrivals → ArrivalsFrom file y from → from + 12 * i + 12 ≤ length file
+    -- its twelve octets are in the file
+    pub arrival-inside : (i : ℕ) {from : ℕ} → i < layout .arrivals → ArrivalsFrom file layout from → from + 12 * i + 12 ≤ length file
     arrival-inside i g p = p .inside i (h .laid) g
 
-    -- what is read of its twelve octets
-    pub arrival-read : (i : ℕ) {from : ℕ} {a : Arrival} → i < y .arrivals → ArrivalsFrom file y from
+    -- reading its twelve octets gives the arrival
+    pub arrival-read : (i : ℕ) {from : ℕ} {a : Arrival} → i < layout .arrivals → ArrivalsFrom file layout from
         → a ≡ arrivalIn (taken (from + 12 * i) 12 file)
         → (a ≡ arrivalAt (decode file) i) × (1 ≤ a .number) × (a .number ≤ sentMost)
     arrival-read i {from} g p e = arrival-known i g (λ l k. arrival-taken (from + 12 * i) file e ∙ p .arrival i l k)
 
     -- the payload size of packet s
-    pub size-stands : (s : ℕ) {size : ℕ} → 1 ≤ s → s ≤ y .sent → SizeOfSample file y (s - 1) size → size ≡ sizeOf (decode file) s
+    pub size-stands : (s : ℕ) {size : ℕ} → 1 ≤ s → s ≤ layout .sent → SizeOfSample file layout (s - 1) size → size ≡ sizeOf (decode file) s
     unfolding sizeIn
     size-stands s low high e = e (h .laid) (omega arith)

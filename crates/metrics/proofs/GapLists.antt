@@ -1,10 +1,11 @@
--- The gaps of all records in a lent list. The record of a packet's first arrival stays under any later arrivals (`record-kept`), so after
--- all arrivals it is i + 1 exactly if record i + 1 is a first arrival (`copy-recorded`, `new-recorded`). Then its position is the next
--- one, and else it has none (`position-new`, `position-copy`). With the next position the last discontinuity moves on or stays
--- (`last-stays`). A gap is the difference of two positions of which the second is greater (`neighbour-below`), so it is not 0, and its
--- number tells it (`gaps-tell`). Here l and m are arrivals or answers, s is a packet's number, d the decoded file, y its layout, i the
--- records before, n the first arrivals among them, p a position, q its neighbour, discoverers the table of discoverers, old and new the
--- list before and now. Assumes nothing.
+-- The gaps of all records in a lent list. The record of a packet's first arrival stays after later arrivals (`record-kept`). So after all
+-- arrivals it is i + 1 exactly if record i + 1 is a first arrival (`copy-recorded`, `new-recorded`), which then has the next position;
+-- any other has none (`position-new`, `position-copy`). With the next position the last discontinuity moves on or stays (`last-stays`). A
+-- gap is the difference of two positions of which the second is greater (`neighbour-below`), so it is not 0, and its number determines it
+-- (`gaps-tell`).
+-- Here l and m are arrivals or answers, s is a packet's number, d the decoded file, i the number of records before, n that of the first
+-- arrivals among them, p a position, q its neighbour, discoverers the table of discoverers, old and new the list before and after.
+-- Assumes nothing.
 use mathlib.Core.Path.{_≡_, refl, sym, ap, _∙_}
 use mathlib.Core.Bool.{Bool, true, false, cond}
 use mathlib.Core.List.{List, [], _∷_, _++_, append-nil, append-assoc}
@@ -42,28 +43,28 @@ use Rattle.metrics.proofs.RowLaws.{into}
 
 -- ---- first arrivals by their records
 
--- a packet that has arrived has arrived under one arrival more
+-- a packet that has arrived has still arrived after the next arrival
 has-still : (s : ℕ) (l : List Arrival) (a : Arrival) → has s l ≡ true → has s (l ++ (a ∷ [])) ≡ true
 has-still s l a e = has-more s l a ∙ simp e
 
--- its record stays under any arrivals more
+-- its record stays after any further arrivals
 record-kept : (s : ℕ) (l m : List Arrival) → has s l ≡ true → firstRecord s (l ++ m) ≡ firstRecord s l
 record-kept s l [] e = ap (firstRecord s) (append-nil l)
 record-kept s l (a ∷ m) e =
     sym (ap (firstRecord s) (append-assoc l (a ∷ []) m)) ∙ record-kept s (l ++ (a ∷ [])) m (has-still s l a e) ∙ record-stays l a s e
 
--- so does that among the first arrivals of a list
+-- so does that of the first arrivals of a list
 record-within : (s n : ℕ) (l : List Arrival) → has s (take n l) ≡ true → firstRecord s l ≡ firstRecord s (take n l)
 record-within s n l e = ap (firstRecord s) (sym (take-append-drop n l)) ∙ record-kept s (take n l) (drop n l) e
 
-module _ (d : Decoded) (y : Layout) (i : ℕ) (h : HasRecord d y i) where
+module _ (d : Decoded) (layout : Layout) (i : ℕ) (h : HasRecord d layout i) where
   -- the record of a packet that arrived before record i + 1
   copy-recorded : has (arrivalAt d i .number) (before d i) ≡ true → firstRecord (arrivalAt d i .number) (sampleArrivals d) ≤ i
   copy-recorded e =
       let s = arrivalAt d i .number in
-      omega (arith, record-within s i (sampleArrivals d) e, record-some s (before d i) e, before-length d y i h)
+      omega (arith, record-within s i (sampleArrivals d) e, record-some s (before d i) e, before-length d layout i h)
 
-  -- that of one that did not
+  -- the record of a packet that arrives with record i + 1
   new-recorded : has (arrivalAt d i .number) (before d i) ≡ false → firstRecord (arrivalAt d i .number) (sampleArrivals d) ≡ i + 1
   new-recorded e =
       let s = arrivalAt d i .number in
@@ -71,14 +72,14 @@ module _ (d : Decoded) (y : Layout) (i : ℕ) (h : HasRecord d y i) where
       let here : has s (before d i ++ (arrivalAt d i ∷ [])) ≡ true = has-more s (before d i) (arrivalAt d i) ∙ simp (e, own) in
       let last : firstRecord s (before d i ++ (arrivalAt d i ∷ [])) ≡ length (before d i) + 1 =
       record-more s (before d i) (arrivalAt d i) ∙ simp (e, own) in
-      record-within s (i + 1) (sampleArrivals d) (ap (has s) (before-more d y i h) ∙ here)
-      ∙ ap (firstRecord s) (before-more d y i h)
+      record-within s (i + 1) (sampleArrivals d) (ap (has s) (before-more d layout i h) ∙ here)
+      ∙ ap (firstRecord s) (before-more d layout i h)
       ∙ last
-      ∙ ap (λ (n : ℕ). n + 1) (before-length d y i h)
+      ∙ ap (λ (n : ℕ). n + 1) (before-length d layout i h)
 
-  -- the next position is a place of a table
+  -- the next position is an index of a table
   pub next-few : (n : ℕ) → n ≡ length (firsts (before d i)) → n + 1 ≤ sentMost
-  next-few n many = omega (arith, many, length-firsts (before d i), before-length d y i h, h .inside, h .file .few)
+  next-few n many = omega (arith, many, length-firsts (before d i), before-length d layout i h, h .inside, h .file .few)
 
   module _ (r : ℕ) (is : r ≡ firstRecord (arrivalAt d i .number) (sampleArrivals d)) (n : ℕ) (many : n ≡ length (firsts (before d i))) where
     -- a first arrival has the next position
@@ -89,10 +90,10 @@ module _ (d : Decoded) (y : Layout) (i : ℕ) (h : HasRecord d y i) where
         go true e = absurd (omega (arith, copy-recorded e, is, t))
         go false e =
             let more : firsts (before d (i + 1)) ≡ firsts (before d i) ++ (arrivalAt d i ∷ []) =
-            ap firsts (before-more d y i h) ∙ firsts-first (before d i) (arrivalAt d i) e in
+            ap firsts (before-more d layout i h) ∙ firsts-first (before d i) (arrivalAt d i) e in
             let one = length-append (firsts (before d i)) (arrivalAt d i ∷ []) in
             record {
-              is = known-some (n + 1) (λ z. omega (arith, z)) ∙ ap (λ (n : ℕ). some (n + 1)) many ∙ sym (new-place d y i h e);
+              is = known-some (n + 1) (λ z. omega (arith, z)) ∙ ap (λ (n : ℕ). some (n + 1)) many ∙ sym (new-place d layout i h e);
               few = next-few n many;
               next = λ z. refl;
               after = rw (ne-eqb (n + 1) 0 (λ z. omega (arith, z))) (omega (arith, many, ap length more, one));
@@ -109,15 +110,17 @@ module _ (d : Decoded) (y : Layout) (i : ℕ) (h : HasRecord d y i) where
               is = sym (ap positionOf (answer-duplicate (sizeOf d) (before d i) (arrivalAt d i) e));
               few = omega arith;
               next = λ z. absurd (z refl);
-              after = many ∙ sym (ap length (ap firsts (before-more d y i h) ∙ firsts-duplicate (before d i) (arrivalAt d i) e));
+              after = many ∙ sym (ap length (ap firsts (before-more d layout i h) ∙ firsts-duplicate (before d i) (arrivalAt d i) e));
             }
         go false e = absurd (t (is ∙ new-recorded e))
 
 -- the records after all arrivals
-pub recorded-all : (d : Decoded) (y : Layout) (records : List ℕ) → FileLayout d y → RecordTable (before d (y .arrivals)) records
+pub recorded-all : (d : Decoded) (layout : Layout) (records : List ℕ) → FileLayout d layout
+    → RecordTable (before d (layout .arrivals)) records
     → RecordTable (sampleArrivals d) records
-recorded-all d y records h r =
-    let all : before d (y .arrivals) ≡ sampleArrivals d = take-all (y .arrivals) (sampleArrivals d) (omega (arith, arrivals-laid d y h)) in
+recorded-all d layout records h r =
+    let all : before d (layout .arrivals) ≡ sampleArrivals d =
+    take-all (layout .arrivals) (sampleArrivals d) (omega (arith, arrivals-laid d layout h)) in
     record { at = λ s low high. r .at s low high ∙ ap (firstRecord s) all }
 
 -- ---- the last discontinuity
@@ -159,20 +162,20 @@ number-of-answer : (l : List Answer) (i : ℕ) → getD (gapNumbers l) i 0 ≡ g
 unfolding gapNumbers
 number-of-answer l i = List·getD-map gapNumber (gaps l) i Gap.None ∙ ap gapNumber (gap-of-answer l i)
 
-module _ (d : Decoded) (y : Layout) (h : FileLayout d y) where
+module _ (d : Decoded) (layout : Layout) (h : FileLayout d layout) where
   -- there is a number for each record
-  pub numbers-length : length (gapNumbers (answersOf d)) ≡ y .arrivals
+  pub numbers-length : length (gapNumbers (answersOf d)) ≡ layout .arrivals
   unfolding gapNumbers gaps
   numbers-length =
       length-map (gaps (answersOf d)) gapNumber
       ∙ length-map (answersOf d) _
-      ∙ length-answers (sizeOf d) (sampleArrivals d) ∙ sym (arrivals-laid d y h)
+      ∙ length-answers (sizeOf d) (sampleArrivals d) ∙ sym (arrivals-laid d layout h)
 
   -- that of record i + 1 by its position
-  pub number-at : (i x p : ℕ) → i < y .arrivals → x ≡ gapNumber (gapOf (answersOf d) (known p)) → known p ≡ positionOf (answerAt d i)
+  pub number-at : (i x p : ℕ) → i < layout .arrivals → x ≡ gapNumber (gapOf (answersOf d) (known p)) → known p ≡ positionOf (answerAt d i)
       → x ≡ getD (gapNumbers (answersOf d)) i 0
   number-at i x p g e k =
-      let here = answer-at d no-answer i (omega (arith, g, arrivals-laid d y h)) in
+      let here = answer-at d no-answer i (omega (arith, g, arrivals-laid d layout h)) in
       e
       ∙ ap (λ (o : Option ℕ). gapNumber (gapOf (answersOf d) o)) (k ∙ ap positionOf (sym here))
       ∙ sym (number-of-answer (answersOf d) i)
@@ -220,24 +223,25 @@ pub gaps-tell : GapsTell
 unfolding recordGap
 gaps-tell = record { at = λ d asked. told-at (answersOf d) asked }
 
--- ---- what the call answers
+-- ---- the call's answer
 
 -- with the file's own refusal
-pub gaps-refused : (d : Decoded) (y : Layout) → y ≡ layoutOf d → (y .refusal ≡ 0 → ⊥) → (old : List ℕ) → GapsTo d old y old
+pub gaps-refused : (d : Decoded) (layout : Layout) → layout ≡ layoutOf d → (layout .refusal ≡ 0 → ⊥) → (old : List ℕ)
+    → GapsTo d old layout old
 unfolding unlessShort gapNumbers gaps answers Rattle.rfc4737.specs.Arrivals.each Rattle.rfc4737.specs.Arrivals.eachAfter
-gaps-refused (refused r) y e n old = record { layout = e; gaps = refl }
-gaps-refused (accepted s) y e n old = absurd (n (ap (λ (y : Layout). y .refusal) e))
+gaps-refused (refused r) layout e n old = record { layout = e; gaps = refl }
+gaps-refused (accepted s) layout e n old = absurd (n (ap (λ (layout : Layout). layout .refusal) e))
 
-module _ (d : Decoded) (y : Layout) (h : FileLayout d y) (a : d ≡ accepted (sampleOf d)) (old : List ℕ) where
+module _ (d : Decoded) (layout : Layout) (h : FileLayout d layout) (a : d ≡ accepted (sampleOf d)) (old : List ℕ) where
   -- with 8
-  pub gaps-eight : true ≡ listShort (y .arrivals) (length old) → (r : Layout) → r ≡ layoutOf (refused 8) → GapsTo d old r old
+  pub gaps-eight : true ≡ listShort (layout .arrivals) (length old) → (r : Layout) → r ≡ layoutOf (refused 8) → GapsTo d old r old
   unfolding unlessShort gapNumbers gaps answers Rattle.rfc4737.specs.Arrivals.each Rattle.rfc4737.specs.Arrivals.eachAfter
-  gaps-eight q r e = let k = into listShort d y h a (length old) true q in record { layout = rw k e; gaps = rw k }
+  gaps-eight q r e = let k = into listShort d layout h a (length old) true q in record { layout = rw k e; gaps = rw k }
 
   -- with none
-  pub gaps-filled : false ≡ listShort (y .arrivals) (length old) → (new : List ℕ) → new ≡ over (gapNumbers (answersOf d)) old
-      → GapsTo d old y new
+  pub gaps-filled : false ≡ listShort (layout .arrivals) (length old) → (new : List ℕ) → new ≡ over (gapNumbers (answersOf d)) old
+      → GapsTo d old layout new
   unfolding unlessShort
   gaps-filled q new f =
-      let k = into listShort d y h a (length old) false q in
+      let k = into listShort d layout h a (length old) false q in
       record { layout = rw k (h .laid ∙ ap layoutOf a); gaps = rw k (f ∙ ap (λ (d : Decoded). over (gapNumbers (answersOf d)) old) a) }

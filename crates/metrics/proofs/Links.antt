@@ -1,10 +1,11 @@
--- Links: at the packet of each first arrival stands what with `more` is 1 and its own largest n: `more` is 1 in the engine's table, which
--- has the largest n itself, and 0 in that of the shares. The first arrivals that a largest n counts have greater numbers (`largest-over`,
--- by induction over the first arrivals). So where a first arrival's number is above s, those are too that its link passes over
--- (`above-link`). Under one first arrival more the others' links stay, since its packet is another, and its own is put at its packet
--- (`linked-set`). From NextExp on the largest n is 0 (`largest-next`), and 0 stands there already; so where `more` is 1 nothing is put
--- for a packet in order (`linked-in-order`). Here fs are the first arrivals, a the next one, s a packet's number, p a place among them, n
--- the number there and k its link. Assumes nothing.
+-- Links: at the packet of each first arrival, link + more == largest n + 1. In the engine's table `more` is 1, so the link is the largest
+-- n itself; in that of the shares `more` is 0. The first arrivals that a largest n counts have greater numbers (`largest-over`, by
+-- induction over the first arrivals). So if a first arrival's number is above s, so are those that its link passes over (`above-link`).
+-- The next first arrival leaves the others' links, since its packet is another, and its own is written at its packet (`linked-set`). From
+-- NextExp on the largest n is 0 (`largest-next`), as are the entries there; so if `more` is 1 nothing is written for a packet in order
+-- (`linked-in-order`).
+-- Here fs are the first arrivals, a the next one, s a packet's number, p an index among them, n the number there and k its link. Assumes
+-- nothing.
 use mathlib.Core.Path.{_≡_, refl, sym, ap, _∙_}
 use mathlib.Core.Bool.{Bool, true, false, cond, true≢false}
 use mathlib.Core.List.{List, [], _∷_, _++_}
@@ -32,7 +33,7 @@ use Rattle.metrics.proofs.CountsBySeen.{has-below}
 
 -- ---- what a link passes over
 
--- the numbers at the places that the largest n counts are greater
+-- the numbers that the largest n counts are greater
 largest-over : (s : ℕ) (fs : List Arrival) (p : ℕ) → length fs - largestN fs s ≤ p → p < length fs → s < getD fs p noArrival .number
 largest-over s = snoc-ind Over more (λ p a b. absurd (omega arith))
   where
@@ -92,7 +93,7 @@ module _ (more : ℕ) where
       above-join numbers s (record { order = linked .order; at = λ q b c. omega (arith, linked .at q b c) })
       (above-back numbers s low (rw e at g) a)
 
--- ---- one first arrival more
+-- ---- the next first arrival
 
 -- none directly before a packet from NextExp on has a greater number
 pub largest-next : (s : ℕ) (fs : List Arrival) → nextExp fs ≤ s → largestN fs s ≡ 0
@@ -121,7 +122,7 @@ module _ (more : ℕ) (fs : List Arrival) (a : Arrival) (new : has (a .number) f
   other-packet : (p : ℕ) → p < length fs → getD fs p noArrival .number ≡ a .number → ⊥
   other-packet p h e = true≢false (sym (has-at noArrival fs p h) ∙ rw e new)
 
-  -- the links under it, where those before it stay and its own is put at its packet
+  -- the links after it: those before it stay, and its own is written at its packet
   linked-more : (links′ : List ℕ) → ((p : ℕ) → p < length fs
       → getD links′ (getD fs p noArrival .number) 0 ≡ getD links (getD fs p noArrival .number) 0)
       → more + getD links′ (a .number) 0 ≡ largestN fs (a .number) + 1 → ((s : ℕ) → nextExp (fs ++ (a ∷ [])) ≤ s → getD links′ s 0 ≡ 0)

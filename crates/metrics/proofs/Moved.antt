@@ -1,8 +1,9 @@
--- Moving the clock by c: every call answers of the moved sample as of the sample. The answers of the records are the same (rfc4737's
--- `answers-moved`), and there are as many records; a listing has no time in it but those of the answers, since of an arrival a line has the
--- number alone (`lines-moved`, by induction over the arrivals). Each call is a function of these, so that it answers the same
--- (`figures-same`). Here l are the arrivals, m the answers, n the counts, s the sample, and in `figures-same` i is the point of a path
--- from the one to the other. Assumes nothing.
+-- Moving the clock by c: every call returns the same for the moved sample as for the sample. The answers of the records are the same
+-- (rfc4737's `answers-moved`), and there are as many records. A listing has no times but those of the answers, since a line has only the
+-- number of its arrival (`lines-moved`, by induction over the arrivals). Each call is a function of these, so it returns the same
+-- (`figures-same`).
+-- Here l are the arrivals, m the answers, n the counts, s the sample, and in `figures-same` i is the point of a path from the one to the
+-- other. Assumes nothing.
 use Prim.Native.Nat.{ℕ, _+_}
 use mathlib.Core.Path.{_≡_, refl, sym, ap, subst, _∙_}
 use mathlib.Core.Bool.{cond}

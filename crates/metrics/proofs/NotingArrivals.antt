@@ -1,9 +1,9 @@
--- What noting record i + 1 leaves of the tables and of the links, by what the packet is. The table of records tells whether it has arrived;
+-- How noting record i + 1 changes the tables and the links, by the kind of its packet. The table of records says whether it has arrived;
 -- then the laws of `TablesFollow` and of `Links` are put together. A copy leaves both (`noted-copy`). A reordered packet leaves its
--- largest n as a link where its discontinuity stood (`noted-reordered`). One in order fills the places of the packets that it skips, and
--- has the link 0, which stands there (`noted-in-order`). Last, the same of a record of a file. Here l are arrivals, a the next one, m
--- that there are i of them, is that a has this number, f that the tables follow l, lar that `largest` is its largest n, and k that the
--- links are those of l. A prime marks what is after it. Assumes nothing.
+-- largest n as a link in place of its discontinuity (`noted-reordered`). One in order fills the entries of the packets that it skips, and
+-- has the link 0, which is there already (`noted-in-order`). Last, the same of a record of a file.
+-- Here l are arrivals, a the next one, m that there are i of them, is that a has this number, f that the tables follow l, lar that
+-- `largest` is its largest n, and k that the links are those of l. A prime marks the values after it. Assumes nothing.
 use mathlib.Core.Path.{_≡_, sym, ap, _∙_}
 use mathlib.Core.Bool.{true, false}
 use mathlib.Core.List.{List}
@@ -84,7 +84,7 @@ module _ (i largest : ℕ) (numbers records skipped : List ℕ) (state : State) 
               (rw (← is, f .next) at filled));
         }
 
-module _ (d : Decoded) (y : Layout) (i : ℕ) (h : HasRecord d y i) (numbers records skipped : List ℕ) (state : State)
+module _ (d : Decoded) (layout : Layout) (i : ℕ) (h : HasRecord d layout i) (numbers records skipped : List ℕ) (state : State)
     (f : EngineTables (before d i) numbers records skipped state) (number : ℕ) (is : number ≡ arrivalAt d i .number) where
   -- record i + 1 can be noted
   pub noting : NextRecord numbers records skipped state i number
@@ -93,7 +93,7 @@ module _ (d : Decoded) (y : Layout) (i : ℕ) (h : HasRecord d y i) (numbers rec
       record {
         earlier = before d i;
         follows = f;
-        many = before-length d y i h;
+        many = before-length d layout i h;
         few = omega (arith, h .inside, h .file .few);
         low = omega (arith, n);
         high = omega (arith, n, h .file .sentFew);
@@ -103,10 +103,11 @@ module _ (d : Decoded) (y : Layout) (i : ℕ) (h : HasRecord d y i) (numbers rec
       (n : NotedRecord i number largest numbers records skipped state numbers′ records′ skipped′ state′) where
     -- the tables after it
     pub noted-follows : EngineTables (before d (i + 1)) numbers′ records′ skipped′ state′
-    noted-follows = rw (before-more d y i h) (n .follows (before d i) (arrivalAt d i) (before-length d y i h) (sym is) f)
+    noted-follows = rw (before-more d layout i h) (n .follows (before d i) (arrivalAt d i) (before-length d layout i h) (sym is) f)
 
     -- and the links
     pub noted-linked : (has number (before d i) ≡ false → number < nextExp (firsts (before d i))
         → largest ≡ largestN (firsts (before d i)) number)
         → LinkTable 1 (firsts (before d i)) skipped → LinkTable 1 (firsts (before d (i + 1))) skipped′
-    noted-linked lar k = rw (before-more d y i h) (n .linked (before d i) (arrivalAt d i) (before-length d y i h) (sym is) f lar k)
+    noted-linked lar k =
+        rw (before-more d layout i h) (n .linked (before d i) (arrivalAt d i) (before-length d layout i h) (sym is) f lar k)

@@ -1,11 +1,12 @@
--- One arrival more in a pass over a file. Before any arrival all tables are zeros. The answers up to record i + 1 are those up to record i
--- and `answerAt` after them (`answers-next`), and up to the last they are the sample's (`answers-end`). Each figure goes over the answers
--- one by one, so it makes one step more: the counts (`counts-more`), the tally (`tally-next`) and the table of discoverers. In that a later
--- answer is asked only where no earlier one has the discontinuity as its own (`discoverer-more`, by induction over the answers). So an
--- answer that is no reordered packet's leaves the table (`marked-same`), and a reordered packet's changes it at its own discontinuity, and
--- only where 0 stands there (`marked-late`); that discontinuity is at one of the positions (`inside-told`).
--- Here d is the decoded file, y its layout, i the records before, n the first arrivals among them, k the class, l some answers, a the next
--- one, discoverers the table, m that it has the discoverers of l, at the position of a discontinuity and p any position. Assumes nothing.
+-- The next arrival in a pass over a file. Before any arrival all tables are zeros. The answers up to record i + 1 are those up to record
+-- i, followed by `answerAt` (`answers-next`), and up to the last they are the sample's (`answers-end`). Each figure goes over the answers
+-- one by one, so it takes one step: the counts (`counts-more`), the tally (`tally-next`) and the table of discoverers. A discoverer is
+-- the first answer with a discontinuity, so a later answer counts only if no earlier one has it (`discoverer-more`, by induction over the
+-- answers). So an answer that is not reordered leaves the table (`marked-same`), and a reordered one changes it at its own discontinuity,
+-- and only if 0 is there (`marked-late`); that discontinuity is at one of the positions (`inside-told`).
+-- Here d is the decoded file, i the number of records before, n that of the first arrivals among them, k the class, l some answers, a the
+-- next one, discoverers the table, m that it has the discoverers of l, at the position of a discontinuity and p any position. Assumes
+-- nothing.
 use mathlib.Core.Path.{_≡_, refl, sym, ap, _∙_}
 use mathlib.Core.Bool.{Bool, true, false, cond, not, true≢false}
 use mathlib.Core.List.{List, [], _∷_, _++_}
@@ -59,19 +60,19 @@ unfolding answers each eachAfter
 answers-start d = refl
 
 -- after all arrivals
-pub answers-end : (d : Decoded) (y : Layout) (i : ℕ) → FileLayout d y → y .arrivals ≤ i → answersTo d i ≡ answersOf d
-answers-end d y i h g = ap (answers (sizeOf d)) (take-all i (sampleArrivals d) (omega (arith, arrivals-laid d y h)))
+pub answers-end : (d : Decoded) (layout : Layout) (i : ℕ) → FileLayout d layout → layout .arrivals ≤ i → answersTo d i ≡ answersOf d
+answers-end d layout i h g = ap (answers (sizeOf d)) (take-all i (sampleArrivals d) (omega (arith, arrivals-laid d layout h)))
 
--- ---- one arrival more
+-- ---- the next arrival
 
-module _ (d : Decoded) (y : Layout) (i : ℕ) (h : HasRecord d y i) where
-  -- the answers under record i + 1
+module _ (d : Decoded) (layout : Layout) (i : ℕ) (h : HasRecord d layout i) where
+  -- the answers after record i + 1
   pub answers-next : answersTo d (i + 1) ≡ answersTo d i ++ (answerAt d i ∷ [])
-  answers-next = rw (before-more d y i h) (answers-more (sizeOf d) (before d i) (arrivalAt d i))
+  answers-next = rw (before-more d layout i h) (answers-more (sizeOf d) (before d i) (arrivalAt d i))
 
   -- there are i before it
   pub answers-length : length (answersTo d i) ≡ i
-  answers-length = length-answers (sizeOf d) (before d i) ∙ before-length d y i h
+  answers-length = length-answers (sizeOf d) (before d i) ∙ before-length d layout i h
 
   -- a discontinuity that the class names is at one of the positions
   pub inside-told : (numbers records skipped : List ℕ) (state : State) → EngineTables (before d i) numbers records skipped state
@@ -79,11 +80,11 @@ module _ (d : Decoded) (y : Layout) (i : ℕ) (h : HasRecord d y i) where
   inside-told numbers records skipped state f (Class.Duplicate first) t = tt
   inside-told numbers records skipped state f (Class.InOrder jump) t = tt
   inside-told numbers records skipped state f (Class.Reordered at) t =
-      let p = late-place d y i at (state .count) h t numbers records (f .numbered) (f .recorded) in (p .0, p .1)
+      let p = late-place d layout i at (state .count) h t numbers records (f .numbered) (f .recorded) in (p .0, p .1)
 
 -- ---- counts
 
--- the counts under one answer more
+-- the counts after the next answer
 pub counts-more : (l : List Answer) (a : Answer)
     → counts (l ++ (a ∷ []))
     ≡ record {
@@ -99,11 +100,12 @@ counts-more l a =
 
 -- ---- tally
 
--- the tally under record i + 1
-pub tally-next : (d : Decoded) (y : Layout) (i : ℕ) → HasRecord d y i → (t : List ℕ) → t ≡ tally (answersTo d i)
+-- the tally after record i + 1
+pub tally-next : (d : Decoded) (layout : Layout) (i : ℕ) → HasRecord d layout i → (t : List ℕ) → t ≡ tally (answersTo d i)
     → tallyAfter t (answerAt d i) ≡ tally (answersTo d (i + 1))
-tally-next d y i h t e =
-    ap (λ (t : List ℕ). tallyAfter t (answerAt d i)) e ∙ sym (ap tally (answers-next d y i h) ∙ tally-more (answersTo d i) (answerAt d i))
+tally-next d layout i h t e =
+    ap (λ (t : List ℕ). tallyAfter t (answerAt d i)) e ∙ sym (ap tally (answers-next d layout i h)
+    ∙ tally-more (answersTo d i) (answerAt d i))
 
 -- of no answers all counts of the tally are 0
 pub tally-none : tally [] ≡ replicate tallyPlaces 0
@@ -122,7 +124,7 @@ abbrev first-of : Option ℕ → Option ℕ → Option ℕ
 first-of none r = r
 first-of (some p) r = some p
 
--- a later answer is asked only where no earlier one has the discontinuity as its own
+-- a later answer is the discoverer only if no earlier one has the discontinuity
 own-first : (p : ℕ) (b : Answer) (rest rest′ r : Option ℕ) → rest′ ≡ first-of rest r
     → cond (belongsTo p b) (positionOf b) rest′ ≡ first-of (cond (belongsTo p b) (positionOf b) rest) r
 unfolding belongsTo positionOf
@@ -134,14 +136,14 @@ own-first p (Answer.Reordered f) rest rest′ r e = own (eqb (f .position - f .e
     own true = refl
     own false = e
 
--- the discoverer under one answer more
+-- the discoverer after the next answer
 discoverer-more : (p : ℕ) (l : List Answer) (a : Answer)
     → discoverer p (l ++ (a ∷ [])) ≡ first-of (discoverer p l) (cond (belongsTo p a) (positionOf a) none)
 unfolding discoverer
 discoverer-more p [] a = refl
 discoverer-more p (b ∷ l) a = own-first p b (discoverer p l) (discoverer p (l ++ (a ∷ []))) _ (discoverer-more p l a)
 
--- nothing more is discoverers
+-- an empty result changes no discoverer
 keep : (o : Option ℕ) → first-of o none ≡ o
 keep none = refl
 keep (some q) = refl

@@ -1,9 +1,10 @@
--- The tree of sums over pairs of packets: packets 2k - 1 and 2k stand at number k, so that above k stand the packets above 2k
--- (`pair-above`). One first arrival more is its size added at its pair (`size-tree-more`). Once all stand in the tree, the sum up to s /
--- 2 and the byte offset of 2 (s / 2) are the total (`total-sum`). That number is s or the one before it, and where packet s has not
--- arrived both have the same byte offset (`offset-before`, by induction over the first arrivals); so the total without the sum is the
--- byte offset of s (`offset-summed`). Here fs are the first arrivals, p how many of them stand in the tree, t their number and total,
--- size gives the payload size of a packet, and s is the packet asked for. Assumes nothing.
+-- The tree of sums over pairs of packets: packets 2k - 1 and 2k share index k, so the packets above 2k are above index k (`pair-above`).
+-- The next first arrival adds its size at its pair (`size-tree-more`). Once all are in the tree, the sum up to s / 2 and the byte offset
+-- of 2 (s / 2) add up to the total (`total-sum`). That number is s or the one before it, and if packet s has not arrived both have the
+-- same byte offset (`offset-before`, by induction over the first arrivals). So the total less the sum is the byte offset of s
+-- (`offset-summed`).
+-- Here fs are the first arrivals, p how many of them are in the tree, t their number and total, size gives the payload size of a packet,
+-- and s is the packet asked for. Assumes nothing.
 use mathlib.Core.Path.{_≡_, refl, sym, ap, _∙_}
 use mathlib.Core.Bool.{Bool, true, false, cond}
 use mathlib.Core.List.{List, [], _∷_, _++_}
@@ -78,7 +79,7 @@ module _ (size : ℕ → ℕ) (small : (s : ℕ) → size s ≤ 65535) (fs : Lis
   pub total-small : (t : Totals) → SizeTree size fs tree t → t .total ≤ 65535 * t .filled
   total-small t k = omega (arith, k .whole, sizes-few (t .filled) 0 (k .some))
 
-  -- a tree of one first arrival more
+  -- the tree after the next first arrival
   pub size-tree-more : (p number value total : ℕ) (tree′ : List ℕ) → p < length fs → number ≡ getD fs p noArrival .number → 1 ≤ number
       → value ≡ size number
       → SizeTree size fs tree (record { filled = p; total = total }) → Added ((number + 1) / 2) value tree tree′

@@ -1,14 +1,16 @@
--- A pass over a sample, line by line. A line is put after those before it or, comparing, at the start of memory and held against the text
--- from its place on; `Taken` says what either leaves (`line-taken`). Lines that are taken whole, and a line after them, are lines taken
--- (`taken-more`): what is written is spliced in behind, and what agrees goes by `agreed-more`. A line that is written is always whole, so
--- only comparing can end the pass; then what follows is not looked at, and the whole listing is known to differ there (`taken-stop`). So
--- after a record's line the pass goes on (`passed-next`) or ends (`passed-stop`), and after the last all are behind (`passed-all`). The
--- lines of records are taken in memory that has the first line; the listing is no shorter than that line and stands over it too, so it
--- stands over memory as it was (`taken-over`): where the first line differs (`first-differs`), where a record's does (`record-differs`),
--- and after the last line (`last-taken`). How far lines are taken is less than 2^64, as it lies in the text or is their length
--- (`taken-fits`). Here d is the decoded file, y its layout, i the records behind, at the place after them, p how far a line is taken, old
--- memory before the first line, start after it, new before the line at hand and newer after it, s that the lines before are taken and t
--- that this one is. Assumes nothing.
+-- A pass over a sample, line by line. A line is written after those before it or, comparing, at the start of the buffer and then compared
+-- with the text from its offset on; `Taken` says what either leaves (`line-taken`). Lines that are taken whole and a line after them are
+-- lines taken (`taken-more`): what is written is spliced in behind, and what agrees goes by `agreed-more`. A line that is written is
+-- always whole, so only comparing can end the pass; then what follows is not read, and the whole listing is known to differ there
+-- (`taken-stop`). So after a record's line the pass goes on (`passed-next`) or ends (`passed-stop`), and after the last line all records
+-- are done (`passed-all`).
+-- The lines of records are taken in a buffer that has the first line. The listing begins with that line and overwrites it too, so it may
+-- be laid over the buffer as it was (`taken-over`): if the first line differs (`first-differs`), if a record's does (`record-differs`),
+-- and after the last line (`last-taken`). The offset reached is less than 2^64, as it is within the text or is the length of the lines
+-- (`taken-fits`).
+-- Here d is the decoded file, i the number of records done, at the offset after them, p how far a line is taken, old the buffer before
+-- the first line, start after it, new before the current line and newer after it, s that the lines before are taken and t that this one
+-- is. Assumes nothing.
 use Prim.Native.Nat.{ℕ, _+_, _-_, _^_, _≤_, _<_}
 use mathlib.Core.Path.{_≡_, refl, sym, ap, _∙_}
 use mathlib.Core.Bool.{Bool, true, false, cond, true≢false}
@@ -42,11 +44,11 @@ module _ (comparing : Bool) (line text : List ℕ) (at : ℕ) {old new : List �
   line-kept : length new ≡ length old
   line-kept = ap length q ∙ put-length place line old
 
-  -- it can be held against the text
+  -- it can be compared with the text
   pub line-ready : comparing ≡ true → (n ≤ length new) × (at ≤ length text)
   line-ready t = (omega (arith, line-kept, ready .room t), ready .inside t)
 
-  -- held against it, or only written, it is taken
+  -- compared with it, or only written, it is taken
   pub line-taken : {r : Part} → (comparing ≡ false → r ≡ record { octets = n; whole = true })
       × (comparing ≡ true → Agreed (take n new) (drop at text) r)
       → Taken comparing line text at old new r
@@ -133,49 +135,50 @@ module _ {comparing : Bool} {text : List ℕ} where
 
 -- ---- a record's line
 
-module _ (d : Decoded) (y : Layout) (text : List ℕ) (comparing : Bool) {i at number : ℕ} {answer : Answer} {old new newer : List ℕ}
+module _ (d : Decoded) (layout : Layout) (text : List ℕ) (comparing : Bool) {i at number : ℕ} {answer : Answer} {old new newer : List ℕ}
     {p : Part}
-    (h : HasRecord d y i) (s : PassedTo d y text comparing i at old new) (is : number ≡ arrivalAt d i .number)
+    (h : HasRecord d layout i) (s : PassedTo d layout text comparing i at old new) (is : number ≡ arrivalAt d i .number)
     (says : answer ≡ answerAt d i)
     (t : Taken comparing (recordLine (i + 1) number answer) text at new newer p) where
   -- the listing up to record i + 1
-  pub line-more : Taken comparing (linesTo d y (i + 1)) text 0 old newer (record { octets = at + p .octets; whole = p .whole })
-  line-more = rw (lines-next d y i h, ← is, ← says) (taken-more s t)
+  pub line-more : Taken comparing (linesTo d layout (i + 1)) text 0 old newer (record { octets = at + p .octets; whole = p .whole })
+  line-more = rw (lines-next d layout i h, ← is, ← says) (taken-more s t)
 
   -- after a line that is written or agrees
-  pub passed-next : p .whole ≡ true → PassedTo d y text comparing (i + 1) (at + p .octets) old newer
+  pub passed-next : p .whole ≡ true → PassedTo d layout text comparing (i + 1) (at + p .octets) old newer
   passed-next w = rw w at line-more
 
   -- at one that differs the pass ends
   pub passed-stop : (c : Counts) → p .whole ≡ false
-      → PassEnded d y text comparing old newer (record { part = record { octets = at + p .octets; whole = p .whole }; counts = c })
+      → PassEnded d layout text comparing old newer (record { part = record { octets = at + p .octets; whole = p .whole }; counts = c })
   passed-stop c w =
-      let r = lines-rest d y (h .file) (y .arrivals - (i + 1)) (i + 1) (omega (arith, h .inside)) in
+      let r = lines-rest d layout (h .file) (layout .arrivals - (i + 1)) (i + 1) (omega (arith, h .inside)) in
       record { all = λ v. absurd (true≢false (sym v ∙ w)); differs = λ v. rw (r .is) (taken-stop (r .rest) line-more w) }
 
 -- after the last record
-pub passed-all : (d : Decoded) (y : Layout) (text : List ℕ) (comparing : Bool) {i at : ℕ} {old new : List ℕ} {c : Counts} → FileLayout d y
-    → i ≤ y .arrivals → y .arrivals ≤ i → PassedTo d y text comparing i at old new → c ≡ counts (answersTo d i)
-    → PassEnded d y text comparing old new (record { part = record { octets = at; whole = true }; counts = c })
-passed-all d y text comparing {i} h most all s e =
-    let last : i ≡ y .arrivals = omega arith in
-    record { all = λ v. (rw last at s, e ∙ ap counts (answers-end d y i h all)); differs = λ v. absurd (true≢false v) }
+pub passed-all : (d : Decoded) (layout : Layout) (text : List ℕ) (comparing : Bool) {i at : ℕ} {old new : List ℕ} {c : Counts}
+    → FileLayout d layout
+    → i ≤ layout .arrivals → layout .arrivals ≤ i → PassedTo d layout text comparing i at old new → c ≡ counts (answersTo d i)
+    → PassEnded d layout text comparing old new (record { part = record { octets = at; whole = true }; counts = c })
+passed-all d layout text comparing {i} h most all s e =
+    let last : i ≡ layout .arrivals = omega arith in
+    record { all = λ v. (rw last at s, e ∙ ap counts (answers-end d layout i h all)); differs = λ v. absurd (true≢false v) }
 
 -- ---- the first line and the last
 
-module _ (d : Decoded) (y : Layout) (laid : FileLayout d y) (text : List ℕ) (comparing : Bool) {old start : List ℕ} {p : Part}
-    (t : Taken comparing (headerLine (y .sent) (y .arrivals)) text 0 old start p) where
+module _ (d : Decoded) (layout : Layout) (laid : FileLayout d layout) (text : List ℕ) (comparing : Bool) {old start : List ℕ} {p : Part}
+    (t : Taken comparing (headerLine (layout .sent) (layout .arrivals)) text 0 old start p) where
   -- the first line
   abbrev header : List ℕ
-  header = headerLine (y .sent) (y .arrivals)
+  header = headerLine (layout .sent) (layout .arrivals)
 
   -- the listing after it
-  rest : Rest d y 0
-  rest = lines-rest d y laid (y .arrivals) 0 (omega arith)
+  rest : Rest d layout 0
+  rest = lines-rest d layout laid (layout .arrivals) 0 (omega arith)
 
   -- which it is a part of
   header-le : length header ≤ length (sampleText d)
-  header-le = rw (rest .is, length-append (linesTo d y 0) (rest .rest), lines-start d y) (omega arith)
+  header-le = rw (rest .is, length-append (linesTo d layout 0) (rest .rest), lines-start d layout) (omega arith)
 
   -- it stands in memory that has it
   first-again : Taken comparing header text 0 start start p
@@ -192,20 +195,20 @@ module _ (d : Decoded) (y : Layout) (laid : FileLayout d y) (text : List ℕ) (c
       }
 
   -- after the first line
-  pub first-taken : p .whole ≡ true → PassedTo d y text comparing 0 (p .octets) start start
-  first-taken w = rw (lines-start d y, ← w) first-again
+  pub first-taken : p .whole ≡ true → PassedTo d layout text comparing 0 (p .octets) start start
+  first-taken w = rw (lines-start d layout, ← w) first-again
 
   -- where it differs
   pub first-differs : p .whole ≡ false → Taken comparing (sampleText d) text 0 old start p
-  first-differs w = rw (rest .is, lines-start d y) (taken-stop (rest .rest) t w)
+  first-differs w = rw (rest .is, lines-start d layout) (taken-stop (rest .rest) t w)
 
   -- where a record's line differs
-  pub record-differs : {new : List ℕ} (r : PassResult) → PassEnded d y text comparing start new r → r .part .whole ≡ false
+  pub record-differs : {new : List ℕ} (r : PassResult) → PassEnded d layout text comparing start new r → r .part .whole ≡ false
       → Taken comparing (sampleText d) text 0 old new (r .part)
   record-differs r s w = taken-over header-le t (s .differs w)
 
   -- after the last line
-  pub last-taken : {at : ℕ} {new newer : List ℕ} {c : Counts} {q : Part} → PassedTo d y text comparing (y .arrivals) at start new
+  pub last-taken : {at : ℕ} {new newer : List ℕ} {c : Counts} {q : Part} → PassedTo d layout text comparing (layout .arrivals) at start new
       → c ≡ counts (answersOf d) → Taken comparing (endLine c) text at new newer q
       → Taken comparing (sampleText d) text 0 old newer (record { octets = at + q .octets; whole = q .whole })
-  last-taken s ec u = taken-over header-le t (rw (← lines-end d y laid, ← ec) (taken-more s u))
+  last-taken s ec u = taken-over header-le t (rw (← lines-end d layout laid, ← ec) (taken-more s u))

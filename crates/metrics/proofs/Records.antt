@@ -1,9 +1,11 @@
 -- The record of a packet's first arrival. There is none if the packet has not arrived (`record-none`), else it is one from 1 to the
--- number of arrivals (`record-some`): by induction over the arrivals, with records counted from any r. A list that has a value for each
--- arrival, and for a first arrival one that its place among the first arrivals tells, has that value at its record (`listed-at`), by
--- induction over the arrivals from the end: one arrival more leaves the records of packets that have arrived (`earlier`), and if it is a
--- first arrival its own is the last (`last`). So at the record of a first arrival stands that arrival (`first-at`). Here l are the
--- arrivals, a one more, s a packet's number, p a place among the first arrivals, d and z what lists have at no place. Assumes nothing.
+-- number of arrivals (`record-some`): by induction over the arrivals, with records counted from any r. Take a list with a value for each
+-- arrival, where the value of a first arrival is determined by its index among the first arrivals. That list has this value at the record
+-- of the first arrival (`listed-at`), by induction over the arrivals from the end: the next arrival leaves the records of packets that
+-- have arrived (`earlier`), and if it is a first arrival its own is the last (`last`). So the arrival at the record of a first arrival is
+-- that first arrival (`first-at`).
+-- Here l are the arrivals, a the next one, s a packet's number, p an index among the first arrivals, d and z the defaults of lists.
+-- Assumes nothing.
 use mathlib.Core.Path.{_≡_, refl, sym, _∙_}
 use mathlib.Core.Bool.{Bool, true, false, cond, _||_, true≢false}
 use mathlib.Core.List.{List, [], _∷_, _++_}
@@ -50,7 +52,7 @@ pub record-some : (s : ℕ) (l : List Arrival) → has s l ≡ true → (1 ≤ f
 unfolding firstRecord
 record-some s l e = let k = record-from-some 1 s l e in omega arith
 
--- it stays under one arrival more
+-- it stays after the next arrival
 pub record-stays : (l : List Arrival) (a : Arrival) (s : ℕ) → has s l ≡ true → firstRecord s (l ++ (a ∷ [])) ≡ firstRecord s l
 record-stays l a s e = record-more s l a ∙ simp e
 

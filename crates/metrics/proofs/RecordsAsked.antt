@@ -1,11 +1,11 @@
--- What the calls answer that ask for a record or for n. A call is refused with the file's own refusal, or where the number asked for lies
--- outside its range. Then it finds nothing: a refused file has no arrivals, an accepted one no such record, and a degree outside its range
--- is taken over no answers. Else `each` has at place i what f gives of element i and the i before it (`each-after-at`, by induction over
--- the list), so that `answerAt` stands at the record asked for (`answer-known`), and the gap of that answer's position (`gap-known`). Of a
--- position that is found, 0 for none: at 0 there is no gap (`gap-copy`); else it is at most L, since more arrivals have no fewer first
--- arrivals (`firsts-grow`, `position-le`), and the gap is that of this position (`gap-placed`).
--- Here d is the decoded file, y its layout, i the place of a record from 0 and asked its number from 1, n that of a degree, r the refusal
--- found, e that it is the one due, z that it is 0, l a list of what stands at records, and p a position. Assumes nothing.
+-- The answers of the calls that ask for a record or for n. A call is refused with the file's own refusal, or if the number asked for is
+-- outside its range. Then it finds nothing: a refused file has no arrivals, an accepted one no such record, and a degree outside its
+-- range is taken over no answers. Else `each` has at index i the value of f for element i and the i before it (`each-after-at`, by
+-- induction over the list). So `answerAt` is the answer for the record asked for (`answer-known`), and its gap is that of its position
+-- (`gap-known`). Of a position that is found, 0 for none: at 0 there is no gap (`gap-copy`); else it is at most L, since more arrivals
+-- have no fewer first arrivals (`firsts-grow`, `position-le`), and the gap is that of this position (`gap-placed`).
+-- Here d is the decoded file, i the index of a record from 0 and asked its number from 1, n that of a degree, r the refusal found, e that
+-- it is the one that applies, z that it is 0, l a list with an element for each record, and p a position. Assumes nothing.
 use mathlib.Core.Path.{_≡_, refl, sym, ap, ap₂, _∙_}
 use mathlib.Core.Bool.{Bool, true, false, cond}
 use mathlib.Core.List.{List, [], _∷_, _++_, append-nil, append-assoc}
@@ -78,10 +78,10 @@ degree-refused (accepted s) n h = go (outside 1 degreeMost n) refl
 degree-accepted : (d : Decoded) (n : ℕ) → askedRefusal d 1 degreeMost n ≡ 0 → degreeAnswers d n ≡ answersOf d
 degree-accepted d n e = rw (asked-inside d 1 degreeMost n e)
 
--- ---- what stands at a record
+-- ---- the element at a record
 
 module _ {A : Type 0} (other : A) (l : List A) where
-  -- at no record stands `other`
+  -- where there is no record, the element is `other`
   at-outside : (asked : ℕ) → (1 ≤ asked → asked ≤ length l → ⊥) → atRecord other l asked ≡ other
   unfolding atRecord
   at-outside zero h = refl
@@ -91,13 +91,13 @@ module _ {A : Type 0} (other : A) (l : List A) where
       over true e = leb-true (length l) i e
       over false e = absurd (h (omega arith) (omega (arith, leb-false (length l) i e)))
 
-  -- at a record stands its element
+  -- at a record, its element
   pub at-inside : (asked : ℕ) → 1 ≤ asked → atRecord other l asked ≡ getD l (asked - 1) other
   unfolding atRecord
   at-inside zero h = absurd (omega arith)
   at-inside (suc i) h = let e : suc i - 1 ≡ i = omega arith in rw e
 
--- f of the element at a place, with those before it
+-- f of the element at an index, with those before it
 each-after-at : {A B : Type 0} (f : List A → A → B) (a₀ : A) (b₀ : B) (before l : List A) (i : ℕ) → i < length l
     → getD (eachAfter f before l) i b₀ ≡ f (before ++ take i l) (getD l i a₀)
 unfolding eachAfter
@@ -177,7 +177,7 @@ firsts-grow : (l m : List Arrival) → length (firsts l) ≤ length (firsts (l +
 firsts-grow l [] = rw append-nil (omega arith)
 firsts-grow l (a ∷ m) = let k = rw append-assoc at (firsts-grow (l ++ (a ∷ [])) m) in omega (arith, firsts-one l a, k)
 
-module _ (d : Decoded) (y : Layout) (i : ℕ) (h : HasRecord d y i) where
+module _ (d : Decoded) (layout : Layout) (i : ℕ) (h : HasRecord d layout i) where
   -- the position of record i + 1, if it is a first arrival
   pub new-place : has (arrivalAt d i .number) (before d i) ≡ false → positionOf (answerAt d i) ≡ some (length (firsts (before d i)) + 1)
   new-place e = rw (answer-first (sizeOf d) (before d i) (arrivalAt d i) e) (first-place (sizeOf d) (firsts (before d i)) (arrivalAt d i))
@@ -194,7 +194,7 @@ module _ (d : Decoded) (y : Layout) (i : ℕ) (h : HasRecord d y i) where
       go true e = absurd (Option·some-ne-none p (sym is ∙ ap positionOf (answer-duplicate (sizeOf d) (before d i) (arrivalAt d i) e)))
       go false e =
           let more : firsts (before d (i + 1)) ≡ firsts (before d i) ++ (arrivalAt d i ∷ []) =
-          ap firsts (before-more d y i h) ∙ firsts-first (before d i) (arrivalAt d i) e in
+          ap firsts (before-more d layout i h) ∙ firsts-first (before d i) (arrivalAt d i) e in
           let both : some p ≡ some (length (firsts (before d i)) + 1) = sym is ∙ new-place e in
           let here : p ≡ length (firsts (before d i)) + 1 = cc in
           omega (arith, grown, ap length more, length-append (firsts (before d i)) (arrivalAt d i ∷ []), here)
@@ -206,23 +206,23 @@ module _ (d : Decoded) (y : Layout) (i : ℕ) (h : HasRecord d y i) where
         arith,
         arrived-answers (sizeOf d) (sampleArrivals d),
         length-firsts (sampleArrivals d),
-        arrivals-laid d y (h .file),
+        arrivals-laid d layout (h .file),
         h .file .few,
       )
 
 -- ---- the calls' answers
 
 -- the refusal that is found by the layout
-pub laid-refusal : (d : Decoded) (y : Layout) → FileLayout d y → (r low high asked : ℕ)
-    → r ≡ firstRefusal (y .refusal ∷ refusalIf (outside low high asked) askedOutside ∷ []) → r ≡ askedRefusal d low high asked
-laid-refusal d y h r low high asked e =
-    e ∙ ap (λ (y : Layout). firstRefusal (y .refusal ∷ refusalIf (outside low high asked) askedOutside ∷ [])) (h .laid)
+pub laid-refusal : (d : Decoded) (layout : Layout) → FileLayout d layout → (r low high asked : ℕ)
+    → r ≡ firstRefusal (layout .refusal ∷ refusalIf (outside low high asked) askedOutside ∷ []) → r ≡ askedRefusal d low high asked
+laid-refusal d layout h r low high asked e =
+    e ∙ ap (λ (layout : Layout). firstRefusal (layout .refusal ∷ refusalIf (outside low high asked) askedOutside ∷ [])) (h .laid)
 
 -- the same of a record
-pub laid-record : (d : Decoded) (y : Layout) → FileLayout d y → (r asked : ℕ)
-    → r ≡ firstRefusal (y .refusal ∷ refusalIf (outside 1 (y .arrivals) asked) askedOutside ∷ []) → r ≡ recordRefusal d asked
-laid-record d y h r asked e =
-    laid-refusal d y h r 1 (y .arrivals) asked e ∙ ap (λ (n : ℕ). askedRefusal d 1 n asked) (arrivals-laid d y h)
+pub laid-record : (d : Decoded) (layout : Layout) → FileLayout d layout → (r asked : ℕ)
+    → r ≡ firstRefusal (layout .refusal ∷ refusalIf (outside 1 (layout .arrivals) asked) askedOutside ∷ []) → r ≡ recordRefusal d asked
+laid-record d layout h r asked e =
+    laid-refusal d layout h r 1 (layout .arrivals) asked e ∙ ap (λ (n : ℕ). askedRefusal d 1 n asked) (arrivals-laid d layout h)
 
 -- a refusal and an answer
 abbrev answer-with : ℕ → Answer → RecordAnswer
@@ -271,13 +271,13 @@ module _ (d : Decoded) (n r : ℕ) (e : r ≡ askedRefusal d 1 degreeMost n) whe
 
 -- ---- the gap of a record, by its position
 
-module _ (d : Decoded) (y : Layout) (h : FileLayout d y) (asked r : ℕ) (e : r ≡ recordRefusal d asked) (z : r ≡ 0) where
+module _ (d : Decoded) (layout : Layout) (h : FileLayout d layout) (asked r : ℕ) (e : r ≡ recordRefusal d asked) (z : r ≡ 0) where
   -- the record asked for is one of the file's
-  pub record-laid : (1 ≤ asked) × (asked ≤ y .arrivals)
-  record-laid = omega (arith, record-inside d asked (sym e ∙ z), arrivals-laid d y h)
+  pub record-laid : (1 ≤ asked) × (asked ≤ layout .arrivals)
+  record-laid = omega (arith, record-inside d asked (sym e ∙ z), arrivals-laid d layout h)
 
   -- so it is there
-  inside : HasRecord d y (asked - 1)
+  inside : HasRecord d layout (asked - 1)
   inside = record { file = h; inside = omega (arith, record-laid) }
 
   module _ (p : ℕ) (is : known p ≡ positionOf (answerAt d (asked - 1))) where
@@ -293,7 +293,7 @@ module _ (d : Decoded) (y : Layout) (h : FileLayout d y) (asked r : ℕ) (e : r 
 
       -- which is at most 4,096
       pub place-few : p ≤ sentMost
-      place-few = omega (arith, position-le d y (asked - 1) inside p at, arrived-le d y (asked - 1) inside)
+      place-few = omega (arith, position-le d layout (asked - 1) inside p at, arrived-le d layout (asked - 1) inside)
 
       -- and the gap of that position
       pub gap-placed : (g : Gap) → g ≡ gapOf (answersOf d) (some p) → gap-with r g ≡ recordGap d asked

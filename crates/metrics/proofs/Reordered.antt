@@ -1,11 +1,11 @@
--- Figures of a reordered packet over the numbers of the first arrivals before it. Places whose numbers are above s, from one to another,
--- are joined, and grow back by one (`above-join`, `above-back`). The byte offset is a sum over the positions: one more adds its size if
--- its number is greater (`offset-greater`), else nothing (`offset-same`). The largest n grows by 1 at a greater number and is 0 after any
--- other, so it counts the positions behind the last that is not greater (`largest-back`, by induction over these positions). Last, where
--- a discontinuity stands (`found`), by induction over the first arrivals: a discontinuity stays; where there is none yet the byte offset
--- is 0, and an arrival of a greater number is the discontinuity. Here numbers is the table of the numbers of the first arrivals fs, count
--- their number, s the packet's, p the positions passed, n the number at the next one, and from a place up to which the byte offset is 0.
--- Assumes nothing.
+-- Figures of a reordered packet over the numbers of the first arrivals before it. Ranges of indices whose numbers are above s are joined,
+-- and grow back by one (`above-join`, `above-back`). The byte offset is a sum over the positions: the next one adds its size if its
+-- number is greater (`offset-greater`), else nothing (`offset-same`). The largest n grows by 1 at a greater number and is 0 after any
+-- other, so it counts the positions behind the last that is not greater (`largest-back`, by induction over these positions). Last, the
+-- index of a discontinuity (`found`), by induction over the first arrivals: a discontinuity stays; while there is none the byte offset is
+-- 0, and an arrival of a greater number is the discontinuity.
+-- Here numbers is the table of the numbers of the first arrivals fs, count their number, s the packet's, p the number of positions
+-- passed, n the number at the next one, and from an index up to which the byte offset is 0. Assumes nothing.
 use mathlib.Core.Path.{_≡_, refl, sym, ap, ap₂, _∙_}
 use mathlib.Core.Bool.{Bool, true, false, cond}
 use mathlib.Core.List.{List, [], _∷_, _++_}
@@ -28,10 +28,10 @@ use Rattle.rfc4737.proofs.Jumps.{placed-more, firstAbove-append, orElse}
 use Rattle.sample.specs.Places.{noArrival}
 use Rattle.metrics.specs.Private.Tables.{NumberTable, Above}
 
--- ---- numbers above a packet's, from a place to another
+-- ---- numbers above a packet's, over a range of indices
 
 module _ (numbers : List ℕ) (s : ℕ) where
-  -- at no place
+  -- over no index
   pub above-none : {low high : ℕ} → low ≡ high → Above numbers s low high
   above-none e = record { order = omega arith; at = λ p a b. absurd (omega arith) }
 
@@ -70,7 +70,7 @@ module _ (numbers : List ℕ) (count s : ℕ) where
     at : (fs : List Arrival) → NumberTable fs numbers count → getD fs p noArrival .number ≡ n
     at fs h = sym (is ∙ h .at p (omega (arith, h .all)))
 
-    -- under one position more, of a greater number
+    -- after the next position, of a greater number
     pub offset-greater : (size : ℕ → ℕ) (from sum k : ℕ) → s < n → k ≡ size n → OffsetTo size from p sum
         → OffsetTo size from (p + 1) (sum + k)
     unfolding byteOffset
@@ -138,7 +138,7 @@ record Searched (size : ℕ → ℕ) (fs : List Arrival) (s : ℕ) : Type 0 wher
   none-above : discontinuity fs s ≡ none → byteOffset size fs s ≡ 0
   some-found : (p : FirstArrival) → discontinuity fs s ≡ some p → FoundDiscontinuity size fs s p
 
--- the same under one first arrival more
+-- the same after the next first arrival
 searched-more : (size : ℕ → ℕ) (s : ℕ) (fs : List Arrival) (a : Arrival) → Searched size fs s → Searched size (fs ++ (a ∷ [])) s
 unfolding discontinuity firstAbove
 searched-more size s fs a h = go (discontinuity fs s) refl (ltb s (a .number)) refl

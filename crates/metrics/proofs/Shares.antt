@@ -1,10 +1,10 @@
--- The shares of some arrivals, with their two tables. Before any arrival all is 0, but NextExp 1. Each share is a count over the answers,
--- and takes one step by the answer of one arrival more (`shares-more`). The link of a packet is 0 exactly if it has not arrived, so the
--- link tells a copy, which changes nothing (`shared-copy`). A new packet adds its number, and 1 and its largest n as its link: the largest
--- n is 0 where it is in order (`shared-in-order`), and what was found along the links where it is reordered (`shared-late`). A share is no
--- greater than the number of arrivals (`shares-few`).
--- Here low and high are the two n that are counted for, l the arrivals, a the next one, t the shares, n its largest n, and a prime marks
--- what is after it. Assumes nothing.
+-- The shares of some arrivals, with their two tables. Before any arrival all are 0, but NextExp is 1. Each share is a count over the
+-- answers, and takes one step with the answer of the next arrival (`shares-more`). The link of a packet is 0 exactly if it has not
+-- arrived, so it shows a copy, which changes nothing (`shared-copy`). A new packet adds its number, and 1 more than its largest n as its
+-- link: the largest n is 0 if it is in order (`shared-in-order`), and is found along the links if it is reordered (`shared-late`). No
+-- share is greater than the number of arrivals (`shares-few`).
+-- Here low and high are the two n of the shares, l the arrivals, a the next one, t the shares, n its largest n, and a prime marks the
+-- values after it. Assumes nothing.
 use mathlib.Core.Path.{_≡_, refl, sym, ap, _∙_}
 use mathlib.Core.Bool.{Bool, true, false, cond, not, _||_, or-true, or-false}
 use mathlib.Core.List.{List, [], _∷_, _++_}
@@ -71,7 +71,7 @@ shares-few low high size l t is h =
     λ p. omega (arith, count-most p (answers size l), length-answers size l) in
     rw is (most _, most isReordered, most (isNReordered low), most (isNReordered high))
 
--- ---- one arrival more
+-- ---- the next arrival
 
 module _ (low high : ℕ) (size : ℕ → ℕ) (l : List Arrival) (a : Arrival) where
   -- the shares, by its answer
@@ -179,7 +179,7 @@ module _ (low high : ℕ) (size : ℕ → ℕ) (l : List Arrival) (a : Arrival) 
           rw (q, or-false (has s l), getD-set-other links (a .number) s (n + 1) 0 (λ z. eqb-false (a .number) s q (sym z))) (h .arrived s g)
 
 module _ (low high number : ℕ) (most : number ≤ sentMost) (numbers links : List ℕ) (t : Shares) where
-  -- the shares and tables after one arrival more of this number
+  -- the shares and tables after an arrival of this number
   abbrev After : List ℕ → List ℕ → Shares → Type 0
   After numbers′ links′ t′ = (size : ℕ → ℕ) (l : List Arrival) (a : Arrival) → a .number ≡ number
       → ShareTables low high size l numbers links t → ShareTables low high size (l ++ (a ∷ [])) numbers′ links′ t′

@@ -1,11 +1,11 @@
--- How the tables follow the arrivals. First, places that are filled with one value, one by one. Then one arrival more, by what it is. A
--- copy leaves all tables (`kept-copy`). A new packet's number is put after those before it, and its record at its packet; `skipped` is
--- asked only of packets below NextExp that have not arrived, and their discontinuities stay. So where the new packet is reordered its own
--- place is free (`kept-reordered`). Where it is in order, no number before it is above those from NextExp on, so that it is the
--- discontinuity of the packets that it skips (`discontinuity-new`, `kept-in-order`). Last, the arrivals of a file one by one, and that a
--- packet has a record exactly if it has arrived (`arrived-recorded`, `new-recorded`).
--- Here l are the arrivals, a the next one, fs first arrivals, s the number of any packet, p a place among first arrivals, d a decoded file,
--- y its layout and i the records before. Assumes nothing.
+-- How the tables follow the arrivals. First, entries that are filled with one value, one by one. Then the next arrival, by its kind. A
+-- copy leaves all tables (`kept-copy`). A new packet's number is written after those before it, and its record at its packet; `skipped`
+-- matters only for packets below NextExp that have not arrived, and their discontinuities stay. So if the new packet is reordered, its
+-- own entry is free (`kept-reordered`). If it is in order, no number before it is above those from NextExp on, so it is the discontinuity
+-- of the packets that it skips (`discontinuity-new`, `kept-in-order`). Last, the arrivals of a file one by one, and that a packet has a
+-- record exactly if it has arrived (`arrived-recorded`, `new-recorded`).
+-- Here l are the arrivals, a the next one, fs first arrivals, s the number of any packet, p an index among first arrivals, d a decoded
+-- file and i the number of records before. Assumes nothing.
 use mathlib.Core.Path.{_≡_, refl, sym, ap, _∙_}
 use mathlib.Core.Bool.{Bool, true, false, cond, not, true≢false}
 use mathlib.Core.List.{List, [], _∷_, _++_}
@@ -36,11 +36,11 @@ use Rattle.metrics.proofs.Records.{record-none, record-some}
 
 -- ---- filling
 
--- before the first place
+-- before the first entry
 pub filled-none : (from value : ℕ) (old : List ℕ) → Filled from from value old old
 filled-none from value old = record { same = refl; inside = λ k h g. absurd (omega arith); below = λ k h. refl; past = λ k h. refl }
 
--- one place more
+-- one more entry
 pub filled-more : (from s value : ℕ) (old new : List ℕ) → from ≤ s → s < length new → Filled from s value old new
     → Filled from (s + 1) value old (set new s value)
 filled-more from s value old new h g f =
@@ -57,7 +57,7 @@ filled-more from s value old new h g f =
         let other : k ≡ s → ⊥ = eqb-false k s e in
         getD-set-other new s k value 0 other ∙ f .inside k a (omega (arith, other))
 
--- to the last place, or none where there is none
+-- to the last entry, or none if there is none
 pub filled-to : (from to s value : ℕ) (old new : List ℕ) → to ≤ s → s ≤ from + (to - from) → Filled from s value old new
     → Filled from to value old new
 filled-to from to s value old new h g f =
@@ -67,9 +67,9 @@ filled-to from to s value old new h g f =
     past k a true e = f .below k (ltb-true k from e)
     past k a false e = f .past k (omega (arith, ltb-false k from e))
 
--- ---- one arrival more
+-- ---- the next arrival
 
--- the numbers under one first arrival more, put after those before it
+-- the numbers after the next first arrival, put after those before it
 pub numbered-more : (fs : List Arrival) (a : Arrival) (numbers : List ℕ) (count : ℕ) → length fs < length numbers
     → NumberTable fs numbers count
     → NumberTable (fs ++ (a ∷ [])) (set numbers count (a .number)) (count + 1)
@@ -99,7 +99,7 @@ recorded-copy l a arrived s = record-more s l a ∙ go (has s l) refl
         let other : a .number ≡ s → ⊥ = λ q. true≢false (sym arrived ∙ (rw q e)) in
         rw (ne-eqb (a .number) s other) (sym (record-none s l e))
 
--- the records under one first arrival more, whose own is put at its packet
+-- the records after the next first arrival, whose own is put at its packet
 recorded-more : (l : List Arrival) (a : Arrival) (records : List ℕ) → a .number < length records → has (a .number) l ≡ false
     → ((s : ℕ) → 1 ≤ s → s ≤ sentMost → getD records s 0 ≡ firstRecord s l)
     → (s : ℕ) → 1 ≤ s → s ≤ sentMost → getD (set records (a .number) (length l + 1)) s 0 ≡ firstRecord s (l ++ (a ∷ []))
@@ -225,14 +225,14 @@ module _ (l : List Arrival) (a : Arrival) (numbers records skipped : List ℕ) (
 -- ---- along a file
 
 -- a file of this layout has as many arrivals
-pub arrivals-laid : (d : Decoded) (y : Layout) → FileLayout d y → y .arrivals ≡ length (sampleArrivals d)
-arrivals-laid d y h = ap (λ (y : Layout). y .arrivals) (h .laid)
+pub arrivals-laid : (d : Decoded) (layout : Layout) → FileLayout d layout → layout .arrivals ≡ length (sampleArrivals d)
+arrivals-laid d layout h = ap (λ (layout : Layout). layout .arrivals) (h .laid)
 
 -- there are i among its first i
-pub before-count : (d : Decoded) (y : Layout) (i : ℕ) → FileLayout d y → i ≤ y .arrivals → length (before d i) ≡ i
-before-count d y i h most = length-take-le i (sampleArrivals d) (omega (arith, arrivals-laid d y h))
+pub before-count : (d : Decoded) (layout : Layout) (i : ℕ) → FileLayout d layout → i ≤ layout .arrivals → length (before d i) ≡ i
+before-count d layout i h most = length-take-le i (sampleArrivals d) (omega (arith, arrivals-laid d layout h))
 
-module _ (d : Decoded) (y : Layout) (i : ℕ) (h : HasRecord d y i) where
+module _ (d : Decoded) (layout : Layout) (i : ℕ) (h : HasRecord d layout i) where
   -- the number of its arrival is that of a packet
   pub number-few : (a : Arrival) → a ≡ arrivalAt d i → (a .number ≡ arrivalAt d i .number) × (1 ≤ a .number) × (a .number ≤ sentMost)
   number-few a e =
@@ -242,7 +242,7 @@ module _ (d : Decoded) (y : Layout) (i : ℕ) (h : HasRecord d y i) where
 
   -- record i + 1 is one of the arrivals
   pub inside-laid : i < length (sampleArrivals d)
-  inside-laid = omega (arith, arrivals-laid d y (h .file))
+  inside-laid = omega (arith, arrivals-laid d layout (h .file))
 
   -- the arrivals up to record i + 1 are those before it and its own
   pub before-more : before d (i + 1) ≡ before d i ++ (arrivalAt d i ∷ [])
@@ -250,7 +250,7 @@ module _ (d : Decoded) (y : Layout) (i : ℕ) (h : HasRecord d y i) where
 
   -- i arrivals are before it
   pub before-length : length (before d i) ≡ i
-  before-length = before-count d y i (h .file) (omega (arith, h .inside))
+  before-length = before-count d layout i (h .file) (omega (arith, h .inside))
 
   -- at most i of them are first arrivals
   pub numbered-le : (numbers : List ℕ) (count : ℕ) → NumberTable (firsts (before d i)) numbers count → (count ≤ i) × (i < arrivalsMost)

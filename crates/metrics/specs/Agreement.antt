@@ -1,4 +1,4 @@
--- How far a text is the listing that a sample must give. Assumes nothing.
+-- How far a text agrees with the listing of a sample. Assumes nothing.
 use Prim.Native.Nat.{ℕ, _+_}
 use mathlib.Core.Bool.{Bool, true, false, cond, _&&_}
 use mathlib.Core.List.{List, [], _∷_}
@@ -21,7 +21,7 @@ sameText [] (y ∷ t) = false
 sameText (x ∷ e) [] = false
 sameText (x ∷ e) (y ∷ t) = eqb x y && sameText e t
 
--- a text against the listing of a sample; with a refusal it is not looked at
+-- a text compared with the listing of a sample; with a refusal nothing is compared
 unfoldable pub sampleAgreement : Decoded → List ℕ → SampleAgreement
 sampleAgreement d text =
     record {

@@ -1,10 +1,9 @@
--- What each call returns of a decoded file: a definition of rfc4737 over the answers of its sample. The file's own refusal comes
--- first, then 9. A refused file has the empty sample, so what stands beside a refusal is the figure of no arrivals: zeros, no gap, an
--- undefined ratio. Assumes nothing.
-use mathlib.Core.Path.{_≡_}
-use Prim.Native.Nat.{ℕ, zero, suc, _+_, _*_, _^_, _<_}
+-- What each call returns for a decoded file: a definition of rfc4737 over the answers of its sample. The file's own refusal comes first,
+-- then 9. A refused file has the empty sample, so beside a refusal is the figure of no arrivals: zeros, no gap, an undefined ratio.
+-- Assumes nothing.
+use Prim.Native.Nat.{ℕ, zero, suc, _+_, _^_}
 use mathlib.Core.Bool.{cond}
-use mathlib.Core.List.{List, [], _∷_}
+use mathlib.Core.List.{List, [], _∷_, map}
 use lib.ListN.{length, getD}
 use Rattle.rfc4737.specs.declared.Answer.{Answer}
 use Rattle.rfc4737.specs.declared.Gap.{Gap}
@@ -28,10 +27,10 @@ use Rattle.metrics.specs.declared.SampleAccommodated.{SampleAccommodated
 use Rattle.metrics.specs.declared.SampleNeeds.{SampleNeeds}
 use Rattle.metrics.specs.declared.SampleSteps.{SampleSteps}
 
--- ---- what is asked for
+-- ---- the record or n asked for
 
 module _ {ℓ} {A : Type ℓ} where
-  -- what stands at a record, counted from 1; `other` at no record
+  -- the element of a list for a record, counted from 1; `other` if there is no such record
   unfoldable pub atRecord : A → List A → ℕ → A
   atRecord other l zero = other
   atRecord other l (suc i) = getD l i other
@@ -48,7 +47,7 @@ recordRefusal d asked = askedRefusal d 1 (length (sampleArrivals d)) asked
 abbrev pub degreeMost : ℕ
 degreeMost = 100
 
--- the answers over which n is asked for: none where it is outside 1 to 100
+-- the answers over which a degree is taken: none if n is outside 1 to 100
 abbrev pub degreeAnswers : (d : Decoded) (n : ℕ) → List Answer
 degreeAnswers d n = cond (outside 1 degreeMost n) [] (answersOf d)
 
@@ -108,15 +107,21 @@ sampleNeeds d =
 
 -- ---- several sizes at once
 
--- how many sizes of a buffer are tried in one pass
+-- how many buffer sizes are tried in one pass
 abbrev pub stepCount : ℕ
 stepCount = 128
 
--- how many first arrivals of a sample buffers of the sizes low, low + 2^shift, low + 2 * 2^shift and so on accommodate, L, and the greatest
--- need
-pub record StepsOf (d : Decoded) (m : Measure) (low shift : ℕ) (r : SampleSteps) : Type 0 where
-  pub refusal : r .refusal ≡ decodedRefusal d
-  pub many : r .arrived ≡ arrived (answersOf d)
-  pub most : r .greatest ≡ greatestNeed m (answersOf d)
-  pub places : length (r .counts) ≡ stepCount
-  pub at : (j : ℕ) → j < stepCount → getD (r .counts) j 0 ≡ accommodated m (low + j * 2 ^ shift) (answersOf d)
+-- n sizes, each greater than the one before by a step: low, low + step, low + 2 * step and so on
+unfoldable pub sizesFrom : (low step n : ℕ) → List ℕ
+sizesFrom low step zero = []
+sizesFrom low step (suc n) = low ∷ sizesFrom (low + step) step n
+
+-- how many first arrivals of a sample buffers of the sizes low + k * 2^shift accommodate, for each k below 128; L; and the greatest need
+unfoldable pub sampleSteps : Decoded → Measure → (low shift : ℕ) → SampleSteps
+sampleSteps d m low shift =
+    record {
+      refusal = decodedRefusal d;
+      arrived = arrived (answersOf d);
+      greatest = greatestNeed m (answersOf d);
+      counts = map (λ (size : ℕ). accommodated m size (answersOf d)) (sizesFrom low (2 ^ shift) stepCount);
+    }

@@ -1,4 +1,4 @@
--- The gap of every record as a number, and what the call that lists them answers. Assumes nothing.
+-- The gap of every record as a number, and what the call that lists them returns. Assumes nothing.
 use mathlib.Core.Path.{_≡_}
 use mathlib.Core.Bool.{Bool}
 use mathlib.Core.List.{List, map}
@@ -29,19 +29,19 @@ numberGap (suc p) = Gap.Positions (suc p)
 unfoldable pub gapNumbers : List Answer → List ℕ
 gapNumbers l = map gapNumber (gaps l)
 
--- whether a list has fewer places than there are arrivals
+-- whether a list is too short for one number for each arrival
 abbrev pub listShort : (arrivals places : ℕ) → Bool
 listShort arrivals places = ltb places arrivals
 
--- a decoded file where a list of this many places is lent
+-- a decoded file, refused with 8 if a list of this length is too short for its gaps
 abbrev pub gapsInto : Decoded → (places : ℕ) → Decoded
 gapsInto d places = unlessShort (listShort (length (sampleArrivals d)) places) d
 
--- the call's answer, and the lent list after it: it has the gaps of all records from its start, all else as it was
+-- the call's answer, and the lent list after it: the gaps of all records from its start on, the rest as it was
 pub record GapsTo (d : Decoded) (old : List ℕ) (answer : Layout) (new : List ℕ) : Type 0 where
   pub layout : answer ≡ layoutOf (gapsInto d (length old))
   pub gaps : new ≡ over (gapNumbers (answersOf (gapsInto d (length old)))) old
 
--- a number tells its gap: at every record asked for stands what `gap` returns, and 0 exactly if that is no gap
+-- each number stands for a gap: at every record asked for it is the gap that `gap` returns, and 0 exactly if that is none
 pub record GapsTell : Type 0 where
   pub at : (d : Decoded) (asked : ℕ) → numberGap (atRecord 0 (gapNumbers (answersOf d)) asked) ≡ recordGap d asked .gap

@@ -1,4 +1,4 @@
--- What each call answers (Figures, Gaps, Rows, Report and Agreement, over Sample), and that moving the clock changes nothing (Moved).
+-- What each call returns (Figures, Gaps, Rows, Report and Agreement, over Sample), and that moving the clock changes nothing (Moved).
 -- Assumes nothing.
 pub mod Sample
 pub mod Records

@@ -12,9 +12,9 @@ use Rattle.sample.specs.Moved.{movedSample, MovedAccepted, SampleMovedTwice}
 use Rattle.metrics.specs.Figures.{recordAnswer, recordGap, sampleCounts, sampleTally, degreeCounts, sampleDegree, sampleRatios, sampleAccommodated, sampleNeeds}
 use Rattle.metrics.specs.Report.{sampleText}
 
--- every call answers of one decoded file as of another
+-- every call returns the same for two decoded files
 pub record SameFigures (d e : Decoded) : Type 0 where
-  -- `listing`, into any lent memory, and `agreement`, of any text: both answer by the refusal and the listing's octets alone
+  -- `listing`, into any buffer, and `agreement`, with any text: both depend on the refusal and the listing's octets alone
   pub refusal : decodedRefusal d ≡ decodedRefusal e
   pub text : sampleText d ≡ sampleText e
   -- `answer` and `gap`, of any record
@@ -36,7 +36,7 @@ pub record SameFigures (d e : Decoded) : Type 0 where
 pub record ClockMoved (file : List ℕ) : Type 0 where
   -- the moved sample is accepted
   pub accepts : MovedAccepted file
-  -- every call answers of its file as of this one
+  -- every call returns the same for its file as for this one
   pub same : (s : Sample) (c : ℕ) → decode file ≡ accepted s → Below (2 ^ 64) (timesOf (movedSample c s .arrivals))
       → SameFigures (decode (fileOf (movedSample c s))) (decode file)
   -- moving by one amount and then by another is moving by their sum

@@ -13,7 +13,7 @@ use Rattle.sample.specs.Decode.{Decoded, layoutOf}
 use Rattle.sample.specs.Places.{noArrival}
 use Rattle.metrics.specs.Sample.{sizeOf, sampleArrivals}
 
--- the places of a table by packet: one for each number up to the greatest, and one for 0
+-- the length of a table by packet number: index 0, and one for each number up to the greatest
 abbrev pub numberPlaces : ℕ
 numberPlaces = 4097
 
@@ -21,19 +21,19 @@ numberPlaces = 4097
 abbrev pub arrivalAt : Decoded → ℕ → Arrival
 arrivalAt d i = getD (sampleArrivals d) i noArrival
 
--- the arrivals before it
+-- the arrivals before record i + 1
 abbrev pub before : Decoded → ℕ → List Arrival
 before d i = take i (sampleArrivals d)
 
--- its answer
+-- the answer for record i + 1
 abbrev pub answerAt : Decoded → ℕ → Answer
 answerAt d i = answerTo (sizeOf d) (before d i) (arrivalAt d i)
 
--- the answers for the records before it
+-- the answers for the records before record i + 1
 abbrev pub answersTo : Decoded → ℕ → List Answer
 answersTo d i = answers (sizeOf d) (before d i)
 
--- the layout of a file: what is known of its sample besides
+-- `layout` is the layout of a file; so K, A and the numbers of its sample are within their limits
 pub record FileLayout (d : Decoded) (layout : Layout) : Type 0 where
   pub laid : layout ≡ layoutOf d
   pub sentFew : layout .sent ≤ sentMost

@@ -13,6 +13,6 @@ use Rattle.sample.specs.declared.WriteAnswer.{WriteAnswer}
 abbrev pub sampleText : Decoded → List ℕ
 sampleText d = listingOf (length (sampleOf d .sizes)) (sampleArrivals d) (answersOf d) (counts (answersOf d))
 
--- the call's answer, and the lent octets after it: those of the listing
+-- the call's answer, and the caller's buffer after it, which begins with the listing
 abbrev pub ListedTo : Decoded → List ℕ → WriteAnswer → List ℕ → Type 0
 ListedTo d old answer new = Output (decodedRefusal d) (sampleText d) old answer new

@@ -1,6 +1,6 @@
-// The engine: what is known after some records, and the answer for the next one. Cost: a few steps for each record; besides,
-// for a reordered packet at most 11 steps to ask the tree of sums, and once for each first arrival at most 12 to enter it. Links
-// take at most two steps for each first arrival in all.
+// The engine: the state after some records, and the answer for the next one. Cost of a pass: O(A log K + K). A reordered packet takes at
+// most 11 steps to ask the tree of sums, and each first arrival at most 12 to enter it; links take at most two steps for each first
+// arrival in all.
 ghost use mathlib.Core.Path.{_≡_};
 ghost use Prim.Native.Nat.{_+_};
 ghost use Rattle.sample.specs.Decode.{decode};
@@ -27,13 +27,13 @@ use rfc4737::Answer;
 use rfc4737::Arrival;
 use sample::Layout;
 
-// What is known beside the tables: of the records noted, and of the tree of sums.
+// The state beside the tables: that of the records noted and that of the tree of sums.
 pub(crate) struct Engine {
     pub noted: State,
     pub totals: Totals,
 }
 
-// Before any record.
+// The engine before any record.
 pub(crate) fn fresh_engine() -> Engine
     ensures { λ r. ⌜ r ≡ record { noted = record { count = 0; next = 1 }; totals = record { filled = 0; total = 0 } } ⌝ }
 {
@@ -46,14 +46,14 @@ pub(crate) fn fresh_engine() -> Engine
     }
 }
 
-// The answer for the next record with its class, and what is known after it.
+// The answer for a record, its class, and the engine after it.
 pub(crate) struct EngineAnswer {
     pub answer: Answer,
     pub class: Class,
     pub engine: Engine,
 }
 
-// Advances by record i + 1, which is this arrival.
+// Advances the engine by record i + 1, which is `arrival`.
 pub(crate) fn advance(
     file: &[u8],
     layout: Layout,

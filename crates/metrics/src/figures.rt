@@ -93,8 +93,8 @@ pub(crate) fn counts_after(c: Counts, class: Class) -> Counts
     }
 }
 
-// The class of an arrival of this number, without its figures, by the packets that have arrived and NextExp. A packet that has
-// arrived is below NextExp, so the table is asked for those below alone.
+// The class of an arrival of packet `number`, with 0 in place of its figure, by the packets seen and NextExp. A packet that has arrived
+// is below NextExp, so only numbers below NextExp are looked up.
 fn kind_of(seen: &[bool; PACKET_TABLE_LEN], next: u32, number: u32) -> Class
     requires { ⌜ (number ≤ sentMost) × (next ≤ number → getD (now seen) number false ≡ false) ⌝ }
     ensures { λ r. ⌜ r ≡ kindBy (now (seen .entry)) next number ⌝ }
@@ -109,7 +109,7 @@ fn kind_of(seen: &[bool; PACKET_TABLE_LEN], next: u32, number: u32) -> Class
     Class::Reordered(0)
 }
 
-// NextExp after an arrival of this number; a duplicate is below it and leaves it.
+// NextExp after an arrival of packet `number`; a duplicate is below NextExp and leaves it.
 fn next_after(next: u32, number: u32) -> u32
     requires { ⌜ number ≤ sentMost ⌝ }
     ensures { λ r. ⌜ r ≡ nextAfter next number ⌝ }
@@ -141,7 +141,7 @@ pub(crate) fn counts_of(file: &[u8], layout: Layout) -> Counts
     c
 }
 
-// The place of an extent in the tally.
+// The index of an extent in the tally.
 fn tally_place(extent: u32) -> usize
     ensures { λ r. ⌜ r ≡ tallyPlace extent ⌝ }
 {
@@ -196,8 +196,7 @@ pub(crate) fn tally_of(file: &[u8], layout: Layout) -> [u32; TALLY_PLACES]
     tally
 }
 
-// Of the arrivals taken: how many are first arrivals, the reordered packets, the n-reordered ones for a low and for a
-// high n, and NextExp.
+// Of the arrivals so far: how many are first arrivals, reordered, n-reordered for a low n, and n-reordered for a high n; and NextExp.
 pub(crate) struct Shares {
     pub whole: u32,
     pub reordered: u32,
@@ -206,7 +205,7 @@ pub(crate) struct Shares {
     pub next: u32,
 }
 
-// The n-reordered packets after another reordered one, of this largest n.
+// `part` n-reordered packets, after another reordered one, whose largest n is `most`.
 fn n_reordered_after(n: u32, most: u32, part: u32) -> u32
     requires { ⌜ part < arrivalsMost ⌝ }
     ensures { λ r. ⌜ r ≡ reachedBy n most part ⌝ }
@@ -217,7 +216,7 @@ fn n_reordered_after(n: u32, most: u32, part: u32) -> u32
     part
 }
 
-// The shares after the next arrival, of this number. A copy leaves them and the tables; any other packet is linked by its
+// The shares after an arrival of packet `number`. A copy leaves them and the tables; any other packet is linked by 1 more than its
 // largest n, which is 0 if it is in order.
 fn shares_after(
     numbers: &mut [u16; MAX_FIRST_ARRIVALS],
@@ -263,8 +262,8 @@ fn shares_after(
     }
 }
 
-// The shares of a sample: one pass, with two tables, the numbers of the first arrivals in order of position and, by
-// packet number, 1 and its largest n (0 where it has not arrived).
+// The shares of a sample, in one pass with two tables: the numbers of the first arrivals in order of position; and, by packet number, 1
+// more than its largest n, or 0 if it has not arrived.
 pub(crate) fn shares_of(file: &[u8], layout: Layout, low: u32, high: u32) -> Shares
     requires { ⌜ FileLayout (decode (now file)) layout ⌝ }
     ensures { λ r. ⌜ r ≡ sharesOf low high (sizeOf (decode (now (file .entry)))) (sampleArrivals (decode (now (file .entry)))) ⌝ }

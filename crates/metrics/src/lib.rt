@@ -1,15 +1,15 @@
-// Every figure of a sample, by the definitions of rfc4737 over what the file decodes to. Every call is total. It first
-// checks the file, in one pass; with a refusal its figures are those of no arrivals. A list or a buffer is lent if the
-// caller owns it and passes it by reference.
-// Cost, with A arrivals of K packets: O(A + K) for the check and for each pass, where a call says nothing else. No call
-// is quadratic. Tables of 4,096 places are zeroed whatever A and K are.
+// Every figure of a sample, by the definitions of rfc4737 over what the file decodes to. Every call is total: it first checks the file,
+// in one pass, and of a refused file it returns the refusal with the figures of no arrivals. A list or a buffer is lent if the caller
+// owns it and passes it by reference.
+// Cost, with A arrivals of K packets: O(A + K) for the check and for each pass, unless a call says otherwise. No call is quadratic.
+// Tables of 4,096 entries are zeroed whatever A and K are.
 ghost use mathlib.Core.Path.{_≡_};
 ghost use Prim.Native.Nat.{_≤_};
 ghost use lib.ListN.{length};
 ghost use Rattle.rfc4737.specs.Cases.{CasesHold};
 ghost use Rattle.rfc4737.specs.Reordered.{ReorderedHaveDiscontinuity, OffsetsBounded, FiguresBounded};
 ghost use Rattle.sample.specs.Decode.{decode};
-ghost use Rattle.metrics.specs.Figures.{recordAnswer, recordGap, sampleCounts, sampleTally, degreeCounts, sampleDegree, sampleRatios, sampleAccommodated, sampleNeeds, StepsOf};
+ghost use Rattle.metrics.specs.Figures.{recordAnswer, recordGap, sampleCounts, sampleTally, degreeCounts, sampleDegree, sampleRatios, sampleAccommodated, sampleNeeds, sampleSteps};
 ghost use Rattle.metrics.specs.Gaps.{GapsTo, GapsTell};
 ghost use Rattle.metrics.specs.Rows.{rowOf, RowsTo, RowsFromTo, RowsTell};
 ghost use Rattle.listing.specs.Example.{ExampleHolds};
@@ -55,16 +55,16 @@ use sample::Layout;
 use sample::WriteAnswer;
 use sample::refused_layout;
 
-// The greatest extent that has a place of its own in a tally.
+// The greatest extent that a tally counts by itself; all greater ones are counted at index 0.
 const TALLY_MOST: u32 = 100;
 
-// The places of a tally.
+// The length of a tally: index 0, and one for each extent from 1 to TALLY_MOST.
 pub const TALLY_PLACES: usize = TALLY_MOST as usize + 1;
 
 // The greatest n of a degree.
 const DEGREE_MOST: u32 = 100;
 
-// How many sizes of a buffer are tried in one pass.
+// How many buffer sizes `accommodated_steps` tries in one pass.
 pub const STEPS: usize = 128;
 
 // The answer for a record, and the refusal (0 for none).
@@ -113,7 +113,7 @@ pub struct SampleRatios {
     pub ratios: rfc4737::Ratios,
 }
 
-// How many first arrivals of a sample a receiver's buffer accommodates, how many there are, and the refusal (0 for none).
+// How many first arrivals of a sample a receiver's buffer accommodates, how many first arrivals there are, and the refusal (0 for none).
 #[repr(C)]
 pub struct SampleAccommodated {
     pub refusal: u32,
@@ -130,8 +130,8 @@ pub struct SampleNeeds {
     pub time: u64,
 }
 
-// How many first arrivals of a sample buffers of several sizes accommodate, how many there are, the greatest need of any, and the refusal
-// (0 for none).
+// For each of STEPS buffer sizes, how many first arrivals of a sample it accommodates; how many first arrivals there are; the greatest
+// need of any; and the refusal (0 for none).
 pub struct SampleSteps {
     pub refusal: u32,
     pub arrived: u32,
@@ -190,8 +190,8 @@ pub fn gap(file: &[u8], asked: u32) -> RecordGap
     gap_of(file, layout, asked)
 }
 
-// The two counts of which the degree of n-reordering is made: one pass, O(A + K). In it all searches for a largest n take
-// at most two steps for each first arrival.
+// The two counts of a degree of n-reordering: the n-reordered packets, and the first arrivals. One pass, O(A + K): all searches for a
+// largest n together take at most two steps for each first arrival.
 pub fn n_reordered(file: &[u8], n: u32) -> DegreeCounts
     ensures { λ r. ⌜ r ≡ degreeCounts (decode (now (file .entry))) n ⌝ }
 {
@@ -212,7 +212,7 @@ pub fn n_reordered(file: &[u8], n: u32) -> DegreeCounts
     }
 }
 
-// The degree of n-reordering, at the cost of its counts.
+// The degree of n-reordering, at the cost of `n_reordered`.
 pub fn degree(file: &[u8], n: u32) -> SampleDegree
     ensures { λ r. ⌜ r ≡ sampleDegree (decode (now (file .entry))) n ⌝ }
 {
@@ -223,7 +223,7 @@ pub fn degree(file: &[u8], n: u32) -> SampleDegree
     }
 }
 
-// The ratio figures of a sample, at the cost of the counts of one degree.
+// The ratio figures of a sample, at the cost of `n_reordered`.
 pub fn ratios(file: &[u8]) -> SampleRatios
     ensures { λ r. ⌜ r ≡ sampleRatios (decode (now (file .entry))) ⌝ }
 {
@@ -249,10 +249,11 @@ pub fn accommodated(file: &[u8], measure: Measure, size: u64) -> SampleAccommoda
     }
 }
 
-// How many first arrivals buffers of STEPS sizes accommodate, how many first arrivals there are, and the greatest need: one pass, O(A +
-// K), and O(A log K + K) in octets.
+// For each size `low + k * 2^shift`, with k from 0 to STEPS - 1: how many first arrivals a buffer of that size accommodates. Besides, how
+// many first arrivals there are, and the greatest need of any. No size wraps at 2^64, whatever `shift` is. One pass: O(A + K), and O(A
+// log K + K) in octets.
 pub fn accommodated_steps(file: &[u8], measure: Measure, low: u64, shift: u32) -> SampleSteps
-    ensures { λ r. ⌜ StepsOf (decode (now (file .entry))) measure low shift r ⌝ }
+    ensures { λ r. ⌜ r ≡ sampleSteps (decode (now (file .entry))) measure low shift ⌝ }
 {
     let layout = checked_layout(file);
     let mut counts = [0u32; STEPS];
@@ -266,7 +267,7 @@ pub fn accommodated_steps(file: &[u8], measure: Measure, low: u64, shift: u32) -
     }
 }
 
-// The greatest needs of a sample: a pass for each measure.
+// The greatest needs of a sample, in one pass for each measure.
 pub fn greatest_needs(file: &[u8]) -> SampleNeeds
     ensures { λ r. ⌜ r ≡ sampleNeeds (decode (now (file .entry))) ⌝ }
 {
@@ -279,8 +280,8 @@ pub fn greatest_needs(file: &[u8]) -> SampleNeeds
     }
 }
 
-// Fills a lent list with the gap of every record, 0 where it has none: one pass and a step for each record, O(A + K). With a refusal, the
-// file's own or 8, the list stays as it was.
+// Fills a lent list with the gap of every record, 0 where it has none: one pass, and one step for each record, O(A + K). With a refusal,
+// the file's own or 8, the list stays as it was.
 pub fn record_gaps(file: &[u8], gaps: &mut [u32]) -> Layout
     ensures { λ r. ⌜ GapsTo (decode (now (file .entry))) (now (gaps .entry)) r (now (gaps .exit)) ⌝ }
     ensures tell { λ _. ⌜ GapsTell ⌝ }
@@ -356,9 +357,9 @@ pub fn rows_from(file: &[u8], from: u32, rows: &mut [u64]) -> Layout
     layout
 }
 
-// Writes the listing of a sample at the start of `out`, if `out` has room for it; LISTING_OCTETS octets have room for any. One pass,
-// in which a reordered packet takes at most 11 steps of a tree of sums, and each first arrival at most 12 to enter it. Cost:
-// O(A log K + K); twice that if `out` is shorter than LISTING_OCTETS.
+// Writes the listing of a sample at the start of `out`, if `out` has room for it; LISTING_OCTETS octets have room for any. One pass, in
+// which a reordered packet takes at most 11 steps to ask a tree of sums, and each first arrival at most 12 to enter it. Cost: O(A log K +
+// K); twice that if `out` is shorter than LISTING_OCTETS.
 pub fn listing(file: &[u8], out: &mut [u8]) -> WriteAnswer
     ensures { λ r. ⌜ ListedTo (decode (now (file .entry))) (now (out .entry)) r (now (out .exit)) ⌝ }
     ensures room { λ _. ⌜ length (sampleText (decode (now (file .entry)))) ≤ listingOctets ⌝ }

@@ -20,8 +20,8 @@ use rfc4737::refusal::NONE;
 use rfc4737::refusal::OUTPUT_SHORT;
 use sample::Layout;
 
-// Writes the lines of a sample at the start of `out` if it has room for all of them, and returns their length. If it has
-// not, some of them may be written.
+// Writes the lines of a sample at the start of `out` if it has room for all of them, and returns their length. If it has no room, some of
+// them may be written.
 pub(crate) fn write_listing(file: &[u8], layout: Layout, out: &mut [u8]) -> u32
     requires { ⌜ FileLayout (decode (now file)) layout ⌝ }
     ensures { λ r. ⌜ (r ≡ length (sampleText (decode (now (file .entry)))))
@@ -31,8 +31,8 @@ pub(crate) fn write_listing(file: &[u8], layout: Layout, out: &mut [u8]) -> u32
     part.octets as u32
 }
 
-// The refusal of a listing into `room` octets: the file's own, then 8. No line is made if `room` suffices for any listing; else
-// all lines are made, into an empty buffer, to know their length.
+// The refusal of a listing into `room` octets: the file's own, then 8. If `room` is enough for any listing, no line is made; else all
+// lines are made, into a buffer that has room for none, to know their length.
 pub(crate) fn listing_refusal(file: &[u8], layout: Layout, room: usize) -> u32
     requires { ⌜ FileLayout (decode (now file)) layout ⌝ }
     ensures { λ r. ⌜ r ≡ firstRefusal (decodedRefusal (decode (now (file .entry)))

@@ -1,18 +1,25 @@
 // The figures of a sample.
 use crate::listings::list_into;
+use cases::lists::first_32;
+use cases::print::write_32;
 use cases::print::write_64;
 use cases::print::write_either;
 use cases::print::write_number;
 use cases::print::write_word;
 use listing::LISTING_OCTETS;
+use metrics::STEPS;
 use metrics::TALLY_PLACES;
 use rfc4737::Answer;
 use rfc4737::Gap;
 use rfc4737::LateTime;
+use rfc4737::Measure;
 use rfc4737::Ratio;
 use rfc4737::Ratios;
 use rfc4737::ReorderedFigures;
 use std::num::wrapping_add_u64;
+
+// The index of the last buffer size.
+const LAST_STEP: usize = STEPS - 1;
 
 // Writes a late time, with a leading minus for before.
 fn write_time(late: LateTime) {
@@ -85,7 +92,7 @@ fn one_if_any(count: u32) -> u64 {
     1
 }
 
-// How many places of a tally are not 0.
+// How many entries of a tally are not 0.
 fn filled_places(tally: &[u32; TALLY_PLACES]) -> u64 {
     let mut n: u64 = 0;
     for i in 0..TALLY_PLACES {
@@ -94,7 +101,7 @@ fn filled_places(tally: &[u32; TALLY_PLACES]) -> u64 {
     n
 }
 
-// Writes the tally's refusal, the count of extent 2, and how many places are not 0.
+// Writes the tally's refusal, the count of extent 2, and how many entries are not 0.
 fn write_tally(file: &[u8]) {
     let t = metrics::tally(file);
     let tally = t.tally;
@@ -141,7 +148,26 @@ pub(crate) fn write_rows(file: &[u8], from: u32) {
     write_64(b",", &rows);
 }
 
-// Writes what each call gives.
+// Writes of 128 buffer sizes in a measure: the refusal, the greatest need, the first arrivals, the first `shown` counts, and the last one.
+fn write_measure(word: &[u8], file: &[u8], measure: Measure, low: u64, shift: u32, shown: usize) {
+    let steps = metrics::accommodated_steps(file, measure, low, shift);
+    let counts = steps.counts;
+    let last = counts[LAST_STEP] as u64;
+    write_number(word, steps.refusal as u64);
+    write_number(b" greatest ", steps.greatest);
+    write_number(b" of ", steps.arrived as u64);
+    write_32(b" counts", first_32(&counts, shown));
+    write_number(b" last ", last);
+}
+
+// Writes of 128 buffer sizes how many first arrivals each accommodates, in every measure.
+pub(crate) fn write_steps(file: &[u8], low: u64, shift: u32, shown: usize) {
+    write_measure(b"; packets ", file, Measure::Packets, low, shift, shown);
+    write_measure(b"; octets ", file, Measure::Octets, low, shift, shown);
+    write_measure(b"; time ", file, Measure::Time, low, shift, shown);
+}
+
+// Writes the answer of each call.
 pub(crate) fn write_all(file: &[u8]) {
     write_answer(file, 5);
     write_gap(file, 3);

@@ -1,5 +1,5 @@
--- `buffering::first_enough` meets its contract. The loop's invariant: no count before j is enough. The measure is what is left of the
--- counts. Assumes nothing.
+-- `buffering::first_enough` meets its contract. The loop's invariant: no count before j is enough. The measure is the number of counts
+-- left. Assumes nothing.
 use mathlib.Core.Path.{_≡_, sym, _∙_}
 use mathlib.Core.Bool.{false}
 use Prim.Native.Nat.{ℕ, _-_, _*_, _≤_, _<_}

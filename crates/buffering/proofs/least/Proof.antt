@@ -1,18 +1,16 @@
--- `buffering::least` meets its contract. The file's own refusal comes first (`least-refused`), then 9 (`least-outside`); else the loop's
--- invariant is `Between`, at first from nothing to the greatest need (`start`), and where the bounds meet they are the least size (`met`).
--- The measure is how far they are apart. Assumes nothing.
+-- `buffering::least` meets its contract. The file's own refusal comes first (`least-refused`), then 9 (`least-outside`). Else the loop's
+-- invariant is `Between`, at first with 0 and the greatest need (`start`), and when the bounds meet they are the least size (`met`). The
+-- measure is the distance of the bounds. Assumes nothing.
 use borrow.Author.Needs.{needs}
 use denote.Ref.{now}
 use mir.Syntax.{w8}
-use Prim.Native.Nat.{ℕ, _-_}
-use mathlib.Core.Path.{_≡_, sym, ap, _∙_}
-use mathlib.Core.List.{List}
+use Prim.Native.Nat.{_-_}
+use mathlib.Core.Path.{_≡_, sym, _∙_}
 use Rattle.octets.proofs.Below.{below-fits}
 use Rattle.rfc4737.proofs.Due.{between}
 use Rattle.sample.specs.Decode.{decode, decodedRefusal}
 use Rattle.metrics.specs.Sample.{answersOf}
-use Rattle.metrics.specs.declared.SampleNeeds.{SampleNeeds}
-use Rattle.metrics.specs.Figures.{sampleNeeds}
+use Rattle.metrics.proofs.Accommodation.{steps-refusal, steps-greatest}
 use Rattle.buffering.specs.Least.{SizesAreLeast, OneLeast, MoreIsNoWorse, AllIsGreatest}
 use Rattle.buffering.specs.Restoring.{RestoresFile, HoldsOffset, RestoresOrder}
 use Rattle.buffering.specs.Private.{Between}
@@ -30,7 +28,7 @@ Inv-loop file measure part whole b₀ b = Between measure part whole (answersOf 
 abbrev μ-loop : tie.MeasureT-loop
 μ-loop file measure part whole b₀ b = b .high - b .low
 
--- what is carried besides the answer
+-- the theorems that the contract carries besides the answer
 carries : (c : tie.After-accommodated-steps Inv-loop μ-loop)
     → RestoresFile (decode (now (c .before .before .args .file)))
     × (HoldsOffset × (RestoresOrder × (SizesAreLeast × (OneLeast × (MoreIsNoWorse × AllIsGreatest)))))
@@ -40,15 +38,20 @@ carries c =
       (holds-offset, (restores-order, (sizes-are-least, (one-least, (more-is-no-worse, all-is-greatest))))),
     )
 
+-- the refusal is the file's own
+refusal-is : (c : tie.After-accommodated-steps Inv-loop μ-loop) → c .accommodated-steps .result .refusal
+    ≡ decodedRefusal (decode (now (c .before .before .args .file)))
+refusal-is c = steps-refusal _ _ _ _ _ (c .accommodated-steps .ensures)
+
 returns : tie.Need-returns Inv-loop μ-loop
 returns c =
     let q = c .before .before in
-    (least-refused _ _ _ _ _ (q .accommodated-steps .ensures .refusal) (c .if1 .taken), carries q)
+    (least-refused _ _ _ _ _ (refusal-is q) (c .if1 .taken), carries q)
 
 returns-2 : tie.Need-returns-2 Inv-loop μ-loop
 returns-2 c =
     let q = c .before .before .before .before in (
-      least-outside _ _ _ _ (sym (q .accommodated-steps .ensures .refusal) ∙ c .before .before .if1 .left)
+      least-outside _ _ _ _ (sym (refusal-is q) ∙ c .before .before .if1 .left)
           (sym (c .before .outside .ensures) ∙ c .if2 .taken),
       carries q,
     )
@@ -56,7 +59,7 @@ returns-2 c =
 loop-holds : tie.Need-loop-holds Inv-loop μ-loop
 loop-holds c =
     let q = c .before .before .before .before .accommodated-steps in
-    rw (q .ensures .most) (start _ _ _ _ (between 1 _ _ (sym (c .before .outside .ensures) ∙ c .if2 .left) .1))
+    rw (steps-greatest _ _ _ _ _ (q .ensures)) (start _ _ _ _ (between 1 _ _ (sym (c .before .outside .ensures) ∙ c .if2 .left) .1))
 
 narrowed-requires : tie.Need-narrowed-requires Inv-loop μ-loop
 narrowed-requires c κs = (c .if3 .taken, c .before .before .loop .inv)
@@ -71,7 +74,7 @@ returns-3 : tie.Need-returns-3 Inv-loop μ-loop
 returns-3 c =
     let tests = c .before .before .before in
     let q = tests .before .before .before .before in
-    let accepted = sym (q .accommodated-steps .ensures .refusal) ∙ tests .before .before .if1 .left in (
+    let accepted = sym (refusal-is q) ∙ tests .before .before .if1 .left in (
       least-found _ _ _ _ accepted (sym (tests .before .outside .ensures) ∙ tests .if2 .left) _
           (met _ _ _ _ _ (c .before .before .loop .inv) (c .if3 .left)),
       carries q,

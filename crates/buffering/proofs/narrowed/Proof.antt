@@ -9,6 +9,7 @@ use lib.Pow.{pow-pos}
 use denote.Ref.{now}
 use Rattle.sample.specs.Decode.{decode}
 use Rattle.metrics.specs.Sample.{answersOf}
+use Rattle.metrics.proofs.Accommodation.{steps-arrived, steps-count}
 use Rattle.buffering.specs.Least.{Enough}
 use Rattle.buffering.specs.Private.{Between}
 use Rattle.buffering.proofs.Sizes.{under, closed, closed-above, closed-between, first-is, before-not, after-is, one-after}
@@ -34,13 +35,13 @@ not-below : (c : tie.After-power-of) → Enough (start (tried c) .args .measure)
 not-below c =
     let t = tried c in
     let s = t .before .before .before .accommodated-steps .ensures in
-    before-not _ _ _ _ _ _ _ _ (s .many) (s .at) _ (t .first-enough .ensures) (c .before .if1 .left)
+    before-not _ _ _ _ _ _ _ _ (steps-arrived _ _ _ _ _ s) (steps-count _ _ _ _ _ s) _ (t .first-enough .ensures) (c .before .if1 .left)
 
 -- so it is below the high one
 inside : (c : tie.After-power-of) → below c < start (tried c) .args .b .high
 inside c = under _ _ _ _ _ (start (tried c) .pre .1) _ (not-below c)
 
--- as the code makes it
+-- its distance from the low one, as the code computes it
 made : (c : tie.After-power-of) → (tried c .first-enough .result - 1) * c .power-of .result ≡ (tried c .first-enough .result - 1)
     * 2 ^ (tried c .before .before .before .before .shift-for .result)
 made c = ap (λ (w : ℕ). (tried c .first-enough .result - 1) * w) (c .power-of .ensures)
@@ -53,8 +54,11 @@ returns : tie.Need-returns
 returns c =
     let t = c .before in
     let p = start t .pre in
-    let s = t .before .before .before .accommodated-steps .ensures in
-    (closed _ _ _ _ _ (p .1) (first-is _ _ _ _ _ _ _ _ (s .many) (s .at) _ (t .first-enough .ensures) (c .if1 .taken)), omega (arith, p .0))
+    let s = t .before .before .before .accommodated-steps .ensures in (
+      closed _ _ _ _ _ (p .1) (first-is _ _ _ _ _ _ _ _ (steps-arrived _ _ _ _ _ s) (steps-count _ _ _ _ _ s) _ (t .first-enough .ensures)
+          (c .if1 .taken)),
+      omega (arith, p .0),
+    )
 
 returns-2 : tie.Need-returns-2
 returns-2 c =
@@ -70,9 +74,12 @@ returns-3 c =
     let s = t .before .before .before .accommodated-steps .ensures in
     let w = q .power-of .ensures in
     let few =
-    one-after _ _ _ _ _ _ _ _ (s .many) (s .at) _ (t .first-enough .ensures) _ (t .before .before .before .before .shift-for .ensures .1)
+    one-after _ _ _ _ _ _ _ _ (steps-arrived _ _ _ _ _ s) (steps-count _ _ _ _ _ s) _ (t .first-enough .ensures) _
+    (t .before .before .before .before .shift-for .ensures .1)
     (omega (arith, made q, w, c .if2 .left)) in
-    let top = after-is _ _ _ _ _ _ _ _ (s .many) (s .at) _ (t .first-enough .ensures) (q .before .if1 .left) few in
+    let top =
+    after-is _ _ _ _ _ _ _ _ (steps-arrived _ _ _ _ _ s) (steps-count _ _ _ _ _ s) _ (t .first-enough .ensures) (q .before .if1 .left)
+    few in
     let a = start t .args in
     let width = q .power-of .result in
     let size = a .b .low + (t .first-enough .result - 1) * width in

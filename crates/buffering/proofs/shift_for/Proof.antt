@@ -1,5 +1,5 @@
--- `buffering::shift_for` meets its contract: a quotient below STEPS is a distance below STEPS times the divisor, and with 57 that is
--- 2^64. The measure is what is left to 57. Assumes nothing.
+-- `buffering::shift_for` meets its contract: a quotient below STEPS is a distance below STEPS times the divisor, and with a shift of 57
+-- that product is 2^64. The measure is 57 less the shift. Assumes nothing.
 use Prim.Native.Nat.{_-_, _≤_}
 use native.Mathlib.Nat.{div-lt-iff-lt-mul}
 use native.Mathlib.Omega.{arith}

@@ -1,5 +1,5 @@
--- `metrics::agreement` meets its contract: with a refusal the text is not looked at (`agreed-refused`), else it is compared
--- (`agreed-accepted`). That any listing has room in LISTING_OCTETS is a law. Assumes nothing.
+-- `metrics::agreement` meets its contract: with a refusal the text is not read (`agreed-refused`), else it is compared (`agreed-accepted`).
+-- That any listing has room in LISTING_OCTETS is a law. Assumes nothing.
 use Prim.Native.Nat.{_≤_}
 use borrow.Author.Needs.{needs}
 use denote.Ref.{now}

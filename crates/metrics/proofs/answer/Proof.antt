@@ -1,5 +1,5 @@
--- `metrics::answer` meets its contract by that of `answer_of`; its figures are bounded (`answer-bounded`), and what it carries besides are
--- laws. Assumes nothing.
+-- `metrics::answer` meets its contract by that of `answer_of`; its figures are bounded (`answer-bounded`), and the theorems that it
+-- carries are laws. Assumes nothing.
 use mathlib.Core.Path.{sym, subst}
 use borrow.Author.Needs.{needs}
 use denote.Ref.{now}

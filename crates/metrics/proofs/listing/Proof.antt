@@ -1,5 +1,5 @@
 -- `metrics::listing` meets its contract: with a refusal nothing is written (`nothing-written`), else `write_listing` writes the lines of
--- the file's sample, which fit as nothing is refused (`whole-written`). What it carries are laws. Assumes nothing.
+-- the file's sample, which fit, as nothing is refused (`whole-written`). The theorems that it carries are laws. Assumes nothing.
 use Prim.Native.Nat.{_≤_}
 use borrow.Author.Needs.{needs}
 use denote.Ref.{now}
@@ -18,7 +18,7 @@ use Rattle.metrics.proofs.Moved.{clock-moved}
 use Rattle.metrics.proofs.listing.Statement.{statement}
 use Rattle.metrics.proofs.listing.Tie as tie
 
--- what is carried: any listing has room in LISTING_OCTETS, the example, and moving the clock
+-- the theorems that it carries: any listing has room in LISTING_OCTETS, the example, and moving the clock
 carries : (c : tie.After-checked-layout)
     → (length (sampleText (decode (now (c .before .before .before .args .file)))) ≤ listingOctets)
     × (ExampleHolds × ClockMoved (now (c .before .before .before .args .file)))

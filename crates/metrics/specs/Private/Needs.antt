@@ -1,4 +1,4 @@
--- What a pass knows where it asks for the need of a record, what it finds of the needs of a sample, and its step. Assumes nothing.
+-- The state of a pass over the needs of a sample, its input for one record, and its step. Assumes nothing.
 use mathlib.Core.Path.{_≡_}
 use mathlib.Core.Bool.{false, cond}
 use mathlib.Core.List.{List}
@@ -28,7 +28,7 @@ pub record NeedState (d : Decoded) (i : ℕ) (numbers records skipped tree : Lis
   pub follows : EngineTables (before d i) numbers records skipped state
   pub totalled : SizeTree (sizeOf d) (firsts (before d i)) tree totals
 
--- the need of record i + 1, which is this arrival and of this class, can be asked for; if it is reordered, its packet has not arrived
+-- what a pass knows of record i + 1, an arrival of this class, to find its need; if it is reordered, its packet has not arrived
 pub record NeedInput (d : Decoded) (layout : Layout) (i : ℕ) (arrival : Arrival) (numbers records tree : List ℕ) (count : ℕ)
     (totals : Totals) (class : Class) : Type 0 where
   pub there : HasRecord d layout i
@@ -43,7 +43,7 @@ pub record NeedInput (d : Decoded) (layout : Layout) (i : ℕ) (arrival : Arriva
 abbrev pub greaterOf : ℕ → ℕ → ℕ
 greaterOf a b = cond (ltb a b) b a
 
--- the needs after a first arrival of this need
+-- the needs after a first arrival whose need is `need`
 unfoldable pub needsWith : Needs → ℕ → Needs
 needsWith needs need = record { arrived = needs .arrived + 1; greatest = greaterOf (needs .greatest) need }
 
@@ -52,13 +52,13 @@ unfoldable pub countTo : List ℕ → ℕ → ℕ
 countTo counts zero = 0
 countTo counts (suc n) = countTo counts n + getD counts n 0
 
--- a need is counted: all counts up to that of a size are one more if the size is at least the need
+-- a need has been counted: the sum of the counts up to each size is 1 more if the size is at least the need, else the same
 pub record Counted (low shift need : ℕ) (old new : List ℕ) : Type 0 where
   pub places : length new ≡ stepCount
   pub at : (j : ℕ) → j < stepCount → countTo new (suc j) ≡ cond (leb need (low + j * 2 ^ shift)) (countTo old (suc j) + 1)
       (countTo old (suc j))
 
--- what some answers need in a measure; all counts up to that of a size are together what a buffer of that size accommodates
+-- what some answers need in a measure; the sum of the counts up to each size is what a buffer of that size accommodates
 pub record NeedsOf (m : Measure) (low shift : ℕ) (l : List Answer) (needs : Needs) (counts : List ℕ) : Type 0 where
   pub many : needs .arrived ≡ arrived l
   pub most : needs .greatest ≡ greatestNeed m l

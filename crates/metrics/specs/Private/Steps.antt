@@ -1,5 +1,5 @@
--- What the passes for single figures keep and find: the kind of an arrival, shares and ratios, discoverers of discontinuities. Assumes
--- nothing.
+-- The steps and results of the passes for single figures: the kind of an arrival, shares and ratios, discoverers of discontinuities.
+-- Assumes nothing.
 use mathlib.Core.Path.{_≡_}
 use mathlib.Core.Bool.{Bool, false, cond, not}
 use mathlib.Core.List.{List}
@@ -26,14 +26,14 @@ use Rattle.metrics.specs.declared.figures.Shares.{Shares}
 
 -- ---- counts
 
--- the class of an arrival of this number without its figures, by the packets that have arrived and NextExp
+-- the class of an arrival of packet `number`, with 0 in place of its figure, by the packets seen and NextExp
 unfoldable pub kindBy : List Bool → ℕ → ℕ → Class
 kindBy seen next number =
     cond (getD seen number false) (Class.Duplicate 0) (cond (leb next number) (Class.InOrder 0) (Class.Reordered 0))
 
 -- ---- degrees and ratios
 
--- the n-reordered packets after another reordered one, of this largest n
+-- `part` n-reordered packets, after another reordered one, with this largest n
 abbrev pub reachedBy : ℕ → ℕ → ℕ → ℕ
 reachedBy n largest part = cond (leb n largest) (part + 1) part
 
@@ -48,7 +48,8 @@ sharesOf low high size l =
       next = nextExp (firsts l);
     }
 
--- the shares of some arrivals, the numbers of the first ones, and by packet 1 and its largest n, 0 where it has not arrived
+-- the shares and tables after some arrivals: the numbers of the first arrivals; and, by packet number, 1 more than its largest n, or 0 if
+-- it has not arrived
 pub record ShareTables (low high : ℕ) (size : ℕ → ℕ) (l : List Arrival) (numbers links : List ℕ) (counted : Shares) : Type 0 where
   pub shares : counted ≡ sharesOf low high size l
   pub places : (length numbers ≡ sentMost) × (length links ≡ numberPlaces)
@@ -74,7 +75,7 @@ abbrev pub known : ℕ → Option ℕ
 known zero = none
 known (suc p) = some (suc p)
 
--- a table has at each position the discoverer of the discontinuity there, 0 where there is none
+-- the table has at each position the discoverer of the discontinuity there, 0 where none is
 pub record DiscoverersAt (l : List Answer) (discoverers : List ℕ) : Type 0 where
   pub places : length discoverers ≡ numberPlaces
   pub at : (p : ℕ) → 1 ≤ p → p ≤ sentMost → known (getD discoverers p 0) ≡ discoverer p l
@@ -84,11 +85,12 @@ unfoldable pub lastTo : List ℕ → ℕ → ℕ
 lastTo discoverers zero = 0
 lastTo discoverers (suc p) = cond (eqb (getD discoverers (suc p) 0) 0) (lastTo discoverers p) (suc p)
 
--- the first arrivals after a record of this position, 0 for a duplicate, and `count` first arrivals before it
+-- the number of first arrivals after a record, which has this position (0 for a duplicate) and comes after `count` first arrivals
 abbrev pub countAfter : (count position : ℕ) → ℕ
 countAfter count position = cond (eqb position 0) count position
 
--- the position of record i + 1, 0 for a duplicate, after `count` first arrivals: the next one, and one of the places of a table
+-- `position` is that of record i + 1, after `count` first arrivals: 0 for a duplicate, else the next; it is an index of a table by
+-- position
 pub record PositionAt (d : Decoded) (i count position : ℕ) : Type 0 where
   pub is : known position ≡ positionOf (answerAt d i)
   pub few : position ≤ sentMost

@@ -1,6 +1,5 @@
-// The byte offset of a packet by a tree of sums over pairs of packets: packets 2k - 1 and 2k stand at number k. That is
-// enough, since a packet is asked for before it arrives: those that have arrived with smaller numbers are in the pairs
-// up to number s / 2, and no other is in these.
+// Byte offsets by a Fenwick tree of payload sizes over pairs of packets: packets 2k - 1 and 2k share index k. Pairs suffice, since packet
+// s is asked for before it arrives: of the packets that have arrived, the indices up to s / 2 have exactly those with smaller numbers.
 ghost use mathlib.Core.Path.{_≡_};
 ghost use mathlib.Core.Bool.{false};
 ghost use mathlib.Core.List.{List};
@@ -21,7 +20,7 @@ use crate::engine::seen::PACKET_TABLE_LEN;
 use crate::engine::seen::wide;
 use sample::Layout;
 
-// The places of the tree: the pairs of packets, and 0, which is not used.
+// The length of the tree: index 0, which is not used, and one for each pair of packets.
 pub(crate) const PAIR_TREE_LEN: usize = 2049;
 
 // How many of the first arrivals are in the tree, and the sum of their payload sizes.
@@ -30,7 +29,7 @@ pub(crate) struct Totals {
     pub total: u32,
 }
 
-// Adds those of the first `count` first arrivals to the tree that are not in it yet.
+// Enters into the tree those of the first `count` first arrivals that are not in it yet.
 fn fill_tree(
     file: &[u8],
     layout: Layout,
@@ -57,13 +56,13 @@ fn fill_tree(
     Totals { filled: p, total }
 }
 
-// The byte offset of a packet, and the totals with which it was made.
+// The byte offset of a packet, and the totals after it was computed.
 pub(crate) struct TreeOffset {
     pub offset: u32,
     pub totals: Totals,
 }
 
-// The byte offset of packet s, which comes after `count` first arrivals: the size of all of these less that of those with smaller numbers.
+// The byte offset of packet s after `count` first arrivals: their total size less that of those with smaller numbers.
 pub(crate) fn offset_by_tree(
     file: &[u8],
     layout: Layout,
@@ -86,16 +85,15 @@ pub(crate) fn offset_by_tree(
     }
 }
 
-// The figures that only a reordered packet has, and the totals with which its byte offset was made.
+// The figures that only a reordered packet has, and the totals after its byte offset was computed.
 pub(crate) struct LateFigures {
     pub offset: u32,
     pub largest: u32,
     pub totals: Totals,
 }
 
-// The byte offset and the largest n of a packet of this number and class, after `count` first arrivals; both are 0 if it is not
-// reordered. The byte offset is the size of all of these first arrivals less those of smaller numbers; the largest n goes by links.
-// All packets of a sample together take at most two links for each first arrival.
+// The byte offset, by the tree, and the largest n, by links, of packet s after `count` first arrivals; both are 0 if its class is not
+// `Reordered`. All packets of a sample together follow at most two links for each first arrival.
 pub(crate) fn late_figures(
     file: &[u8],
     layout: Layout,

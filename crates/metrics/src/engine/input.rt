@@ -1,4 +1,4 @@
-// The values of a file that has been checked, read where they stand.
+// Reads the values of a file that has been checked.
 ghost use mathlib.Core.Path.{_≡_};
 ghost use Prim.Native.Nat.{_≤_};
 ghost use Rattle.rfc4737.specs.Judge.{sentMost};
@@ -8,14 +8,14 @@ ghost use Rattle.metrics.specs.Records.{arrivalAt, FileLayout, HasRecord
 use rfc4737::Arrival;
 use sample::Layout;
 
-// The layout of a file, checked.
+// Checks a file and returns its layout.
 pub(crate) fn checked_layout(file: &[u8]) -> Layout
     ensures { λ r. ⌜ FileLayout (decode (now (file .entry))) r ⌝ }
 {
     sample::check(file)
 }
 
-// The arrival of record i + 1, read where it stands: no test of the file's length is in the callers' loops.
+// The arrival of record i + 1. The callers' loops need not test the file's length: the check has.
 pub(crate) fn arrival_at(file: &[u8], layout: Layout, i: u32) -> Arrival
     requires { ⌜ HasRecord (decode (now file)) layout i ⌝ }
     ensures { λ r. ⌜ (r ≡ arrivalAt (decode (now (file .entry))) i) × (1 ≤ r .number) × (r .number ≤ sentMost) ⌝ }
@@ -26,7 +26,7 @@ pub(crate) fn arrival_at(file: &[u8], layout: Layout, i: u32) -> Arrival
     sample::arrival_of(twelve)
 }
 
-// Its sequence number.
+// The sequence number of record i + 1.
 pub(crate) fn number_of(file: &[u8], layout: Layout, i: u32) -> u32
     requires { ⌜ HasRecord (decode (now file)) layout i ⌝ }
     ensures { λ r. ⌜ (r ≡ arrivalAt (decode (now (file .entry))) i .number) × (1 ≤ r) × (r ≤ sentMost) ⌝ }
@@ -34,7 +34,7 @@ pub(crate) fn number_of(file: &[u8], layout: Layout, i: u32) -> u32
     arrival_at(file, layout, i).number
 }
 
-// Its arrival time.
+// The arrival time of record i + 1.
 pub(crate) fn time_of(file: &[u8], layout: Layout, i: u32) -> u64
     requires { ⌜ HasRecord (decode (now file)) layout i ⌝ }
     ensures { λ r. ⌜ r ≡ arrivalAt (decode (now (file .entry))) i .time ⌝ }
@@ -42,7 +42,7 @@ pub(crate) fn time_of(file: &[u8], layout: Layout, i: u32) -> u64
     arrival_at(file, layout, i).time
 }
 
-// The payload size of a packet.
+// The payload size of packet s.
 pub(crate) fn size_of(file: &[u8], layout: Layout, s: u32) -> u32
     requires { ⌜ FileLayout (decode (now file)) layout × (1 ≤ s) × (s ≤ layout .sent) ⌝ }
     ensures { λ r. ⌜ (r ≡ sizeOf (decode (now (file .entry))) s) × (r ≤ 65535) ⌝ }

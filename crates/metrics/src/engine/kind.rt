@@ -1,4 +1,4 @@
-// What an arrival is, and the answer for it, from the tables of the arrivals before it.
+// The class of an arrival and the answer for it, from the tables of the arrivals before it.
 ghost use mathlib.Core.Path.{_≡_};
 ghost use Prim.Native.Nat.{ℕ, _≤_};
 ghost use Rattle.rfc4737.specs.declared.Answer.{Answer};
@@ -23,15 +23,15 @@ use rfc4737::LateTime;
 use rfc4737::ReorderedFigures;
 use sample::Layout;
 
-// What an arrival is, told in one step: a duplicate, with the record of the first arrival; in order, with the
-// jump size; or reordered, with the position of its discontinuity.
+// The class of an arrival: a duplicate, with the record of the first arrival; in order, with the jump size; or reordered, with the
+// position of its discontinuity.
 pub(crate) enum Class {
     Duplicate(u32),
     InOrder(u32),
     Reordered(u32),
 }
 
-// The class of an arrival of this number.
+// The class of an arrival of packet `number`, in one step.
 pub(crate) fn class_of(
     records: &[u16; PACKET_TABLE_LEN],
     skipped: &[u16; PACKET_TABLE_LEN],
@@ -52,8 +52,8 @@ pub(crate) fn class_of(
     Class::Reordered(wide(skipped[at]))
 }
 
-// The late time of record i + 1, which is reordered, after `count` first arrivals and with its discontinuity at position `at`; `time` is
-// its arrival time. A position tells its packet, the packet its record, and the record its time.
+// The late time of record i + 1, a reordered packet that arrives at `time`, after `count` first arrivals, with its discontinuity at
+// position `at`. The tables lead from that position to its packet, from the packet to its record, and from the record to its time.
 pub(crate) fn late_time(
     file: &[u8],
     layout: Layout,
@@ -76,8 +76,7 @@ pub(crate) fn late_time(
     rfc4737::time::elapsed(past, time)
 }
 
-// The figures of record i + 1, which is reordered with its discontinuity at a position, from its byte offset and its
-// largest n.
+// The figures of record i + 1, a reordered packet with its discontinuity at position `at`, from its byte offset and its largest n.
 fn reordered_figures(
     file: &[u8],
     layout: Layout,
@@ -108,7 +107,7 @@ fn reordered_figures(
     }
 }
 
-// The answer for record i + 1 by its class and, where it is reordered, its byte offset and its largest n.
+// The answer for record i + 1, from its class and, if it is reordered, its byte offset and its largest n.
 pub(crate) fn answer_by(
     file: &[u8],
     layout: Layout,

@@ -1,4 +1,4 @@
-// Figures of a reordered packet by a search over the first arrivals before it.
+// Byte offset and largest n of a reordered packet, by a search over the first arrivals before it.
 ghost use mathlib.Core.Path.{_≡_};
 ghost use mathlib.Core.List.{List};
 ghost use Prim.Native.Nat.{_≤_};
@@ -16,7 +16,7 @@ use crate::engine::seen::PACKET_TABLE_LEN;
 use crate::engine::seen::wide;
 use sample::Layout;
 
-// The byte offset of a packet, by the first arrivals from index `from` on: none before it has a greater number.
+// The byte offset of packet s: the sizes of the greater numbers from index `from` on, before which no number is greater.
 pub(crate) fn offset(
     file: &[u8],
     layout: Layout,
@@ -43,7 +43,7 @@ pub(crate) fn offset(
     sum
 }
 
-// The largest n of a packet: how many of the first arrivals directly before it have greater numbers.
+// The largest n of packet s: how many of the first arrivals directly before it have greater numbers.
 pub(crate) fn largest(numbers: &[u16; MAX_FIRST_ARRIVALS], count: u32, s: u32) -> u32
     requires { ⌜ count ≤ sentMost ⌝ }
     ensures { λ r. ⌜ ((fs : List Arrival) → NumberTable fs (now (numbers .entry)) count → r ≡ largestN fs s) ⌝ }
@@ -59,8 +59,8 @@ pub(crate) fn largest(numbers: &[u16; MAX_FIRST_ARRIVALS], count: u32, s: u32) -
     count - p
 }
 
-// The same by links: a first arrival of a greater number is passed over together with as many before it as its own largest
-// n, since their numbers are greater still. Invariant: `links[packet] + more == largest_n + 1`.
+// The largest n of packet s, by links. A first arrival with a greater number is skipped together with those directly before it that its
+// own largest n counts, whose numbers are greater still. Invariant: `links[packet] + more == largest_n + 1`.
 pub(crate) fn largest_by_links(
     numbers: &[u16; MAX_FIRST_ARRIVALS],
     links: &[u16; PACKET_TABLE_LEN],

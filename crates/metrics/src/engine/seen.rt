@@ -1,7 +1,9 @@
-// Tables of what has arrived, in local arrays: the numbers of the first arrivals in order of position; and, by packet
-// number, the record of its first arrival (0 for none) and a number that has two meanings: of a packet below NextExp
-// that has not arrived the position of the jump that skipped it, and of one that has arrived its own largest n, where
-// the pass asks for it (place 0 is not used).
+// Tables of what has arrived, in local arrays:
+//   `numbers`: the numbers of the first arrivals, in order of position;
+//   `records`: by packet number, the record of its first arrival, or 0 if it has not arrived;
+//   `skipped`: by packet number, one of two things. For a packet below NextExp that has not arrived: the position of the jump that
+//     skipped it. For one that has arrived: its largest n, if the pass asks for it.
+// Index 0 of the tables by packet number is not used.
 ghost use mathlib.Core.Path.{_≡_};
 ghost use Prim.Native.Nat.{_≤_};
 ghost use lib.ListN.{length};
@@ -12,7 +14,7 @@ use rfc4737::judge::SENT_MOST;
 // The greatest number of first arrivals.
 pub(crate) const MAX_FIRST_ARRIVALS: usize = SENT_MOST as usize;
 
-// The places by packet number.
+// The length of a table by packet number.
 pub(crate) const PACKET_TABLE_LEN: usize = SENT_MOST as usize + 1;
 
 // Of the arrivals noted: how many are first arrivals, and NextExp.
@@ -21,21 +23,21 @@ pub(crate) struct State {
     pub next: u32,
 }
 
-// Before any arrival.
+// The state before any arrival.
 pub(crate) fn start_state() -> State
     ensures { λ r. ⌜ r ≡ record { count = 0; next = 1 } ⌝ }
 {
     State { count: 0, next: 1 }
 }
 
-// A number of a table, as the figures have it.
+// A table entry, as wide as the figures.
 pub(crate) fn wide(x: u16) -> u32
     ensures { λ r. ⌜ r ≡ x ⌝ }
 {
     x as u32
 }
 
-// Notes that the jump at a position skipped the packets from `from` to before `to`.
+// Notes that the jump at `position` skipped the packets from `from` to before `to`.
 fn note_skipped(skipped: &mut [u16; PACKET_TABLE_LEN], from: u32, to: u32, position: u16)
     requires { ⌜ (to ≤ numberPlaces) × (length (now skipped) ≡ numberPlaces) ⌝ }
     ensures { λ _. ⌜ Filled from to position (now (skipped .entry)) (now (skipped .exit)) ⌝ }
@@ -48,8 +50,8 @@ fn note_skipped(skipped: &mut [u16; PACKET_TABLE_LEN], from: u32, to: u32, posit
     }
 }
 
-// Notes record i + 1, of a packet of this number; if it is reordered, with its largest n. In all, as many steps as there
-// are arrivals and packets.
+// Notes record i + 1, an arrival of packet `number`; if it is reordered, `largest` is its largest n. All calls of a pass together: O(A +
+// K).
 pub(crate) fn note(
     numbers: &mut [u16; MAX_FIRST_ARRIVALS],
     records: &mut [u16; PACKET_TABLE_LEN],

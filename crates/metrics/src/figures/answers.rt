@@ -63,8 +63,7 @@ fn note_records(
     state
 }
 
-// The answer for record i + 1 from the tables of the records before it. A reordered packet costs as many steps as its
-// extent, any other one step.
+// The answer for record i + 1 from the tables of the records before it: O(extent) for a reordered packet, else O(1).
 fn answer_at(
     file: &[u8],
     layout: Layout,
@@ -126,7 +125,7 @@ fn answer_at(
     }
 }
 
-// The answer for a record of a file: as many steps as there are arrivals before it, and its extent.
+// The answer for record `asked` of a file: a pass over the records before it, and O(extent) for a reordered packet.
 pub(crate) fn answer_of(file: &[u8], layout: Layout, asked: u32) -> RecordAnswer
     requires { ⌜ FileLayout (decode (now file)) layout ⌝ }
     ensures { λ r. ⌜ r ≡ recordAnswer (decode (now (file .entry))) asked ⌝ }

@@ -1,5 +1,5 @@
-// Gaps: a table of the discoverers by the discontinuity's position. For one record it is searched downward from its position; for all
-// records it is gone through once, upward.
+// Gaps, by a table that has at the position of each discontinuity the position of its discoverer, and 0 elsewhere. For one record the
+// table is searched downward from the record's position; for all records it is read once, upward.
 ghost use mathlib.Core.Path.{_≡_};
 ghost use mathlib.Core.List.{List, [], _∷_, _++_};
 ghost use mathlib.Core.Option.{some};
@@ -32,8 +32,7 @@ use rfc4737::Gap;
 use rfc4737::refusal::NONE;
 use sample::Layout;
 
-// Notes the position of the next arrival, after `count` first arrivals, at its discontinuity, if it is the first that has
-// this discontinuity as its own.
+// If the next arrival, after `count` first arrivals, is the first with its discontinuity, notes its position there.
 fn note_discoverer(discoverers: &mut [u16; PACKET_TABLE_LEN], count: u32, class: Class)
     requires { ⌜ (length (now discoverers) ≡ numberPlaces) × (count ≤ sentMost) × IfLate (λ (at : ℕ). (1 ≤ at) × (at ≤ count)) class ⌝ }
     ensures { λ _. ⌜ ((l : List Answer) (a : Answer) → ClassOf count class a → DiscoverersAt l (now (discoverers .entry))
@@ -63,7 +62,7 @@ fn position_of(count: u32, class: Class) -> u32
     }
 }
 
-// Goes over the records after the first `from`, up to record `to`: notes at each discontinuity the position of its discoverer.
+// Goes over records `from` + 1 to `to`, and notes at each discontinuity the position of its discoverer.
 fn note_to(
     file: &[u8],
     layout: Layout,
@@ -94,8 +93,8 @@ fn note_to(
     state
 }
 
-// Notes at every discontinuity of a sample the position of its discoverer, and returns the position of the record
-// asked for, 0 for a duplicate. The pass stops before that record, so that no other is asked whether it is the one.
+// Notes at every discontinuity of a sample the position of its discoverer, and returns the position of the record asked for, 0 for a
+// duplicate. The pass is split before that record, so that no loop tests for it.
 fn note_discoverers(
     file: &[u8],
     layout: Layout,
@@ -173,7 +172,7 @@ fn gap_over(discoverers: &[u16; PACKET_TABLE_LEN], last: u32, p: u32) -> Gap
     Gap::None
 }
 
-// The gap of position p. Where no discontinuity stands there is none, and nothing to search for.
+// The gap of position p. If it is no discontinuity, it has none, and nothing is searched.
 fn gap_at(discoverers: &[u16; PACKET_TABLE_LEN], p: u32) -> Gap
     requires { ⌜ (1 ≤ p) × (p ≤ sentMost) ⌝ }
     ensures { λ r. ⌜ ((l : List Answer) → DiscoverersAt l (now (discoverers .entry)) → r ≡ gapOf l (some p)) ⌝ }
@@ -186,7 +185,7 @@ fn gap_at(discoverers: &[u16; PACKET_TABLE_LEN], p: u32) -> Gap
     gap_over(discoverers, last, p)
 }
 
-// The gap of a record of a file.
+// The gap of record `asked` of a file.
 pub(crate) fn gap_of(file: &[u8], layout: Layout, asked: u32) -> RecordGap
     requires { ⌜ FileLayout (decode (now file)) layout ⌝ }
     ensures { λ r. ⌜ r ≡ recordGap (decode (now (file .entry))) asked ⌝ }
@@ -218,7 +217,8 @@ struct Listed {
     pub last: u32,
 }
 
-// The position of record i + 1, after `count` first arrivals; 0 for a duplicate. The record of its packet's first arrival tells which.
+// The position of record i + 1, after `count` first arrivals; 0 for a duplicate. It is a first arrival if its packet's entry in `records`
+// is i + 1.
 fn position_at(
     file: &[u8],
     layout: Layout,
@@ -251,7 +251,7 @@ fn gap_number(discoverers: &[u16; PACKET_TABLE_LEN], last: u32, position: u32) -
     }
 }
 
-// What is listed after a record of this position, which is the next one or, for a duplicate, 0.
+// `listed` after a record at `position`, which is the next position or, for a duplicate, 0.
 fn listed_after(discoverers: &[u16; PACKET_TABLE_LEN], listed: Listed, position: u32) -> Listed
     requires { ⌜ (position ≤ sentMost) × (listed .last ≡ lastTo (now discoverers) (listed .count))
         × ((position ≡ 0 → ⊥) → position ≡ listed .count + 1) ⌝ }
@@ -298,7 +298,7 @@ fn list_gaps(
     }
 }
 
-// Puts the gaps of all records: one pass marks the discoverers of all discontinuities, one lists the gaps.
+// Writes the gaps of all records: one pass notes the discoverers of all discontinuities, another lists the gaps.
 pub(crate) fn put_gaps(file: &[u8], layout: Layout, gaps: &mut [u32])
     requires { ⌜ FileLayout (decode (now file)) layout × (layout .arrivals ≤ length (now gaps)) ⌝ }
     ensures { λ _. ⌜ now (gaps .exit) ≡ over (gapNumbers (answersOf (decode (now (file .entry))))) (now (gaps .entry)) ⌝ }

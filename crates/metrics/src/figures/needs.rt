@@ -1,6 +1,6 @@
-// What a receiver that restores order needs in one measure: the greatest need of any first arrival, and how many first arrivals buffers of
-// some sizes accommodate. One pass with the tables of the records; only byte offsets take a tree of sums, and no need takes a largest n.
-// The sizes are `low`, `low` + 2^`shift`, `low` + 2 * 2^`shift` and so on, STEPS of them.
+// What a receiver that restores order needs in one measure: the greatest need of any first arrival; and for each of STEPS buffer sizes,
+// `low + k * 2^shift` with k from 0 on, how many first arrivals it accommodates. One pass with the tables of the records; only byte
+// offsets take a tree of sums, and no need takes a largest n.
 ghost use mathlib.Core.Path.{_≡_};
 ghost use mathlib.Core.List.{List, [], _∷_, _++_};
 ghost use Prim.Native.Nat.{ℕ, suc, _+_, _*_, _^_, _≤_, _<_};
@@ -35,7 +35,7 @@ use rfc4737::LateTime;
 use rfc4737::Measure;
 use sample::Layout;
 
-// Of the arrivals taken: how many are first arrivals, and the greatest need of any.
+// Of the arrivals so far: how many are first arrivals, and the greatest need of any.
 pub(crate) struct Needs {
     pub arrived: u32,
     pub greatest: u64,
@@ -57,7 +57,7 @@ fn waiting_time(late: LateTime) -> u64
     }
 }
 
-// The need of record i + 1, which is reordered, with its discontinuity at position `at`.
+// The need of record i + 1, a reordered packet with its discontinuity at position `at`.
 fn late_need(
     file: &[u8],
     layout: Layout,
@@ -153,7 +153,7 @@ fn greater_of(a: u64, b: u64) -> u64
     a
 }
 
-// The index of the first size that is at least `need`.
+// The least k with `need <= low + k * 2^shift`.
 fn step_of(low: u64, shift: u32, need: u64) -> u64
     ensures { λ r. ⌜ ((j : ℕ) → leb r j ≡ leb need (low + j * 2 ^ shift)) ⌝ }
 {
@@ -167,7 +167,7 @@ fn step_of(low: u64, shift: u32, need: u64) -> u64
     (over >> shift) + 1
 }
 
-// Counts a need at the index of the first size that is at least `need`, if there is one.
+// Counts `need` at the index of the first size that is enough for it; a need above all sizes is not counted.
 fn count_need(counts: &mut [u32; STEPS], low: u64, shift: u32, need: u64)
     requires { ⌜ (length (now counts) ≡ stepCount) × ((k : ℕ) → k < stepCount → getD (now counts) k 0 < arrivalsMost) ⌝ }
     ensures { λ _. ⌜ Counted low shift need (now (counts .entry)) (now (counts .exit)) ⌝ }
@@ -179,7 +179,7 @@ fn count_need(counts: &mut [u32; STEPS], low: u64, shift: u32, need: u64)
     }
 }
 
-// The needs after a first arrival of this need.
+// The needs after a first arrival whose need is `need`.
 fn needs_with(counts: &mut [u32; STEPS], low: u64, shift: u32, needs: Needs, need: u64) -> Needs
     requires { ⌜ (needs .arrived < arrivalsMost) × (length (now counts) ≡ stepCount)
         × ((k : ℕ) → k < stepCount → getD (now counts) k 0 < arrivalsMost) ⌝ }
@@ -192,7 +192,7 @@ fn needs_with(counts: &mut [u32; STEPS], low: u64, shift: u32, needs: Needs, nee
     }
 }
 
-// The needs after the next arrival, of this class and need; a copy leaves them.
+// The needs after an arrival of this class and need; a copy leaves them.
 fn needs_after(
     counts: &mut [u32; STEPS],
     low: u64,
@@ -213,7 +213,8 @@ fn needs_after(
     }
 }
 
-// What a sample needs in a measure: one pass, O(A + K), and O(A log K + K) in octets.
+// The needs of a sample in a measure: one pass, O(A + K), and O(A log K + K) in octets. Each first arrival is counted in `counts` at the
+// first size that is enough for it.
 pub(crate) fn needs_of(
     file: &[u8],
     layout: Layout,
@@ -281,7 +282,7 @@ pub(crate) fn greatest_need(file: &[u8], layout: Layout, measure: Measure) -> u6
     needs_of(file, layout, measure, 0, 0, &mut counts).greatest
 }
 
-// Makes each count that of all places up to its own.
+// Replaces each count by the sum of the counts up to its index.
 pub(crate) fn sum_up(counts: &mut [u32; STEPS])
     requires { ⌜ (length (now counts) ≡ stepCount) × ((j : ℕ) → j < stepCount → countTo (now counts) (suc j) ≤ arrivalsMost) ⌝ }
     ensures { λ _. ⌜ (length (now (counts .exit)) ≡ stepCount)

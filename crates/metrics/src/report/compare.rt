@@ -20,7 +20,7 @@ pub(crate) fn compare_listing(file: &[u8], layout: Layout, text: &[u8]) -> Part
     take_all(file, layout, &mut line, text, true)
 }
 
-// Whether what is compared is the same text: all of the listing agrees, and these octets are all of the text.
+// Whether a text of `octets` octets is the listing: all of the listing agrees, and the text is no longer.
 pub(crate) fn same_text(part: Part, octets: usize) -> bool
     ensures { λ r. ⌜ r ≡ part .whole && eqb (part .octets) octets ⌝ }
 {

@@ -5,7 +5,7 @@ ghost use lib.ListN.{length, drop};
 ghost use Rattle.metrics.specs.Agreement.{common};
 ghost use Rattle.metrics.specs.Private.Taken.{Agreed};
 
-// How many octets of a line stand at a text's start, and whether all of them do.
+// How many octets of a line agree with a text, from the start on, and whether all of them do.
 pub(crate) struct Part {
     pub octets: usize,
     pub whole: bool,
@@ -40,7 +40,7 @@ pub(crate) fn compare_line(line: &[u8], text: &[u8], at: usize) -> Part
     }
 }
 
-// The agreement up to and with a part that begins at the offset `at`.
+// The agreement of all lines up to and including a part that begins at offset `at`.
 pub(crate) fn part_after(at: usize, part: Part) -> Part
     requires { ⌜ at + part .octets < 2 ^ 64 ⌝ }
     ensures { λ r. ⌜ r ≡ record { octets = at + part .octets; whole = part .whole } ⌝ }

@@ -1,5 +1,6 @@
-// The lines of a sample's listing, one by one. A line is either written into the caller's buffer, after the line before it; or it is
-// written at the buffer's start, as every other, and compared there with a text from the offset on that the listing has reached.
+// The lines of a sample's listing, one by one. To write the listing, each line goes into the caller's buffer after the one before it. To
+// compare the listing with a text, each line goes to the buffer's start, and from there is compared with the text at the offset that the
+// listing has reached.
 ghost use mathlib.Core.Path.{_≡_};
 ghost use mathlib.Core.Bool.{true, false, cond};
 ghost use Prim.Native.Nat.{_≤_};
@@ -22,7 +23,7 @@ fn put_place(comparing: bool, at: usize) -> usize
     at
 }
 
-// What is known of a line of n octets that is written: if lines are compared, how far it agrees with the text.
+// The result for a line of n octets that has been written: how far it agrees with the text, if lines are compared; else all of it.
 fn line_part(out: &[u8], text: &[u8], comparing: bool, at: usize, n: usize) -> Part
     requires { ⌜ (comparing ≡ true → (n ≤ length (now out)) × (at ≤ length (now text))) ⌝ }
     ensures { λ r. ⌜ (comparing ≡ false → r ≡ record { octets = n; whole = true })

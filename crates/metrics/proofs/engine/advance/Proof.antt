@@ -1,6 +1,6 @@
--- `metrics::engine::advance` meets its contract: the class that the tables give is the answer's (`told`); `late_figures` gives a reordered
--- packet's byte offset, as it has not arrived (`new-told`), and largest n, and `answer_by` makes the answer of them. Noting the record then
--- leaves what is known after it (`engine-next`). Assumes nothing.
+-- `metrics::engine::advance` meets its contract: the class by the tables is the answer's (`told`). `late_figures` returns a reordered
+-- packet's byte offset, as it has not arrived (`new-told`), and its largest n; `answer_by` makes the answer from them. Noting the record
+-- then gives the state after it (`engine-next`). Assumes nothing.
 use mathlib.Core.Path.{_≡_, ap, _∙_}
 use Prim.Native.Nat.{_≤_}
 use denote.Ref.{now}

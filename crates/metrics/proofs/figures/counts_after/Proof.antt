@@ -1,6 +1,6 @@
--- `metrics::figures::counts_after` meets its contract: the answer has the class that is given (`ClassOf`), and what each return adds is
--- what an answer of its class adds to the counts (`counts-more`). The sums fit, since each count has at most four digits and the sum of
--- squares at most eight, and a closed run adds the square of a count. Assumes nothing.
+-- `metrics::figures::counts_after` meets its contract: the answer has the given class (`ClassOf`), and each return adds what an answer of
+-- its class adds to the counts (`counts-more`). The sums fit, since each count has at most four digits and the sum of squares at most
+-- eight, and a closed run adds the square of a count. Assumes nothing.
 use mathlib.Core.Path.{sym}
 use Prim.Native.Nat.{ℕ, _*_, _^_, _≤_}
 use native.Mathlib.Nat.{mul-le-mul}

@@ -1,7 +1,6 @@
 -- `metrics::figures::counts_of` meets its contract. The loop's invariant: the table has the packets that have arrived before i, `next` is
--- their NextExp, and the counts are those of their answers. One arrival more is `seen-next` and `counts-seen`; the counts stay small, as
--- there are at most 4,096 arrivals. The measure is what is left of the arrivals. k is the place where the kind is known.
--- Assumes nothing.
+-- their NextExp, and the counts are those of their answers. The step is `seen-next` and `counts-seen`; the counts stay small, as there
+-- are at most 4,096 arrivals. The measure is the number of arrivals left. k is the place where the kind is known. Assumes nothing.
 use mathlib.Core.Path.{_≡_, sym, ap, _∙_}
 use Prim.Native.Nat.{_≤_, _<_, _-_}
 use native.Mathlib.Omega.{arith}

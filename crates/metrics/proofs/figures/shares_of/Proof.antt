@@ -1,6 +1,6 @@
--- `metrics::figures::shares_of` meets its contract. The loop's invariant: the tables and the shares are those of the arrivals before i. One
--- arrival more is what `shares_after` ensures, which can be called, since the shares are small (`shares-few`) and links can be gone along
--- (`links-laid`). The measure is what is left of the arrivals. Assumes nothing.
+-- `metrics::figures::shares_of` meets its contract. The loop's invariant: the tables and the shares are those of the arrivals before i.
+-- The step is what `shares_after` ensures; it may be called, since the shares are small (`shares-few`) and the links can be followed
+-- (`links-laid`). The measure is the number of arrivals left. Assumes nothing.
 use mathlib.Core.Path.{sym, ap, _∙_}
 use Prim.Native.Nat.{_≤_, _-_}
 use native.Mathlib.Omega.{arith}

@@ -1,6 +1,5 @@
--- `metrics::figures::tally_after` meets its contract: the answer has the class that is given (`ClassOf`). A duplicate and a packet in order
--- leave the tally; of a reordered packet one is added at the place of its extent, which is one of the tally's (`place-lt`). Assumes
--- nothing.
+-- `metrics::figures::tally_after` meets its contract: the answer has the given class (`ClassOf`). A duplicate and a packet in order leave
+-- the tally; a reordered packet adds 1 at the index of its extent, which is within the tally (`place-lt`). Assumes nothing.
 use Prim.Native.Nat.{_+_, _-_}
 use native.Mathlib.Omega.{arith}
 use Rattle.rfc4737.specs.Tally.{oneMoreAt, tallyAfter}

@@ -1,6 +1,6 @@
 -- `metrics::figures::tally_of` meets its contract. The loop's invariant: the tables follow the arrivals before i, and the tally is that of
 -- their answers. The class of record i + 1 is its answer's (`told`), so that `tally_after` makes the step of the tally (`tally-next`); its
--- counts are at most the answers so far (`tally-le`). The measure is what is left of the arrivals. Assumes nothing.
+-- counts are at most the answers so far (`tally-le`). The measure is the number of arrivals left. Assumes nothing.
 use mathlib.Core.Path.{_≡_, sym, ap, _∙_}
 use Prim.Native.Nat.{ℕ, _≤_, _<_, _-_}
 use native.Mathlib.Omega.{arith}

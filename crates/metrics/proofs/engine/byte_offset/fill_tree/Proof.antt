@@ -1,7 +1,7 @@
--- `metrics::engine::byte_offset::fill_tree` meets its contract. The loop's invariant: of whatever first arrivals the table has the
--- numbers, if the tree had the first p₀ with their total, it has the first p with theirs; p is at most `count`, and the tree keeps its
--- length. One more is `size-tree-more`; a total fits, with at most 65,535 for each. The measure is what is left of the places. Assumes
--- nothing.
+-- `metrics::engine::byte_offset::fill_tree` meets its contract. The loop's invariant: if the table has the numbers of some first
+-- arrivals, and the tree had the first p₀ of them with their total, then it has the first p with theirs; p is at most `count`, and the
+-- tree keeps its length. The next one is `size-tree-more`; a total fits, with at most 65,535 for each. The measure is the number of first
+-- arrivals left. Assumes nothing.
 use mathlib.Core.Path.{_≡_, refl, _∙_}
 use mathlib.Core.List.{List}
 use Prim.Native.Nat.{ℕ, _-_, _≤_}

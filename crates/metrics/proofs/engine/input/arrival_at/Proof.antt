@@ -1,5 +1,5 @@
--- `metrics::engine::input::arrival_at` meets its contract: the twelve octets of a record are there (`arrival-inside`), and what they say
--- is the record's arrival (`arrival-read`). Assumes nothing.
+-- `metrics::engine::input::arrival_at` meets its contract: the twelve octets of a record are in the file (`arrival-inside`), and they are
+-- read as the record's arrival (`arrival-read`). Assumes nothing.
 use Rattle.metrics.proofs.FoundInFile.{arrival-inside, arrival-read}
 use borrow.Author.Needs.{needs}
 use Rattle.metrics.proofs.engine.input.arrival_at.Statement.{statement}

@@ -1,5 +1,5 @@
--- `metrics::engine::input::checked_layout` meets its contract: the check answers the layout of what the file decodes to, which keeps the
--- limits of a sample (`laid`). Assumes nothing.
+-- `metrics::engine::input::checked_layout` meets its contract: the check returns the layout of what the file decodes to, which is within
+-- the limits of a sample (`laid`). Assumes nothing.
 use Rattle.metrics.proofs.FoundInFile.{laid}
 use borrow.Author.Needs.{needs}
 use Rattle.metrics.proofs.engine.input.checked_layout.Statement.{statement}

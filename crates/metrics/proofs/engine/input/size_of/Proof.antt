@@ -1,4 +1,4 @@
--- `metrics::engine::input::size_of` meets its contract: what stands at a packet's place is its size (`size-stands`), which has two
+-- `metrics::engine::input::size_of` meets its contract: the octets at a packet's offset are its size (`size-stands`), which has two
 -- octets. Assumes nothing.
 use Rattle.metrics.proofs.FoundInFile.{size-stands}
 use native.Mathlib.Omega.{arith}

@@ -1,5 +1,5 @@
--- `metrics::engine::kind::late_time` meets its contract: the discontinuity's position gives its packet, that its record and that its
--- time, each in the table or the file (`late-packet`, `late-record`); so it is the late time of the answer (`late-time-of`). Assumes
+-- `metrics::engine::kind::late_time` meets its contract: the tables and the file lead from the discontinuity's position to its packet,
+-- then to its record and to its time (`late-packet`, `late-record`); so this is the late time of the answer (`late-time-of`). Assumes
 -- nothing.
 use Prim.Native.Nat.{_≤_}
 use native.Mathlib.Omega.{arith}

@@ -1,5 +1,5 @@
 -- `metrics::engine::kind::reordered_figures` meets its contract: with the late time of `late_time`, the byte offset and the largest n the
--- answer is whole (`late-whole`). Assumes nothing.
+-- answer is complete (`late-whole`). Assumes nothing.
 use Prim.Native.Nat.{_≤_}
 use native.Mathlib.Omega.{arith}
 use Rattle.metrics.proofs.AnswersByClass.{late-place, late-whole}

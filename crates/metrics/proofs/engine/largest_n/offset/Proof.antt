@@ -1,6 +1,6 @@
 -- `metrics::engine::largest_n::offset` meets its contract. The loop's invariant: the sum is the byte offset over the positions passed,
--- given that it is 0 over the first `from`, and at most 65,535 for each; so it fits. One position more is `offset-greater` or
--- `offset-same`, and after the last it is the byte offset over all (`offset-all`). The measure is what is left of the positions. Assumes
+-- given that it is 0 over the first `from`, and at most 65,535 for each; so it fits. The next position is `offset-greater` or
+-- `offset-same`, and after the last it is the byte offset over all (`offset-all`). The measure is the number of positions left. Assumes
 -- nothing.
 use mathlib.Core.Path.{sym}
 use mathlib.Core.Logic.{⊎-elim}

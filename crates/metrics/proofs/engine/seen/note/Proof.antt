@@ -1,6 +1,6 @@
 -- `metrics::engine::seen::note` meets its contract: a packet with a record is a copy, and all stays (`noted-copy`); below NextExp it is
--- reordered, and its largest n is put where its discontinuity stood (`noted-reordered`); else it is in order, and `note_skipped` fills
--- the places of the packets that it skips (`noted-in-order`). There are places left for one more (`noting-few`). Assumes nothing.
+-- reordered, and its largest n replaces its discontinuity (`noted-reordered`); else it is in order, and `note_skipped` fills the entries
+-- of the packets that it skips (`noted-in-order`). The tables have room for it (`noting-few`). Assumes nothing.
 use native.Mathlib.Omega.{arith}
 use Rattle.metrics.proofs.NotingArrivals.{noting-few, noted-copy, noted-reordered, noted-in-order}
 use borrow.Author.Needs.{needs}

@@ -1,5 +1,5 @@
--- `metrics::engine::seen::note_skipped` meets its contract. The loop's invariant: the places from `from` to before s are filled, and all
--- else is as it was; s is at most `to`, or is `from` where `to` is not above it. The measure is what is left of the places. Assumes
+-- `metrics::engine::seen::note_skipped` meets its contract. The loop's invariant: the entries from `from` to before s are filled, and all
+-- others are as they were; s is at most `to`, or is `from` if `to` is not above it. The measure is the number of packets left. Assumes
 -- nothing.
 use Prim.Native.Nat.{_+_, _≤_, _-_}
 use native.Mathlib.Omega.{arith}

@@ -1,6 +1,6 @@
--- `metrics::figures::answers::answer_at` meets its contract: the class that the tables give is the answer's (`told`), and `answer_by`
--- makes the answer. For a reordered packet it is given the byte offset, which may be summed from the discontinuity on, as it is 0 over
--- the first arrivals before it (`late-alone`), and the largest n. Assumes nothing.
+-- `metrics::figures::answers::answer_at` meets its contract: the class by the tables is the answer's (`told`), and `answer_by` makes the
+-- answer. For a reordered packet it takes the largest n and the byte offset, which is summed from the discontinuity on, as it is 0 over
+-- the first arrivals before it (`late-alone`). Assumes nothing.
 use mathlib.Core.Path.{_≡_, ap, _∙_}
 use Prim.Native.Nat.{_-_, _≤_}
 use native.Mathlib.Omega.{arith}

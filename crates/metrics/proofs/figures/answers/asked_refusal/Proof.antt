@@ -1,5 +1,5 @@
--- `metrics::figures::answers::asked_refusal` meets its contract: the file's own refusal is the first that is due; without one it is 9,
--- where what is asked for lies outside, or none. Assumes nothing.
+-- `metrics::figures::answers::asked_refusal` meets its contract: the file's own refusal is the first that applies; then 9, if the number
+-- asked for is outside its range. Assumes nothing.
 use mathlib.Core.Path.{sym}
 use mathlib.Core.List.{[], _∷_}
 use native.Mathlib.Omega.{arith}

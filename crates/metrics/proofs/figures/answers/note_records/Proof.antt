@@ -1,5 +1,5 @@
 -- `metrics::figures::answers::note_records` meets its contract. The loop's invariant: the tables follow the arrivals before i. Noting
--- record i + 1 makes them follow one more (`noted-follows`). The measure is what is left of the n records. Assumes nothing.
+-- record i + 1 makes them follow one more (`noted-follows`). The measure is the number of records left. Assumes nothing.
 use mathlib.Core.Path.{_≡_}
 use Prim.Native.Nat.{_≤_, _-_}
 use native.Mathlib.Omega.{arith}

@@ -1,7 +1,7 @@
--- `metrics::figures::gaps::list_gaps` meets its contract. The loop's invariant: the list has the gaps of the first i records, of which
--- `listed` tells the first arrivals and the last discontinuity. The gap of record i + 1 is that of its position (`number-at`) and goes
--- after them (`fill-next`). The measure is what is left of the records. The places in the code are the loop's head and, in a turn, the
--- test (t). Assumes nothing.
+-- `metrics::figures::gaps::list_gaps` meets its contract. The loop's invariant: the list has the gaps of the first i records, and
+-- `listed` has the number of first arrivals among them and their last discontinuity. The gap of record i + 1 is that of its position
+-- (`number-at`) and is written after them (`fill-next`). The measure is the number of records left. The places in the code are the loop's
+-- head and, in a turn, the test (t). Assumes nothing.
 use mathlib.Core.Path.{_≡_, refl, _∙_}
 use mathlib.Core.List.{_++_}
 use Prim.Native.Nat.{_-_, _≤_, _<_}

@@ -1,6 +1,6 @@
--- `metrics::figures::gaps::note_discoverer` meets its contract: the answer has the class that is given (`ClassOf`). A duplicate and a
--- packet in order discover nothing, and the table stays (`marked-same`). A reordered packet is put at its discontinuity, which is one of
--- the positions, where 0 stands there, and else the table stays (`marked-late`). Assumes nothing.
+-- `metrics::figures::gaps::note_discoverer` meets its contract: the answer has the given class (`ClassOf`). A duplicate and a packet in
+-- order discover nothing, and the table stays (`marked-same`). A reordered packet is noted at its discontinuity, which is one of the
+-- positions, if 0 is there; else the table stays (`marked-late`). Assumes nothing.
 use mathlib.Core.Path.{ap, _∙_}
 use native.Mathlib.Omega.{arith}
 use borrow.Author.Tests.{eq-eqb, ne-eqb}

@@ -1,6 +1,6 @@
 -- `metrics::figures::gaps::note_to` meets its contract. The loop's invariant: the tables follow the arrivals before i, and the
--- discoverers among them are marked. The class of record i + 1 is its answer's (`told`), so that `note_discoverer` gives the table of one
--- answer more (`answers-next`). The measure is what is left of the records. The places in the code are its loop's head (`head`) and, in a
+-- discoverers among them are marked. The class of record i + 1 is its answer's (`told`), so `note_discoverer` takes the table one answer
+-- further (`answers-next`). The measure is the number of records left. The places in the code are its loop's head (`head`) and, in a
 -- turn, after the class is known (k). Assumes nothing.
 use mathlib.Core.Path.{_≡_}
 use Prim.Native.Nat.{_≤_, _<_, _-_}

@@ -1,6 +1,5 @@
--- `metrics::figures::gaps::position_of` meets its contract: the answer has the class that is given (`ClassOf`). A duplicate has no
--- position, for which 0 stands; any other has the one after `count`, which is not 0 and so stands for itself (`known-some`). Assumes
--- nothing.
+-- `metrics::figures::gaps::position_of` meets its contract: the answer has the given class (`ClassOf`). A duplicate has no position,
+-- which is 0 as a number; any other has position `count` + 1, which is not 0 and so stands for itself (`known-some`). Assumes nothing.
 use native.Mathlib.Omega.{arith}
 use Rattle.rfc4737.specs.Gaps.{positionOf}
 use Rattle.metrics.proofs.OneArrivalMore.{known-some}

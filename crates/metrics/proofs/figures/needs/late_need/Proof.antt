@@ -1,6 +1,6 @@
--- `metrics::figures::needs::late_need` meets its contract, measure by measure: the extent is told by the class (`need-packets`), the byte
--- offset by the tree, as the packet has not arrived (`need-octets`), and the late time by the record of the discontinuity (`need-time`).
--- Assumes nothing.
+-- `metrics::figures::needs::late_need` meets its contract, measure by measure: the extent is known by the class (`need-packets`), the
+-- byte offset by the tree, as the packet has not arrived (`need-octets`), and the late time by the record of the discontinuity
+-- (`need-time`). Assumes nothing.
 use mathlib.Core.Path.{ap, _∙_}
 use Prim.Native.Nat.{_≤_}
 use native.Mathlib.Omega.{arith}
@@ -18,6 +18,12 @@ use Rattle.metrics.proofs.AnswersByClass.{late-place, late-offset}
 use Rattle.metrics.proofs.Accommodation.{need-packets, need-octets, need-time, need-filling}
 use Rattle.metrics.proofs.figures.needs.late_need.Statement.{statement}
 use Rattle.metrics.proofs.figures.needs.late_need.Tie as tie
+
+-- ---- places
+
+-- the start, from where the tree has returned the byte offset
+abbrev start : tie.After-offset-by-tree → tie.Start
+start q = q .before .before .before .before .before .before
 
 -- the discontinuity is at one of the positions
 place : (c : tie.Start) → (1 ≤ c .args .at) × (c .args .at ≤ c .args .count) × (c .args .count ≤ sentMost)
@@ -43,13 +49,14 @@ returns c =
 
 returns-2 : tie.Need-returns-2
 returns-2 c =
-    let s = c .before .before .before .before .before .before .before .before .before .before in
+    let q = c .before .before .before .before in
+    let s = start q in
     let p = s .pre in
     let d = decode (now (s .args .file)) in
     let n = number-few _ _ _ (p .there) _ (p .is) in
-    let made = c .before .before .before .before .offset-by-tree .ensures _ (p .numbered) (p .totalled) in
+    let made = q .offset-by-tree .ensures _ (p .numbered) (p .totalled) in
     let is = made .1 (p .new) ∙ ap (byteOffset (sizeOf d) (firsts (before d (s .args .i)))) (n .0) in
-    let told = c .before .before .before .before .before .before .enum-told2 .given .1 in (
+    let told = q .before .before .enum-told2 .given .1 in (
       rw told (need-octets _ _ _ (p .classed) _ (late-offset _ _ _ _ _ (p .there) (p .classed) _ _ (p .numbered) (p .recorded) _ is)),
       made .0,
     )

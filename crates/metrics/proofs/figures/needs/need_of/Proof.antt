@@ -1,5 +1,5 @@
--- `metrics::figures::needs::need_of` meets its contract: a record that is not reordered needs nothing (`need-none`); of a reordered one
--- it is that of `late_need`. Assumes nothing.
+-- `metrics::figures::needs::need_of` meets its contract: a record that is not reordered needs nothing (`need-duplicate`,
+-- `need-in-order`); a reordered one needs what `late_need` returns. Assumes nothing.
 use borrow.Author.Needs.{needs}
 use Rattle.metrics.proofs.Accommodation.{need-duplicate, need-in-order}
 use Rattle.metrics.proofs.figures.needs.need_of.Statement.{statement}

@@ -1,6 +1,6 @@
 -- `metrics::figures::needs::needs_of` meets its contract. The loop's invariant: tables and tree are those of the arrivals before i, and
--- needs and counts are those of their answers. The class of record i + 1 is its answer's (`told`), `need_of` gives its need, and
--- `needs_after` is one answer more (`needs-next`). The measure is what is left of the arrivals. Assumes nothing.
+-- needs and counts are those of their answers. The class of record i + 1 is its answer's (`told`), `need_of` returns its need, and
+-- `needs_after` adds it (`needs-next`). The measure is the number of arrivals left. Assumes nothing.
 use Prim.Native.Nat.{_-_, _≤_, _<_}
 use mathlib.Core.Path.{_≡_, sym, ap, _∙_}
 use native.Mathlib.Omega.{arith}

@@ -1,4 +1,4 @@
--- `metrics::figures::needs::needs_with` meets its contract: each field is its own. Assumes nothing.
+-- `metrics::figures::needs::needs_with` meets its contract: field by field, as `needsWith` has it. Assumes nothing.
 use borrow.Author.Needs.{needs}
 use Rattle.metrics.specs.Private.Needs.{needsWith}
 use Rattle.metrics.proofs.figures.needs.needs_with.Statement.{statement}

@@ -1,5 +1,5 @@
--- `metrics::figures::needs::step_of` meets its contract: the first size is at least what is not above it (`step-low`); else it is the
--- first past the need's distance (`step-past`), which a shift of 64 or more makes the next one. Assumes nothing.
+-- `metrics::figures::needs::step_of` meets its contract: a need of at most `low` has index 0 (`step-low`); any other has the first index
+-- past its distance from `low` (`step-past`), which is 1 if the shift is 64 or more. Assumes nothing.
 use Prim.Native.Nat.{ℕ, _+_, _-_, _/_, _^_, _<_, _≤_}
 use mathlib.Core.Path.{_≡_, sym, ap, _∙_}
 use native.Mathlib.Omega.{arith}

@@ -1,5 +1,5 @@
--- `metrics::figures::needs::sum_up` meets its contract. The loop's invariant: before j each count is the sum up to it, from j on all is
--- as it was, and `sum` is that of the first j. The measure is what is left of the places. Assumes nothing.
+-- `metrics::figures::needs::sum_up` meets its contract. The loop's invariant: below j each count is the sum up to its index, from j on
+-- the counts are as they were, and `sum` is that of the first j. The measure is the number of counts left. Assumes nothing.
 use mathlib.Core.Path.{_≡_, refl, sym, _∙_}
 use Prim.Native.Nat.{ℕ, suc, _+_, _-_, _≤_, _<_}
 use native.Mathlib.Omega.{arith}

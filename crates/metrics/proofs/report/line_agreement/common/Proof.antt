@@ -1,6 +1,6 @@
--- `metrics::report::line_agreement::common` meets its contract. The loop's invariant: what the texts have in common is i octets and what
--- is left of both has in common. An equal octet moves i on (`common-step`); where the other text ends, octets differ or the first text
--- ends, it is i. The measure is what is left of the first text. Assumes nothing.
+-- `metrics::report::line_agreement::common` meets its contract. The loop's invariant: the texts have i octets in common plus those that
+-- their rests have. An equal octet moves i on (`common-step`); where the other text ends, octets differ or the first text ends, the
+-- number is i. The measure is the length left of the first text. Assumes nothing.
 use Prim.Native.Nat.{_+_, _-_, _≤_}
 use native.Mathlib.Omega.{arith}
 use native.Mathlib.Nat.{zero-add}

@@ -1,5 +1,5 @@
--- `metrics::report::line_agreement::compare_line` meets its contract: the part of the text that is compared is all of it from the place
--- on (`rest-part`), so `common` gives the octets, and the whole line agrees if these are all of it. Assumes nothing.
+-- `metrics::report::line_agreement::compare_line` meets its contract: the part of the text that is compared is all of it from the offset
+-- on (`rest-part`), so `common` returns the octets, and the whole line agrees if these are all of it. Assumes nothing.
 use borrow.Author.Needs.{needs}
 use mathlib.Core.Path.{_≡_, ap, _∙_}
 use denote.Ref.{now}

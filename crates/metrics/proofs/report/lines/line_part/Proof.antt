@@ -1,5 +1,5 @@
 -- `metrics::report::lines::line_part` meets its contract: comparing, `compare_line` says how far the line's octets agree; else all n are
--- put. The contract says each under its own case, and the other case is absurd there. Assumes nothing.
+-- written. The contract has a clause for each case, and in each the other case is absurd. Assumes nothing.
 use mathlib.Core.Path.{refl, sym, _∙_}
 use mathlib.Core.Bool.{true≢false}
 use denote.Ref.{now}

@@ -1,5 +1,5 @@
--- `metrics::report::lines::take_header` meets its contract: the line is put at the start, which is its place, comparing or not
--- (`same-start`); then it is held against the text (`line-ready`, `line-taken`). Assumes nothing.
+-- `metrics::report::lines::take_header` meets its contract: the line is written at the start, which is its offset, comparing or not
+-- (`same-start`); then it is compared with the text (`line-ready`, `line-taken`). Assumes nothing.
 use Prim.Native.Nat.{_≤_}
 use native.Mathlib.Omega.{arith}
 use borrow.Author.Needs.{needs}

@@ -1,5 +1,5 @@
--- `metrics::report::lines::take_record` meets its contract: the line is put at its place or, comparing, at the start, where it has room;
--- then it is held against the text (`line-ready`, `line-taken`). Assumes nothing.
+-- `metrics::report::lines::take_record` meets its contract: the line is written at its offset or, comparing, at the start, where it has
+-- room; then it is compared with the text (`line-ready`, `line-taken`). Assumes nothing.
 use Prim.Native.Nat.{_≤_}
 use native.Mathlib.Omega.{arith}
 use borrow.Author.Needs.{needs}

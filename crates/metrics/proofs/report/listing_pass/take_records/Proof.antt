@@ -1,8 +1,8 @@
--- `metrics::report::listing_pass::take_records` meets its contract. The loop's invariant: the engine knows the arrivals before i, the
--- counts are those of their answers, and their lines are written or agree with the text. `advance` gives the answer for record i + 1,
--- whose figures have few digits; a line that differs ends the pass (`passed-stop`), any other is one step more of each part of the
--- invariant (`passed-next`), and where i is A all records are behind (`passed-all`). The measure is what is left of the arrivals. Assumes
--- nothing.
+-- `metrics::report::listing_pass::take_records` meets its contract. The loop's invariant: the engine has the state after the arrivals
+-- before i, the counts are those of their answers, and their lines are written or agree with the text. `advance` returns the answer for
+-- record i + 1, whose figures have few digits. A line that differs ends the pass (`passed-stop`); any other takes each part of the
+-- invariant one step further (`passed-next`); and when i is A all records are done (`passed-all`). The measure is the number of arrivals
+-- left. Assumes nothing.
 use Prim.Native.Nat.{_+_, _-_, _^_, _≤_, _<_}
 use mathlib.Core.Path.{_≡_, sym, ap, _∙_}
 use native.Mathlib.Omega.{arith}
@@ -68,7 +68,7 @@ here c = record { file = start (c .before .before) .pre .0; inside = c .if1 .tak
 few : (c : tie.Then1 Inv-loop μ-loop) → c .before .before .loop .i < arrivalsMost
 few c = omega (arith, c .if1 .taken, start (c .before .before) .pre .0 .few)
 
--- the place after its line
+-- the offset after its line
 fits : (c : tie.After-struct-known2 Inv-loop μ-loop) → head (after-arrival-at (after-advance (c .before .before))) .loop .at
     + c .before .before .before .take-record .result .octets < 2 ^ 64
 fits c =
