@@ -112,7 +112,7 @@ all-ones : (l : List Arrival) → All (SizeOne (λ _. 1)) l
 all-ones [] = tt
 all-ones (a ∷ l) = (refl, all-ones l)
 
--- one first arrival more makes as many pairs more as its byte offset is with sizes 1
+-- the next first arrival makes as many pairs more as its byte offset is with sizes 1
 pub wrong-more : (fs : List Arrival) (b : Arrival) → wrongPairs (fs ++ (b ∷ [])) ≡ wrongPairs fs + byteOffset (λ _. 1) fs (b .number)
 wrong-more fs b = wrong-snoc fs b ∙ ap (λ (n : ℕ). wrongPairs fs + n) (sym (offset-higher (λ _. 1) (b .number) fs (all-ones fs)))
 

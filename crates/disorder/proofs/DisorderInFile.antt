@@ -112,14 +112,14 @@ SeenTable d i seen = SeenPackets (before d i) seen (nextExp (firsts (before d i)
 pub arrived-start : (d : Decoded) → SeenTable d 0 (replicate (sentMost + 1) false)
 arrived-start d = let s = seen-start d in record { places = s .places; at = s .at; expected = refl }
 
--- under one arrival more
+-- after the next arrival
 pub arrived-next : (d : Decoded) (y : Layout) (i : ℕ) → HasRecord d y i → (seen : List Bool) → SeenTable d i seen → (n : ℕ)
     → n ≡ arrivalAt d i .number → n ≤ sentMost → SeenTable d (i + 1) (set seen n true)
 arrived-next d y i h seen f n is high =
     let s = seen-next d y i h seen _ f n is high in
     record { places = s .places; at = s .at; expected = refl }
 
--- the first arrivals under one arrival more, by the table of those that have arrived
+-- the first arrivals after the next arrival, by the table of those that have arrived
 pub firsts-seen : (d : Decoded) (y : Layout) (i : ℕ) → HasRecord d y i → (seen : List Bool) → SeenTable d i seen → (n : ℕ)
     → n ≡ arrivalAt d i .number → n ≤ sentMost
     → firsts (before d (i + 1)) ≡ cond (getD seen n false) (firsts (before d i)) (firsts (before d i) ++ (arrivalAt d i ∷ []))

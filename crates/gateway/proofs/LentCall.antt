@@ -1,11 +1,11 @@
--- A function over a struct that is lent to it, which calls one that takes the struct by value: a walk of its MIR, by hand, once for
--- every struct, callee and list of numbers. The borrow is opened, and the struct is copied out. `#inner` is called with the copy and
--- the numbers, the new state that `#state` takes from its answer is stored over the old one, and the borrow is closed at that state.
--- What `#said` takes from the answer is returned.
---     R, P, S      the types of the struct, of the answer and of what is returned; ws the widths of the numbers
+-- A function over a struct that is lent to it, which calls one that takes the struct by value: one walk of its MIR by hand, for every
+-- struct, callee and list of numbers. The borrow is opened, and the struct is copied out. `#inner` is called with the copy and the
+-- numbers, the new state that `#state` takes from its answer is stored over the old one, and the borrow is closed at that state. The
+-- function returns what `#said` takes from the answer.
+--     R, P, S      the types of the struct, of the answer and of the result; ws the widths of the numbers
 --     lent         the function; τ is the type to which its reference refers, as the MIR names it
 --     stepped      the answer to a struct and numbers; renewed and said are its two parts
---     walk         the walk, with all that is known of the callees: what each gives
+--     walk         the walk, with the facts that each callee ensures
 -- Assumes `Given`.
 use mathlib.Core.Path.{_≡_, refl, ap, sym, subst, _∙_}
 use Prim.Native.Nat.{suc}
@@ -34,7 +34,7 @@ use Rattle.receiver.proofs.FieldLent.{opens-struct}
 use Rattle.receiver.proofs.Returned.{Gives, gives}
 use Rattle.receiver.proofs.LentStruct.{Lent, Walk}
 
--- the function: _1 is the reference; after the numbers stand the answer and the struct
+-- the function: _1 is the reference; after the numbers come the answer and the struct
 abbrev pub lent : Declared → (P S : RattleType) → List Width → Ty → Name → Name → Name → Fn
 lent R P S ws τ #inner #state #said = record {
   lifetimes = 1;

@@ -1,6 +1,6 @@
--- What an account is: its arrivals are of the packets 1 to K, at most 4,096 (`account-limits`, by induction on the arrivals fed). An
--- arrival that is added meets none of 11, 6 and 7, so there is room for it, and its number lies in 1 to K (`accepted-arrival`). k is K, a
--- the arrival. Assumes nothing.
+-- The limits of an account: its arrivals are of the packets 1 to K, at most 4,096 (`account-limits`, by induction on the arrivals fed).
+-- An arrival that is added meets none of 11, 6 and 7, so there is room for it, and its number is from 1 to K (`accepted-arrival`). k is
+-- K, a the arrival. Assumes nothing.
 use Prim.Native.Nat.{ℕ, _+_, _≤_}
 use mathlib.Core.Path.{_≡_, refl}
 use mathlib.Core.Bool.{Bool, true, false, cond}
@@ -20,12 +20,12 @@ use Rattle.rfc4737.proofs.Due.{first-none, case-none}
 use Rattle.rfc4737.proofs.Judged.{one-split}
 use Rattle.receiver.specs.Account.{accountRefusal, accountWith, accountOf}
 
--- what an arrival has that is not refused
+-- the facts of an arrival that is not refused
 pub record AcceptedArrival (k : ℕ) (account : List Arrival) (a : Arrival) : Type 0 where
   pub room : length account ≡ arrivalsMost → ⊥
   pub numbered : OfPackets k a
 
--- an arrival that is not refused has it
+-- an arrival that is not refused has them
 pub accepted-arrival : (k : ℕ) (account : List Arrival) (a : Arrival) → accountRefusal k account a ≡ 0 → AcceptedArrival k account a
 unfolding accountRefusal
 accepted-arrival k account a e =

@@ -1,12 +1,12 @@
--- The step from the state of an account says what the account says, and leads to the state of the account after the arrival
+-- The step from the state of an account has the account's outcome, and leads to the state of the account after the arrival
 -- (`step-agrees`), for any split of its jumps into dropped and kept ones. The state is fit and counts all arrivals of the account, so the
 -- refusals agree (`refusal-agrees`); the marks say which packets have arrived (`mark-agrees`). An arrival that is not refused is a
--- duplicate, in order or reordered, by the same tests on both sides, and the number of a reordered packet is below the dropped one exactly
--- where its discontinuity is not among the kept jumps (`late-agrees`, by `search-late`). The state after it is compared field by field
--- (`stream-path`, `state-path`): each number is a count or fold that one arrival more carries on by its own law, and what is held goes on
--- by the jump that the arrival is, if it is one (`held-in-order`, `no-jump`).
--- Here k is K, a the arrival, ds and ws are the dropped and the kept jumps, h is what is held of them, room says whether there is room for
--- one more, d is a discontinuity, and t, u and v are outcomes of tests. Assumes nothing.
+-- duplicate, in order or reordered, by the same tests on both sides. The number of a reordered packet is below the dropped one exactly if
+-- its discontinuity is not among the kept jumps (`late-agrees`, by `search-late`). The state after it is compared field by field
+-- (`stream-path`, `state-path`): each number is a count or fold that takes one step by its own law, and the state of the jumps changes if
+-- the arrival is a jump (`held-in-order`, `no-jump`).
+-- Here k is K, a the arrival, ds and ws are the dropped and the kept jumps, h is the state of the jumps, room says whether there is room
+-- for one more, d is a discontinuity, and t, u and v are outcomes of tests. Assumes nothing.
 use Prim.Native.Nat.{ℕ, _+_, _-_, _≤_, _<_}
 use mathlib.Core.Path.{_≡_, refl, sym, ap, _∙_}
 use mathlib.Core.Bool.{Bool, true, false, not, cond}
@@ -50,7 +50,7 @@ use Rattle.receiver.proofs.ReorderedInWindow.{Split, WindowSearch, sear
 use Rattle.receiver.proofs.State.{stateWith}
 use Rattle.receiver.proofs.Fitness.{accepted-count, state-fit}
 
--- ---- one arrival more, over the account
+-- ---- the next arrival, over the account
 
 module _ (account : List Arrival) (a : Arrival) where
   answersIn-more : answersIn (account ++ (a ∷ [])) ≡ answersIn account ++ (answerIn account a ∷ [])
@@ -65,7 +65,7 @@ module _ (account : List Arrival) (a : Arrival) where
   runsIn-more : runs (answersIn (account ++ (a ∷ []))) ≡ runsAfter (runs (answersIn account)) (answerIn account a)
   runsIn-more = rw answersIn-more (runs-more (answersIn account) (answerIn account a))
 
-  -- L, NextExp and the marks under a first arrival
+  -- L, NextExp and the marks after a first arrival
   length-first : has (a .number) account ≡ false → length (firsts account) + 1 ≡ length (firsts (account ++ (a ∷ [])))
   length-first e = sym (ap length (firsts-first account a e) ∙ length-append (firsts account) (a ∷ []))
 
@@ -75,7 +75,7 @@ module _ (account : List Arrival) (a : Arrival) where
   marks-first : has (a .number) account ≡ false → withMark (marksOf (firsts account)) (a .number) ≡ marksOf (firsts (account ++ (a ∷ [])))
   marks-first e = sym (ap marksOf (firsts-first account a e) ∙ marks-more (firsts account) a)
 
--- ---- the jumps under one arrival more
+-- ---- the jumps after the next arrival
 
 -- an in-order arrival is a jump if its jump size is not 0
 jump-in-order : (fs : List Arrival) (a : Arrival) → nextExp fs ≤ a .number
@@ -83,7 +83,7 @@ jump-in-order : (fs : List Arrival) (a : Arrival) → nextExp fs ≤ a .number
 unfolding jumpAfter isJump isInOrder jumpSize
 jump-in-order fs a h = rw (le-leb _ _ h)
 
--- what is held after an in-order arrival
+-- the state of the jumps after an in-order arrival
 held-in-order : (room : Bool) (h : Held) (fs : List Arrival) (a : Arrival) → nextExp fs ≤ a .number
     → heldAfter room h (a .number - nextExp fs) (placeAfter fs a) ≡ foldl (withJump room) h (jumpAfter fs a)
 unfolding heldAfter
@@ -98,7 +98,7 @@ no-jump : (fs : List Arrival) (a : Arrival) → a .number < nextExp fs → jumpA
 unfolding jumpAfter isJump isInOrder
 no-jump fs a h = rw (lt-leb _ _ h)
 
--- there is no new jump or one
+-- either there is no new jump, or one
 pub jump-cases : (P : List FirstArrival → Type 0) → P [] → ((p : FirstArrival) → P (p ∷ []))
     → (k : ℕ) (account : List Arrival) (a : Arrival) → P (jumpIn k account a)
 unfolding jumpIn jumpAfter
@@ -110,7 +110,7 @@ jump-cases P none one k account a = go (eqb (accountRefusal k account a) 0) (has
     go true false false = none
     go true false true = one (placeAfter (firsts account) a)
 
--- the account's jumps under one arrival more
+-- the account's jumps after the next arrival
 pub jumps-with : (k : ℕ) (account : List Arrival) (a : Arrival)
     → jumps (firsts (accountWith k account a)) ≡ jumps (firsts account) ++ jumpIn k account a
 unfolding jumpIn accountWith
@@ -123,7 +123,7 @@ jumps-with k account a = go (eqb (accountRefusal k account a) 0) (has (a .number
     go true true e = ap jumps (firsts-duplicate account a e) ∙ sym (append-nil _)
     go true false e = ap jumps (firsts-first account a e) ∙ jumps-more (firsts account) a
 
--- ---- what is said
+-- ---- the outcome
 
 -- a reordered packet in the receiver's forms, exact or not, d being its discontinuity
 lateForm : List FirstArrival → List Arrival → Arrival → Bool → Option FirstArrival → ReceiverAnswer
@@ -161,7 +161,7 @@ pub search-window : (account : List Arrival) (ds ws : List FirstArrival) (a : Ar
 unfolding inWindow isIn
 search-window account ds ws a s = rw (s .is)
 
--- what the rule says of a reordered packet, over a stream that has the account's L and the last dropped number
+-- the outcome of a reordered packet by the rule, over a stream that has the account's L and the last dropped number
 module _ (k : ℕ) (account : List Arrival) (a : Arrival) (ds ws : List FirstArrival) (sp : Split account ds ws)
     (s : Stream) (first : s .arrived ≡ length (firsts account)) (last : s .dropped ≡ lastNumber ds) where
   -- exact or not, d being the oldest kept jump of a greater number
@@ -171,7 +171,7 @@ module _ (k : ℕ) (account : List Arrival) (a : Arrival) (ds ws : List FirstArr
   said-late d true e = rw (first, last, e)
   said-late d false e = rw (first, last, e)
 
-  -- it is what the account says
+  -- it is the account's outcome
   late-agrees : OfPackets k a → has (a .number) account ≡ false → a .number < nextExp (firsts account)
       → reorderedOutcome s ws a (firstAbove (a .number) ws)
       ≡ acceptedOutcome (inForm ws account a (answerIn account a))
@@ -307,7 +307,7 @@ module _ (k : ℕ) (low : 1 ≤ k) (high : k ≤ sentMost) (account : List Arriv
         (sound .numbered))) (a .number) (n .low)
         ∙ has-firsts (a .number) account
 
-    -- the state before, and what the account notes of an arrival that is added
+    -- the state before, and the case that the account notes of an arrival that is added
     abbrev before : Receiver
     before = stateWith k account h
 
@@ -335,7 +335,7 @@ module _ (k : ℕ) (low : 1 ≤ k) (high : k ≤ sentMost) (account : List Arriv
             (answer-again account a e))
         go false e = ap looked (mark-agrees (n .numbered) ∙ e) ∙ order (leb (nextExp (firsts account)) (a .number)) refl e
 
-    -- what is noted of a reordered packet makes one state
+    -- both cases of a reordered packet make one state
     late-noted : (t : Bool) (d : Option FirstArrival) → notedState room before (a .number) (a .time) (lateForm ws account a t d)
         ≡ reorderedState before (a .number) (a .time)
     unfolding notedState lateForm
@@ -374,7 +374,7 @@ module _ (k : ℕ) (low : 1 ≤ k) (high : k ≤ sentMost) (account : List Arriv
         go true e = ap after (answer-again account a e) ∙ duplicate-state room h k account a e
         go false e = first-agrees e
 
-    -- what is said
+    -- the outcome of the step is the account's
     outcome-agrees : outcomeOf before (a .number) (a .time) ≡ outcomeIn ws k account a
     unfolding outcomeOf outcomeIn
     outcome-agrees = go (eqb (accountRefusal k account a) 0) refl
@@ -383,7 +383,7 @@ module _ (k : ℕ) (low : 1 ≤ k) (high : k ≤ sentMost) (account : List Arriv
         go true t = rw (refusal-agrees, t) (looked-agrees (accepted-arrival k account a (eqb-true _ _ t)))
         go false t = rw (refusal-agrees, t)
 
-    -- the state after what is said
+    -- the state after that outcome
     state-agrees : cond (eqb (outcomeIn ws k account a .refusal) 0)
         (notedState room before (a .number) (a .time) (outcomeIn ws k account a .noted)) before
         ≡ stateWith k (accountWith k account a) (foldl (withJump room) h (jumpIn k account a))

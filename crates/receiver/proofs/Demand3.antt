@@ -75,7 +75,7 @@ outcome-fit ws k account a = go (eqb (accountRefusal k account a) 0)
     go true = refl
     go false = refusal-fit k account a
 
--- what the account says of an arrival that is added
+-- the account's outcome for an arrival that is added
 outcome-added : (ws : List FirstArrival) (k : ℕ) (account : List Arrival) (a : Arrival) → accountRefusal k account a ≡ 0
     → outcomeIn ws k account a .noted ≡ inForm ws account a (answerIn account a)
 unfolding outcomeIn
@@ -158,11 +158,11 @@ late-answered k account ds ws sp a e d q =
 
 -- ---- the receiver's own rule
 
--- what it holds of the jumps of an account
+-- the state of the jumps of an account
 abbrev heldIn : List Arrival → Held
 heldIn account = heldFrom (jumps (firsts account))
 
--- and of the account
+-- and of the account itself
 unfoldable stateOf : ℕ → List Arrival → Receiver
 stateOf k account = stateWith k account (heldIn account)
 
@@ -176,7 +176,7 @@ window-few : (account : List Arrival) → length (windowIn account) ≤ windowPl
 unfolding windowIn
 window-few account = simp length-drop (omega arith)
 
--- what is held under one arrival more
+-- the state of the jumps after the next arrival
 held-with : (k : ℕ) (account : List Arrival) (a : Arrival)
     → foldl (withJump (ltb (heldIn account .kept) windowPlaces)) (heldIn account) (jumpIn k account a) ≡ heldIn (accountWith k account a)
 held-with k account a =
@@ -258,7 +258,7 @@ module _ (k : ℕ) (low : 1 ≤ k) (high : k ≤ sentMost) where
         sum = omega arith;
       }
 
--- as `fresh` carries it: of the receiver that it hands back, which is always made for 1 to 4,096 packets
+-- as `fresh` carries it, for the receiver that it returns, which is always made for 1 to 4,096 packets
 pub demand3-fresh : (k : ℕ) (fed : List Arrival) → Demand3 (freshOf k .state .stream .sent) fed
 unfolding freshOf madeFor freshStream
 demand3-fresh k = go (outside 1 sentMost k) refl

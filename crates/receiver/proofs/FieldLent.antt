@@ -38,7 +38,7 @@ use denote.Struct.Declared.{Declared, row}
 use denote.Struct.Laws.{FLaws, Laws, Plain, val, vals, tells}
 
 module _ {M : Type 1} (𝓤 : URA M) (H : Heap 𝓤) (A : Atoms 𝓤) where
-  -- the cells of the fields, one entry each, and then the entry i. e is where what stands before them ends
+  -- the cells of the fields, one entry each, and then the entry i. e is where the fields before them end
   abbrev pub cellsThen : Item 𝓤 → Share → Tys → ℕ → ℕ → ℕ → Vals → List (Item 𝓤)
   cellsThen i q tnil e b o vnil = i ∷ []
   cellsThen i q tnil e b o (vcons v vs) = raw (never 𝓤) ∷ []

@@ -1,7 +1,7 @@
 -- Every state of an account is fit (`state-fit`): each of its numbers is a count over at most 4,096 answers, and its kept jumps are the
 -- last of the account's jumps, which stand in 1 to L, have numbers of 1 to K and times up to the greatest (`jumps-fit`). The dropped
 -- number is that of one of the others, or 0 (`last-most`).
--- Here k is K, ds and ws are the dropped and the kept jumps, and held is what is held of them. Assumes nothing.
+-- Here k is K, ds and ws are the dropped and the kept jumps, and held is the state of the jumps. Assumes nothing.
 use Prim.Native.Nat.{ℕ, _+_, _≤_}
 use mathlib.Core.Path.{_≡_, refl}
 use mathlib.Core.Bool.{true}

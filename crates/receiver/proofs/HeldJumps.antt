@@ -1,10 +1,10 @@
--- What is held of the jumps (`Holds`): the places hold the list of those kept, and the dropped number is that of the last of those
--- dropped. Lists of places are compared place by place (`places-same`). Jumps laid in the places are read back (`laid-kept`), and the
--- places after them stay as they were (`laid-after`). So `Holds` is kept up under any new jump: with room it goes after the kept ones
--- (`holds-appended`), and without the oldest is dropped, and its number is the dropped one (`holds-shifted`). By the receiver's own rule
--- the last 64 jumps are held (`held-last`), by induction on the next jump: while fewer are kept none is dropped, and from then on each
--- drops one. Here ds and ws are the dropped and the kept jumps, js all jumps, ks those laid, h is what is held, p the new jump, q the
--- oldest kept one; xs are the values written to one array. Assumes nothing.
+-- The state of the jumps (`Holds`): the places have the list of those kept, and the dropped number is that of the last one dropped. Lists
+-- of places are compared place by place (`places-same`). Jumps laid in the places are read back (`laid-kept`), and the places after them
+-- stay as they were (`laid-after`). So `Holds` stays true after any new jump: with room it goes after the kept ones (`holds-appended`);
+-- without room the oldest is dropped, and its number is the dropped one (`holds-shifted`). By the receiver's own rule the last 64 jumps
+-- are kept (`held-last`), by induction on the jumps: while fewer are kept none is dropped, and from then on each drops one.
+-- Here ds and ws are the dropped and the kept jumps, js all jumps, ks those laid, h is the state, p the new jump, q the oldest kept one;
+-- xs are the values written to one array. Assumes nothing.
 use Prim.Native.Nat.{ℕ, zero, suc, _+_, _-_, _≤_, _<_}
 use mathlib.Core.Path.{_≡_, refl, sym, ap, ap₂, _∙_}
 use mathlib.Core.Bool.{Bool, true, false}
@@ -90,7 +90,7 @@ laid-after ks l k h =
     (over-after (map (λ (p : FirstArrival). p .number) ks) (l .numbers) k (rw (length-map ks (λ (p : FirstArrival). p .number)) h))
     (over-after (map (λ (p : FirstArrival). p .time) ks) (l .times) k (rw (length-map ks (λ (p : FirstArrival). p .time)) h))
 
--- ---- what is held, for any split of the jumps
+-- ---- the state, for any split of the jumps
 
 -- the places are as many as an array of them has
 pub record AllPlaces (l : Places) : Type 0 where
@@ -98,7 +98,7 @@ pub record AllPlaces (l : Places) : Type 0 where
   pub numbers : length (l .numbers) ≡ windowPlaces
   pub times : length (l .times) ≡ windowPlaces
 
--- of some jumps, those dropped and then those kept, this is held
+-- h is the state of some jumps, those dropped and then those kept
 pub record Holds (ds ws : List FirstArrival) (h : Held) : Type 0 where
   pub long : AllPlaces (h .places)
   pub kept : keptOf h ≡ ws
@@ -109,7 +109,7 @@ pub holds-count : (ds ws : List FirstArrival) (h : Held) → Holds ds ws h → h
 unfolding keptOf
 holds-count ds ws h o = sym (length-places (h .places) 0 (h .kept)) ∙ ap length (o .kept)
 
--- under a new jump p, whether there is room for it or not
+-- after a new jump p, whether there is room for it or not
 module _ (room : Bool) (ds ws : List FirstArrival) (h : Held) (p : FirstArrival) (o : Holds ds ws h) where
   -- the places hold the jumps kept then
   kept-then : keptOf (withJump room h p) ≡ keptWith room ws p
@@ -175,7 +175,7 @@ noneHeld =
       places = record { positions = replicate windowPlaces 0; numbers = replicate windowPlaces 0; times = replicate windowPlaces 0 };
     }
 
--- what is held after some jumps, one after the other
+-- the state after some jumps, one after the other
 unfoldable pub heldFrom : List FirstArrival → Held
 heldFrom js = foldl (λ (h : Held) (p : FirstArrival). withJump (ltb (h .kept) windowPlaces) h p) noneHeld js
 
@@ -222,7 +222,7 @@ holds-more js h p o = go (ltb (h .kept) windowPlaces) refl
         rw (y, take-append-le (suc n) js (p ∷ []) lt, take-suc js n p lt, drop-append-le (suc n) js (p ∷ []) lt)
         (holds-shifted (take n js) (getD js n p) (drop (suc n) js) h p k (omega arith))
 
--- so it is after any jumps
+-- so it is after any number of jumps
 pub held-last : (js : List FirstArrival) → HoldsLast js (heldFrom js)
 unfolding heldFrom noneHeld keptOf placesFrom lastNumber
 held-last =

@@ -59,7 +59,7 @@ places-vals z = spelled (P.the-type .parts) P′.the-laws (P.struct .as-values z
 abbrev vals : Receiver → Vals
 vals z = spelled (R.the-type .parts) R′.the-laws (R.struct .as-values z)
 
--- what is known of each member of a receiver, and of its places
+-- the facts of each member of a receiver, and of its places
 module _ (z : Receiver) (was : Is R.the-row z (LL.vals R.the-type R′.the-laws z)) where
   pub of-all : Are (R.the-type .parts) R′.the-laws (R.struct .as-values z)
   of-all = LL.owed R.the-type R′.the-laws z _ was

@@ -1,11 +1,11 @@
 -- A function over a struct that is lent to it, and numbers: how it meets its contract, by a walk of its MIR, and how a walk calls it.
 --     R, S         the types of the struct and of the result; ws the widths of the numbers
---     Q            what is ensured, of the struct at entry, the numbers, the result, and the struct at exit
---     Lent, Left   what is handed over: the token and what the reference owns; and what is left of that: the token, and what says
---                  the struct's last state
+--     Q            what the function ensures of the struct at entry, the numbers, the result, and the struct at exit
+--     Lent, Left   what a caller hands over: the token and what the reference owns; and what it has afterwards: the token, and the
+--                  fact of the struct's last state
 --     Walk         a walk of the function f, from the one to the other
 --     meets        a function with such a walk meets every contract that follows from Q
---     lent-gives   a callee that meets such a contract gives what it ensures
+--     lent-gives   a callee that meets such a contract returns what it ensures
 --     lends        the call of it, as a step of a walk
 -- Assumes `Given`.
 use mathlib.Core.Path.{sym, subst}
@@ -60,7 +60,7 @@ module _ {M : Type 1} (𝓤 : URA M) (H : Heap 𝓤) (A : Atoms 𝓤) (R S : Rat
   abbrev pub Lent : (κs : Lfts 1) → Shares 1 → Args (T .signature) κs → Item 𝓤
   Lent κs qs a = ‵ (flft (κs .0) (qs .0)) ⊛ ‵ (MutRef (named 0) (κs .0) R .own (a .0) (ptr-vals (a .0)))
 
-  -- what is passed, as machine values
+  -- the arguments, as machine values
   abbrev pub args : (κs : Lfts 1) → Args (T .signature) κs → List Val
   args κs a = vptr (a .0 .ptr .0) (a .0 .ptr .1) ∷ values ws (taken κs ws (a .1))
 
@@ -88,14 +88,14 @@ module _ {M : Type 1} (𝓤 : URA M) (H : Heap 𝓤) (A : Atoms 𝓤) (R S : Rat
   module _ (W : Given 𝓤 H A) (𝓣 : Tables 𝓤 H) (f : Fn) (S-makes : Makes 𝓤 H A S (Is S)) (c : Clauses 𝓤 T)
       (follows : (κs : Lfts 1) (a : Args (T .signature) κs) (g : c κs a .ghost) (s : S .Denot) (h : R .Denot)
       → Q (a .0 .now) (taken κs ws (a .1)) s h → ent 𝓤 (emp 𝓤) (c κs a .ensures g s (atExit T κs a (h, none κs ws (a .1))))) where
-    -- at what is passed, a, with numbers of which their types' relations hold
+    -- for arguments a, whose numbers are of their types
     module _ (κs : Lfts 1) (qs : Shares 1) (bounds : AllOutlive 1 [] κs) (a : Args (T .signature) κs) (g : c κs a .ghost)
         (are : Known κs ws (a .1)) where
       -- its machine values
       abbrev vss : Vals (T .signature) κs
       vss = (ptr-vals (a .0), valss (rows κs ws) (spells κs ws) (a .1))
 
-      -- what is to stand at exit
+      -- the context to reach at exit
       abbrev Post : Val → SProp 𝓤
       Post = walkOf 𝓤 H A T stayed c .post ((κs, qs, bounds, a, vss), g)
 
@@ -111,7 +111,7 @@ module _ {M : Type 1} (𝓤 : URA M) (H : Heap 𝓤) (A : Atoms 𝓤) (R S : Rat
           use0 W (raw (c κs a .ensures g s (atExit T κs a (h, none κs ws (a .1))))) (follows κs a g s h e) $
           nothing ! $ move ! (4 ∷ 0 ∷ []) $ join ! $ move ! (3 ∷ 2 ∷ []) $ join ! $ move ! (1 ∷ 0 ∷ []) $ join ! $ done !
 
-      -- the walk, from what stands at entry
+      -- the walk, from the context at entry
       enters : Walk 𝓣 f → ent 𝓤 (sep 𝓤 (onEntry 𝓤 H A (T .signature) κs qs a vss) (c κs a .requires g))
           (WpFn 𝓤 H (𝓣 .C) (𝓣 .Λ) f (flat (typesAt (T .signature .params) κs) vss) Post)
       enters walk =
@@ -157,7 +157,7 @@ module _ {M : Type 1} (𝓤 : URA M) (H : Heap 𝓤) (A : Atoms 𝓤) (R S : Rat
         keep ! (2 ∷ 0 ∷ []) $ use0 W (raw (fact 𝓤 (Q (a .0 .now) (taken κs ws (a .1)) s (zs .0) × Is S s (v ∷ []))))
         (factI 𝓤 _ (emp 𝓤) (e, is)) $ done !)))))
 
--- a call that is handed what is lent, and how the walk goes on with what it gave back
+-- a call that is handed what is lent, and how the walk goes on with its result
 pub lends : {M : Type 1} {𝓤 : URA M} {H : Heap 𝓤} {A : Atoms 𝓤} {K : Type 0} {W : Given 𝓤 H A} {Γ : List (Item 𝓤)} {E : Env 𝓤 H}
     {C : Calls 𝓤 H} {Λ : Loops 𝓤 H} {q : Ends 𝓤 H} {k : Name} {xs : List Operand} {d : Place} {rest : Body} → K
     → FmC 𝓤 H (W .laws) C → (R S : RattleType) (ws : List Width) (Q : R .Denot → Numbers ws → S .Denot → R .Denot → Type 0)

@@ -1,5 +1,5 @@
 -- Marks: a packet is marked exactly if it was marked before or is the one marked now (`mark-with`); after some arrivals, exactly if it is
--- among them (`marked-is-arrived`, by induction on one arrival more). The bit b of a word is set by `bitOr` with 2 to the b, of which b is
+-- among them (`marked-is-arrived`, by induction on the arrivals). The bit b of a word is set by `bitOr` with 2 to the b, of which b is
 -- the only bit (`power-bit`), so just that bit is changed (`mark-bit`). If the packets p, marked now, and q have one word, they are the
 -- same exactly if they have one bit; if not, q's word stays.
 -- Here m are the words of the marks, b and c are bits of the word w, fs are the arrivals, a is the next, and s a packet. Assumes nothing.

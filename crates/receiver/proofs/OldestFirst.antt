@@ -1,6 +1,6 @@
--- Places counted from either end: place i from the last down is place 63 - i (`getD-reverse`). So what is read at the place that is counted
--- i is value i in that order (`read-at`), and what is written there is set there (`write-at`). l is a list of the places' values, p where
--- the place i stands. Assumes nothing.
+-- Places counted from either end: place i from the last down is index 63 - i (`getD-reverse`). So reading place i of the count reads
+-- value i in that order (`read-at`), and writing there sets that value (`write-at`). l is a list of the places' values, p the index of
+-- place i. Assumes nothing.
 use Prim.Native.Nat.{ℕ, suc, _-_, _≤_, _<_}
 use mathlib.Core.Path.{_≡_, refl, sym, ap, _∙_}
 use mathlib.Core.Bool.{Bool, true, false}
@@ -42,7 +42,7 @@ module _ (l : List ℕ) (size : length l ≡ windowPlaces) where
       let m : length l - suc i ≡ windowPlaces - 1 - i = omega (arith, size) in
       sym (getD-reverse l i (omega (arith, size)) ∙ ap (λ (n : ℕ). getD l n 0) m)
 
-  -- what is read
+  -- reading a place
   pub read-at : (down : Bool) (i p : ℕ) → i < windowPlaces → p ≡ placeFrom down i → getD l p 0 ≡ getD (oldestFirst down l) i 0
   unfolding placeFrom oldestFirst
   read-at true i p h e = ap (λ (n : ℕ). getD l n 0) e ∙ turned-at i h
@@ -77,7 +77,7 @@ turned-set l size i v h =
         ∙ turned-at l size k g
         ∙ sym (getD-set-other (reverse l) i k v 0 ne)
 
--- what is written
+-- writing a place
 pub write-at : (l : List ℕ) → length l ≡ windowPlaces → (down : Bool) (i p v : ℕ) → i < windowPlaces → p ≡ placeFrom down i
     → oldestFirst down (set l p v) ≡ set (oldestFirst down l) i v
 unfolding placeFrom oldestFirst

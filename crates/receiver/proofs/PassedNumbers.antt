@@ -1,16 +1,16 @@
--- Numbers among the parameters of a function, however many, for walks by hand: their cells stand in the context as one entry, so
--- that the places of all others do not depend on how many there are. ws are the widths, ns the numbers, bs the blocks of the locals.
+-- Numbers among the parameters of a function, however many, for walks by hand: their cells are one entry of the context, so the indices of
+-- all other entries do not depend on how many there are. ws are the widths, ns the numbers, bs the blocks of the locals.
 --     slots            the parameters, in a signature
---     taken            the numbers, of what is passed
---     stays, goes      they are as they were passed, at exit, and nothing is said of them
---     had, owned-all   what they own is had for nothing, at exit and at entry
+--     taken            the numbers among the arguments
+--     stays, goes      at exit they are as they were passed, and nothing is said of them
+--     had, owned-all   what they own is a fact, at exit and at entry
 --     Empty, Full      the cells of the locals, as they are allocated, and with the numbers in them
---     allocs-all       they are allocated
+--     allocs-all       the cells are allocated
 --     passes-all       the numbers are stored, as the function's last arguments
---     reads-all        the numbers are read, as the last operands of a call, after what the callee is handed
+--     reads-all        the numbers are read, as the last operands of a call, after its other operands
 --     frees-all        the cells are freed
---     past, after      the place of a local after them, and that it is found there
---     given            the numbers as what a callee is handed, for any lifetime of the call
+--     past, after      the index of a local after them, and that it is found there
+--     given            the numbers as operands of a callee, for any lifetime of the call
 -- Assumes `Given`.
 use mathlib.Core.Path.{_≡_, refl, ap, sym, subst}
 use Prim.Native.Nat.{ℕ, zero, suc, _<_, _^_}
@@ -58,12 +58,12 @@ abbrev pub locals : List Width → List Local → List Local
 locals [] ls = ls
 locals (w ∷ ws) ls = local (tyInt w) valueLocal ∷ locals ws ls
 
--- the operands that copy them, from the place i on
+-- the operands that copy them, from index i on
 abbrev pub copies : ℕ → List Width → List Operand
 copies i [] = []
 copies i (w ∷ ws) = copy (place i []) ∷ copies (suc i) ws
 
--- the place i of what stands after them
+-- index i of the entries after them
 abbrev pub past : List Width → ℕ → ℕ
 past [] i = i
 past (w ∷ ws) i = suc (past ws i)
@@ -114,7 +114,7 @@ module _ (κs : Lfts 1) where
   in-a-row [] a = refl
   in-a-row (w ∷ ws) a = ap (λ (vs : List Val). vint w (a .0) ∷ vs) (in-a-row ws (a .1))
 
-  -- as what a callee is handed
+  -- as operands of a callee
   abbrev pub given : (ws : List Width) → Numbers ws → Denots (rows ws)
   given [] ns = tt
   given (w ∷ ws) ns = (ns .0, given ws (ns .1))
@@ -164,13 +164,13 @@ module _ {M : Type 1} (𝓤 : URA M) (H : Heap 𝓤) where
   env [] bs E = E
   env (w ∷ ws) bs E = (tyInt w, bs .0) ∷ env ws (bs .1) E
 
-  -- what stands after them is found
+  -- the entries after them are found
   pub after : (ws : List Width) (bs : Numbers ws) (E : Env 𝓤 H) (i : ℕ)
       → getD (env ws bs E) (past ws i) (noLocal 𝓤 H) ≡ getD E i (noLocal 𝓤 H)
   after [] bs E i = refl
   after (w ∷ ws) bs E i = after ws (bs .1) E i
 
-  -- they stand from the place i on
+  -- they are the entries from index i on
   abbrev pub From : Env 𝓤 H → ℕ → (ws : List Width) → Numbers ws → Type 0
   From E i [] bs = Unit {0}
   From E i (w ∷ ws) bs = (getD E i (noLocal 𝓤 H) ≡ (tyInt w, bs .0)) × From E (suc i) ws (bs .1)
@@ -190,7 +190,7 @@ alone (τ ∷ []) v is = is .0
 alone (τ ∷ σ ∷ τs) v is = absurd (is .1)
 
 module _ {M : Type 1} {𝓤 : URA M} {H : Heap 𝓤} {A : Atoms 𝓤} {K : Type 0} {W : Given 𝓤 H A} where
-  -- a local at a place that is known
+  -- a local at a known index
   pub found : {Γ : List (Item 𝓤)} {E : Env 𝓤 H} → K → {i : ℕ} {τ : Ty} {b : ℕ} → getD E i (noLocal 𝓤 H) ≡ (τ, b)
       → Finds K W Γ E (place i []) (τ, b, zero)
   found {Γ} {E} t e = record { go = λ Kt h. subst (λ (d : Ty × ℕ). ent 𝓤 (⋆ 𝓤 H A Γ) (Kt (d .0, d .1, zero))) (sym e) h }

@@ -1,13 +1,13 @@
--- Steps of a walk by hand: a call has returned, to its result and what the callee ensures of it. They are for callees whose result is
--- plain data. T and c are its contract, y what it was handed, and v the machine value that it returned.
---     returned-with    with what the callee was lent, at its last values
+-- Steps of a walk by hand: a call has returned. They are for callees whose result is plain data. T and c are the callee's contract, y its
+-- arguments, and v the machine value that it returned.
+--     returned-with    the result, with what the callee was lent, at its last values
 --     returned         the result alone
 -- The postcondition is opened in turn: the result x, the last values ws of what was lent, what the callee ensures, taken as a fact φ, and
--- that v stands for x. A call that is had for nothing, since all that its parameters own are facts:
---     Gives            f, called at the machine values vs, gives back a value x of the type R of which φ x holds
---     gives            such a call, and how the walk goes on with what it gave
---     met-gives        a callee that meets its contract gives what it ensures, where what the contract asks is had for nothing
---     for-nothing      parameters that own only facts are had for nothing
+-- that v stands for x. If all that the parameters own are facts, the call needs nothing:
+--     Gives            f, called at the machine values vs, returns a value x of the type R with φ x
+--     gives            such a call, and how the walk goes on with its result
+--     met-gives        a callee that meets its contract returns what it ensures, if what the contract asks needs nothing
+--     for-nothing      parameters that own only facts need nothing
 -- Assumes `Given`.
 use mathlib.Core.Path.{_≡_}
 use mathlib.Core.List.{List, [], _∷_}
@@ -61,7 +61,7 @@ module _ {M : Type 1} (𝓤 : URA M) (H : Heap 𝓤) (A : Atoms 𝓤) (T : Ended
   abbrev Lent : Last → Item 𝓤
   Lent ws = ‵ (lasts T (y .0 .0) (y .0 .3) ws)
 
-  -- what stands after the call
+  -- the context after the call
   abbrev After : Item 𝓤
   After =
       later (some (λ (x : R .Denot).

@@ -1,7 +1,7 @@
--- Places that move by one, from the first on: after i of them the list is `shifted i`, of which the first i hold what stood after each, and
--- the others what they held. A turn sets the place i to what stands at i + 1, which has not moved yet (`shifted-at`), and that is
--- `shifted (i + 1)` (`shifted-next`). After n of them the place n is set to the new value v, and the list is pushed (`pushed-last`). l is
--- the list before, t the list now. Assumes nothing.
+-- Places that move by one, from the first on: after i of them the list is `shifted i`, in which the first i have the value of the next
+-- place, and the others their own. A turn sets place i to the value at i + 1, which has not moved yet (`shifted-at`), and that is
+-- `shifted (i + 1)` (`shifted-next`). After n of them place n is set to the new value v, and the list is pushed (`pushed-last`). l is the
+-- list before, t the list now. Assumes nothing.
 use Prim.Native.Nat.{ℕ, suc, _+_, _<_, _≤_}
 use mathlib.Core.Bool.{Bool, false}
 use mathlib.Core.List.{List, [], _∷_, _++_}
@@ -15,7 +15,7 @@ use Rattle.receiver.specs.Parts.{placeFrom, oldestFirst}
 use Rattle.receiver.specs.Private.{pushed}
 use Rattle.receiver.proofs.OldestFirst.{read-at, write-at, same-length}
 
--- the first i places hold what stood after each
+-- the first i places have the value of the next
 abbrev pub shifted : ℕ → List ℕ → List ℕ
 shifted i l = take i (drop 1 l) ++ drop i l
 
@@ -39,7 +39,7 @@ module _ (l : List ℕ) (n : ℕ) (size : n < length l) where
       ∙ ap (λ (k : ℕ). getD l k 0) (omega arith)
       ∙ sym (getD-drop 1 l i 0)
 
-  -- one place more has moved
+  -- one more place has moved
   shifted-more : (i : ℕ) → i < n → set (shifted i l) i (getD (shifted i l) (i + 1) 0) ≡ shifted (i + 1) l
   shifted-more i h =
       let long : i < length l = omega arith in
@@ -82,7 +82,7 @@ module _ (down : Bool) (l₀ : List ℕ) (long : length l₀ ≡ windowPlaces) (
   enough : n < length (oldestFirst down l₀)
   enough = omega (arith, same-length down l₀, long)
 
-  -- one more: what stands at `from` is set at `to`
+  -- one more: the value at `from` is set at `to`
   pub moved-more : (l : List ℕ) (i to from : ℕ) → i < n → to ≡ placeFrom down i → from ≡ placeFrom down (i + 1) → Moved down l₀ l i
       → Moved down l₀ (set l to (getD l from 0)) (i + 1)
   moved-more l i to from h a b m = record {

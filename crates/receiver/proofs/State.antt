@@ -1,5 +1,5 @@
--- The state of a receiver made for k packets as a function of the account and of what is held of its jumps, h. Fresh it is that of the
--- empty account with nothing held, by computation. Assumes nothing.
+-- The state of a receiver made for k packets, as a function of the account and of the state of its jumps, h. Fresh, it is that of the
+-- empty account with no jumps, by computation. Assumes nothing.
 use Prim.Native.Nat.{ℕ}
 use mathlib.Core.Path.{_≡_, refl}
 use mathlib.Core.List.{List, [], flatten}

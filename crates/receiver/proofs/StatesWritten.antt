@@ -1,9 +1,10 @@
--- What is written, part by part, makes the state of the definitions: in each case of what is noted the definition's state has these very
--- parts, and what the callees wrote is put for them. After an in-order arrival the jump size says whether it is a jump: if it is 0 the
--- places stay. If not, each array is pushed: its first values are those of the kept jumps (`values-kept`), so that pushed it holds the
--- values of the jumps kept then (`pushed-over`), as `laid` says.
--- Here s are the stream's numbers before and g after, with a prime the arrays after, v is what is noted, h what is held, ks are the kept
--- jumps, p the new one, f a value of a jump, xs the array of these values, room whether there is room for p. Assumes nothing.
+-- The parts that the code writes make the state of the definitions: in each case noted, the definition's state has these very parts, with
+-- the values that the callees wrote. After an in-order arrival the jump size says whether it is a jump: if it is 0 the places stay. If
+-- not, each array is pushed: its first values are those of the kept jumps (`values-kept`), so after the push it has the values of the
+-- jumps kept then (`pushed-over`), as `laid` says.
+-- Here s are the stream's numbers before and g after, with a prime the arrays after, v is the case noted, h the state of the jumps, ks
+-- are the kept jumps, p the new one, f a value of a jump, xs the array of these values, room whether there is room for p. Assumes
+-- nothing.
 use Prim.Native.Nat.{ℕ, zero, suc, _+_, _-_, _≤_, _<_}
 use mathlib.Core.Bool.{Bool, true, false, cond}
 use mathlib.Core.List.{List, [], _∷_, _++_, map, map-append}
@@ -37,7 +38,7 @@ use Rattle.receiver.proofs.ReceiverAnswer.{the-type}
 
 -- ---- the numbers
 
--- how many jumps are kept under a new one
+-- how many jumps are kept after a new one
 kept-length : (room : Bool) (ks : List FirstArrival) (p : FirstArrival) → (room ≡ false → 1 ≤ length ks)
     → length (keptWith room ks p) ≡ cond room (length ks + 1) (length ks)
 unfolding keptWith
@@ -48,7 +49,7 @@ kept-length false ks p h =
     let b : length (drop 1 ks ++ (p ∷ [])) ≡ length (drop 1 ks) + 1 = length-append (drop 1 ks) (p ∷ []) in
     omega arith
 
--- where at most `most` are kept, and that is 1 or more
+-- if at most `most` are kept, and that is 1 or more
 module _ (most : ℕ) (least : 1 ≤ most) (h : Held) (size : ℕ) (p : FirstArrival) where
   abbrev fewer : Bool
   fewer = ltb (h .kept) most
@@ -151,7 +152,7 @@ module _ (most : ℕ) (s g : Stream) (marks positions numbers times : List ℕ) 
   abbrev r : Receiver
   r = whole s marks positions numbers times
 
-  -- whether there is room for a new jump, and what is held after an in-order arrival with a jump size
+  -- whether there is room for a new jump, and the state of the jumps after an in-order arrival with a jump size
   abbrev room : Bool
   room = ltb (s .kept) most
 
@@ -210,7 +211,7 @@ module _ (most : ℕ) (s g : Stream) (marks positions numbers times : List ℕ) 
       c : times′ ≡ over (map (λ (p : FirstArrival). p .time) (keptWith room (keptOf before) new)) times
       c = w .1 .1 ∙ laid-values (λ (p : FirstArrival). p .time) times (full .1 .1) (λ at. refl)
 
-  -- what is noted of a reordered packet, exact or beyond the window, makes one state
+  -- both cases of a reordered packet, exact or beyond the window, make one state
   late-state : (w : ReceiverAnswer) → OneOf (2 ∷ 3 ∷ []) (tagOf the-type w) → notedState room r number time w ≡ reorderedState r number time
   unfolding notedState
   late-state Duplicate k = absurd (⊎-elim (λ e. omega arith) (λ e. omega arith) k)

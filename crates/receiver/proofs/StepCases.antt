@@ -1,8 +1,8 @@
--- What is said of an arrival, case by case, and the step that it makes: in each case the tests of the definition are known, so that it
--- computes. Where no refusal is due, each of those in the list is not, so the state is fit and the number lies in 1 to K
--- (`accepted-facts`); and then a kept place is one of the 64, with a position of at most the packet's (`after-place`).
--- Here r is the state, s its numbers, h what it holds of the jumps, a the arrival, o what is said of it, p the oldest kept jump of a
--- greater number, q the oldest kept one, l the extent and late time from a jump. Assumes nothing.
+-- The outcome of an arrival, case by case, and the step that it makes: in each case the tests of the definition are known, so that it
+-- computes. If no refusal applies, the state is fit and the number is from 1 to K (`accepted-facts`); and then a kept place is one of the
+-- 64, with a position of at most the packet's (`after-place`).
+-- Here r is the state, s its numbers, h the state of its jumps, a the arrival, o its outcome, p the oldest kept jump of a greater number,
+-- q the oldest kept one, l the extent and late time from a jump. Assumes nothing.
 use Prim.Native.Nat.{ℕ, zero, suc, _+_, _-_, _<_, _≤_}
 use mathlib.Core.Bool.{Bool, true, false, not}
 use mathlib.Core.List.{List, [], _∷_, head?}
@@ -74,7 +74,7 @@ oldest-kept h k = first (h .kept) k
 -- ---- any arrival
 
 module _ (r : Receiver) (number time : ℕ) where
-  -- what holds where an arrival meets no refusal before it is looked at
+  -- the facts of an arrival that is not refused by the state, its number and its time
   pub accepted-facts : stepRefusal r number time ≡ 0 → Unrefused r number
   unfolding stepRefusal fit
   accepted-facts e =
@@ -91,7 +91,7 @@ module _ (r : Receiver) (number time : ℕ) where
         number-high = n .1;
       }
 
-  -- what is known of the jump in a kept place
+  -- the facts of the jump in a kept place
   pub after-place : Unrefused r number → (place : ℕ) → place < r .stream .kept
       → (place < windowPlaces) × (getD (r .places .positions) place 0 ≤ r .stream .arrived + 1)
   unfolding keptOf placeAt
@@ -101,7 +101,7 @@ module _ (r : Receiver) (number time : ℕ) where
       let j = jump-facts (r .stream) (placeAt (r .places) place) (rw e at k) in
       (omega (arith, a .places .kept-high), omega (arith, j .position-high))
 
-  -- refused before it is looked at
+  -- refused by the state, its number or its time
   pub outcome-refused : (x : ℕ) → (x ≡ 0 → ⊥) → x ≡ stepRefusal r number time → refusedOutcome x ≡ outcomeOf r number time
   unfolding outcomeOf
   outcome-refused x h e =
@@ -124,7 +124,7 @@ module _ (r : Receiver) (number time : ℕ) where
     outcome-late o m h e = e ∙ simp (go, m, lt-leb _ _ h)
 
   module _ (room : Bool) (o : Outcome) (e : o ≡ outcomeOf r number time) where
-    -- what is said and not refused is accepted
+    -- an outcome without a refusal is accepted
     pub said-accepted : o .refusal ≡ 0 → Unrefused r number
     unfolding outcomeOf
     said-accepted z =
@@ -134,12 +134,12 @@ module _ (r : Receiver) (number time : ℕ) where
         opened true q p = eqb-true _ _ q
         opened false q p = rw q at p
 
-    -- a refusal hands the state back
+    -- a refusal returns the state
     pub step-refused : (o .refusal ≡ 0 → ⊥) → _≡_ {A = StepAnswer} (record { outcome = o; state = r }) (stepWith room r number time)
     unfolding stepWith
     step-refused h = simp (sym e, ne-eqb (o .refusal) 0 h)
 
-    -- what is noted makes the state
+    -- the case noted makes the state
     pub step-noted : (s : Receiver) → o .refusal ≡ 0 → s ≡ notedState room r number time (o .noted)
         → _≡_ {A = StepAnswer} (record { outcome = o; state = s }) (stepWith room r number time)
     unfolding stepWith

@@ -30,7 +30,7 @@ unfoldable pub accountRefusal : ℕ → List Arrival → Arrival → ℕ
 accountRefusal k account a =
     firstRefusal (refusalIf (eqb (length account) arrivalsMost) stateFull ∷ judgeOne k (greatestTime account) a ∷ [])
 
--- the account after an arrival: refused it stays, any other arrival is added
+-- the account after an arrival: a refused one leaves it, any other is added
 unfoldable pub accountWith : ℕ → List Arrival → Arrival → List Arrival
 accountWith k account a = cond (eqb (accountRefusal k account a) 0) (account ++ (a ∷ [])) account
 
@@ -38,7 +38,7 @@ accountWith k account a = cond (eqb (accountRefusal k account a) 0) (account ++ 
 unfoldable pub accountOf : ℕ → List Arrival → List Arrival
 accountOf k fed = foldl (accountWith k) [] fed
 
--- the jump that an arrival is, if it is accepted and is one
+-- the jump that an arrival makes, if it is accepted and makes one
 unfoldable pub jumpIn : ℕ → List Arrival → Arrival → List FirstArrival
 jumpIn k account a =
     cond (eqb (accountRefusal k account a) 0) (cond (has (a .number) account) [] (jumpAfter (firsts account) a)) []
@@ -55,7 +55,7 @@ answersIn account = answers (λ _. 0) account
 unfoldable pub windowIn : List Arrival → List FirstArrival
 windowIn account = let js = jumps (firsts account) in drop (length js - windowPlaces) js
 
--- whether one of some jumps stands at a position
+-- whether one of some jumps is at a position
 unfoldable pub standsIn : ℕ → List FirstArrival → Bool
 standsIn p [] = false
 standsIn p (q ∷ qs) = eqb (q .position) p || standsIn p qs
@@ -98,6 +98,6 @@ accountOutcome k earlier a =
     let account = accountOf k earlier in
     outcomeIn (windowIn account) k account a
 
--- of each arrival fed
+-- what the account says of each arrival fed
 unfoldable pub accountOutcomes : ℕ → List Arrival → List Outcome
 accountOutcomes k fed = each (accountOutcome k) fed

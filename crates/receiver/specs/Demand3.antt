@@ -43,11 +43,11 @@ pub record Answered (kept : List FirstArrival) (account : List Arrival) (a : Arr
     (noted : ReceiverAnswer) : Type 0 where
   -- its discontinuity is in the window: exact, with the true figures
   pub exact : inWindow kept account (a .number) ≡ true → noted ≡ Exact (trueFigures d)
-  -- it is not: beyond the window,
+  -- its discontinuity is not in the window: beyond it,
   pub beyond : inWindow kept account (a .number) ≡ false → noted ≡ Beyond (beyondFigures kept account a)
-  -- with the true extent above the figure. The late time answered is the one from the arrival of the window's oldest jump, with
-  -- its direction. The bound on it, that the true late time is not below it, is dropped: clocks may step back, so a dropped
-  -- jump may be stamped up to 1,000 later than the oldest kept one
+  -- with the true extent above the figure. The late time is the one from the arrival of the window's oldest jump, with its direction. The
+  -- bound on it, that the true late time is not below it, is dropped: clocks may step back, so a dropped jump may be stamped up to 1,000
+  -- later than the oldest kept one
   pub above : inWindow kept account (a .number) ≡ false → beyondFigures kept account a .extent < d .extent
 
 -- the counts of the account
@@ -58,7 +58,7 @@ countsIn k fed = counts (answersIn (accountOf k fed))
 pub record Demand3 (k : ℕ) (fed : List Arrival) : Type 0 where
   -- the refusals and answers are the account's
   pub outcomes : receiverOutcomes k fed ≡ accountOutcomes k fed
-  -- 10 never comes
+  -- refusal 10 never occurs
   pub fit : count (λ (s : Outcome). eqb (s .refusal) stateUnfit) (receiverOutcomes k fed) ≡ 0
   -- every accepted arrival that is a reordered packet over the account is answered so
   pub reordered : (earlier : List Arrival) (a : Arrival) (later : List Arrival)

@@ -1,4 +1,4 @@
--- The kept jumps: those that stand in the places, and what is held of them under a new one. Assumes nothing.
+-- The kept jumps: those in the places, and how a new one changes them. Assumes nothing.
 use Prim.Native.Nat.{ℕ, zero, suc}
 use mathlib.Core.Bool.{Bool, cond}
 use mathlib.Core.List.{List, [], _∷_, _++_, map}
@@ -9,7 +9,7 @@ use Rattle.rfc4737.specs.Order.{FirstArrival}
 use Rattle.receiver.specs.declared.Stream.{Stream}
 use Rattle.receiver.specs.declared.Places.{Places}
 
--- the jump that stands in a place
+-- the jump in a place
 unfoldable pub placeAt : Places → ℕ → FirstArrival
 placeAt places at =
     record {
@@ -23,13 +23,13 @@ unfoldable pub placesFrom : Places → ℕ → ℕ → List FirstArrival
 placesFrom places at zero = []
 placesFrom places at (suc n) = placeAt places at ∷ placesFrom places (suc at) n
 
--- what is held of the jumps: how many are kept, the number of the last one dropped, and the places
+-- the state of the jumps: how many are kept, the number of the last one dropped, and the places
 pub record Held : Type 0 where
   pub kept : ℕ
   pub dropped : ℕ
   pub places : Places
 
--- what a stream holds of its jumps in some places
+-- the state of a stream's jumps in some places
 abbrev pub heldOf : Stream → Places → Held
 heldOf s places = record { kept = s .kept; dropped = s .dropped; places = places }
 
@@ -37,7 +37,7 @@ heldOf s places = record { kept = s .kept; dropped = s .dropped; places = places
 unfoldable pub keptOf : Held → List FirstArrival
 keptOf h = placesFrom (h .places) 0 (h .kept)
 
--- the jumps kept under a new one p: it goes after the kept ones; where there is no room for it, the oldest is dropped
+-- the jumps kept after a new one p: it goes after the kept ones; if there is no room for it, the oldest is dropped
 unfoldable pub keptWith : Bool → List FirstArrival → FirstArrival → List FirstArrival
 keptWith room kept p = cond room kept (drop 1 kept) ++ (p ∷ [])
 
@@ -50,8 +50,8 @@ laid kept places =
       times = over (map (λ (p : FirstArrival). p .time) kept) (places .times);
     }
 
--- what is held under a new jump p: the jumps kept then, laid in the places, and, where there is no room for p, the number of the
--- oldest one, which is dropped
+-- the state after a new jump p: the jumps kept then, laid in the places, and, if there was no room for p, the number of the oldest one,
+-- which is dropped
 unfoldable pub withJump : Bool → Held → FirstArrival → Held
 withJump room h p =
     let kept = keptWith room (keptOf h) p in
@@ -61,6 +61,6 @@ withJump room h p =
       places = laid kept (h .places);
     }
 
--- what is held after an in-order arrival p with a jump size: it is a jump if this is not 0
+-- the state after an in-order arrival p with a jump size: it is a jump if this is not 0
 unfoldable pub heldAfter : Bool → Held → ℕ → FirstArrival → Held
 heldAfter room h size p = cond (eqb size 0) h (withJump room h p)

@@ -7,15 +7,15 @@ use lib.Bits.{bitOr}
 use lib.Dec.{eqb}
 use lib.ListN.{getD, set}
 
--- the words: a bit for each of 4,096 packets
+-- the number of words: a bit for each of 4,096 packets
 abbrev pub markWords : ℕ
 markWords = 64
 
--- the word of packet s
+-- the index of the word of packet s
 abbrev pub wordOf : ℕ → ℕ
 wordOf s = (s - 1) / 64
 
--- the place of packet s in its word
+-- the index of its bit in that word
 abbrev pub bitOf : ℕ → ℕ
 bitOf s = (s - 1) % 64
 
@@ -23,6 +23,6 @@ bitOf s = (s - 1) % 64
 unfoldable pub markAt : List ℕ → ℕ → Bool
 markAt marks s = eqb (getD marks (wordOf s) 0 / 2 ^ bitOf s % 2) 1
 
--- the marks with that of packet s
+-- the marks with packet s marked
 unfoldable pub withMark : List ℕ → ℕ → List ℕ
 withMark marks s = set marks (wordOf s) (bitOr (getD marks (wordOf s) 0) (2 ^ bitOf s))

@@ -1,4 +1,4 @@
--- What is said of an arrival. Assumes nothing.
+-- The outcome of an arrival. Assumes nothing.
 use Prim.Native.Nat.{ℕ}
 use mathlib.Core.Option.{Option}
 use Rattle.rfc4737.specs.Order.{FirstArrival}
@@ -12,10 +12,10 @@ use Rattle.receiver.specs.declared.Outcome.{Outcome}
 unfoldable pub latenessFrom : ℕ → ℕ → Option FirstArrival → Lateness
 latenessFrom position time d = record { extent = extentFrom position d; late = lateFrom time d }
 
--- refused: "in order" with jump size 0
+-- the outcome of a refused arrival: "in order" with jump size 0
 abbrev pub refusedOutcome : ℕ → Outcome
 refusedOutcome n = record { refusal = n; noted = InOrder 0 }
 
--- accepted
+-- the outcome of an accepted arrival
 abbrev pub acceptedOutcome : ReceiverAnswer → Outcome
 acceptedOutcome noted = record { refusal = 0; noted = noted }

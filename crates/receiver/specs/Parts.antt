@@ -1,5 +1,5 @@
 -- A receiver in parts: the numbers of its stream, its marks, and three arrays of places. A stream of a meter counts the places from the
--- first up, or from the last down; the oldest jump stands first in its count. Assumes nothing.
+-- first up, or from the last down; the oldest jump is the first in its count. Assumes nothing.
 use Prim.Native.Nat.{ℕ, _-_}
 use mathlib.Core.Bool.{Bool, true, false}
 use mathlib.Core.List.{List, reverse}
@@ -12,7 +12,7 @@ use Rattle.receiver.specs.Limits.{windowPlaces}
 
 -- ---- the places from either end
 
--- the index of place i: i, or 63 - i where they are counted down
+-- the index of place i: i, or 63 - i if places are counted down
 unfoldable pub placeFrom : Bool → ℕ → ℕ
 placeFrom true i = windowPlaces - 1 - i
 placeFrom false i = i
@@ -28,7 +28,7 @@ oldestFirst false l = l
 abbrev pub placesOf : List ℕ → List ℕ → List ℕ → Places
 placesOf positions numbers times = record { positions = positions; numbers = numbers; times = times }
 
--- the same in the order of the count
+-- the places of three arrays in the order of the count
 abbrev pub placesBy : Bool → List ℕ → List ℕ → List ℕ → Places
 placesBy down positions numbers times = placesOf (oldestFirst down positions) (oldestFirst down numbers) (oldestFirst down times)
 
@@ -36,7 +36,7 @@ placesBy down positions numbers times = placesOf (oldestFirst down positions) (o
 abbrev pub whole : Stream → List ℕ → List ℕ → List ℕ → List ℕ → Receiver
 whole s marks positions numbers times = record { stream = s; marks = marks; places = placesOf positions numbers times }
 
--- the same in the order of the count
+-- the receiver of a stream, its places in the order of the count
 abbrev pub wholeBy : Bool → Stream → List ℕ → List ℕ → List ℕ → List ℕ → Receiver
 wholeBy down s marks positions numbers times = record { stream = s; marks = marks; places = placesBy down positions numbers times }
 

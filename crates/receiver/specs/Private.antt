@@ -1,5 +1,5 @@
--- What private functions say to each other, which no public contract reaches: a fit state as facts, and what the functions of a step
--- know and find. Assumes nothing.
+-- What private functions say to each other, which no public contract reaches: a fit state as facts, and the conditions and results of the
+-- functions of a step. Assumes nothing.
 use Prim.Native.Nat.{ℕ, zero, suc, _+_, _<_, _≤_}
 use mathlib.Core.Bool.{Bool, true, false, cond, _&&_}
 use mathlib.Core.List.{List, _∷_, _++_, map}
@@ -18,7 +18,7 @@ use Rattle.receiver.specs.Fit.{every, jumpFit}
 
 -- ---- a fit state, as facts
 
--- what fit numbers say
+-- the facts of fit numbers
 pub record StreamFit (s : Stream) : Type 0 where
   pub sent-low : 1 ≤ s .sent
   pub sent-high : s .sent ≤ sentMost
@@ -31,7 +31,7 @@ pub record StreamFit (s : Stream) : Type 0 where
   pub next-low : 1 ≤ s .next
   pub next-high : s .next ≤ s .sent + 1
 
--- what a fit kept jump says
+-- the facts of a fit kept jump
 pub record JumpFit (s : Stream) (p : FirstArrival) : Type 0 where
   pub position-low : 1 ≤ p .position
   pub position-high : p .position ≤ s .arrived
@@ -39,7 +39,7 @@ pub record JumpFit (s : Stream) (p : FirstArrival) : Type 0 where
   pub number-high : p .number ≤ s .sent
   pub time-high : p .time ≤ s .greatest
 
--- what fit places say
+-- the facts of fit places
 pub record PlacesFit (s : Stream) (places : Places) : Type 0 where
   pub kept-high : s .kept ≤ windowPlaces
   pub jumps-fit : every (map (jumpFit s) (keptOf (heldOf s places))) ≡ true
@@ -53,7 +53,7 @@ Full positions numbers times = (length positions ≡ windowPlaces) × ((length n
 
 -- ---- a step
 
--- what holds of a state and an arrival with no refusal by the state, its number and its time
+-- the facts of a state and an arrival that is not refused by the state, its number and its time
 pub record Unrefused (r : Receiver) (number : ℕ) : Type 0 where
   pub stream : StreamFit (r .stream)
   pub places : PlacesFit (r .stream) (r .places)

@@ -1,5 +1,5 @@
--- The receiver's step and its start, after the scope's "The receiver": what is said of an arrival, and the state after it.
--- Assumes nothing.
+-- The receiver's step and its start, after the scope's "The receiver": the outcome of an arrival, and the state after it. Assumes
+-- nothing.
 use Prim.Native.Nat.{ℕ, _+_, _-_, min, max}
 use mathlib.Core.Bool.{Bool, not, cond}
 use mathlib.Core.List.{List, [], _∷_, head?}
@@ -27,7 +27,7 @@ use Rattle.receiver.specs.Marks.{markWords, markAt, withMark}
 use Rattle.receiver.specs.Kept.{Held, heldOf, keptOf, heldAfter}
 use Rattle.receiver.specs.Fit.{fit}
 
--- fresh, a stream has the K it is made for, NextExp 1 and all else 0
+-- the numbers of a fresh stream: its K, NextExp 1, and 0 for all others
 unfoldable pub freshStream : ℕ → Stream
 freshStream k =
     record {
@@ -42,7 +42,7 @@ freshStream k =
       dropped = 0;
     }
 
--- and a receiver no mark and no jump
+-- a fresh receiver: no mark and no jump
 unfoldable pub madeFor : ℕ → Receiver
 madeFor k =
     record {
@@ -51,11 +51,11 @@ madeFor k =
       places = record { positions = replicate windowPlaces 0; numbers = replicate windowPlaces 0; times = replicate windowPlaces 0 };
     }
 
--- a fresh receiver for K; refused by 4 it is one made for K = 1
+-- the answer of `fresh`: a fresh receiver for K; with refusal 4, one for K = 1
 unfoldable pub freshOf : ℕ → FreshAnswer
 freshOf k = record { refusal = judgeSent k; state = madeFor (cond (outside 1 sentMost k) 1 k) }
 
--- ---- what is said of an arrival
+-- ---- the outcome of an arrival
 
 -- the refusal of an arrival by the state, its number and its time, 0 for none: unfit state 10, then 11, 6, 7
 unfoldable pub stepRefusal : Receiver → ℕ → ℕ → ℕ
@@ -76,7 +76,7 @@ reorderedOutcome s kept a (some d) =
     (cond (ltb (a .number) (s .dropped)) (Beyond (latenessFrom (s .arrived + 1) (a .time) (head? kept)))
     (Exact (latenessFrom (s .arrived + 1) (a .time) (some d))))
 
--- the same over the jumps kept in some places
+-- the same, over the jumps kept in some places
 abbrev pub lateOutcome : Stream → Places → Arrival → Outcome
 lateOutcome s places a =
     let kept = keptOf (heldOf s places) in
@@ -92,7 +92,7 @@ firstOutcome r number time =
 unfoldable pub unrefusedOutcome : Receiver → ℕ → ℕ → Outcome
 unrefusedOutcome r number time = cond (markAt (r .marks) number) (acceptedOutcome Duplicate) (firstOutcome r number time)
 
--- what is said of an arrival
+-- the outcome of an arrival
 unfoldable pub outcomeOf : Receiver → ℕ → ℕ → Outcome
 outcomeOf r number time =
     cond (eqb (stepRefusal r number time) 0) (unrefusedOutcome r number time) (refusedOutcome (stepRefusal r number time))

@@ -1,6 +1,6 @@
--- The window cases: K = 130, every size 100, even numbers from 2 on, then one late packet; record r arrives at 10 times r. Each case
--- has what is said of the late packet, by the receiver and over the account, and its answer over the account, with the true figures.
--- Assumes nothing.
+-- The window cases: K = 130, every size 100, even numbers from 2 on, then one late packet; record r arrives at 10 times r. Each case has
+-- the outcome for the late packet, by the receiver and over the account, and its answer over the account, with the true figures. Assumes
+-- nothing.
 use Prim.Native.Nat.{ℕ, zero, suc, _+_, _*_}
 use mathlib.Core.Path.{_≡_}
 use mathlib.Core.List.{List, [], _∷_, map}
@@ -25,20 +25,20 @@ unfoldable pub evensFrom : ℕ → ℕ → List Arrival
 evensFrom r zero = []
 evensFrom r (suc n) = recordOfPacket r (2 * r) ∷ evensFrom (r + 1) n
 
--- a case: how many even numbers arrive, which packet is late, and what is to come of it
+-- a case: how many even numbers arrive, which packet is late, and the expected results
 pub record WindowCase : Type 0 where
   pub evens : ℕ
   pub late : ℕ
   pub noted : ReceiverAnswer
   pub truth : Answer
 
--- what is said of the late packet, and its answer
+-- the outcome for the late packet, and its answer
 pub record WindowOutcome : Type 0 where
   pub receiver : Outcome
   pub account : Outcome
   pub answer : Answer
 
--- what comes of a case
+-- the results of a case
 unfoldable pub computed : WindowCase → WindowOutcome
 computed c =
     let earlier = evensFrom 1 (c .evens) in
@@ -49,7 +49,7 @@ computed c =
       answer = answerTo (λ (number : ℕ). 100) (accountOf 130 earlier) a;
     }
 
--- what is to come of it
+-- its expected results
 unfoldable pub outcomeDue : WindowCase → WindowOutcome
 outcomeDue c =
     record {
@@ -92,6 +92,6 @@ case3 =
 unfoldable pub windowCases : List WindowCase
 windowCases = case1 ∷ case2 ∷ case3 ∷ []
 
--- each comes out as it is to
+-- every case has its expected results
 abbrev pub WindowCasesHold : Type 0
 WindowCasesHold = map computed windowCases ≡ map outcomeDue windowCases

@@ -84,7 +84,7 @@ pub(crate) fn advance_within<'a>(
     }
 }
 
-// The same for a receiver: it keeps 64 jumps, counted from the first place up.
+// The step of a receiver's parts: it keeps 64 jumps, counted from the first place up.
 pub(crate) fn advance<'a>(
     s: Stream,
     marks: &'a mut [u64; MARK_WORDS],

@@ -107,7 +107,7 @@ fn put_last<'a>(
 }
 
 // Stores a new jump after the `kept` ones. If `most` are kept, the oldest is dropped and the others are shifted by one. The case that all
-// places are taken is apart, since a loop over a fixed number of places costs less.
+// places are taken has its own code, since a loop over a fixed number of places costs less.
 pub(crate) fn push<'a>(
     positions: &'a mut [u16; Receiver::WINDOW],
     numbers: &'a mut [u16; Receiver::WINDOW],

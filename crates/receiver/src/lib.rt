@@ -58,7 +58,7 @@ pub struct Places {
     pub times: [u64; Receiver::WINDOW],
 }
 
-// What a receiver holds: the numbers of its stream, a bit for each packet that has arrived, and the places of its kept jumps.
+// The state of a receiver: the numbers of its stream, a bit for each packet that has arrived, and the places of its kept jumps.
 #[repr(C)]
 pub struct Receiver {
     pub stream: Stream,
@@ -72,8 +72,8 @@ pub struct Lateness {
     pub late: LateTime,
 }
 
-// What a receiver notes of an arrival: a duplicate; in order, with the jump size; reordered, with exact extent
-// and late time; or reordered beyond the window, with those of the oldest kept jump.
+// The case that a receiver notes of an arrival: a duplicate; in order, with the jump size; reordered, with exact extent and late time; or
+// reordered beyond the window, with those of the oldest kept jump.
 pub enum ReceiverAnswer {
     Duplicate,
     InOrder(u32),
@@ -81,7 +81,7 @@ pub enum ReceiverAnswer {
     Beyond(Lateness),
 }
 
-// The outcome of an arrival: the refusal (0 for none), and what is noted.
+// The outcome of an arrival: the refusal (0 for none), and the case noted.
 pub struct Outcome {
     pub refusal: u32,
     pub noted: ReceiverAnswer,
@@ -100,7 +100,7 @@ pub struct FreshAnswer {
     pub state: Receiver,
 }
 
-// How many words of 64 bits hold a bit for each packet.
+// The number of words of 64 bits that have a bit for each packet.
 pub const MARK_WORDS: usize = (Receiver::PACKETS / 64) as usize;
 
 impl Receiver {

@@ -17,7 +17,7 @@ ghost use Rattle.receiver.specs.Parts.{wholeBy, stepAnswerBy};
 ghost use Rattle.receiver.specs.Fit.{fit};
 ghost use Rattle.receiver.specs.Step.{freshStream, stepWithin};
 
-// Returns the number of values. The proof learns the length of a borrowed array by it.
+// Returns the number of values, by which the proof learns the length of a borrowed array.
 fn counted16(values: &[u16]) -> usize
     ensures { λ r. ⌜ r ≡ length (now (values .entry)) ⌝ }
 {

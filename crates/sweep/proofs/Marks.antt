@@ -103,7 +103,7 @@ skipping-jump l s low new h =
       mark = mark-new l s new ∙ ap (recordOf l) (k .is);
     }
 
--- ---- one arrival more
+-- ---- the next arrival
 
 -- a copy changes nothing
 pub mark-copy : (l : List Arrival) (a : Arrival) (s : ℕ) → has (a .number) l ≡ true → markOf (l ++ (a ∷ [])) s ≡ markOf l s
@@ -174,7 +174,7 @@ first-position size l a new = rw (answer-first size l a new) (go (leb (nextExp (
     go true q = rw (first-in-order size (firsts l) a (leb-true _ _ q))
     go false q = rw (first-reordered size (firsts l) a (leb-false _ _ q))
 
--- the positions under one arrival more
+-- the positions after the next arrival
 positions-more : (size : ℕ → ℕ) (l : List Arrival) (a : Arrival)
     → positionsOf (answers size (l ++ (a ∷ []))) ≡ positionsOf (answers size l) ++ (figuresOf (answerTo size l a) .position ∷ [])
 positions-more size l a = rw (answers-more size l a) (map-append _ (answers size l) (answerTo size l a ∷ []))

@@ -60,7 +60,7 @@ module _ (d : Decoded) (y : Layout) (i : ℕ) (most : i ≤ y .arrivals) (h : Fi
   listed-length old new room e =
       ap length e ∙ over-length (map f (answersTo d i)) old (omega (arith, listed-count))
 
-  -- under one record more
+  -- after the next record
   listed-next : i < y .arrivals → (old new : List ℕ) → y .arrivals ≤ length old → new ≡ over (map f (answersTo d i)) old
       → set new i (f (answerAt d i)) ≡ over (map f (answersTo d (i + 1))) old
   listed-next inside old new room e =
@@ -91,7 +91,7 @@ module _ (d : Decoded) (y : Layout) (i : ℕ) (old new : Lent) (state : State) (
     lates-length = listed-length d y i (t .most) (r .file) _ (old .lates) (new .lates) (r .lists .lates) (t .filled .lates)
 
     module _ (inside : i < y .arrivals) where
-      -- there is room for one record more
+      -- there is room for the next record
       pub lent-room : Room (i + 1) (new .flags) (new .positions) (new .extents) (new .lates)
       lent-room =
           record {
@@ -106,7 +106,7 @@ module _ (d : Decoded) (y : Layout) (i : ℕ) (old new : Lent) (state : State) (
       lent-positioned =
           over-first (positionsOf (answersTo d i)) _ (sym (listed-count d y i (t .most) (r .file) _)) (t .filled .positions) .1
 
-      -- under one record more
+      -- after the next record
       pub lent-next : (next : Lent) (state′ : State) → TableAfter (before d (i + 1)) (next .table) state′
           → drop tablePlaces (next .table) ≡ drop tablePlaces (new .table)
           → Put i (figuresOf (answerAt d i)) (new .flags) (new .positions) (new .extents) (new .lates) (next .flags) (next .positions)

@@ -1,12 +1,12 @@
--- The step of a struct that a function holds in a local: a walk of its MIR, by hand, once for every struct, list of numbers, and callee
--- `#step` that steps a struct lent to it. The struct is copied into the local, which is lent for a lifetime that the walk makes. The
--- callee is called, the lifetime is ended, and the local comes back at the state that the callee leaves. It is copied out, and `#both`
--- puts it beside what the callee says.
---     R, S, F      the types of the struct, of what the callee says, and of the answer; ws the widths of the numbers
+-- The step of a struct that a function holds in a local: one walk of its MIR by hand, for every struct, list of numbers, and callee `#step`
+-- that steps a struct lent to it. The struct is copied into the local, which is lent for a lifetime that the walk makes. The callee is
+-- called, the lifetime is ended, and the local has the state that the callee leaves. It is copied out, and `#both` puts it beside the
+-- callee's result.
+--     R, S, F      the types of the struct, of the callee's result, and of the answer; ws the widths of the numbers
 --     held         the function; τ is the type to which its reference refers, as the MIR names it
 --     Says         what the callee ensures
 --     answer       what `#both` makes
---     walk         the walk, with all that is known of the callees: what each gives
+--     walk         the walk, with the facts that each callee ensures
 -- Assumes `Given`.
 use mathlib.Core.Path.{_≡_, refl, ap, sym, subst}
 use Prim.Native.Nat.{ℕ, suc}

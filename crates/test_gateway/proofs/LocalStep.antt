@@ -61,7 +61,7 @@ held τ #step = HeldInLocal.held R.the-type S.the-row F.the-row (w32 ∷ w64 ∷
 abbrev Says : Receiver → Numbers (w32 ∷ w64 ∷ []) → Outcome → Receiver → Type 0
 Says h ns = AsStep h (ns .0) (ns .1 .0)
 
--- what is said, and the state
+-- the outcome, and the state
 abbrev pub answer : Outcome → Receiver → StepAnswer
 answer s h = record { outcome = s; state = h }
 
@@ -74,7 +74,7 @@ module _ {M : Type 1} (𝓤 : URA M) (H : Heap 𝓤) (A : Atoms 𝓤) (at-mem : 
   abbrev pub Step : Contract 𝓤
   Step = tripleOf 𝓤 H A step.signature (step.spec 𝓤 H A at-mem run)
 
--- at what is passed
+-- for the arguments
 module _ {M : Type 1} (𝓤 : URA M) (H : Heap 𝓤) (A : Atoms 𝓤) (W : Given 𝓤 H A) (at-mem : Memory → SProp 𝓤)
     (run : Routine → Fun 𝓤) (h : Receiver) (n t : ℕ) (was : Is R.the-row h (LL.val R.the-type R′.the-laws h ∷ []))
     (n-fits : n < 2 ^ 32) (t-fits : t < 2 ^ 64) where
@@ -82,7 +82,7 @@ module _ {M : Type 1} (𝓤 : URA M) (H : Heap 𝓤) (A : Atoms 𝓤) (W : Given
   abbrev at : List Val × (List Val × (List Val × Unit {0}))
   at = (LL.val R.the-type R′.the-laws h ∷ [], (vint w32 n ∷ [], (vint w64 t ∷ [], tt)))
 
-  -- what is to stand at exit
+  -- the context to reach at exit
   abbrev Post : Val → SProp 𝓤
   Post = walkOf 𝓤 H A f.ended stayed (f.clauses 𝓤 H A at-mem run) .post ((tt, tt, tt, (h, (n, (t, tt))), at), tt)
 
@@ -99,7 +99,7 @@ module _ {M : Type 1} (𝓤 : URA M) (H : Heap 𝓤) (A : Atoms 𝓤) (W : Given
 
 module _ {M : Type 1} (𝓤 : URA M) (H : Heap 𝓤) (A : Atoms 𝓤) (W : Given 𝓤 H A) (at-mem : Memory → SProp 𝓤)
     (run : Routine → Fun 𝓤) (𝓣 : Tables 𝓤 H) (τ : Ty) (#step : Name) where
-  -- what is had of each parameter at exit is given up
+  -- what remains of each parameter at exit is given up
   goes : AllGo 𝓤 H A W 0 (f.signature .params) (f.ended .kept) stayed
   goes = (
     goes-none 𝓤 H A W 0 (λ _. R.the-row) yes (λ κs x f. refl),

@@ -12,7 +12,7 @@ use Rattle.checker.proofs.Cases.{cases-hold}
 use Rattle.checker.proofs.check.Statement.{statement}
 use Rattle.checker.proofs.check.Tie as tie
 
--- what is carried: yes exactly of the sample's listing, the start that decides, and the cases
+-- the theorems that it carries: yes exactly for the sample's listing, the start that decides, and the cases
 carries : (c : tie.After-agreement)
     → AgreesExactly (decode (now (c .before .before .before .args .file)))
     × (StartDecides (decode (now (c .before .before .before .args .file))) × ListingCasesHold)

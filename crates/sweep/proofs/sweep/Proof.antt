@@ -54,7 +54,7 @@ accepted-of q z = found-sample _ _ (q .check .ensures .0) z
 laid-of : (q : tie.After-check) → FileLayout (decode (now (start q .args .file))) (q .check .result)
 laid-of q = subst (λ (y : Layout). FileLayout (decode (now (start q .args .file))) y) (sym (q .check .ensures .0)) (laid _ (octets q))
 
--- what is carried besides: the rows agree, and moving the clock changes nothing
+-- the theorems that it carries besides: the rows agree, and moving the clock changes nothing
 with-moved : (q : tie.After-check) {A B C : Type 0} → A × (B × C) → A × (B × (C × (RowsAgree × SweepMoved (now (start q .args .file)))))
 with-moved q p = (p .0, (p .1 .0, (p .1 .1, (rows-agree, sweep-moved _ (octets q)))))
 

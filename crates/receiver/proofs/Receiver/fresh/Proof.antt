@@ -18,8 +18,8 @@ use Rattle.receiver.proofs.Moved.{moved-answers}
 use Rattle.receiver.proofs.Receiver.fresh.Statement.{statement}
 use Rattle.receiver.proofs.Receiver.fresh.Tie as tie
 
--- what is carried: of the receiver handed back demand 3 and that it answers by a moved clock as before; the window cases; and the sum of
--- two moves
+-- the theorems that it carries: demand 3 for the receiver returned, and that it answers by a moved clock as before; the window cases; and
+-- the sum of two moves
 carries : (k : ℕ) (r : FreshAnswer) → r ≡ freshOf k
     → (r ≡ freshOf k) × (((fed : List Arrival) → Demand3 (r .state .stream .sent) fed)
     × (WindowCasesHold × (MovedAnswers (r .state .stream .sent) × MovedTwice)))

@@ -1,5 +1,5 @@
--- `receiver::Receiver::step_within` meets its contract: the parts are those of the state, and the state is put together of what
--- they become. Assumes nothing.
+-- `receiver::Receiver::step_within` meets its contract: the parts are those of the state, and the state is put together from the parts
+-- after the step. Assumes nothing.
 use native.Mathlib.Omega.{arith}
 use borrow.Author.Needs.{needs}
 use Rattle.receiver.specs.Parts.{oldestFirst}

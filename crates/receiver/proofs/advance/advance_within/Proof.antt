@@ -1,7 +1,7 @@
--- `receiver::advance::advance_within` meets its contract: what is decided is the step's answer, and what is written makes its state. With
--- a refusal nothing is written (`step-refused`); else what is noted says which callees write, and a law of StatesWritten says that what
--- they ensure is the step's state (`step-noted`). They may be called since an arrival that is not refused finds a fit state, whose numbers
--- are small. Assumes nothing.
+-- `receiver::advance::advance_within` meets its contract: the outcome decided is the step's, and the parts written make its state. With a
+-- refusal nothing is written (`step-refused`); else the case noted says which callees write, and a law of StatesWritten says that what
+-- they ensure is the step's state (`step-noted`). They may be called since an arrival that is not refused finds a fit state, whose
+-- numbers are small. Assumes nothing.
 use mathlib.Core.Bool.{true}
 use native.Mathlib.Omega.{arith}
 use borrow.Author.Needs.{needs}

@@ -12,7 +12,7 @@ use Rattle.receiver.proofs.StepCases.{late-none, late-beyond, late-exac
 use Rattle.receiver.proofs.decide.late_outcome.Statement.{statement}
 use Rattle.receiver.proofs.decide.late_outcome.Tie as tie
 
--- what is held of the jumps
+-- the state of the jumps
 abbrev heldAt : tie.Start → Held
 heldAt c = heldOf (c .args .s) (placesBy (c .args .down) (c .args .positions .now) (c .args .numbers .now) (c .args .times .now))
 

@@ -1,6 +1,6 @@
--- `receiver::kept::put_last` meets its contract. The loop's invariant: of each array the places passed, as they are counted, hold what
--- stood after each, and the others what they held (`Moved`). A turn moves one place more (`moved-more`), and after the loop the new value
--- at `last` makes it pushed (`moved-last`). The measure is the number of places left. Assumes nothing.
+-- `receiver::kept::put_last` meets its contract. The loop's invariant: in each array the places passed, as they are counted, have the
+-- value of the next place, and the others have their own (`Moved`). A turn moves one more (`moved-more`), and after the loop the new
+-- value at `last` completes the push (`moved-last`). The measure is the number of places left. Assumes nothing.
 use Prim.Native.Nat.{_-_, _≤_, _<_}
 use mathlib.Core.Path.{_≡_}
 use native.Mathlib.Omega.{arith}

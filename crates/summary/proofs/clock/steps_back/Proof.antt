@@ -1,5 +1,5 @@
 -- `summary::clock::steps_back` meets its contract. The loop's invariant: whether the clock steps back in all arrivals is whether it does in
--- those from record i + 1 on, if it showed `last` before it (`back-next`). The measure is what is left of the arrivals. Assumes nothing.
+-- those from record i + 1 on, if it showed `last` before it (`back-next`). The measure is the number of arrivals left. Assumes nothing.
 use mathlib.Core.Path.{_≡_, refl, sym, _∙_}
 use Prim.Native.Nat.{_≤_, _-_}
 use native.Mathlib.Omega.{arith}
