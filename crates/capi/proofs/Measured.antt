@@ -3,9 +3,9 @@
 use Prim.Native.Nat.{ℕ, zero, suc, _<_}
 use native.Mathlib.Omega.{arith}
 use mathlib.Core.Bool.{true, false}
-use mathlib.Core.Path.{_≡_, refl, sym, ap, subst, _∙_}
+use mathlib.Core.Path.{_≡_, refl, sym, ap, _∙_}
 use mathlib.Core.List.{List, [], _∷_}
-use lib.ListN.{replicate, getD-replicate}
+use lib.ListN.{replicate}
 use Rattle.rfc4737.specs.declared.Measure.{Measure}
 use Rattle.rfc4737.specs.Refusals.{outside, firstRefusal, askedOutside}
 use Rattle.rfc4737.specs.Arrivals.{count, each, eachAfter}
@@ -15,7 +15,7 @@ use Rattle.rfc4737.specs.Needs.{accommodated, greatestNeed, greatest}
 use Rattle.sample.specs.Decode.{Decoded, refused, decodedRefusal}
 use Rattle.metrics.specs.declared.SampleAccommodated.{SampleAccommodated}
 use Rattle.metrics.specs.declared.SampleSteps.{SampleSteps}
-use Rattle.metrics.specs.Figures.{sampleAccommodated, stepCount, StepsOf}
+use Rattle.metrics.specs.Figures.{sampleAccommodated, stepCount, sizesFrom, sampleSteps}
 use Rattle.buffering.specs.declared.SampleLeast.{SampleLeast}
 use Rattle.buffering.specs.Least.{sampleLeast}
 use Rattle.buffering.proofs.Sizes.{least-refused}
@@ -28,10 +28,9 @@ accommodated-none : (m : Measure) (size r : ℕ) → record { refusal = r; accom
 unfolding sampleAccommodated accommodated arrived count answers each eachAfter
 accommodated-none m size r = refl
 
-steps-none : (m : Measure) (low shift r : ℕ) → StepsOf (refused r) m low shift (stepsTold r (replicate (suc (suc stepCount)) 0))
-unfolding accommodated arrived greatestNeed greatest count answers each eachAfter
-steps-none m low shift r =
-    record { refusal = refl; many = refl; most = refl; places = refl; at = λ j few. getD-replicate stepCount j 0 0 few }
+steps-none : (m : Measure) (low shift r : ℕ) → stepsTold r (replicate (suc (suc stepCount)) 0) ≡ sampleSteps (refused r) m low shift
+unfolding sampleSteps sizesFrom accommodated arrived greatestNeed greatest count answers each eachAfter
+steps-none m low shift r = refl
 
 -- the refusal of what is asked in no measure is one
 is-refusal : (r : ℕ) → 0 < firstRefusal (r ∷ askedOutside ∷ [])
@@ -52,10 +51,9 @@ module _ (n : ℕ) (d : Decoded) where
         accommodated-none (measureOf n) size r ∙ ap (λ (x : Decoded). sampleAccommodated x (measureOf n) size) (sym none)
 
     pub steps-in-none : (low shift : ℕ)
-        → StepsOf (withMeasure n d) (measureOf n) low shift (stepsTold r (replicate (suc (suc stepCount)) 0))
+        → stepsTold r (replicate (suc (suc stepCount)) 0) ≡ sampleSteps (withMeasure n d) (measureOf n) low shift
     steps-in-none low shift =
-        subst (λ (x : Decoded). StepsOf x (measureOf n) low shift (stepsTold r (replicate (suc (suc stepCount)) 0))) (sym none)
-        (steps-none (measureOf n) low shift r)
+        steps-none (measureOf n) low shift r ∙ ap (λ (x : Decoded). sampleSteps x (measureOf n) low shift) (sym none)
 
     pub least-in-none : (part whole : ℕ) → record { refusal = r; size = 0 } ≡ sampleLeast (withMeasure n d) (measureOf n) part whole
     least-in-none part whole =
@@ -72,11 +70,12 @@ module _ (n : ℕ) (d : Decoded) where
     accommodated-in size x h =
         h ∙ ap (λ (k : Measure). sampleAccommodated d k size) f ∙ ap (λ (y : Decoded). sampleAccommodated y (measureOf n) size) (sym some)
 
-    pub steps-in : (low shift : ℕ) (x : SampleSteps) (figures : List ℕ) → StepsOf d m low shift x
+    pub steps-in : (low shift : ℕ) (x : SampleSteps) (figures : List ℕ) → x ≡ sampleSteps d m low shift
         → figures ≡ x .arrived ∷ x .greatest ∷ x .counts
-        → StepsOf (withMeasure n d) (measureOf n) low shift (stepsTold (x .refusal) figures)
+        → stepsTold (x .refusal) figures ≡ sampleSteps (withMeasure n d) (measureOf n) low shift
     steps-in low shift x figures h e =
-        rw (e, some, ← f) (record { refusal = h .refusal; many = h .many; most = h .most; places = h .places; at = h .at })
+        ap (stepsTold (x .refusal)) e ∙ h
+        ∙ ap (λ (k : Measure). sampleSteps d k low shift) f ∙ ap (λ (y : Decoded). sampleSteps y (measureOf n) low shift) (sym some)
 
     pub least-in : (part whole : ℕ) (x : SampleLeast) → x ≡ sampleLeast d m part whole
         → x ≡ sampleLeast (withMeasure n d) (measureOf n) part whole

@@ -9,7 +9,7 @@ ghost use mathlib.Core.List.{[], _∷_};
 ghost use lib.ListN.{length};
 ghost use Rattle.rfc4737.specs.Refusals.{firstRefusal, askedOutside};
 ghost use Rattle.sample.specs.Decode.{decode, decodedRefusal};
-ghost use Rattle.metrics.specs.Figures.{sampleAccommodated, sampleNeeds, stepCount, StepsOf};
+ghost use Rattle.metrics.specs.Figures.{sampleAccommodated, sampleNeeds, stepCount, sampleSteps};
 ghost use Rattle.buffering.specs.Least.{sampleLeast};
 ghost use Rattle.capi.specs.Buffering.{measureOf, withMeasure, needFigures, stepsTold};
 
@@ -112,8 +112,8 @@ pub extern "C" fn krakobran_accommodated_steps(
     shift: u32,
     steps: &mut [u64; STEP_FIGURES],
 ) -> u64
-    ensures { λ r. ⌜ StepsOf (withMeasure measure (decode (now (file .entry)))) (measureOf measure) low shift
-        (stepsTold r (now (steps .exit))) ⌝ }
+    ensures { λ r. ⌜ stepsTold r (now (steps .exit))
+        ≡ sampleSteps (withMeasure measure (decode (now (file .entry)))) (measureOf measure) low shift ⌝ }
 {
     if outside(0, TIME, measure as u64) {
         *steps = [0u64; STEP_FIGURES];

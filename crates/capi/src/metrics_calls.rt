@@ -1,6 +1,5 @@
 // The figures and the report of a sample for C.
 
-use crate::figures::answer_row;
 use crate::figures::count_figures;
 use crate::figures::degree_figures;
 use crate::figures::gap_figures;
@@ -27,7 +26,7 @@ pub extern "C" fn krakobran_answer(file: &[u8], asked: u32, row: &mut [u64; 8]) 
 {
     let found = metrics::answer(file, asked);
     let answer = found.answer;
-    *row = answer_row(answer);
+    *row = metrics::row_of(answer);
     found.refusal as u64
 }
 

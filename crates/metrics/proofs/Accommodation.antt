@@ -304,6 +304,12 @@ module _ (d : Decoded) (m : Measure) (low shift : ℕ) (r : SampleSteps) (is : r
   unfolding sampleSteps
   steps-greatest = ap (λ (s : SampleSteps). s .greatest) is
 
+  pub steps-many : length (r .counts) ≡ stepCount
+  unfolding sampleSteps
+  steps-many =
+      ap (λ (s : SampleSteps). length (s .counts)) is
+      ∙ length-sizes (λ (size : ℕ). accommodated m size (answersOf d)) (2 ^ shift) stepCount low
+
   pub steps-count : (j : ℕ) → j < stepCount → getD (r .counts) j 0 ≡ accommodated m (low + j * 2 ^ shift) (answersOf d)
   unfolding sampleSteps
   steps-count j few =

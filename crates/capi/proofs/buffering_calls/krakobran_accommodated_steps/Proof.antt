@@ -4,6 +4,7 @@ use borrow.Author.Needs.{needs}
 use mathlib.Core.Path.{sym, _∙_}
 use denote.Ref.{now}
 use Rattle.sample.specs.Decode.{decode}
+use Rattle.metrics.proofs.Accommodation.{steps-many}
 use Rattle.capi.proofs.Measured.{steps-in-none, steps-in}
 use Rattle.capi.proofs.buffering_calls.krakobran_accommodated_steps.Statement.{statement}
 use Rattle.capi.proofs.buffering_calls.krakobran_accommodated_steps.Tie as tie
@@ -22,7 +23,7 @@ returns c =
     steps-in-none (a .measure) (decode (now (a .file))) t (c .no-measure .result) (c .no-measure .ensures) (a .low) (a .shift)
 
 step-figures-requires : tie.Need-step-figures-requires
-step-figures-requires c κs = c .before .accommodated-steps .ensures .places
+step-figures-requires c κs = steps-many _ _ _ _ _ (c .before .accommodated-steps .ensures)
 
 returns-2 : tie.Need-returns-2
 returns-2 c =
