@@ -128,7 +128,7 @@ module _ (h : Part) (r : Receiver) (g : CarriesPart h r) where
 
 -- ---- the neighbour
 
--- what is held of its jumps, by the places of a stream turned
+-- the state of its jumps, by the reversed places of a stream
 other-was : (s : Side) (m : Meter)
     → heldTurned (streamOf (other s) m .stream .kept) (streamOf (other s) m .stream .dropped) (receiverOf s m .places)
     ≡ heldBy (receiverOf (other s) m)
@@ -166,7 +166,7 @@ module _ (account : Account) (m : Meter) (g : Carries account m) where
   carries-free = ap₂ freeBeside (carried-kept _ _ (g .streams one)) (carried-kept _ _ (g .streams two))
 
   module _ (s : Side) (a : Arrival) where
-    -- the stream's part, and what is held of its jumps after the arrival
+    -- the stream's part, and the state of its jumps after the arrival
     abbrev h : Part
     h = account s
 

@@ -153,7 +153,7 @@ never-unfit account (some s) (starts n k) = go (outside 1 sentMost k)
     go true = refl
     go false = refl
 
--- what is noted of an arrival on a stream
+-- the case noted of an arrival on a stream
 noted-agrees : (earlier : List Call) (n : ℕ) (a : Arrival) (s : Side) → sideOf n ≡ some s
     → meterStep (meterAfter earlier) n (a .number) (a .time) .outcome .noted
     ≡ outcomeIn (meterAccountOf earlier s .window) (meterAccountOf earlier s .sent) (meterAccountOf earlier s .accepted) a .noted

@@ -46,7 +46,7 @@ use Rattle.meter.proofs.Demand3.{calls-carry, reply-agrees, demand3}
 abbrev isOn : Side → Call → Bool
 isOn s c = isSide s (sideOf (streamNumberOf c))
 
--- what is said of own calls, under one call more
+-- the replies to own calls, after the next call
 own-more {ℓ} : {B : Type ℓ} (s : Side) (f : List Call → Call → B) (calls : List Call) (c : Call)
     → ofOwn s f (calls ++ (c ∷ [])) ≡ ofOwn s f calls ++ cond (isOn s c) (f calls c ∷ []) []
 unfolding ofOwn
@@ -71,7 +71,7 @@ part-more s calls c = ap (λ (account : Account). account s) (fold-more _ _ call
     go two (some one) = refl
     go two (some two) = refl
 
--- what is said to a call on a stream
+-- the reply to a call on a stream
 reply-own : (s : Side) (calls : List Call) (c : Call) → isOn s c ≡ true → meterReply calls c ≡ replyIn (meterAccountOf calls s) c
 unfolding accountReply
 reply-own s calls c e = reply-agrees calls c ∙ go s (sideOf (streamNumberOf c)) e
@@ -274,7 +274,7 @@ part-trace s = snoc-ind (λ (calls : List Call). meterAccountOf calls s ≡ fold
             ∙ sym (fold-more partFrom (freshPart 1) (trace s calls) (met s calls c))
         go false = rw append-nil q
 
--- what is said to a stream's calls, from its trace
+-- the replies to a stream's calls, from its trace
 replyFrom : List Met → Met → Reply
 replyFrom earlier t = replyIn (foldl partFrom (freshPart 1) earlier) (t .0)
 
@@ -294,7 +294,7 @@ replies-trace s = snoc-ind (λ (calls : List Call). ownReplies s calls ≡ each 
             ∙ sym (each-more replyFrom (trace s calls) (met s calls c))
         go false e = rw (append-nil, append-nil) q
 
--- what is said of own calls, each result mapped
+-- the replies to own calls, each result mapped
 own-map {ℓ κ} : {A : Type ℓ} {B : Type κ} (g : A → B) (s : Side) (f : List Call → Call → A) (calls : List Call)
     → map g (ofOwn s f calls) ≡ ofOwn s (λ (earlier : List Call) (c : Call). g (f earlier c)) calls
 unfolding ofOwn each eachAfter flatten

@@ -57,7 +57,7 @@ state-vals z = spelled (T.the-type .parts) T′.the-laws (T.struct .as-values z)
 abbrev vals : Meter → Vals
 vals z = spelled (R.the-type .parts) R′.the-laws (R.struct .as-values z)
 
--- what is known of each member of a meter, and of those within
+-- the facts of each member of a meter, and of those within
 module _ (z : Meter) (was : Is R.the-row z (LL.vals R.the-type R′.the-laws z)) where
   pub of-all : Are (R.the-type .parts) R′.the-laws (R.struct .as-values z)
   of-all = LL.owed R.the-type R′.the-laws z _ was

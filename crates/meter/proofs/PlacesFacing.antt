@@ -46,7 +46,7 @@ pub other-new : (s : Side) (r : Receiver) (m : Meter) → facing two (r .places)
 other-new one r m = refl
 other-new two r m = refl
 
--- what is held of `kept` jumps in the places turned
+-- the state of `kept` jumps in the reversed places
 abbrev pub heldTurned : ℕ → ℕ → Places → Held
 heldTurned kept dropped p = record { kept = kept; dropped = dropped; places = facing two p }
 

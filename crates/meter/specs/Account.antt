@@ -25,12 +25,12 @@ abbrev pub streamNumberOf : Call → ℕ
 streamNumberOf (arrives n a) = n
 streamNumberOf (starts n k) = n
 
--- the reply to a call: what is said of an arrival, or the refusal of a start
+-- the reply to a call: the outcome of an arrival, or the refusal of a start
 pub data Reply : Type 0 where
   said : Outcome → Reply
   started : ℕ → Reply
 
--- ---- of one stream
+-- ---- one stream
 
 -- the part of the account for a stream
 pub record Part : Type 0 where
@@ -38,7 +38,7 @@ pub record Part : Type 0 where
   pub accepted : List Arrival
   pub window : List FirstArrival
 
--- fresh for K
+-- the part of a stream that is fresh for K
 abbrev pub freshPart : ℕ → Part
 freshPart k = record { sent = k; accepted = []; window = [] }
 
@@ -63,7 +63,7 @@ abbrev pub noReply : Call → Reply
 noReply (arrives n a) = said (refusedOutcome noStream)
 noReply (starts n k) = started noStream
 
--- ---- of both
+-- ---- both streams
 
 -- the account: a part for each stream
 abbrev pub Account : Type 0

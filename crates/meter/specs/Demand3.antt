@@ -1,5 +1,5 @@
--- Demand 3 on a meter: a new meter that meets any list of arrivals and fresh starts, refused ones among them, replies to each
--- as the account does. Assumes nothing.
+-- Demand 3 on a meter: a new meter that is given any list of arrivals and fresh starts, refused ones among them, replies to each as the
+-- account does. Assumes nothing.
 use Prim.Native.Nat.{ℕ, _+_, _-_, _≤_, min}
 use mathlib.Core.Path.{_≡_}
 use mathlib.Core.List.{List, _∷_, _++_, foldl}
@@ -37,7 +37,7 @@ replyOf m (starts n k) = started (meterStart m n k .refusal)
 unfoldable pub meterAfter : List Call → Meter
 meterAfter calls = foldl metAfter newMeter calls
 
--- its reply to a call, after the calls before it
+-- a new meter's reply to a call, after the calls before it
 unfoldable pub meterReply : List Call → Call → Reply
 meterReply earlier c = replyOf (meterAfter earlier) c
 
@@ -48,21 +48,21 @@ refusalSaid (started n) = n
 
 -- ---- a stream after the calls
 
--- its numbers on the meter
+-- the numbers of a stream on the meter
 abbrev pub streamNumbers : Side → List Call → Stream
 streamNumbers s calls = streamOf s (meterAfter calls) .stream
 
--- the jumps that it keeps there
+-- the jumps that the stream keeps there
 abbrev pub keptAfter : Side → List Call → List FirstArrival
 keptAfter s calls =
     let r = receiverOf s (meterAfter calls) in
     keptOf (heldOf (r .stream) (r .places))
 
--- its counts by the account
+-- the counts of a stream by the account
 abbrev pub countsOf : Side → List Call → Counts
 countsOf s calls = counts (answersIn (meterAccountOf calls s .accepted))
 
--- its jumps
+-- the jumps of a stream by the account
 abbrev pub jumpsOf : Side → List Call → List FirstArrival
 jumpsOf s calls = jumps (firsts (meterAccountOf calls s .accepted))
 
@@ -87,7 +87,7 @@ pub record Agrees (s : Side) (calls : List Call) : Type 0 where
 pub record MeterDemand3 (calls : List Call) : Type 0 where
   -- the refusals and answers are the account's
   pub replies : each meterReply calls ≡ each accountReply calls
-  -- 10 never comes
+  -- refusal 10 never occurs
   pub fit : count (λ (r : Reply). eqb (refusalSaid r) stateUnfit) (each meterReply calls) ≡ 0
   -- every accepted arrival that is a reordered packet over its stream's account is answered so, with the stream's window
   pub reordered : (earlier : List Call) (n : ℕ) (a : Arrival) (later : List Call)

@@ -14,7 +14,7 @@ use Rattle.meter.specs.Streams.{Side, one, two, sideOf, streamOf}
 use Rattle.meter.specs.Account.{Call, arrives, starts, streamNumberOf, Reply, said, started, freeIn, meterAccountOf}
 use Rattle.meter.specs.Demand3.{meterAfter, meterReply, streamNumbers, keptAfter, jumpsOf}
 
--- whether a stream is the one of a call, if that is on one
+-- whether a call is on this stream
 abbrev pub isSide : Side → Option Side → Bool
 isSide s none = false
 isSide one (some one) = true
@@ -22,7 +22,7 @@ isSide one (some two) = false
 isSide two (some one) = false
 isSide two (some two) = true
 
--- of each call on a stream what f says, after the calls before it
+-- the values of f for the calls on a stream, each after all calls before it
 unfoldable pub ofOwn {ℓ} : {B : Type ℓ} → Side → (List Call → Call → B) → List Call → List B
 ofOwn s f calls =
     flatten (each (λ (earlier : List Call) (c : Call). cond (isSide s (sideOf (streamNumberOf c))) (f earlier c ∷ []) []) calls)
@@ -31,7 +31,7 @@ ofOwn s f calls =
 abbrev pub ownCalls : Side → List Call → List Call
 ownCalls s calls = ofOwn s (λ (earlier : List Call) (c : Call). c) calls
 
--- the replies to them
+-- the replies to the calls on a stream
 abbrev pub ownReplies : Side → List Call → List Reply
 ownReplies s calls = ofOwn s meterReply calls
 
@@ -45,7 +45,7 @@ pub data Flag : Type 0 where
   reordered : Flag
   fresh : Flag
 
--- of what is noted of an arrival, with its refusal
+-- the flag of an outcome, with its refusal
 abbrev pub flag : ℕ → ReceiverAnswer → Flag
 flag (suc n) w = refused (suc n)
 flag zero Duplicate = duplicate
@@ -53,13 +53,13 @@ flag zero (InOrder size) = inOrder size
 flag zero (Exact l) = reordered
 flag zero (Beyond l) = reordered
 
--- of a reply
+-- the flag of a reply
 abbrev pub flagOf : Reply → Flag
 flagOf (said o) = flag (o .refusal) (o .noted)
 flagOf (started (suc n)) = refused (suc n)
 flagOf (started zero) = fresh
 
--- "its flags, jumps, runs and counts stay what they'd be without a neighbour": of what is said to a stream's calls, and of what the
+-- "its flags, jumps, runs and counts stay what they'd be without a neighbour": for the replies to a stream's calls, and for what the
 -- meter holds of the stream after them
 pub record Alone (s : Side) (calls : List Call) : Type 0 where
   pub flags : map flagOf (ownReplies s calls) ≡ map flagOf (each meterReply (ownCalls s calls))
@@ -89,7 +89,7 @@ meets s earlier (arrives n a) =
     freeAt (freeIn (meterAccountOf earlier)) (jumpIn (h .sent) (h .accepted) a)
 meets s earlier (starts n k) = none
 
--- the claim. Of two lists of calls: where a stream's own calls are the same, and it meets the same of its neighbour at each, its
+-- the claim, for two lists of calls: if a stream's own calls are the same in both, and it meets the same of its neighbour at each, its
 -- replies are the same
 pub record Independence : Type 0 where
   pub alone : (s : Side) (calls : List Call) → Alone s calls

@@ -34,7 +34,7 @@ meterFit m = every (fitOnMeter (receiverOf one m) ∷ fitOnMeter (receiverOf two
 
 -- ---- an arrival
 
--- refused: an equal meter
+-- a refused call: the meter is as it was
 abbrev pub notStepped : ℕ → Meter → MeterStepAnswer
 notStepped n m = record { outcome = refusedOutcome n; state = m }
 
@@ -52,11 +52,11 @@ meterStep m n number time =
 
 -- ---- a fresh start
 
--- refused: an equal meter
+-- a refused call: the meter is as it was
 abbrev pub notStarted : ℕ → Meter → MeterStartAnswer
 notStarted n m = record { refusal = n; state = m }
 
--- a stream as a fresh receiver for K has it, unless that is refused; its places are free then, as it keeps no jump
+-- the meter with a stream as a fresh receiver for K has it, unless K is refused; its places are free then, as it keeps no jump
 unfoldable pub startOn : Side → Meter → ℕ → MeterStartAnswer
 startOn s m k =
     let r : FreshAnswer = freshOf k in

@@ -19,12 +19,12 @@ pub data Side : Type 0 where
 unfoldable pub sideOf : ℕ → Option Side
 sideOf n = cond (eqb n 1) (some one) (cond (eqb n 2) (some two) none)
 
--- what f says of the stream, if there is one, else x
+-- f of the stream, if there is one, else x
 abbrev pub onStream {ℓ} : {A : Type ℓ} → Option Side → A → (Side → A) → A
 onStream none x f = x
 onStream (some s) x f = f s
 
--- its neighbour
+-- the neighbour of a stream
 abbrev pub other : Side → Side
 other one = two
 other two = one
@@ -54,12 +54,12 @@ facing two p = record { positions = reverse (p .positions); numbers = reverse (p
 
 -- ---- a stream of a meter
 
--- what it has for itself
+-- what a stream has for itself
 abbrev pub streamOf : Side → Meter → StreamState
 streamOf one m = m .first
 streamOf two m = m .second
 
--- how many jumps it keeps
+-- how many jumps a stream keeps
 abbrev pub keptIn : Side → Meter → ℕ
 keptIn s m = streamOf s m .stream .kept
 
@@ -67,7 +67,7 @@ keptIn s m = streamOf s m .stream .kept
 abbrev pub free : Meter → ℕ
 free m = freeBeside (keptIn one m) (keptIn two m)
 
--- it as a receiver
+-- a stream as a receiver
 abbrev pub receiverOf : Side → Meter → Receiver
 receiverOf s m =
     record { stream = streamOf s m .stream; marks = streamOf s m .marks; places = facing s (m .places) }

@@ -29,15 +29,15 @@ ghost use Rattle.meter.specs.Account.{Call};
 ghost use Rattle.meter.specs.Demand3.{MeterDemand3};
 ghost use Rattle.meter.specs.Independence.{Independence};
 
-// What a stream has for itself: its numbers, and a bit for each of its packets that has arrived.
+// The part of a stream's state that is its own: its numbers, and a bit for each of its packets that has arrived.
 #[repr(C)]
 pub struct StreamState {
     pub stream: Stream,
     pub marks: [u64; MARK_WORDS],
 }
 
-// What a meter holds: streams 1 and 2, and the places of their kept jumps. Stream 1 has the places from the first up, stream 2
-// those from the last down, the oldest jump first. Those between are free.
+// The state of a meter: streams 1 and 2, and the places of their kept jumps. Stream 1 has the places from the first up, stream 2 those
+// from the last down, the oldest jump first. Those between are free.
 #[repr(C)]
 pub struct Meter {
     pub first: StreamState,
@@ -153,7 +153,7 @@ impl Meter {
     }
 }
 
-// Returns what a receiver has beside its places.
+// Returns the part of a receiver's state beside its places.
 fn stream_in(r: Receiver) -> StreamState
     ensures { λ t. ⌜ t ≡ streamIn r ⌝ }
 {

@@ -1,11 +1,11 @@
 -- The receiver's step with a short number. In a state whose NextExp is over 4,097 any number is refused alike, since it is unfit; in any
 -- other the number is found from NextExp less 1 (`step-found`). NextExp less 1 is the greatest number accepted (`next-greatest`), by
--- induction on one arrival more: a copy is at most the greatest (`has-most`), and a first arrival makes NextExp one above the greater of
+-- induction on the next arrival: a copy is at most the greatest (`has-most`), and a first arrival makes NextExp one above the greater of
 -- both (`after-max`). A run of short numbers is a run of the numbers found: from equal states, after short numbers `done` and full ones
 -- `before`, the next short number is found from that state, and the states stay equal (`state-next`), so by induction on the list all that
--- is said is the same (`outcomes-from`, `state-from`). True numbers that keep their distance are found by `turn-true` of InTurn.
--- Here r is the range, k is K, s a state or a packet, g the greatest number, a an arrival, fs are the first arrivals, and t is a time or
--- the outcome of a test. Assumes nothing.
+-- is said is the same (`outcomes-from`, `state-from`). True numbers that keep their distance are found by `turn-true` of InTurn. Here r is
+-- the range, k is K, s a state or a packet, g the greatest number, a an arrival, fs are the first arrivals, and t is a time or the outcome
+-- of a test. Assumes nothing.
 use Prim.Native.Nat.{ℕ, _+_, _≤_, _<_, max}
 use native.Mathlib.Omega.{arith}
 use mathlib.Core.Bool.{Bool, true, false, cond, _||_}
@@ -150,7 +150,7 @@ module _ (r k : ℕ) (low : 1 ≤ k) (high : k ≤ sentMost) where
       ∙ ap (λ (s : StepAnswer). s .state) (step-same done before a e)
       ∙ sym (fold-more _ _ before (next before a))
 
-  -- what is said from there on
+  -- the outcomes from there on
   outcomes-from : (done before shorts : List Arrival) → shortStateAfter r k done ≡ stateAfter k before
       → eachAfter (shortOutcomeAfter r k) done shorts ≡ eachAfter (outcomeAfter k) before
       (inTurn (greatestAccepted k) (withFound r) before shorts)

@@ -29,7 +29,7 @@ shortCases =
     ∷ case 8 259 256 0 ∷ case 10 1020 1024 0
     ∷ []
 
--- what is found is what the tables say
+-- the numbers found are those of the tables
 pub record FoundAsGiven : Type 0 where
   -- each number is found as its case says
   pub one : map (λ (c : ShortCase). numberFound (rangeOf (c .width)) (c .greatest) (c .short)) shortCases

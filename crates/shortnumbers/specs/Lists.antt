@@ -1,4 +1,4 @@
--- The list calls: what they return, what the caller's list holds after them, and what their contracts carry. Assumes nothing.
+-- The list calls: their answers, the caller's list after them, and the theorems that their contracts carry. Assumes nothing.
 use Prim.Native.Nat.{ℕ, _^_, _≤_}
 use mathlib.Core.List.{List, [], _∷_, map}
 use mathlib.Core.Path.{_≡_}
@@ -33,14 +33,14 @@ pub record FilledTo (r k : ℕ) (shorts times numbers : List ℕ) (answer : ℕ)
   pub refusal : answer ≡ fillRefusal r k (length numbers) shorts times
   pub filled : numbers′ ≡ ifNone answer (over (numbersFound r shorts) numbers) numbers
 
--- ---- what is carried, over a range
+-- ---- the theorems, over a range
 
 -- true numbers that each keep the distance from the greatest true one before them are the numbers found
 abbrev pub TrueInLists : ℕ → Type 0
 TrueInLists r = (numbers : List ℕ) → EachKeeps greatestOf (Near r) numbers → numbersFound r (map (shortOf r) numbers) ≡ numbers
 
--- demand 2 reads the numbers found: with a label and K payload sizes, all of them such as the sample's writer takes, they are a sample
--- to which its file decodes
+-- demand 2 for the numbers found: with a label and K payload sizes, all of them such as the sample's writer takes, they are a sample to
+-- which its file decodes
 abbrev pub Demand2Reads : ℕ → Type 0
 Demand2Reads r =
     (shorts times label sizes : List ℕ) → Below (2 ^ 16) sizes → Below (2 ^ 64) times
@@ -48,12 +48,12 @@ Demand2Reads r =
     → decode (fileOf (sampleFrom label sizes (numbersFound r shorts) times))
     ≡ accepted (sampleFrom label sizes (numbersFound r shorts) times)
 
--- all of it, once over the width
+-- all theorems for one width
 pub record ListsOfWidth (w : ℕ) : Type 0 where
   pub exact : ExactNumber (rangeOf w)
   pub finds : TrueInLists (rangeOf w)
   pub demand2 : Demand2Reads (rangeOf w)
 
--- what is said of the lists of a width, of every width
+-- all theorems for every width
 abbrev pub EveryList : Type 0
 EveryList = (w : ℕ) → 1 ≤ w → ListsOfWidth w

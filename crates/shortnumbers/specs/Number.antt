@@ -13,12 +13,12 @@ rangeOf w = 2 ^ w
 abbrev pub shortOf : ℕ → ℕ → ℕ
 shortOf r n = n % r
 
--- n differs from g by at least minus half the range and less than half
+-- n is from half the range below g to less than half the range above it
 pub record Near (r g n : ℕ) : Type 0 where
   pub from : g ≤ n + r / 2
   pub below : n < g + r / 2
 
--- n is the full number of x: it has those low bits and differs so from g
+-- n is the full number of x: it has these low bits and is within that distance of g
 pub record FullNumber (r g x n : ℕ) : Type 0 where
   pub bits : shortOf r n ≡ x
   pub near : Near r g n

@@ -1,5 +1,5 @@
--- The receiver's step with a short number, and what its contract carries of lists of short numbers fed to a fresh receiver.
--- Assumes nothing.
+-- The receiver's step with a short number, and the theorems of its contract on lists of short numbers fed to a fresh receiver. Assumes
+-- nothing.
 use Prim.Native.Nat.{ℕ, _-_, _≤_}
 use mathlib.Core.List.{List, [], map, foldl}
 use mathlib.Core.Path.{_≡_}
@@ -24,21 +24,21 @@ greatestBy s = s .stream .next - 1
 unfoldable pub shortStep : (r : ℕ) (s : Receiver) (short time : ℕ) → StepAnswer
 shortStep r s short time = stepOf s (numberFound r (greatestBy s) short) time
 
--- what a call over a receiver lent says and leaves: it is the step in place with the number found
+-- the answer of a call over a borrowed receiver, and the receiver after it: the step in place with the number found
 abbrev pub AsShortStep : (r : ℕ) → Receiver → ℕ → ℕ → Outcome → Receiver → Type 0
 AsShortStep r s short time = AsStep s (numberFound r (greatestBy s) short) time
 
 -- ---- short numbers fed to a fresh receiver for K
 
--- the state after them
+-- the state after the short numbers
 unfoldable pub shortStateAfter : (r k : ℕ) → List Arrival → Receiver
 shortStateAfter r k fed = foldl (λ (s : Receiver) (a : Arrival). shortStep r s (a .number) (a .time) .state) (freshOf k .state) fed
 
--- what is said of one, after those fed before it
+-- the outcome for one short number, after those fed before it
 unfoldable pub shortOutcomeAfter : (r k : ℕ) → List Arrival → Arrival → Outcome
 shortOutcomeAfter r k earlier a = shortStep r (shortStateAfter r k earlier) (a .number) (a .time) .outcome
 
--- what is said of each
+-- the outcome for each short number
 unfoldable pub shortOutcomes : (r k : ℕ) → List Arrival → List Outcome
 shortOutcomes r k fed = each (shortOutcomeAfter r k) fed
 
@@ -50,11 +50,11 @@ withFound r g a = record { number = numberFound r g (a .number); time = a .time 
 abbrev pub greatestAccepted : ℕ → List Arrival → ℕ
 greatestAccepted k fed = greatestOf (numbersOf (accountOf k fed))
 
--- the arrivals with the numbers found, each from the greatest number accepted before it; nothing that a receiver holds is asked
+-- the arrivals with the numbers found, each from the greatest number accepted before it; they do not depend on a receiver's state
 abbrev pub arrivalsFound : (r k : ℕ) → List Arrival → List Arrival
 arrivalsFound r k shorts = inTurn (greatestAccepted k) (withFound r) [] shorts
 
--- demand 3 reads the numbers found: all that comes of the short numbers is what comes of them
+-- demand 3 for the numbers found: feeding the short numbers has the same results as feeding the numbers found
 pub record Demand3Reads (r k : ℕ) (shorts : List Arrival) : Type 0 where
   pub outcomes : shortOutcomes r k shorts ≡ receiverOutcomes k (arrivalsFound r k shorts)
   pub state : shortStateAfter r k shorts ≡ stateAfter k (arrivalsFound r k shorts)
@@ -72,12 +72,12 @@ TrueByReceiver r k =
     (l : List Arrival) → EachKeeps (greatestAccepted k) (λ (g : ℕ) (a : Arrival). Near r g (a .number)) l
     → arrivalsFound r k (map (shortened r) l) ≡ l
 
--- all of it, once over the width
+-- all theorems for one width
 pub record StepsOfWidth (w : ℕ) : Type 0 where
   pub exact : ExactNumber (rangeOf w)
   pub finds : (k : ℕ) → 1 ≤ k → k ≤ sentMost → TrueByReceiver (rangeOf w) k
   pub demand3 : (k : ℕ) → 1 ≤ k → k ≤ sentMost → (shorts : List Arrival) → Demand3Reads (rangeOf w) k shorts
 
--- what is said of the steps of a width, of every width
+-- all theorems for every width
 abbrev pub EveryStep : Type 0
 EveryStep = (w : ℕ) → 1 ≤ w → StepsOfWidth w

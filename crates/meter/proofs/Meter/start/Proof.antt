@@ -11,7 +11,7 @@ use Rattle.meter.proofs.Meters.{start-refused}
 use Rattle.meter.proofs.Meter.start.Statement.{statement}
 use Rattle.meter.proofs.Meter.start.Tie as tie
 
--- what is the definition's leaves an equal meter where it is refused
+-- an answer that is the definition's leaves an equal meter if it is refused
 carries : (m : Meter) (n k : ℕ) (r : MeterStartAnswer) → r ≡ meterStart m n k
     → (r ≡ meterStart m n k) × ((r .refusal ≡ 0 → ⊥) → r .state ≡ m)
 carries m n k r e =

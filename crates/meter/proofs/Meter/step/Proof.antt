@@ -10,7 +10,7 @@ use Rattle.meter.proofs.Meters.{step-refused}
 use Rattle.meter.proofs.Meter.step.Statement.{statement}
 use Rattle.meter.proofs.Meter.step.Tie as tie
 
--- what is the definition's leaves an equal meter where it is refused
+-- an answer that is the definition's leaves an equal meter if it is refused
 carries : (m : Meter) (n number time : ℕ) (r : MeterStepAnswer) → r ≡ meterStep m n number time
     → (r ≡ meterStep m n number time) × ((r .outcome .refusal ≡ 0 → ⊥) → r .state ≡ m)
 carries m n number time r e = (
