@@ -1,10 +1,10 @@
--- A function over a struct that is lent to it, which passes the reference on to one that gives it up at the new state, and makes
--- figures of what that one says: a walk of its MIR, by hand, once for every struct and list of numbers.
---     R, S, F      the types of the struct, of what `#step` says and of the figures that `#said` makes of it; ws the widths of the numbers
+-- A function over a struct that is lent to it, which passes the reference on to `#step`, which leaves the struct at the new state, and
+-- makes figures of the outcome that `#step` returns: one walk of its MIR by hand, for every struct and list of numbers.
+--     R, S, F      the types of the struct, of the outcome, and of the figures that `#said` makes of it; ws the widths of the numbers
 --     passed-on    the function; τ is the type to which its reference refers, as the MIR names it, and ρ as it is spelled out; the
 --                  reference that it passes on has the lifetime ℓ there
---     Says, Q      what `#step` ensures, and what the function does
---     walk         the walk, with all that is known of the callees: what each gives
+--     Says, Q      what `#step` ensures, and what the function ensures
+--     walk         the walk, with the facts that each callee ensures
 -- Assumes `Given`.
 use mathlib.Core.Path.{_≡_, refl, sym, subst}
 use Prim.Native.Nat.{suc}
@@ -28,7 +28,7 @@ use Rattle.receiver.proofs.PassedNumbers.{Numbers, taken, Known, fit, locals, c
 use Rattle.receiver.proofs.Returned.{Gives, gives}
 use Rattle.receiver.proofs.LentStruct.{ended, Lent, args, Back, Walk, lends}
 
--- the function: _1 is the reference; after the numbers stand what is said, and the reference that is passed on
+-- the function: _1 is the reference; after the numbers come the outcome, and the reference that is passed on
 abbrev pub passed-on : (S F : RattleType) → List Width → Ty → Ty → Lifetime → Name → Name → Fn
 passed-on S F ws τ ρ ℓ #step #said = record {
   lifetimes = 1;
@@ -62,13 +62,13 @@ module _ {M : Type 1} (𝓤 : URA M) (H : Heap 𝓤) (A : Atoms 𝓤) (W : Given
       enter ! (𝓣 .C) (𝓣 .Λ) (passed-on S F ws τ ρ ℓ #step #said) (args 𝓤 H A R S ws Says κs a) _ $
       alloc1 ! (λ l₀. alloc1 ! (λ l₁. allocs-all ! ws (λ bs. alloc1 ! (λ lₛ. alloc1 ! (λ lₓ. alloc0 ! $ params1 ! $
       pass1 ! (init ! 5 refl (tt, tt)) $ move ! (4 ∷ []) $ passes-all ! ws bs ns (fit κs ws (a .1) are) _ $
-      -- the context: the numbers; then each other local, with what frees it: the reference that is passed on at 1, what is said at 3,
-      -- the reference at 5, the figures at 7; what is lent, at 9
+      -- the context: the numbers; then each other local, with what frees it: the reference that is passed on at 1, the outcome at 3, the
+      -- reference at 5, the figures at 7; the borrow, at 9
       assigns ! (addr ! (from ! (hop ! (look ! 5 refl) (stop !)))) (found ! (after 𝓤 H ws bs _ 1)) (init ! 1 refl (tt, tt)) $
       move ! (9 ∷ []) $ lends ! fm R S ws Says κs qs a (step-gives κs qs a are)
       (and-then ! (load ! (found ! (after 𝓤 H ws bs _ 1)) (look ! 2 refl))
       (reads-all ! ws bs ns 2 (further 𝓤 H _ _ 1 ws bs (further 𝓤 H _ _ 0 ws bs (first 𝓤 H ws bs _))))) (λ v₁ s h e₁ is₁.
-      -- the context: what is left of what was lent; the numbers; then the other locals, the reference that is passed on at 2
+      -- the context: the borrow after the call; the numbers; then the other locals, the reference that is passed on at 2
       land ! (found ! (after 𝓤 H ws bs _ 0)) (init ! 4 refl (alone (S .mir) v₁ (S-lawful .typed s _ is₁))) $
       gives ! fm F (λ d. d ≡ figures s) (v₁ ∷ []) (said-gives s v₁ is₁)
       (and-then ! (load ! (found ! (after 𝓤 H ws bs _ 0)) (look ! 5 refl)) (no-more !)) (λ v₂ d e₂ is₂.

@@ -1,10 +1,10 @@
--- A function over a struct that is lent to it, numbers, and lent figures. It passes the struct's reference on to `#step`, which gives it
--- up at the new state and returns an outcome, and hands that with the figures' reference to `outcome_told`, which returns the refusal and
--- leaves what is noted in the figures. A walk of its MIR, by hand, once for every struct, list of numbers and `#step`.
+-- A function over a struct that is lent to it, numbers, and lent figures. It passes the struct's reference on to `#step`, which leaves the
+-- struct at the new state and returns an outcome. It passes the outcome and the figures' reference to `outcome_told`, which returns the
+-- refusal and writes the case noted to the figures. One walk of its MIR by hand, for every struct, list of numbers and `#step`.
 --     R            the type of the struct; ws the widths of the numbers
 --     slots        the parameters after the struct: the numbers, then the figures; those after it with a mark of 2 are for two lifetimes
--- stepped the function; τ and ρ are the type to which the struct's reference refers, as the MIR names it and spelled out, σ and φ those
---                  of the figures' reference; ℓ and ℓ′ the lifetimes of the references that are passed on
+--     stepped      the function; τ and ρ are the type to which the struct's reference refers, as the MIR names it and spelled out, σ and φ
+--                  those of the figures' reference; ℓ and ℓ′ the lifetimes of the references that are passed on
 --     Says         what `#step` ensures
 --     meets        the function meets every contract that follows
 --     told-in-place    such a function of a crate meets its contract, where `#step` meets its own
@@ -70,7 +70,7 @@ abbrev slots : List Width → List (Slot 2)
 slots [] = mutRefTo (1 ∷ []) tt (plain (λ _. Figures)) ∷ []
 slots (w ∷ ws) = plain (λ _. UInt w) ∷ slots ws
 
--- what is had of them at exit: what says the last value of the figures, and the numbers
+-- what remains of them at exit: the fact of the figures' last value, and the numbers
 abbrev stays : (ws : List Width) → Stays (slots ws) (all yes (slots ws))
 stays [] = (gave-ref (1 ∷ []) tt (plain (λ _. Figures)), tt)
 stays (w ∷ ws) = (stay-none (λ _. UInt w) yes, stays ws)
@@ -84,7 +84,7 @@ module _ (κs : Lfts 2) where
   abbrev rows : List Width → List RattleType
   rows ws = typesAt (slots ws) κs
 
-  -- the numbers, and the reference to the figures, of what is passed
+  -- the numbers, and the reference to the figures, among the arguments
   abbrev pub taken : (ws : List Width) → Denots (rows ws) → Numbers ws
   taken [] a = tt
   taken (w ∷ ws) a = (a .0, taken ws (a .1))
@@ -129,7 +129,7 @@ module _ {M : Type 1} (𝓤 : URA M) (H : Heap 𝓤) (A : Atoms 𝓤) (W : Given
   goes [] = (goes-gave-ref 𝓤 H A W 2 1 tt (plain (λ _. Figures)), tt)
   goes (w ∷ ws) = (goes-none 𝓤 H A W 2 (λ _. UInt w) yes (λ κs x f. refl), goes ws)
 
-  -- what is had of them at exit, of what says the last value of the figures
+  -- what remains of them at exit, from the fact of the figures' last value
   had : (κs : Lfts 2) (ws : List Width) (a : Denots (rows κs ws)) → Known κs ws a → (zs : List ℕ)
       → ent 𝓤 (sem 𝓤 H A (fres (figures κs ws a .name) (Figures .coded .code zs)))
       (sem 𝓤 H A (hasOf κs (slots ws) (all yes (slots ws)) (stays ws) a (last κs ws a zs) (valss (rows κs ws) (spells κs ws) a)))
@@ -225,7 +225,7 @@ module _ {M : Type 1} (𝓤 : URA M) (H : Heap 𝓤) (A : Atoms 𝓤) (W : Given
   abbrev stayed : Stays (T .signature .params) (T .kept)
   stayed = (gave-ref (0 ∷ []) tt (plain (λ _. R)), stays ws)
 
-  -- at what is passed, a, with numbers of which their types' relations hold
+  -- for arguments a, whose numbers are of their types
   module _ (κs : Lfts 2) (qs : Shares 2) (bounds : AllOutlive 2 [] κs) (a : Args (T .signature) κs) (g : c κs a .ghost)
       (are : Known κs ws (a .1)) where
     abbrev κ : Lft
@@ -272,11 +272,11 @@ module _ {M : Type 1} (𝓤 : URA M) (H : Heap 𝓤) (A : Atoms 𝓤) (W : Given
         nothing ! $ move ! (5 ∷ 0 ∷ []) $ join ! $ move ! (4 ∷ 0 ∷ []) $ join ! $ move ! (3 ∷ 2 ∷ []) $ join ! $ move ! (1 ∷ 0 ∷ []) $
         join ! $ done !
 
-    -- what `outcome_told` is handed: what is said, at its machine value, and the figures
+    -- the operands of `outcome_told`: the outcome, at its machine value, and the figures
     abbrev to-told : Outcome → Val → Told .Ghost
     to-told s v = (((κ′, tt), (q′, tt), tt, (s, (y, tt)), (v ∷ [], (ptr-vals y, tt))), tt)
 
-    -- it is had of the token and of the reference
+    -- they come from the token and from the reference
     goes-told : (s : Outcome) (v : Val) → Is S.the-row s (v ∷ [])
         → ent 𝓤 (sep 𝓤 (A .lft κ′ q′) (sem 𝓤 H A (MutRef (named 0) κ′ Figures .own y (ptr-vals y)))) (Told .pre (to-told s v))
     goes-told s v is =
@@ -306,7 +306,7 @@ module _ {M : Type 1} (𝓤 : URA M) (H : Heap 𝓤) (A : Atoms 𝓤) (W : Given
         (same-values (ap (λ (ms : Numbers ws). vptr (x .ptr .0) (x .ptr .1) ∷ values ws ms) (taken-given (κ, tt) ws ns))
         (and-then ! (load ! (found ! (after 𝓤 H ws bs _ 2)) (look ! 4 refl))
         (reads-all ! ws bs ns 2 (further 𝓤 H _ _ 1 ws bs (further 𝓤 H _ _ 0 ws bs (first 𝓤 H ws bs _)))))) (λ v₁ s h e₁ is₁.
-        -- the context: what is left of the struct's; the numbers; then the other locals, from 2 on
+        -- the context: the struct's borrow after the call; the numbers; then the other locals, from 2 on
         land ! (found ! (after 𝓤 H ws bs _ 1)) (init ! 6 refl (LL.lawful S.the-type S′.the-laws 𝓤 H A W .typed s _ is₁ .0)) $
         assigns ! (addr ! (found-in ! (after 𝓤 H ws bs _ 0) (hop ! (look ! 8 refl) (stop !)))) (found ! (after 𝓤 H ws bs _ 3))
         (init ! 2 refl (tt, tt)) $
@@ -330,7 +330,7 @@ module _ {M : Type 1} (𝓤 : URA M) (H : Heap 𝓤) (A : Atoms 𝓤) (W : Given
         by ! (exits s h r (zs .1 .0) v₂ is₂ (subst (λ (ms : Numbers ws). Says (x .now) ms s h) (taken-given (κ, tt) ws ns) e₁)
         (e₂ .0) (e₂ .1))))))))))))
 
-    -- from what stands at entry
+    -- from the context at entry
     enters : ent 𝓤 (sep 𝓤 (onEntry 𝓤 H A (T .signature) κs qs a vss) (c κs a .requires g))
         (WpFn 𝓤 H (𝓣 .C) (𝓣 .Λ) f (flat (typesAt (T .signature .params) κs) vss) Post)
     enters =
@@ -352,7 +352,7 @@ module _ {M : Type 1} (𝓤 : URA M) (H : Heap 𝓤) (A : Atoms 𝓤) (W : Given
       (walked 𝓤 H A T stayed c fn (λ κs. (ptr-vals, spells κs ws)) (λ κs. (mut-tells (named 0) (κs .0) R, tells κs ws))
       (λ κs qs bounds a g are. enters κs qs bounds a g (are .1)))
 
--- a function #f of the code whose calls mean γ, where #step means a routine that meets d, and d says what is in Says
+-- a function #f of the code whose calls mean γ, where #step means a routine that meets d, and d ensures Says
 module _ {M : Type 1} (𝓤 : URA M) (H : Heap 𝓤) (𝓜 : Model 𝓤 H) (𝓖 : GhostRules 𝓤 H) (𝓡 : Running 𝓤 H 𝓜) (γ : Meanings) (R : RattleType)
     (ws : List Width) (Says : R .Denot → Numbers ws → Outcome → R .Denot → Type 0)
     (d : Clauses 𝓤 (LentStruct.ended R S.the-row ws)) (#step : Name) (routine : Routine) (means : γ #step ≡ routine)
