@@ -1,7 +1,7 @@
 -- `table::write_part` meets its contract: the rows of the part's records are known, and a first pass finds the length of the part. Then
 -- the file's own refusal comes first, and 8 if the part does not fit; else it is put.
 -- Here r is where the rows are known, p the first pass, s the start. Assumes nothing.
-use Prim.Native.Nat.{ℕ, _≤_, _<_}
+use Prim.Native.Nat.{_≤_, _<_}
 use native.Mathlib.Omega.{arith}
 use mathlib.Core.Path.{_≡_, sym, ap, _∙_}
 use denote.Ref.{now}
