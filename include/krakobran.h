@@ -135,7 +135,7 @@ enum {
     KRAKOBRAN_FOLLOW_OCTETS = 256,         /* octets that suffice for what is said of any line, and for any counts */
     KRAKOBRAN_WORDS_OCTETS = 128,          /* octets that suffice for the words of any refusal */
     KRAKOBRAN_STACK_OCTETS = 40960,        /* octets of stack that suffice for any call but three */
-    KRAKOBRAN_TEXT_STACK_OCTETS = 53248    /* octets of stack that suffice for krakobran_table_csv, krakobran_table_json and
+    KRAKOBRAN_TEXT_STACK_OCTETS = 65536    /* octets of stack that suffice for krakobran_table_csv, krakobran_table_json and
                                               krakobran_summary_all */
 };
 
