@@ -1,5 +1,7 @@
 // The least buffer with which a receiver that restores order accommodates a share of the first arrivals of a sample: in packets, in
 // octets, or in time.
+#![tactic(auto)]
+
 ghost use Rattle.std.specs.Prelude.{◌≡◌, ◌*◌, ◌-◌, ◌^◌, ◌≤◌, ◌<◌, leb};
 ghost use Rattle.sample.specs.Decode.{decode};
 ghost use Rattle.metrics.specs.Sample.{answers_of};
@@ -14,15 +16,15 @@ use rfc4737::judge::outside;
 use rfc4737::refusal::{ASKED_OUTSIDE, NONE};
 
 // The least size of a buffer, and the refusal (0 for none); with a refusal the size is 0.
+#[derive(Clone, Copy)]
 #[repr(C)]
-#[derive(Drop)]
 pub struct SampleLeast {
     pub refusal: u32,
     pub size: u64,
 }
 
 // Two sizes: all sizes below `low` are too small, and `high` is enough.
-#[derive(Drop)]
+#[derive(Clone, Copy)]
 struct Bounds {
     pub low: u64,
     pub high: u64,

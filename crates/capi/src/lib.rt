@@ -3,6 +3,7 @@
 // returns the refusal as a u64, 0 for none. A slice is a pointer and a length. The answer is written to the caller's array of u64, which C
 // sees as a struct of named fields. An answer with several cases becomes the number of the case and the figures of all cases; figures
 // that a case lacks are 0. If a call is refused, all figures are 0, and the caller's lists, buffers, receivers and meters stay unchanged.
+#![tactic(auto)]
 
 mod buffering_calls;
 mod checker_calls;

@@ -10,7 +10,7 @@ use rfc4737::judge::refusal_of_lists;
 use sample::Layout;
 
 // The offset and the length of the label in a file, and the file's refusal (0 for none). If it is refused, both are 0.
-#[derive(Drop)]
+#[derive(Clone, Copy)]
 pub struct LabelPart {
     pub refusal: u32,
     pub start: u32,

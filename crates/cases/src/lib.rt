@@ -1,5 +1,7 @@
 // What the programs of cases share. Cases are text on standard input: lines, each cut into fields, which hold words or numbers. The results
 // are written to standard output.
+#![tactic(auto)]
+
 pub mod fields;
 pub mod lists;
 pub mod print;

@@ -2,7 +2,7 @@
 use std::num::wrapping_add_u64;
 
 // The sum of the numbers, and the sum of all partial sums, which depends on their order.
-#[derive(Drop)]
+#[derive(Clone, Copy)]
 pub struct Sums {
     pub sum: u64,
     pub sums: u64,

@@ -1,4 +1,6 @@
 // Checks a supplier's listing: it agrees with the report of the sample, or the number of its first wrong line.
+#![tactic(auto)]
+
 ghost use Rattle.std.specs.Prelude.{◌≡◌, cond, ◌≤◌, eqb, length};
 ghost use Rattle.listing.specs.Room.{listing_octets};
 ghost use Rattle.octets.specs.Text.{line_feed};
@@ -11,14 +13,14 @@ ghost use Rattle.checker.specs.Private.{feeds, wrong_after};
 use rfc4737::refusal::NONE;
 
 // The verdict on a listing: it agrees, or the number of its first wrong line, from 1.
-#[derive(Drop)]
+#[derive(Clone, Copy)]
 pub enum Verdict {
     Agrees,
     WrongLine(u32),
 }
 
 // The verdict, and the refusal of the sample (0 for none). If the sample is refused, the listing is not read, and the line is 0.
-#[derive(Drop)]
+#[derive(Clone, Copy)]
 pub struct SampleVerdict {
     pub refusal: u32,
     pub verdict: Verdict,

@@ -1,6 +1,8 @@
 // The check program: its arguments are the names of a sample file and of a listing. It prints that the listing is right; or the number of
 // its first wrong line, that line and the right one; or the refusal of the sample in words. No sample has over 57,414 octets and no
 // report over 262,144, so one octet more than these decides about longer files.
+#![tactic(auto)]
+
 mod shown;
 
 ghost use Rattle.std.specs.Prelude.{◌≡◌, List, ℕ, ◌+◌, take};

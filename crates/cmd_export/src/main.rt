@@ -1,6 +1,8 @@
 // The export program: reads a sample on standard input and writes its arrivals on standard output, as a text log with the argument `log`,
 // as OWAMP records with `owamp`. If the sample is refused, it writes the line `refused N: WORDS` instead. This line can't be taken for
 // either, since a line of a log begins with a digit and a record with the octet 0.
+#![tactic(auto)]
+
 mod log;
 
 use log::put_log;
@@ -11,7 +13,7 @@ use sample::WriteAnswer;
 const OUTPUT_OCTETS: usize = 188_416;
 
 // The form of the output.
-#[derive(Drop)]
+#[derive(Clone, Copy)]
 enum Kind {
     Log,
     Records,

@@ -2,6 +2,8 @@
 // writes the outcome on standard output at once, and the counts at the end. Its memory does not grow with the input. It ends when the
 // input ends, when standard input can't be read, or when a line can't be written. A program of Rattle has no exit status, so it says on
 // descriptor 3 how it ended: `done`, `unread`, `unwritten`, or `refused` if K is refused.
+#![tactic(auto)]
+
 mod ends;
 
 use ends::{GOING, INPUT_ENDED, REFUSED, UNREAD, UNWRITTEN, say_end};
@@ -19,7 +21,7 @@ const HELD_OCTETS: usize = 256;
 const BLOCK_OCTETS: usize = 4096;
 
 // The state of the program between two octets.
-#[derive(Drop)]
+#[derive(Clone, Copy)]
 struct Progress {
     // The receiver.
     state: Receiver,

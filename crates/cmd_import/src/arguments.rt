@@ -6,7 +6,7 @@ ghost use Rattle.cmd_import.specs.Arguments.{argument_in};
 const MAX_NUMBER: u64 = 4_294_967_295;
 
 // An argument as a number; `Bad` if it is not a decimal number or too great.
-#[derive(Drop)]
+#[derive(Clone, Copy)]
 pub(crate) enum Argument {
     Given(u32),
     Bad,

@@ -11,7 +11,7 @@ use textlog::LogImport;
 const LIST_LEN: usize = ARRIVALS_MOST as usize;
 
 // The kind of input.
-#[derive(Drop)]
+#[derive(Clone, Copy)]
 pub(crate) enum Kind {
     // A text log.
     Log,

@@ -2,6 +2,8 @@
 // Its arguments are the kind of input, the label of the sample, K, and the payload size of all packets. The kind is `log`, `log8` or
 // `log10` for a log with only the lowest 8 or 10 bits of each sequence number, or `records`.
 // If there is no sample, it writes one line of text instead. This line can't be taken for a sample, which begins with the octet 0.
+#![tactic(auto)]
+
 mod arguments;
 mod convert;
 mod faults;

@@ -7,7 +7,7 @@ use crate::panel::{
 use crate::text::{write_number, write_shape, write_word};
 
 // The unit of an axis: a unit of time, for values in microseconds; positions, each drawn as two halves; or plain numbers.
-#[derive(Drop)]
+#[derive(Clone, Copy)]
 pub(crate) enum Unit {
     Milliseconds,
     Seconds,
@@ -134,7 +134,7 @@ fn write_tick_beside(panel: Panel, y: u64, sign: &[u8], value: u64, unit: Unit)
 }
 
 // The axis beside a panel: the value at its base, and how far it extends below and above the base.
-#[derive(Drop)]
+#[derive(Clone, Copy)]
 pub(crate) struct Levels {
     pub(crate) base: u64,
     pub(crate) below: u64,

@@ -48,7 +48,7 @@ fn count_in(rows: &[u64], arrivals: u32, bin: u32) -> u64 {
 }
 
 // The bars of a sample: the number of bins up to the last with an extent, and the greatest count of a bin.
-#[derive(Drop)]
+#[derive(Clone, Copy)]
 struct Bars {
     pub bins: u32,
     pub greatest: u64,

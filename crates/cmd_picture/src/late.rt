@@ -14,7 +14,7 @@ use sample::{Layout, arrival};
 use std::num::wrapping_sub_u64;
 
 // The axes of the panel: the earliest arrival time, the span of all arrival times, and the late times.
-#[derive(Drop)]
+#[derive(Clone, Copy)]
 struct Axes {
     pub earliest: u64,
     pub span: u64,
@@ -22,7 +22,7 @@ struct Axes {
 }
 
 // A range of times.
-#[derive(Drop)]
+#[derive(Clone, Copy)]
 struct Times {
     pub earliest: u64,
     pub latest: u64,

@@ -1,5 +1,7 @@
 // The picture program: reads a sample on standard input and draws it as SVG on standard output, or prints one line if the input is
 // refused. No sample has over 57,414 octets, so the first 57,415 octets decide about longer input.
+#![tactic(auto)]
+
 mod axes;
 mod bars;
 mod head;

@@ -13,7 +13,7 @@ use sample::{Layout, arrival};
 use std::num::wrapping_sub_u64;
 
 // The ends of the axes: the last position and the greatest sequence number that arrived, each at least 1.
-#[derive(Drop)]
+#[derive(Clone, Copy)]
 struct Ends {
     pub positions: u64,
     pub numbers: u64,

@@ -4,7 +4,7 @@ ghost use Rattle.cmd_picture.specs.Panels.{rectangle, frame_of};
 
 // The panels: late times, with room for the sequence numbers below or taller without; sequence numbers; the share in order by waiting
 // time and by buffer; extents.
-#[derive(Drop)]
+#[derive(Clone, Copy)]
 pub(crate) enum Panel {
     LateTimes,
     TallLateTimes,
@@ -15,7 +15,7 @@ pub(crate) enum Panel {
 }
 
 // The frame of a panel: its distance from the left and from the upper edge of the picture, its width and its height.
-#[derive(Drop)]
+#[derive(Clone, Copy)]
 struct Frame {
     pub left: u64,
     pub top: u64,

@@ -4,7 +4,7 @@ use metrics::{SampleNeeds, greatest_needs};
 use rfc4737::Measure;
 
 // A setting: one size in each measure.
-#[derive(Drop)]
+#[derive(Clone, Copy)]
 pub(crate) struct Sizes {
     pub(crate) time: u64,
     pub(crate) packets: u64,
@@ -12,7 +12,7 @@ pub(crate) struct Sizes {
 }
 
 // The two settings of a sample.
-#[derive(Drop)]
+#[derive(Clone, Copy)]
 pub(crate) struct Settings {
     pub(crate) most: Sizes,
     pub(crate) all: Sizes,

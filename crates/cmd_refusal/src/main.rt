@@ -1,4 +1,6 @@
 // The refusal program: prints the words of the refusal whose number is the argument; an empty line for any other number.
+#![tactic(auto)]
+
 use program::write_word;
 
 // Writes the words of a refusal and a line feed.

@@ -1,5 +1,7 @@
 // The report program: reads a sample on standard input and prints its report on standard output, or one line if the input is refused. No
 // sample has over 57,414 octets, so the first 57,415 octets decide about longer input.
+#![tactic(auto)]
+
 ghost use Rattle.std.specs.Prelude.{◌≤◌, length};
 ghost use Rattle.listing.specs.Lines.{refused_line};
 ghost use Rattle.listing.specs.Room.{listing_octets};

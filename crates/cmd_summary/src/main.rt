@@ -1,6 +1,8 @@
 // The summary program: reads a sample on standard input and prints its summary on standard output, or one line if the input is refused.
 // With the argument `json` the summary is a JSON object. With `all` the other figures of the whole sample follow it. No sample has over
 // 57,414 octets, so the first 57,415 octets decide about longer input.
+#![tactic(auto)]
+
 ghost use Rattle.listing.specs.Lines.{refused_line};
 ghost use Rattle.sample.specs.Decode.{decode, decoded_refusal};
 ghost use Rattle.sample.specs.Output.{Output};
@@ -12,7 +14,7 @@ use sample::WriteAnswer;
 use summary::ALL_OCTETS;
 
 // The form of the summary.
-#[derive(Drop)]
+#[derive(Clone, Copy)]
 enum Form {
     Text,
     Json,

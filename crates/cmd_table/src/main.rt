@@ -1,6 +1,8 @@
 // The table program: reads a sample on standard input and prints every record with named fields on standard output, or one line if the
 // input is refused. The argument is `csv` or `json`. No sample has over 57,414 octets, so the first 57,415 octets decide about longer
 // input.
+#![tactic(auto)]
+
 ghost use Rattle.std.specs.Prelude.{◌≡◌, ◌≤◌, length};
 ghost use Rattle.octets.specs.Memory.{over};
 ghost use Rattle.listing.specs.Lines.{refused_line};

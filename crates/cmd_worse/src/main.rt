@@ -1,6 +1,8 @@
 // The worse program: tells which of two samples is of the worse link. Its arguments are the paths of two sample files and, if wanted, the
 // names to print for them. It prints one line: which sample has the greater reordered ratio, with the name, label and ratio of each; or
 // which sample is refused.
+#![tactic(auto)]
+
 mod ratio;
 
 use program::{SAMPLE_ROOM, open_argument, read, write_word};

@@ -8,7 +8,7 @@ use rfc4737::Counts;
 use worse::{greater, reordered_ratio};
 
 // Which of two samples has the greater reordered ratio.
-#[derive(Drop)]
+#[derive(Clone, Copy)]
 pub(crate) enum Standing {
     Equal,
     First,

@@ -1,4 +1,6 @@
 // The decimal digits of a number of 64 bits as ASCII octets, written into the caller's buffer; module `reading` reads them.
+#![tactic(auto)]
+
 ghost use Rattle.std.specs.Prelude.{◌≡◌, ◌+◌, ◌%◌, ◌≤◌, length};
 ghost use Rattle.octets.specs.Memory.{put, splice};
 ghost use Rattle.decimal.specs.Decimal.{decimal_of};

@@ -10,7 +10,7 @@ const WORD_MOST: u64 = 18_446_744_073_709_551_615;
 const TENS_MOST: u64 = 1_844_674_407_370_955_161;
 
 // Digits that were read: the offset after the last one, and their value, at most `WORD_MOST`.
-#[derive(Drop)]
+#[derive(Clone, Copy)]
 pub struct Number {
     pub end: usize,
     pub value: u64,

@@ -1,6 +1,8 @@
 // The total of disorder of a sample: the number of pairs of its first arrivals that came in the wrong order. It is the sum of the byte
 // offsets if every payload size is 1. It is also the least number of exchanges of neighbouring first arrivals that puts them in rising
 // order.
+#![tactic(auto)]
+
 ghost use Rattle.std.specs.Prelude.{◌≡◌};
 ghost use Rattle.sample.specs.Decode.{decode};
 ghost use Rattle.disorder.specs.Disorder.{OffsetsCountPairs, PairsAreLeast};
@@ -11,8 +13,8 @@ mod pairs;
 use pairs::disorder_of;
 
 // The total of disorder of a sample, at most 8,386,560, and the refusal (0 for none). If the file is refused, the total is 0.
+#[derive(Clone, Copy)]
 #[repr(C)]
-#[derive(Drop)]
 pub struct SampleDisorder {
     pub refusal: u32,
     pub total: u32,

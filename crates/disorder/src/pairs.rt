@@ -13,7 +13,7 @@ use sample::Layout;
 const PACKET_TABLE_LEN: usize = SENT_MOST as usize + 1;
 
 // The number of first arrivals, the number of pairs of them in the wrong order, and their greatest sequence number.
-#[derive(Drop)]
+#[derive(Clone, Copy)]
 pub(crate) struct Pairs {
     pub count: u32,
     pub wrong: u32,

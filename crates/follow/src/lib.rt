@@ -1,4 +1,6 @@
 // What a receiver says of the lines of a text log, one line at a time, as text.
+#![tactic(auto)]
+
 ghost use Rattle.std.specs.Prelude.{◌≡◌, ◌≤◌, length};
 ghost use Rattle.textlog.specs.Decode.{decode_line};
 ghost use Rattle.textlog.specs.Calls.{log_line};
@@ -19,7 +21,7 @@ use textlog::{LogLine, read_line};
 pub const LINE_OCTETS: usize = 256;
 
 // The answer for a line: its refusal (0 for none), the length of its text, and the receiver after it.
-#[derive(Drop)]
+#[derive(Clone, Copy)]
 pub struct FollowAnswer {
     pub refusal: u32,
     pub length: u32,

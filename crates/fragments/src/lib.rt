@@ -1,5 +1,7 @@
 // Fragments (RFC 4737, Appendix B): the order flag of packets that may be fragmented on the way, and which arrivals are usable in the
 // figures of a sample. The call is total.
+#![tactic(auto)]
+
 ghost use Rattle.std.specs.Prelude.{◌≡◌, ◌≤◌, length};
 ghost use Rattle.octets.specs.Memory.{over};
 ghost use Rattle.rfc4737.specs.Judge.{sent_most, arrivals_most};
@@ -28,7 +30,7 @@ use rfc4737::judge::SENT_MOST;
 const MAX_PACKETS: usize = SENT_MOST as usize;
 
 // An arrival: number, time, length in octets, more-fragments flag (set if not 0) and fragment offset.
-#[derive(Drop)]
+#[derive(Clone, Copy)]
 pub struct Piece {
     pub number: u32,
     pub time: u64,
@@ -38,7 +40,7 @@ pub struct Piece {
 }
 
 // What is expected next: NextExp, FragSeq# and NextExpFrag.
-#[derive(Drop)]
+#[derive(Clone, Copy)]
 pub struct Expected {
     pub next: u32,
     pub packet: u32,

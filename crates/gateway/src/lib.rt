@@ -1,4 +1,5 @@
 // The step of a borrowed receiver as a thin call over the step by value.
+#![tactic(auto)]
 
 ghost use Rattle.std.specs.Prelude.{◌≡◌};
 ghost use Rattle.receiver.specs.Lent.{AsStep};

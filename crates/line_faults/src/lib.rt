@@ -1,4 +1,6 @@
 // Explains why a line of a text log is refused with 14: what stands where the form breaks. The public call is total.
+#![tactic(auto)]
+
 ghost use Rattle.std.specs.Prelude.{◌≡◌};
 ghost use Rattle.line_faults.specs.Cases.{FaultsAsGiven};
 ghost use Rattle.line_faults.specs.Faults.{has_byte_order_mark, stray_at, start_fault, end_fault, decimals_fault, time_fault, line_fault};
@@ -7,7 +9,7 @@ use decimal::reading::number_at;
 use textlog::reading::{DECIMALS_MOST, NUMBER_MOST, is_decimal_mark, octet_at};
 
 // The first fault of a line. `Formed` is a line of the form whose number fits; if it is refused with 14, its time is over the range.
-#[derive(Drop)]
+#[derive(Clone, Copy)]
 pub enum LineFault {
     ByteOrderMark,
     EmptyLine,

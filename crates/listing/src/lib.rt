@@ -1,6 +1,8 @@
 // Writes the lines of the report into the caller's buffer. A public function writes its whole line, or nothing if there is no room for
 // all of it, and returns the length of the line. A private function writes a part of a line, for which there is room, from offset `at`
 // on and returns the offset after it; its caller names that offset after the field that goes there.
+#![tactic(auto)]
+
 ghost use Rattle.std.specs.Prelude.{[], ◌∷◌, ◌++◌, ◌+◌, ◌≤◌, ◌<◌, length};
 ghost use Rattle.decimal.specs.Decimal.{decimal_of};
 ghost use Rattle.rfc4737.specs.declared.Answer.TheVariants.{Duplicate, InOrder, Reordered};

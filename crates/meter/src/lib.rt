@@ -1,5 +1,6 @@
 // A meter: two streams, each with a receiver's numbers and marks, that share the places of their kept jumps. It is stepped in place
 // (`step_in_place`), or passed and returned by value. Its rule is specs/Step.antt.
+#![tactic(auto)]
 
 ghost use Rattle.std.specs.Prelude.{◌≡◌, cond, List, ℕ, ◌-◌, ◌≤◌, min, replicate};
 ghost use Rattle.meter.specs.Streams.{shared, most_kept, stream_in};
@@ -20,8 +21,8 @@ use rfc4737::judge::{SENT_MOST, outside};
 use rfc4737::refusal;
 
 // The part of a stream's state that is its own: its numbers, and a bit for each of its packets that has arrived.
+#[derive(Clone, Copy)]
 #[repr(C)]
-#[derive(Drop)]
 pub struct StreamState {
     pub stream: Stream,
     pub marks: [u64; MARK_WORDS],
@@ -29,8 +30,8 @@ pub struct StreamState {
 
 // The state of a meter: streams 1 and 2, and the places of their kept jumps. Stream 1 has the places from the first up, stream 2 those
 // from the last down, the oldest jump first. Those between are free.
+#[derive(Clone, Copy)]
 #[repr(C)]
-#[derive(Drop)]
 pub struct Meter {
     pub first: StreamState,
     pub second: StreamState,
@@ -38,22 +39,22 @@ pub struct Meter {
 }
 
 // The answer of a step: the outcome, and the meter after it.
-#[derive(Drop)]
+#[derive(Clone, Copy)]
 pub struct MeterStepAnswer {
     pub outcome: Outcome,
     pub state: Meter,
 }
 
 // A meter after a fresh start of a stream: the refusal (0 for none), and the meter.
+#[derive(Clone, Copy)]
 #[repr(C)]
-#[derive(Drop)]
 pub struct MeterStartAnswer {
     pub refusal: u32,
     pub state: Meter,
 }
 
 // The outcome of an arrival on a stream, and the numbers of both streams after it.
-#[derive(Drop)]
+#[derive(Clone, Copy)]
 pub struct StreamsStep {
     pub outcome: Outcome,
     pub first: Stream,

@@ -20,7 +20,7 @@ use rfc4737::{Answer, Arrival};
 use sample::Layout;
 
 // The state beside the tables: that of the records noted and that of the tree of sums.
-#[derive(Drop)]
+#[derive(Clone, Copy)]
 pub(crate) struct Engine {
     pub noted: State,
     pub totals: Totals,
@@ -40,7 +40,7 @@ pub(crate) fn fresh_engine() -> Engine
 }
 
 // The answer for a record, its class, and the engine after it.
-#[derive(Drop)]
+#[derive(Clone, Copy)]
 pub(crate) struct EngineAnswer {
     pub answer: Answer,
     pub class: Class,

@@ -187,7 +187,7 @@ pub(crate) fn tally_of(file: &[u8], layout: Layout) -> [u32; TALLY_PLACES]
 }
 
 // Of the arrivals so far: how many are first arrivals, reordered, n-reordered for a low n, and n-reordered for a high n; and NextExp.
-#[derive(Drop)]
+#[derive(Clone, Copy)]
 pub(crate) struct Shares {
     pub whole: u32,
     pub reordered: u32,

@@ -3,6 +3,8 @@
 // owns it and passes it by reference.
 // Cost, with A arrivals of K packets: O(A + K) for the check and for each pass, unless a call says otherwise. No call is quadratic.
 // Tables of 4,096 entries are zeroed whatever A and K are.
+#![tactic(auto)]
+
 ghost use Rattle.std.specs.Prelude.{◌≡◌, ◌≤◌, length};
 ghost use Rattle.rfc4737.specs.Cases.{CasesHold};
 ghost use Rattle.rfc4737.specs.Reordered.{ReorderedHaveDiscontinuity, OffsetsBounded, FiguresBounded};
@@ -49,38 +51,38 @@ const DEGREE_MOST: u32 = 100;
 pub const STEPS: usize = 128;
 
 // The answer for a record, and the refusal (0 for none).
-#[derive(Drop)]
+#[derive(Clone, Copy)]
 pub struct RecordAnswer {
     pub refusal: u32,
     pub answer: rfc4737::Answer,
 }
 
 // The gap of a record, and the refusal (0 for none).
-#[derive(Drop)]
+#[derive(Clone, Copy)]
 pub struct RecordGap {
     pub refusal: u32,
     pub gap: rfc4737::Gap,
 }
 
 // The counts of a sample, and the refusal (0 for none).
+#[derive(Clone, Copy)]
 #[repr(C)]
-#[derive(Drop)]
 pub struct SampleCounts {
     pub refusal: u32,
     pub counts: rfc4737::Counts,
 }
 
 // The extent tally of a sample, and the refusal (0 for none).
+#[derive(Clone, Copy)]
 #[repr(C)]
-#[derive(Drop)]
 pub struct SampleTally {
     pub refusal: u32,
     pub tally: [u32; TALLY_PLACES],
 }
 
 // The two counts of a degree of n-reordering, and the refusal (0 for none).
+#[derive(Clone, Copy)]
 #[repr(C)]
-#[derive(Drop)]
 pub struct DegreeCounts {
     pub refusal: u32,
     pub reordered: u32,
@@ -88,22 +90,22 @@ pub struct DegreeCounts {
 }
 
 // A degree of n-reordering, and the refusal (0 for none).
-#[derive(Drop)]
+#[derive(Clone, Copy)]
 pub struct SampleDegree {
     pub refusal: u32,
     pub ratio: rfc4737::Ratio,
 }
 
 // The ratio figures of a sample, and the refusal (0 for none).
-#[derive(Drop)]
+#[derive(Clone, Copy)]
 pub struct SampleRatios {
     pub refusal: u32,
     pub ratios: rfc4737::Ratios,
 }
 
 // How many first arrivals of a sample a receiver's buffer accommodates, how many first arrivals there are, and the refusal (0 for none).
+#[derive(Clone, Copy)]
 #[repr(C)]
-#[derive(Drop)]
 pub struct SampleAccommodated {
     pub refusal: u32,
     pub accommodated: u32,
@@ -111,8 +113,8 @@ pub struct SampleAccommodated {
 }
 
 // The greatest extent, byte offset and late time of a sample, 0 where no packet is reordered, and the refusal (0 for none).
+#[derive(Clone, Copy)]
 #[repr(C)]
-#[derive(Drop)]
 pub struct SampleNeeds {
     pub refusal: u32,
     pub packets: u64,
@@ -122,7 +124,7 @@ pub struct SampleNeeds {
 
 // For each of STEPS buffer sizes, how many first arrivals of a sample it accommodates; how many first arrivals there are; the greatest
 // need of any; and the refusal (0 for none).
-#[derive(Drop)]
+#[derive(Clone, Copy)]
 pub struct SampleSteps {
     pub refusal: u32,
     pub arrived: u32,
@@ -132,7 +134,7 @@ pub struct SampleSteps {
 
 // How many octets of a text agree with the listing of a sample, from the start on; whether the text is that listing; and the
 // refusal (0 for none), with which none agree.
-#[derive(Drop)]
+#[derive(Clone, Copy)]
 pub struct SampleAgreement {
     pub refusal: u32,
     pub octets: usize,

@@ -1,5 +1,7 @@
 // Big-endian numbers of up to 8 octets, read and written by one rule for every width, and octets copied into the caller's buffer.
 // Each public function is total: it takes any offset and any width.
+#![tactic(auto)]
+
 ghost use Rattle.std.specs.Prelude.{◌≡◌, ◌+◌, ◌≤◌, min, leb, length};
 ghost use Rattle.octets.specs.BigEndian.{be_value, be_octets};
 ghost use Rattle.octets.specs.Memory.{part, splice, put};

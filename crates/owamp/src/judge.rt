@@ -17,7 +17,7 @@ use sample::Layout;
 const SECONDS_MOST: u64 = 4_294_967_295;
 
 // The result of a pass over records: the number of arrivals, and the first refusal of an arrival, or 0.
-#[derive(Drop)]
+#[derive(Clone, Copy)]
 pub(crate) struct Judged {
     pub arrivals: usize,
     pub refusal: u32,

@@ -1,5 +1,7 @@
 // OWAMP packet records (RFC 4656, section 3.9): imported into two of the caller's lists, and written from a sample file. Every public call
 // is total.
+#![tactic(auto)]
+
 ghost use Rattle.std.specs.Prelude.{◌≡◌, ◌*◌, ◌≤◌, length};
 ghost use Rattle.octets.specs.Memory.{splice};
 ghost use Rattle.owamp.specs.Record.{record_width, records_arrivals};
@@ -24,8 +26,8 @@ use rfc4737::refusal::OUTPUT_SHORT;
 use sample::{Layout, WriteAnswer};
 
 // The answer of `import`: the refusal (0 for none), and the number of arrivals, 0 if refused.
+#[derive(Clone, Copy)]
 #[repr(C)]
-#[derive(Drop)]
 pub struct RecordsImport {
     pub refusal: u32,
     pub arrivals: u32,

@@ -1,5 +1,7 @@
 // What the programs of the command share: writing to standard output, reading a file, and the arguments. Contracts can say nothing about
 // what a program reads and writes, so these functions promise only that they end. Only programs use this crate.
+#![tactic(auto)]
+
 ghost use Rattle.std.specs.Prelude.{◌≤◌, length};
 
 use libc::{STDIN_FILENO, STDOUT_FILENO};

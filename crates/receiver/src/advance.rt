@@ -14,7 +14,7 @@ use crate::numbers::{after_duplicate, after_in_order, after_reordered};
 use crate::{MARK_WORDS, MAX_KEPT, Outcome, Receiver, ReceiverAnswer, Stream, parts};
 
 // The outcome of an arrival, and the stream's numbers after it.
-#[derive(Drop)]
+#[derive(Clone, Copy)]
 pub struct StreamStep {
     pub outcome: Outcome,
     pub stream: Stream,

@@ -1,5 +1,6 @@
 // The receiver: fed one arrival at a time, it returns an outcome for each and keeps a state of fixed size, passed and
 // returned by value, or borrowed and written in place. Its rule is specs/Step.antt, after the scope's "The receiver".
+#![tactic(auto)]
 
 pub mod advance;
 mod decide;
@@ -31,8 +32,8 @@ use rfc4737::{LateTime, Runs, refusal};
 // The numbers that a step decides by: the packets sent (K), the first arrivals (L), the duplicates, the in-order count,
 // NextExp, how many jumps are kept, the greatest time of an accepted arrival (0 at first), the runs, and the number of the
 // last jump dropped (0 for none).
+#[derive(Clone, Copy)]
 #[repr(C)]
-#[derive(Drop)]
 pub struct Stream {
     pub sent: u32,
     pub arrived: u32,
@@ -46,8 +47,8 @@ pub struct Stream {
 }
 
 // The places of the kept jumps: position, number and time of each, the oldest first. Those after the kept ones are unused.
+#[derive(Clone, Copy)]
 #[repr(C)]
-#[derive(Drop)]
 pub struct Places {
     pub positions: [u16; Receiver::WINDOW],
     pub numbers: [u16; Receiver::WINDOW],
@@ -55,8 +56,8 @@ pub struct Places {
 }
 
 // The state of a receiver: the numbers of its stream, a bit for each packet that has arrived, and the places of its kept jumps.
+#[derive(Clone, Copy)]
 #[repr(C)]
-#[derive(Drop)]
 pub struct Receiver {
     pub stream: Stream,
     pub marks: [u64; MARK_WORDS],
@@ -64,7 +65,7 @@ pub struct Receiver {
 }
 
 // Extent and late time of a reordered packet.
-#[derive(Drop)]
+#[derive(Clone, Copy)]
 pub struct Lateness {
     pub extent: u32,
     pub late: LateTime,
@@ -72,7 +73,7 @@ pub struct Lateness {
 
 // The case that a receiver notes of an arrival: a duplicate; in order, with the jump size; reordered, with exact extent and late time; or
 // reordered beyond the window, with those of the oldest kept jump.
-#[derive(Drop)]
+#[derive(Clone, Copy)]
 pub enum ReceiverAnswer {
     Duplicate,
     InOrder(u32),
@@ -81,22 +82,22 @@ pub enum ReceiverAnswer {
 }
 
 // The outcome of an arrival: the refusal (0 for none), and the case noted.
-#[derive(Drop)]
+#[derive(Clone, Copy)]
 pub struct Outcome {
     pub refusal: u32,
     pub noted: ReceiverAnswer,
 }
 
 // The answer of a step: the outcome, and the state after it.
-#[derive(Drop)]
+#[derive(Clone, Copy)]
 pub struct StepAnswer {
     pub outcome: Outcome,
     pub state: Receiver,
 }
 
 // The answer of `fresh`: the refusal (0 for none), and the state.
+#[derive(Clone, Copy)]
 #[repr(C)]
-#[derive(Drop)]
 pub struct FreshAnswer {
     pub refusal: u32,
     pub state: Receiver,

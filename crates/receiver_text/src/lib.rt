@@ -1,4 +1,6 @@
 // What the programs of cases for receivers and meters share: they print the outcome of an arrival, and compare two states.
+#![tactic(auto)]
+
 pub mod same;
 
 use cases::print::{write_number, write_word};

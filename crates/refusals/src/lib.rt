@@ -1,4 +1,6 @@
 // The words of the refusals: one table for the programs, the header and the pages. The public call is total.
+#![tactic(auto)]
+
 ghost use Rattle.std.specs.Prelude.{◌≤◌, ◌<◌, length};
 ghost use Rattle.sample.specs.Output.{Output};
 ghost use Rattle.refusals.specs.Words.{words_of, asked_refusal, WordsFit};

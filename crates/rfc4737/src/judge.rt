@@ -42,7 +42,7 @@ pub fn judge_one(k: u64, reference: u64, number: u64, time: u64) -> u32
 }
 
 // The judgement of one arrival: the refusal (0 for none), and the reference for the time of the next arrival.
-#[derive(Drop)]
+#[derive(Clone, Copy)]
 pub struct Judged {
     pub refusal: u32,
     pub reference: u64,

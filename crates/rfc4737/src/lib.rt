@@ -1,6 +1,7 @@
 // The types of the figures after RFC 4737: an arrival, the answer for a record, and the figures of a sample; specs/ defines each figure.
 // The modules number the cases of an answer and the refusals, have the rules about times, and check K and the arrivals. All other
 // crates share them.
+#![tactic(auto)]
 
 // The numbers of an answer's cases.
 pub mod numbering;
@@ -15,20 +16,20 @@ pub mod time;
 pub mod judge;
 
 // An arrival of a test packet: its sequence number, and its arrival time in microseconds.
-#[derive(Drop)]
+#[derive(Clone, Copy)]
 pub struct Arrival {
     pub number: u32,
     pub time: u64,
 }
 
 // The figures of a duplicate: the record of the packet's first arrival.
-#[derive(Drop)]
+#[derive(Clone, Copy)]
 pub struct DuplicateFigures {
     pub first: u32,
 }
 
 // The figures of an in-order packet: its position among the first arrivals, and its jump size.
-#[derive(Drop)]
+#[derive(Clone, Copy)]
 pub struct InOrderFigures {
     pub position: u32,
     pub jump: u32,
@@ -36,14 +37,14 @@ pub struct InOrderFigures {
 
 // A late time in microseconds, with its direction: after the discontinuity's arrival, or before it. Equal times
 // are after, by 0.
-#[derive(Drop)]
+#[derive(Clone, Copy)]
 pub enum LateTime {
     After(u64),
     Before(u64),
 }
 
 // The figures of a reordered packet: its position, extent, late time, byte offset and largest n.
-#[derive(Drop)]
+#[derive(Clone, Copy)]
 pub struct ReorderedFigures {
     pub position: u32,
     pub extent: u32,
@@ -53,7 +54,7 @@ pub struct ReorderedFigures {
 }
 
 // The answer for a record.
-#[derive(Drop)]
+#[derive(Clone, Copy)]
 pub enum Answer {
     Duplicate(DuplicateFigures),
     InOrder(InOrderFigures),
@@ -62,8 +63,8 @@ pub enum Answer {
 
 // The runs of in-order packets: the number of closed runs, the sum of the squares of their lengths, and the
 // length of the open run.
+#[derive(Clone, Copy)]
 #[repr(C)]
-#[derive(Drop)]
 pub struct Runs {
     pub closed: u32,
     pub squares: u32,
@@ -71,8 +72,8 @@ pub struct Runs {
 }
 
 // The counts of a sample: first arrivals (L), reordered packets, duplicates, in-order packets, and runs.
+#[derive(Clone, Copy)]
 #[repr(C)]
-#[derive(Drop)]
 pub struct Counts {
     pub arrived: u32,
     pub reordered: u32,
@@ -82,21 +83,21 @@ pub struct Counts {
 }
 
 // The gap of a discontinuity, in positions, if it has one.
-#[derive(Drop)]
+#[derive(Clone, Copy)]
 pub enum Gap {
     None,
     Positions(u32),
 }
 
 // A ratio of two counts, undefined if the denominator is 0.
-#[derive(Drop)]
+#[derive(Clone, Copy)]
 pub enum Ratio {
     Undefined,
     Known(f64),
 }
 
 // The ratio figures of a sample: the reordered ratio, and the degrees of n-reordering for n = 1 and n = 3.
-#[derive(Drop)]
+#[derive(Clone, Copy)]
 pub struct RatioFigures {
     pub reordered: f64,
     pub degree1: f64,
@@ -104,14 +105,14 @@ pub struct RatioFigures {
 }
 
 // The ratio figures of a sample, undefined if it has no first arrival.
-#[derive(Drop)]
+#[derive(Clone, Copy)]
 pub enum Ratios {
     Undefined,
     Known(RatioFigures),
 }
 
 // The unit in which the size of a receiver's buffer is given (RFC 4737, section 1.1): packets, octets, or microseconds.
-#[derive(Drop)]
+#[derive(Clone, Copy)]
 pub enum Measure {
     Packets,
     Octets,

@@ -1,4 +1,6 @@
 // Checks, reads and writes sample files. Every public call is total.
+#![tactic(auto)]
+
 ghost use Rattle.std.specs.Prelude.{◌≡◌, ℕ, ◌+◌, ◌*◌, List};
 ghost use Rattle.sample.specs.Format.{longest};
 ghost use Rattle.sample.specs.Decode.{arrival_in, decode, refused, sample_of, layout_of};
@@ -29,8 +31,8 @@ const LABEL_MOST: u64 = 64;
 pub const LONGEST: usize = 57_414;
 
 // The layout of a file: the refusal (0 for none), the length of the label, K and A. With a refusal the other three are 0.
+#[derive(Clone, Copy)]
 #[repr(C)]
-#[derive(Drop)]
 pub struct Layout {
     pub refusal: u32,
     pub label: u32,
@@ -39,8 +41,8 @@ pub struct Layout {
 }
 
 // A writer's answer: the refusal (0 for none), and the number of octets written, 0 with a refusal.
+#[derive(Clone, Copy)]
 #[repr(C)]
-#[derive(Drop)]
 pub struct WriteAnswer {
     pub refusal: u32,
     pub length: u32,

@@ -19,14 +19,14 @@ pub(crate) fn end_of(at: usize, width: usize, count: usize) -> usize
 }
 
 // A value that was read, unless the file ends before it.
-#[derive(Drop)]
+#[derive(Clone, Copy)]
 enum Reading {
     Value(usize),
     Ended,
 }
 
 // A section: the count of its items and the offset after it, or its refusal.
-#[derive(Drop)]
+#[derive(Clone, Copy)]
 pub(crate) enum Section {
     Whole(usize, usize),
     Refused(u32),

@@ -7,6 +7,8 @@
 //   times that replace those of the first arrivals;
 //   one change of the file: the offset of a number in it, the width of this number in octets, and its new value;
 //   the number of octets that are taken of the file, with zeros after its end; if the part is empty, the whole file.
+#![tactic(auto)]
+
 use cases::MAX_ARRIVALS;
 use cases::lists::{fill_32, fill_64, first_16, first_32, first_64};
 use cases::text::{number, part};

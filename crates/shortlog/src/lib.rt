@@ -1,5 +1,7 @@
 // Text logs of short sequence numbers: each line has only the lowest 8 or 10 bits of its number. The full numbers are found, and the log
 // is imported as by crate `textlog`. Every public call is total.
+#![tactic(auto)]
+
 ghost use Rattle.std.specs.Prelude.{◌≡◌, ◌≤◌, max};
 ghost use Rattle.octets.specs.Memory.{over};
 ghost use Rattle.rfc4737.specs.Judge.{sent_most, numbers_of, times_of};

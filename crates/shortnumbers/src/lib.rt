@@ -1,4 +1,6 @@
 // Short sequence numbers of 8 and of 10 bits: their full numbers, by the idea of RFC 4737, section 6. Every public call is total.
+#![tactic(auto)]
+
 ghost use Rattle.std.specs.Prelude.{◌≡◌, ◌+◌, ◌-◌, ◌/◌, ◌≤◌, max, length};
 ghost use Rattle.octets.specs.Memory.{over};
 ghost use Rattle.rfc4737.specs.Judge.{sent_most, arrivals_most, arrivals_from, judge, refusal_of_lists};

@@ -27,7 +27,7 @@ const MAX_OVER: usize = 40;
 const MAX_RUNS: usize = 140;
 
 // What the lines of a section are about.
-#[derive(Drop)]
+#[derive(Clone, Copy)]
 pub(crate) enum Kind {
     Extent,
     Degree,

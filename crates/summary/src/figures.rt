@@ -11,7 +11,7 @@ use rfc4737::Measure;
 use sample::Layout;
 
 // The figures of a sample that do not depend on a share.
-#[derive(Drop)]
+#[derive(Clone, Copy)]
 pub(crate) struct Figures {
     // K.
     pub sent: u32,
@@ -31,7 +31,7 @@ pub(crate) struct Figures {
 }
 
 // The least sizes for a share. The time is in microseconds.
-#[derive(Drop)]
+#[derive(Clone, Copy)]
 pub(crate) struct Sizes {
     pub time: u64,
     pub packets: u64,

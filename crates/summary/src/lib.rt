@@ -1,5 +1,7 @@
 // The summary of a sample, as text and as JSON: its counts, the least buffers of a receiver that restores order, and its ratios.
 // `write_all` adds the other figures of the whole sample.
+#![tactic(auto)]
+
 ghost use Rattle.std.specs.Prelude.{◌≤◌, length};
 ghost use Rattle.sample.specs.Decode.{decode};
 ghost use Rattle.sample.specs.Format.{label_most};

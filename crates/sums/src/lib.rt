@@ -1,6 +1,8 @@
 // Sums of values that stand at numbers, by a Fenwick tree in the caller's buffer. `tree[i]` holds the sum of the values at the
 // numbers above `rest(i)` and up to i. Here `rest(i)` is i with its lowest set bit cleared; `tree[0]` is not used. A tree of zeros has
 // no values. Sums wrap at 2^32. Cost of both calls: O(log N), where N is the length of the tree.
+#![tactic(auto)]
+
 ghost use Rattle.std.specs.Prelude.{◌≡◌, ◌≤◌};
 ghost use Rattle.sums.specs.Tree.{rest, Added, sum_to, ExactSum};
 

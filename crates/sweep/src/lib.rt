@@ -1,5 +1,7 @@
 // The second engine: one pass over the arrivals of a checked sample, with a table by packet number. It fills the caller's lists with the
 // flag, position, extent and late time of every record. Cost: O(A + K).
+#![tactic(auto)]
+
 ghost use Rattle.std.specs.Prelude.{◌≡◌};
 ghost use Rattle.sample.specs.Decode.{decode};
 ghost use Rattle.sweep.specs.Calls.{lent_short, lent, SweptTo, EnginesAgree, ReportAgrees, SweepMoved, RowsAgree};
@@ -14,7 +16,7 @@ use table::{PACKET_TABLE_LEN, clear};
 
 // The figures of a record: the number of its answer's case, its position, its extent, and the amount of its late time. Figures that it
 // lacks are 0.
-#[derive(Drop)]
+#[derive(Clone, Copy)]
 pub struct Figures {
     pub flag: u8,
     pub position: u32,

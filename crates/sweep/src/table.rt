@@ -13,7 +13,7 @@ pub(crate) const PACKET_TABLE_LEN: usize = SENT_MOST as usize;
 pub(crate) const ARRIVED: u16 = ARRIVALS_MOST as u16 + 1;
 
 // The state after the arrivals so far: the number of first arrivals, and NextExp.
-#[derive(Drop)]
+#[derive(Clone, Copy)]
 pub(crate) struct State {
     pub count: u32,
     pub next: u32,

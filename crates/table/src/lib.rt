@@ -1,4 +1,6 @@
 // Every record of a sample with named fields, as CSV or as JSON.
+#![tactic(auto)]
+
 ghost use Rattle.std.specs.Prelude.{◌≡◌, true, false, ◌≤◌, length};
 ghost use Rattle.sample.specs.Decode.{decode};
 ghost use Rattle.table.specs.Text.{part_text, part_octets, PartTo, PartsJoin};

@@ -2,6 +2,8 @@
 // measure (1 packets, 2 octets, any other number time), the size of a buffer, a share as part and whole, and how many places the list of
 // rows has, 64 at most. A line is written for each case: each call's refusal and answer, and the list of rows, which holds sevens before
 // the call.
+#![tactic(auto)]
+
 use cases::fields::{field, number_in, number_in_32};
 use cases::lists::first_8;
 use cases::print::{write_64, write_number, write_word};

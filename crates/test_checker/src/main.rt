@@ -3,6 +3,8 @@
 // the listing from which octets are taken out, how many, and the octets that stand there instead. A line is written for each case. The
 // example's sample has no label. In its file K stands at offset 2, A at 14, the time of record 4 at 56, and the number of record 5, which
 // comes at time 70, at 64.
+#![tactic(auto)]
+
 mod changes;
 
 use cases::fields::{field, number_in_16};

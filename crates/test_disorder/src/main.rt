@@ -1,5 +1,7 @@
 // Runs the cases of the total of disorder, which stand on standard input: P1 to P11 and others. A line of the input has the case's name and
 // the text of its sample (crate `sample_text`). A line is written for each case: the refusal and the total.
+#![tactic(auto)]
+
 use cases::fields::field;
 use cases::lists::first_8;
 use cases::print::{write_number, write_word};

@@ -2,6 +2,8 @@
 // arrivals, at most 6; the case's name; K; the lists of numbers, times, lengths, more-fragments flags and offsets; and, for more numbers
 // than the line lists, their count: those that are not listed are 6. A line is written for each case, with what both lists hold after it.
 // Before a call they are filled with 9.
+#![tactic(auto)]
+
 use cases::TOO_MANY;
 use cases::fields::{field, number_in_32};
 use cases::lists::{

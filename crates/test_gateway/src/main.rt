@@ -1,5 +1,7 @@
 // Feeds a list of arrivals to three receivers: one lent by reference, one passed by value, and one stepped in place. For each
 // arrival and each receiver it writes what is said of the arrival and what the receiver then holds.
+#![tactic(auto)]
+
 ghost use Rattle.std.specs.Prelude.{◌≡◌};
 ghost use Rattle.receiver.specs.Step.{step_of};
 
@@ -52,7 +54,7 @@ fn write_fed(way: &[u8], s: StepAnswer) {
 }
 
 // The three receivers.
-#[derive(Drop)]
+#[derive(Clone, Copy)]
 struct Three {
     lent: Receiver,
     value: Receiver,

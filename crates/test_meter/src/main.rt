@@ -9,6 +9,8 @@
 //   kept: the name of the case; how many jumps the streams keep is written;
 //   case: the name of the case, and stream, number and time of one arrival more, after which the meter is what it was before;
 //   start: the name of the case, and a stream and for how many packets it is started afresh, after which the meter is what it was before.
+#![tactic(auto)]
+
 mod run;
 mod say;
 

@@ -7,6 +7,8 @@
 //   from: the number of records before the two whose rows are written;
 //   steps: the least buffer size, the shift, and how many counts are written.
 // For `all` each call's refusal is written, 0 for none, and its answer; for `listing` the listing.
+#![tactic(auto)]
+
 mod figures;
 mod listings;
 

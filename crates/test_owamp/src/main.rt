@@ -7,6 +7,8 @@
 //   and the sequence number of arrival 4,096;
 //   write: the numbers and the times of a sample's arrivals, how many octets of its file are read, and the length of the output;
 //   all: nothing more; as many arrivals as a sample may have are written, and read again.
+#![tactic(auto)]
+
 mod few;
 mod lists;
 mod many;

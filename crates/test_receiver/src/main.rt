@@ -6,6 +6,8 @@
 //   set: NextExp, how many jumps are kept, and the greatest time that the receiver is to have;
 //   case: the name of the case, and number and time of one arrival more, after which the receiver is what it was before;
 //   made: the name of the case, K of a fresh receiver, and K of the one that it must be the same as.
+#![tactic(auto)]
+
 use cases::fields::{field, first_octet, number_in, number_in_32};
 use cases::print::{write_either, write_number, write_word};
 use cases::text::{count, input, part};

@@ -7,6 +7,8 @@
 //   lists: the numbers of label octets, sizes, numbers and times that a file is written from;
 //   octet: the numbers of label octets and sizes, the offset of one octet in the label, and that octet;
 //   small: the number of sizes, the numbers, the times, and the length of the output.
+#![tactic(auto)]
+
 mod build;
 mod files;
 mod memory;

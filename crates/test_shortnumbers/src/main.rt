@@ -6,6 +6,8 @@
 //   many: how many short numbers there are (of 8 bits each 256, with no times; of 10 bits each 0, all at time 0);
 //   step: the short numbers that arrive at 5,000 before, and the one that is stepped, with its time;
 //   next: what NextExp is set to in a fresh state, and the short number that is stepped, with its time.
+#![tactic(auto)]
+
 mod lists;
 mod print;
 mod steps;

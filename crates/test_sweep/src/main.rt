@@ -4,6 +4,8 @@
 // the input begins with `list`, if the lists are written, or `sums`, if only their sums are; then
 //   the case's name, the text of its sample (crate `sample_text`), and the value that fills the table;
 //   the lengths of the table and of the lists of flags, positions, extents and late times.
+#![tactic(auto)]
+
 mod lists;
 
 ghost use Rattle.std.specs.Prelude.{◌≤◌};

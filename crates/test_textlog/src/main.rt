@@ -7,6 +7,8 @@
 //   where the log ends;
 //   write: K, the numbers, the times, and the length of the output;
 //   many: how many arrivals are written, and read again.
+#![tactic(auto)]
+
 mod fields;
 mod lists;
 mod long;

@@ -1,6 +1,8 @@
 // Runs the cases of two samples, which stand on standard input. They try ratios that are greater, equal and undefined, empty labels, and
 // each refusal of either sample. A line of the input has the case's name and the texts of the two samples (crate `sample_text`). A line is
 // written for each case: the refusal, which sample is the worse one, and its label.
+#![tactic(auto)]
+
 use cases::fields::field;
 use cases::lists::first_8;
 use cases::print::{write_number, write_word};

@@ -1,9 +1,11 @@
 // Finds line n of a text. The public calls are total.
+#![tactic(auto)]
+
 ghost use Rattle.std.specs.Prelude.{◌≡◌, ◌+◌, ◌≤◌, length, drop};
 ghost use Rattle.text_lines.specs.Line.{line_of, line_start, line_part, LineThere, FirstLineEnds};
 
 // A part of a text: the offset of its first octet, and the number of its octets.
-#[derive(Drop)]
+#[derive(Clone, Copy)]
 pub struct LinePart {
     pub start: usize,
     pub length: usize,

@@ -1,4 +1,6 @@
 // Text logs from suppliers: importing them into the caller's lists, reading one line, and writing. Every public call is total.
+#![tactic(auto)]
+
 ghost use Rattle.std.specs.Prelude.{◌≡◌};
 ghost use Rattle.octets.specs.Memory.{over};
 ghost use Rattle.rfc4737.specs.Judge.{numbers_of, times_of};
@@ -20,8 +22,8 @@ use sample::WriteAnswer;
 use writing::{log_length, put_lines};
 
 // The result of an import: the refusal (0 for none), and the number of arrivals, 0 with a refusal.
+#[derive(Clone, Copy)]
 #[repr(C)]
-#[derive(Drop)]
 pub struct LogImport {
     pub refusal: u32,
     pub arrivals: u32,
@@ -29,7 +31,7 @@ pub struct LogImport {
 
 // The result of reading a line: the refusal (0, or 14 for a malformed line), the sequence number and the time in microseconds. With a
 // refusal both are 0.
-#[derive(Drop)]
+#[derive(Clone, Copy)]
 pub struct LogLine {
     pub refusal: u32,
     pub number: u32,
@@ -38,7 +40,7 @@ pub struct LogLine {
 
 // The judgement of a log: the refusal (0 for none), the number of arrivals (0 with a refusal), and the refused line. Lines are numbered
 // from 1; 0 is no line.
-#[derive(Drop)]
+#[derive(Clone, Copy)]
 pub struct LogJudgement {
     pub refusal: u32,
     pub arrivals: u32,

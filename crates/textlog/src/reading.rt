@@ -7,7 +7,7 @@ use decimal::reading::number_at;
 
 // The result of reading a line. `Read` has the sequence number, the time in microseconds and the offset after the line; the line has the
 // form, and its values fit their fields.
-#[derive(Drop)]
+#[derive(Clone, Copy)]
 pub enum Reading {
     Read(u32, u64, usize),
     Malformed,

@@ -1,5 +1,6 @@
 // Finds which of two samples has the greater reordered ratio, and its label as a part of that sample. Ratios are compared exactly, as
 // fractions of whole numbers.
+#![tactic(auto)]
 
 ghost use Rattle.std.specs.Prelude.{◌≡◌};
 ghost use Rattle.sample.specs.Decode.{decode};
@@ -10,7 +11,7 @@ use rfc4737::Counts;
 use sample::label;
 
 // One of two samples, or `Refused` if one of them is refused.
-#[derive(Drop)]
+#[derive(Clone, Copy)]
 pub enum Link {
     Refused,
     First,
@@ -18,14 +19,14 @@ pub enum Link {
 }
 
 // The comparison of two samples: the refusal (0 for none), and the worse sample.
-#[derive(Drop)]
+#[derive(Clone, Copy)]
 pub struct Comparison {
     pub refusal: u32,
     pub link: Link,
 }
 
 // A ratio of whole numbers.
-#[derive(Drop)]
+#[derive(Clone, Copy)]
 pub struct Fraction {
     pub part: u32,
     pub whole: u32,

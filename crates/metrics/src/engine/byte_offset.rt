@@ -20,7 +20,7 @@ use sample::Layout;
 pub(crate) const PAIR_TREE_LEN: usize = 2049;
 
 // How many of the first arrivals are in the tree, and the sum of their payload sizes.
-#[derive(Drop)]
+#[derive(Clone, Copy)]
 pub(crate) struct Totals {
     pub filled: u32,
     pub total: u32,
@@ -54,7 +54,7 @@ fn fill_tree(
 }
 
 // The byte offset of a packet, and the totals after it was computed.
-#[derive(Drop)]
+#[derive(Clone, Copy)]
 pub(crate) struct TreeOffset {
     pub offset: u32,
     pub totals: Totals,
@@ -84,7 +84,7 @@ pub(crate) fn offset_by_tree(
 }
 
 // The figures that only a reordered packet has, and the totals after its byte offset was computed.
-#[derive(Drop)]
+#[derive(Clone, Copy)]
 pub(crate) struct LateFigures {
     pub offset: u32,
     pub largest: u32,

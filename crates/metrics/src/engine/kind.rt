@@ -18,7 +18,7 @@ use sample::Layout;
 
 // The class of an arrival: a duplicate, with the record of the first arrival; in order, with the jump size; or reordered, with the
 // position of its discontinuity.
-#[derive(Drop)]
+#[derive(Clone, Copy)]
 pub(crate) enum Class {
     Duplicate(u32),
     InOrder(u32),

@@ -17,7 +17,7 @@ pub(crate) const MAX_FIRST_ARRIVALS: usize = SENT_MOST as usize;
 pub(crate) const PACKET_TABLE_LEN: usize = SENT_MOST as usize + 1;
 
 // Of the arrivals noted: how many are first arrivals, and NextExp.
-#[derive(Drop)]
+#[derive(Clone, Copy)]
 pub(crate) struct State {
     pub count: u32,
     pub next: u32,

@@ -204,7 +204,7 @@ pub(crate) fn gap_of(file: &[u8], layout: Layout, asked: u32) -> RecordGap
 }
 
 // Of the records whose gaps are listed: how many are first arrivals, and the last discontinuity among their positions, 0 if there is none.
-#[derive(Drop)]
+#[derive(Clone, Copy)]
 struct Listed {
     pub count: u32,
     pub last: u32,

@@ -24,14 +24,14 @@ use rfc4737::{Arrival, LateTime, Measure};
 use sample::Layout;
 
 // Of the arrivals so far: how many are first arrivals, and the greatest need of any.
-#[derive(Drop)]
+#[derive(Clone, Copy)]
 pub(crate) struct Needs {
     pub arrived: u32,
     pub greatest: u64,
 }
 
 // The need of a record, and the totals of the tree after it.
-#[derive(Drop)]
+#[derive(Clone, Copy)]
 struct Need {
     pub size: u64,
     pub totals: Totals,

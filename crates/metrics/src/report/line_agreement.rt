@@ -4,7 +4,7 @@ ghost use Rattle.metrics.specs.Agreement.{common};
 ghost use Rattle.metrics.specs.Private.Taken.{Agreed};
 
 // How many octets of a line agree with a text, from the start on, and whether all of them do.
-#[derive(Drop)]
+#[derive(Clone, Copy)]
 pub(crate) struct Part {
     pub octets: usize,
     pub whole: bool,

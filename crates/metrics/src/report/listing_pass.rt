@@ -15,7 +15,7 @@ use rfc4737::Counts;
 use sample::Layout;
 
 // Result of a pass: the offset after the last line, or the offset of the first difference; and the counts of the answers.
-#[derive(Drop)]
+#[derive(Clone, Copy)]
 struct PassResult {
     pub part: Part,
     pub counts: Counts,

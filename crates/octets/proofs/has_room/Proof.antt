@@ -16,11 +16,11 @@ same_test at n len h = go (leb at (len - n)) refl where
   go true e = e ∙ sym (le-leb (at + n) len (omega (arith, leb-true at (len - n) e)))
   go false e = e ∙ sym (lt-leb (at + n) len (omega (arith, leb-false at (len - n) e)))
 
-returns : tie.Need-returns
-returns c = same_test c.before.args.at c.before.args.n c.before.args.len c.if1.true
+returns : tie.Need-returns-then-n-len
+returns c = same_test c.before.args.at c.before.args.n c.before.args.len c.if-n-len.true
 
-returns-2 : tie.Need-returns-2
+returns-2 : tie.Need-returns-else-n-len
 returns-2 c = sym (lt-leb (c.before.args.at + c.before.args.n) c.before.args.len (omega arith))
 
-pub has-room-spec : {M : Type 1} → statement M
-has-room-spec = tie.close (tie.spec returns returns-2)
+pub has_room_spec : {M : Type 1} → statement M
+has_room_spec = tie.close (tie.spec returns returns-2)

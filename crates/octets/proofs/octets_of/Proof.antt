@@ -4,5 +4,5 @@ use native.Mathlib.Omega.{arith}
 use Rattle.octets.proofs.octets_of.Statement.{statement}
 use Rattle.octets.proofs.octets_of.Tie as tie
 
-pub octets-of-spec : {M : Type 1} → statement M
-octets-of-spec = tie.close (tie.spec (λ c. omega arith) (λ c. omega arith))
+pub octets_of_spec : {M : Type 1} → statement M
+octets_of_spec = tie.close (tie.spec (λ c. omega arith) (λ c. omega arith))

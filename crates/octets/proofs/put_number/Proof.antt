@@ -14,29 +14,29 @@ use Rattle.octets.proofs.RoundTrip.{read_back}
 use Rattle.octets.proofs.put_number.Statement.{statement}
 use Rattle.octets.proofs.put_number.Tie as tie
 
-write-number-requires : tie.Need-write-number-requires
-write-number-requires c κs = leb-true _ _ (sym c.before.before.has_room.ensures ∙ c.before.if1.true)
+write-number-requires : tie.Need-write_number-requires
+write-number-requires c κs = leb-true _ _ (sym c.before.before.has_room.ensures ∙ c.before.if-has_room.true)
 
-returns : tie.Need-returns
+returns : tie.Need-returns-then-has_room
 returns c =
     let at-if = c.before.before.before.before in
     let at-octets-of = at-if.before.before in
     let args = at-octets-of.before.before.args in
-    let xs = be_octets at-octets-of.octets-of.result args.v in
-    let h : args.at + length xs ≤ length args.out.now =
-    rw octets-length (leb-true _ _ (sym at-if.before.has_room.ensures ∙ at-if.if1.true)) in (
-      rw (← at-octets-of.octets-of.ensures) (c.before.before.write-number.ensures ∙ sym (put-room args.at xs args.out.now h)),
+    let xs = be_octets at-octets-of.octets_of-n.result args.v in
+    let h : args.at + length xs ≤ length args.out-1.now =
+    rw octets-length (leb-true _ _ (sym at-if.before.has_room.ensures ∙ at-if.if-has_room.true)) in (
+      rw (← at-octets-of.octets_of-n.ensures) (c.before.before.write_number.ensures ∙ sym (put-room args.at xs args.out-1.now h)),
       read_back,
     )
 
-returns-2 : tie.Need-returns-2
+returns-2 : tie.Need-returns-else-has_room
 unfolding put
 returns-2 c =
     let at-octets-of = c.before.before in
-    (rw (← at-octets-of.octets-of.ensures, octets-length, ← c.before.has_room.ensures, c.if1.false), read_back)
+    (rw (← at-octets-of.octets_of-n.ensures, octets-length, ← c.before.has_room.ensures, c.if-has_room.false), read_back)
 
-pub put-number-spec : {M : Type 1} → statement M
-put-number-spec =
+pub put_number_spec : {M : Type 1} → statement M
+put_number_spec =
     tie.close
     (tie.spec
     (λ c κs. search rules) (λ c κs. search rules)

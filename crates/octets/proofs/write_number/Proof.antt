@@ -14,14 +14,14 @@ use Rattle.octets.proofs.write_number.Statement.{statement}
 use Rattle.octets.proofs.write_number.Tie as tie
 
 -- out₀, rest₀ and i₀ are the values where the loop begins, out, rest and i those at its head
-abbrev invariant-loop : tie.invariant-loop
-invariant-loop out₀ at n v rest₀ i₀ out rest i =
+abbrev invariant-loop-i : tie.invariant-loop-i
+invariant-loop-i out₀ at n v rest₀ i₀ out rest i =
     (i ≤ n) × (length out ≡ length out₀) × (splice at (be_octets i rest) out ≡ splice at (be_octets n v) out₀)
 
-abbrev decreases-loop : tie.decreases-loop
-decreases-loop out₀ at n v rest₀ i₀ out rest i = i
+abbrev decreases-loop-i : tie.decreases-loop-i
+decreases-loop-i out₀ at n v rest₀ i₀ out rest i = i
 
-loop-holds : tie.Need-loop-init invariant-loop decreases-loop
+loop-holds : tie.Need-loop-i-init invariant-loop-i decreases-loop-i
 loop-holds c = (omega arith, refl, refl)
 
 -- the last of j + 1 octets stored before the others are written: all of them written
@@ -29,28 +29,28 @@ turn : (at j v : ℕ) (old : List ℕ) → at + j < length old
     → splice at (be_octets j (v / 256)) (set old (at + j) (v % 256)) ≡ splice at (be_octets (j + 1) v) old
 turn at j v old h = rw (splice-last at j (be_octets j (v / 256)) old (v % 256) (octets-length j (v / 256)) h, octets-snoc)
 
-loop-again : tie.Need-loop-preserved invariant-loop decreases-loop
+loop-again : tie.Need-loop-i-preserved invariant-loop-i decreases-loop-i
 loop-again c =
     let at-loop = c.before in
-    let j = at-loop.loop.i - 1 in
-    let e : j + 1 ≡ at-loop.loop.i = omega arith in (
+    let j = at-loop.loop-i.i - 1 in
+    let e : j + 1 ≡ at-loop.loop-i.i = omega arith in (
       omega arith,
       simp length-set (omega arith),
-      turn at-loop.before.args.at j at-loop.loop.rest at-loop.loop.out (omega arith) ∙ rw e at-loop.loop.invariant.2,
+      turn at-loop.before.args.at j at-loop.loop-i.rest at-loop.loop-i.out (omega arith) ∙ rw e at-loop.loop-i.invariant.2,
     )
 
-returns : tie.Need-returns invariant-loop decreases-loop
+returns : tie.Need-returns invariant-loop-i decreases-loop-i
 unfolding be_octets
 returns c =
-    let e : c.before.loop.i ≡ 0 = omega arith in
-    sym (splice-nil c.before.before.args.at c.before.loop.out)
-    ∙ rw e at c.before.loop.invariant.2
+    let e : c.before.loop-i.i ≡ 0 = omega arith in
+    sym (splice-nil c.before.before.args.at c.before.loop-i.out)
+    ∙ rw e at c.before.loop-i.invariant.2
 
-pub write-number-spec : {M : Type 1} → statement M
-write-number-spec =
+pub write_number_spec : {M : Type 1} → statement M
+write_number_spec =
     tie.close
     (tie.spec
-    invariant-loop decreases-loop loop-holds
+    invariant-loop-i decreases-loop-i loop-holds
     (λ c. omega arith) (λ c. omega arith) (λ c. omega arith) (λ c. omega arith) (λ c. omega arith)
     loop-again
     (λ c. omega arith) returns)

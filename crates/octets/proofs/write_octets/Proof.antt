@@ -11,34 +11,34 @@ use Rattle.octets.proofs.write_octets.Statement.{statement}
 use Rattle.octets.proofs.write_octets.Tie as tie
 
 -- out₀ and i₀ are the values where the loop begins, out and i those at its head
-abbrev invariant-loop : tie.invariant-loop
-invariant-loop out₀ at s i₀ out i = (i ≤ length s) × (length out ≡ length out₀) × (out ≡ splice at (take i s) out₀)
+abbrev invariant-loop-i : tie.invariant-loop-i
+invariant-loop-i out₀ at s i₀ out i = (i ≤ length s) × (length out ≡ length out₀) × (out ≡ splice at (take i s) out₀)
 
-abbrev decreases-loop : tie.decreases-loop
-decreases-loop out₀ at s i₀ out i = length s - i
+abbrev decreases-loop-i : tie.decreases-loop-i
+decreases-loop-i out₀ at s i₀ out i = length s - i
 
-loop-holds : tie.Need-loop-init invariant-loop decreases-loop
+loop-holds : tie.Need-loop-i-init invariant-loop-i decreases-loop-i
 loop-holds c = (omega arith, refl, copy_start c.args.at c.args.s.now c.args.out.now)
 
-loop-again : tie.Need-loop-preserved invariant-loop decreases-loop
+loop-again : tie.Need-loop-i-preserved invariant-loop-i decreases-loop-i
 loop-again c =
     let at-loop = c.before.before in
     let args = at-loop.before.args in (
       omega arith,
       simp length-set (omega arith),
-      copy-next args.at args.s.now args.out.now at-loop.loop.i 0 (omega arith) (omega arith) at-loop.loop.invariant.2 refl,
+      copy-next args.at args.s.now args.out.now at-loop.loop-i.i 0 (omega arith) (omega arith) at-loop.loop-i.invariant.2 refl,
     )
 
-returns : tie.Need-returns invariant-loop decreases-loop
+returns : tie.Need-returns invariant-loop-i decreases-loop-i
 returns c =
     let args = c.before.before.args in
-    copy_done args.at args.s.now args.out.now c.before.loop.i (omega arith) c.before.loop.invariant.2
+    copy_done args.at args.s.now args.out.now c.before.loop-i.i (omega arith) c.before.loop-i.invariant.2
 
-pub write-octets-spec : {M : Type 1} → statement M
-write-octets-spec =
+pub write_octets_spec : {M : Type 1} → statement M
+write_octets_spec =
     tie.close
     (tie.spec
-    invariant-loop decreases-loop loop-holds
+    invariant-loop-i decreases-loop-i loop-holds
     (λ c. omega arith) (λ c. omega arith) (λ c. omega arith) (λ c. omega arith) (λ c. omega arith)
     loop-again
     (λ c. omega arith) returns)

@@ -8,5 +8,5 @@ returns : tie.Need-returns
 unfolding rest
 returns c = search rules
 
-pub rest-spec : {M : Type 1} → statement M
-rest-spec = tie.close (tie.spec (λ c. search rules) returns)
+pub rest_spec : {M : Type 1} → statement M
+rest_spec = tie.close (tie.spec (λ c. search rules) returns)

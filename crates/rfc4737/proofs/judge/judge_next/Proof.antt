@@ -30,14 +30,14 @@ accepted : (k reference number time : ℕ) → reference ≤ time → outside 1 
 unfolding judge_one too_early
 accepted k reference number time h e = simp (e, le-ltb back_most (reference - time) (omega arith), later reference time h)
 
-returns : tie.Need-returns
+returns : tie.Need-returns-then-not-outside
 returns c =
     let a = c.before.before.before.args in
-    accepted a.k a.reference a.number a.time c.before.before.if1.true
-    (sym c.before.outside.ensures ∙ not-true _ c.if2.true)
+    accepted a.k a.reference a.number a.time c.before.before.if-reference-time.true
+    (sym c.before.outside.ensures ∙ not-true _ c.if-not-outside.true)
 
-returns-2 : tie.Need-returns-2
-returns-2 c = simp (c.before.judge-one.ensures, c.next-reference.ensures)
+returns-2 : tie.Need-returns
+returns-2 c = simp (c.before.judge_one.ensures, c.next_reference.ensures)
 
-pub judge-next-spec : {M : Type 1} → statement M
-judge-next-spec = tie.close (tie.spec (λ c κs. search rules) returns (λ c κs. search rules) (λ c κs. search rules) returns-2)
+pub judge_next_spec : {M : Type 1} → statement M
+judge_next_spec = tie.close (tie.spec (λ c κs. search rules) returns (λ c κs. search rules) (λ c κs. search rules) returns-2)

@@ -5,13 +5,13 @@ use Rattle.rfc4737.specs.Times.{elapsed}
 use Rattle.rfc4737.proofs.time.elapsed.Statement.{statement}
 use Rattle.rfc4737.proofs.time.elapsed.Tie as tie
 
-returns : tie.Need-returns
+returns : tie.Need-returns-then-own-past
 unfolding elapsed
-returns c = simp (lt-ltb _ _ c.if1.true)
+returns c = simp (lt-ltb _ _ c.if-own-past.true)
 
-returns-2 : tie.Need-returns-2
+returns-2 : tie.Need-returns
 unfolding elapsed
-returns-2 c = simp (le-ltb _ _ c.if1.false)
+returns-2 c = simp (le-ltb _ _ c.if-own-past.false)
 
-pub elapsed-spec : {M : Type 1} → statement M
-elapsed-spec = tie.close (tie.spec (λ c. search rules) returns returns-2)
+pub elapsed_spec : {M : Type 1} → statement M
+elapsed_spec = tie.close (tie.spec (λ c. search rules) returns returns-2)

@@ -7,13 +7,13 @@ use Rattle.rfc4737.specs.Times.{back_most, too_early}
 use Rattle.rfc4737.proofs.time.too_early.Statement.{statement}
 use Rattle.rfc4737.proofs.time.too_early.Tie as tie
 
-returns : tie.Need-returns
+returns : tie.Need-returns-then-reference-time
 unfolding too_early
 returns c = sym (le-ltb back_most (c.before.args.reference - c.before.args.time) (omega arith))
 
-returns-2 : tie.Need-returns-2
+returns-2 : tie.Need-returns
 unfolding too_early
 returns-2 c = refl
 
-pub too-early-spec : {M : Type 1} → statement M
-too-early-spec = tie.close (tie.spec returns returns-2)
+pub too_early_spec : {M : Type 1} → statement M
+too_early_spec = tie.close (tie.spec returns returns-2)
