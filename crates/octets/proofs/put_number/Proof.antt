@@ -23,9 +23,9 @@ returns c =
     let at-octets-of = at-if.before.before in
     let args = at-octets-of.before.before.args in
     let xs = be_octets at-octets-of.octets_of-n.result args.v in
-    let h : args.at + length xs ≤ length args.out-1.now =
+    let h : args.at + length xs ≤ length args.out.now =
     rw octets-length (leb-true _ _ (sym at-if.before.has_room.ensures ∙ at-if.if-has_room.true)) in (
-      rw (← at-octets-of.octets_of-n.ensures) (c.before.before.write_number.ensures ∙ sym (put-room args.at xs args.out-1.now h)),
+      rw (← at-octets-of.octets_of-n.ensures) (c.before.before.write_number.ensures ∙ sym (put-room args.at xs args.out.now h)),
       read_back,
     )
 

@@ -34,7 +34,7 @@ returns : tie.Need-returns-then-not-outside
 returns c =
     let a = c.before.before.before.args in
     accepted a.k a.reference a.number a.time c.before.before.if-reference-time.true
-    (sym c.before.outside.ensures ∙ not-true _ c.if-not-outside.true)
+    (sym c.before.outside.ensures ∙ c.if-not-outside.true)
 
 returns-2 : tie.Need-returns
 returns-2 c = simp (c.before.judge_one.ensures, c.next_reference.ensures)
