@@ -110,7 +110,7 @@ module _ (κs : Lfts 2) where
   fit (w ∷ ws) a are = (are.0.1, fit ws a.1 are.1)
 
   in_a_row : (ws : List Width) (a : Denots (rows ws))
-      → flat (rows ws) (valss (rows ws) (spells ws) a) ≡ row ws (taken ws a) (vptr (figures ws a).ptr.0 (figures ws a).ptr.1)
+      → flat (rows ws) (valss (rows ws) (spells ws) a) ≡ row ws (taken ws a) (vptr (figures ws a).ref_ptr.0 (figures ws a).ref_ptr.1)
   in_a_row [] a = refl
   in_a_row (w ∷ ws) a = ap (λ (vs : List Val). vint w a.0 ∷ vs) (in_a_row ws a.1)
 
@@ -292,22 +292,22 @@ module _ {M : Type 1} {𝓤 : Ura M} (𝓛 : Logic 𝓤) (at_mem : Memory → SP
     -- the two calls, in turn
     walk : ent 𝓤 (sep 𝓤 (mean 𝓛 (Lent 𝓛 R S.the_row ws Says (κ, tt) (q, tt) (x, given (κ, tt) ws ns)))
         (sep 𝓤 (A.lft κ' q') (sem 𝓛 ((MutRef (named 1) κ' Figures).own_val y (mut_vals y)))))
-        (WpFn 𝓤 H 𝓣.C 𝓣.Λ f (vptr x.ptr.0 x.ptr.1 ∷ row ws ns (vptr y.ptr.0 y.ptr.1)) Post)
+        (WpFn 𝓤 H 𝓣.C 𝓣.Λ f (vptr x.ref_ptr.0 x.ref_ptr.1 ∷ row ws ns (vptr y.ref_ptr.0 y.ref_ptr.1)) Post)
     walk =
         let fm = fm_of 𝓤 H 𝓛.laws 𝓣 in
         qed 𝓛 (Lent 𝓛 R S.the_row ws Says (κ, tt) (q, tt) (x, given (κ, tt) ws ns) ∷ ‵ (flft κ' q')
         ∷ ‵ ((MutRef (named 1) κ' Figures).own_val y (mut_vals y)) ∷ []) ∵
-        enter ! 𝓣.C 𝓣.Λ f (vptr x.ptr.0 x.ptr.1 ∷ row ws ns (vptr y.ptr.0 y.ptr.1)) _ $
+        enter ! 𝓣.C 𝓣.Λ f (vptr x.ref_ptr.0 x.ref_ptr.1 ∷ row ws ns (vptr y.ref_ptr.0 y.ref_ptr.1)) _ $
         alloc1 ! (λ l₀. alloc1 ! (λ l₁. allocs-all ! ws (λ bs. alloc1 ! (λ l₄. alloc1 ! (λ l₅. alloc1 ! (λ l₆. alloc1 ! (λ l₇.
         alloc0 ! $ params1 ! $ pass1 ! (init ! 9 refl (tt, tt)) $ move ! (8 ∷ []) $
-        passes-before ! ws bs ns (fit κs ws a.1 are) _ (vptr y.ptr.0 y.ptr.1) $ pass1 ! (init ! 7 refl (tt, tt)) $ pass0 ! $
+        passes-before ! ws bs ns (fit κs ws a.1 are) _ (vptr y.ref_ptr.0 y.ref_ptr.1) $ pass1 ! (init ! 7 refl (tt, tt)) $ pass0 ! $
         -- the context: the numbers; then each other local, with what frees it: the references that are passed on at 1 and 3, the outcome
         -- at 5, the figures' reference at 7, the struct's at 9, the refusal at 11; what is lent of the struct at 13; the token and the
         -- reference of the figures
         assigns ! (addr ! (from ! (hop ! (look ! 9 refl) (stop !)))) (found ! (after 𝓤 H ws bs _ 2)) (init ! 3 refl (tt, tt)) $
         move ! (13 ∷ []) $ lends ! fm R S.the_row ws Says (κ, tt) (q, tt) (x, given (κ, tt) ws ns)
         (step_gives (κ, tt) (q, tt) (x, given (κ, tt) ws ns) (given-known (κ, tt) ws ns (fit κs ws a.1 are)))
-        (same-values (ap (λ (ms : Numbers ws). vptr x.ptr.0 x.ptr.1 ∷ values ws ms) (taken-given (κ, tt) ws ns))
+        (same-values (ap (λ (ms : Numbers ws). vptr x.ref_ptr.0 x.ref_ptr.1 ∷ values ws ms) (taken-given (κ, tt) ws ns))
         (and_then ! (load ! (found ! (after 𝓤 H ws bs _ 2)) (look ! 4 refl))
         (reads_all ! ws bs ns 2 (further 𝓤 H _ _ 1 ws bs (further 𝓤 H _ _ 0 ws bs (first 𝓤 H ws bs _)))))) (λ v₁ s h e₁ is₁.
         -- the context: the struct's borrow after the call; the numbers; then the other locals, from 2 on
@@ -345,7 +345,7 @@ module _ {M : Type 1} {𝓤 : Ura M} (𝓛 : Logic 𝓤) (at_mem : Memory → SP
         move ! (4 ∷ 1 ∷ []) $ join ! $ keep ! (0 ∷ 2 ∷ 1 ∷ []) $
         by ! (subst (λ (vs : List Val). ent 𝓤 (sep 𝓤 (mean 𝓛 (Lent 𝓛 R S.the_row ws Says (κ, tt) (q, tt) (x, given (κ, tt) ws ns)))
         (sep 𝓤 (A.lft κ' q') (sem 𝓛 ((MutRef (named 1) κ' Figures).own_val y (mut_vals y)))))
-        (WpFn 𝓤 H 𝓣.C 𝓣.Λ f (vptr x.ptr.0 x.ptr.1 ∷ vs) Post))
+        (WpFn 𝓤 H 𝓣.C 𝓣.Λ f (vptr x.ref_ptr.0 x.ref_ptr.1 ∷ vs) Post))
         (sym (in_a_row κs ws a.1)) walk)
 
   pub meets : Meets 𝓛 T.signature (WpFn 𝓤 H 𝓣.C 𝓣.Λ f) (closing 𝓛 T c)

@@ -75,7 +75,7 @@ module _ {M : Type 1} {𝓤 : Ura M} (𝓛 : Logic 𝓤) (𝓣 : Tables 𝓤 �
       let ns : Numbers ws = taken κs ws a.1 in
       qed 𝓛 (Lent 𝓛 (row R) S ws Q κs qs a ∷ []) ∵ split ! $ move ! (1 ∷ []) $ fsplit3 ! $ drop ! $
       -- the context: what observes the struct; the borrow; the token
-      enter ! 𝓣.C 𝓣.Λ (lent R P S ws τ #inner #state #said) (vptr x.ptr.0 x.ptr.1 ∷ values ws ns) _ $
+      enter ! 𝓣.C 𝓣.Λ (lent R P S ws τ #inner #state #said) (vptr x.ref_ptr.0 x.ref_ptr.1 ∷ values ws ns) _ $
       alloc1 ! (λ l₀. alloc1 ! (λ l₁. allocs-all ! ws (λ bs. alloc1 ! (λ lₚ. alloc1 ! (λ lₕ. alloc0 ! $ params1 ! $
       pass1 ! (init ! 5 refl (tt, tt)) $ move ! (4 ∷ []) $ passes-all ! ws bs ns (fit κs ws a.1 are) _ $
       move ! (9 ∷ 10 ∷ 11 ∷ []) $ opens-struct ! tt R L x.now x.ref_ptr.0 x.ref_ptr.1 (λ was.
@@ -97,7 +97,7 @@ module _ {M : Type 1} {𝓤 : Ura M} (𝓛 : Logic 𝓤) (𝓣 : Tables 𝓤 �
       assigns ! (of_opd ! (load ! (found ! (after 𝓤 H ws bs _ 1)) (look ! 5 refl))) (from ! (hop ! (look ! 9 refl) (stop !)))
       (store_raw ! 1 refl (typed h v₂ is₂)) $
       owned ! (row R) (Is (row R)) (LL.makes R pure 𝓛) h _ is₂ $ move ! (2 ∷ 0 ∷ 3 ∷ 4 ∷ 5 ∷ []) $
-      closes ! tt (row R) h (v₂ ∷ []) x.ptr.0 x.ptr.1 $
+      closes ! tt (row R) h (v₂ ∷ []) x.ref_ptr.0 x.ref_ptr.1 $
       -- the context: what observes the struct; the borrow; the token; the numbers; then the other locals, the struct at 4 to the
       -- result at 10. What the answer says
       gives ! fm S (λ s. s ≡ said p) (v₁ ∷ []) (said-gives p v₁ is₁)

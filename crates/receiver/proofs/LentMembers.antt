@@ -211,8 +211,8 @@ module _ {M : Type 1} {𝓤 : Ura M} (𝓛 : Logic 𝓤) (𝓣 : Tables 𝓤 �
       let fm = fm_of 𝓤 H 𝓛.laws 𝓣 in
       let ns : N.Numbers ws = N.taken κs ws r.1 in
       let fits : N.Fit ws ns = N.fit κs ws r.1 are in
-      let b : ℕ = r.0.ptr.0 in
-      let o : ℕ = r.0.ptr.1 in
+      let b : ℕ = r.0.ref_ptr.0 in
+      let o : ℕ = r.0.ref_ptr.1 in
       let γ : GName = r.0.name in
       let h : X.R.D = r.0.now in
       let ss : G.Numbers X.vs = X.numbers-in h in

@@ -64,7 +64,7 @@ module _ {M : Type 1} {𝓤 : Ura M} (𝓛 : Logic 𝓤) (R S : RattleType) (ws 
 
   -- the arguments, as machine values
   abbrev pub args : (κs : Lfts 1) → Args T.signature κs → List Val
-  args κs a = vptr a.0.ptr.0 a.0.ptr.1 ∷ values ws (taken κs ws a.1)
+  args κs a = vptr a.0.ref_ptr.0 a.0.ref_ptr.1 ∷ values ws (taken κs ws a.1)
 
   -- the token, and what says that the struct's last state is h
   abbrev Left : (κs : Lfts 1) → Shares 1 → Args T.signature κs → R.Denot → Item 𝓤
@@ -121,7 +121,7 @@ module _ {M : Type 1} {𝓤 : Ura M} (𝓛 : Logic 𝓤) (R S : RattleType) (ws 
           ∷ raw ((c κs a).requires g) ∷ []) ∵
           split ! $ split ! $ move ! (2 ∷ []) $ fsplit ! $ keep ! (2 ∷ 0 ∷ []) $
           by ! (subst (λ (vs : List Val). ent 𝓤 (mean 𝓛 (Lent κs qs a))
-          (WpFn 𝓤 H 𝓣.C 𝓣.Λ f (vptr a.0.ptr.0 a.0.ptr.1 ∷ vs) Post)) (sym (in_a_row κs ws a.1))
+          (WpFn 𝓤 H 𝓣.C 𝓣.Λ f (vptr a.0.ref_ptr.0 a.0.ref_ptr.1 ∷ vs) Post)) (sym (in_a_row κs ws a.1))
           (walk κs qs a are Post exits))
 
     pub meets : Walk 𝓣 f → Meets 𝓛 T.signature (WpFn 𝓤 H 𝓣.C 𝓣.Λ f) (closing 𝓛 T c)
@@ -143,7 +143,7 @@ module _ {M : Type 1} {𝓤 : Ura M} (𝓛 : Logic 𝓤) (R S : RattleType) (ws 
     lent_gives κs qs a are g asks told =
         let vss : Vals T.signature κs = (mut_vals a.0, valss (rows κs ws) (spells κs ws) a.1) in
         subst (λ (vs : List Val). ent 𝓤 (mean 𝓛 (Lent κs qs a))
-        (C k (vptr a.0.ptr.0 a.0.ptr.1 ∷ vs) (λ v. mean 𝓛 (Back κs qs a v)))) (in_a_row κs ws a.1)
+        (C k (vptr a.0.ref_ptr.0 a.0.ref_ptr.1 ∷ vs) (λ v. mean 𝓛 (Back κs qs a v)))) (in_a_row κs ws a.1)
         (via 𝓤 _
         (qed 𝓛 (Lent κs qs a ∷ []) ∵ split ! $ nothing ! $ move ! (1 ∷ 0 ∷ []) $ join ! $
         use0 𝓛 (‵ (owns (rows κs ws) a.1 vss.1)) (owned-all 𝓛 κs ws a.1 are) $ move ! (2 ∷ 0 ∷ []) $ fjoin ! $

@@ -11,52 +11,52 @@ use Rattle.decimal.proofs.count.Statement.{statement}
 use Rattle.decimal.proofs.count.Tie as tie
 
 -- rest₀ and cut₀ are rest and cut where the loop begins
-abbrev invariant-loop : tie.invariant-loop
-invariant-loop v rest₀ cut₀ rest cut = cut + length (decimal_of rest) ≡ length (decimal_of v)
+abbrev invariant-loop-rest : tie.invariant-loop-rest
+invariant-loop-rest v rest₀ cut₀ rest cut = cut + length (decimal_of rest) ≡ length (decimal_of v)
 
-abbrev decreases-loop : tie.decreases-loop
-decreases-loop v rest₀ cut₀ rest cut = rest
+abbrev decreases-loop-rest : tie.decreases-loop-rest
+decreases-loop-rest v rest₀ cut₀ rest cut = rest
 
 -- the digits are at most 20
-short : (c : tie.Start invariant-loop decreases-loop) → length (decimal_of c.args.v) ≤ 20
+short : (c : tie.Start invariant-loop-rest decreases-loop-rest) → length (decimal_of c.args.v) ≤ 20
 short c = at-most-20 c.args.v c.ranges.v.fits
 
-add-cut : tie.Need-overflow-add-cut invariant-loop decreases-loop
+add-cut : tie.Need-overflow_add-cut invariant-loop-rest decreases-loop-rest
 add-cut c = omega (arith, short c.before.before)
 
-loop-again : tie.Need-loop-preserved invariant-loop decreases-loop
-loop-again c = omega (arith, cut_off 4 c.before.loop.rest (omega arith))
+loop-again : tie.Need-loop-rest-preserved invariant-loop-rest decreases-loop-rest
+loop-again c = omega (arith, cut_off 4 c.loop-rest.rest (omega arith))
 
-add-result : tie.Need-overflow-add-result invariant-loop decreases-loop
+add-result : tie.Need-overflow_add-result invariant-loop-rest decreases-loop-rest
 add-result c = omega (arith, short c.before.before.before)
 
-returns : tie.Need-returns invariant-loop decreases-loop
-returns c = omega (arith, ap length (one-digit c.before.before.loop.rest (omega arith)))
+returns : tie.Need-returns-then-rest-lt10 invariant-loop-rest decreases-loop-rest
+returns c = omega (arith, ap length (one-digit c.loop-rest.rest (omega arith)))
 
-add-result-2 : tie.Need-overflow-add-result-2 invariant-loop decreases-loop
+add-result-2 : tie.Need-overflow_add-result-then-rest-lt100 invariant-loop-rest decreases-loop-rest
 add-result-2 c = omega (arith, short c.before.before.before.before)
 
-returns-2 : tie.Need-returns-2 invariant-loop decreases-loop
-returns-2 c = omega (arith, exactly 1 c.before.before.before.loop.rest (omega arith) (omega arith))
+returns-2 : tie.Need-returns-then-rest-lt100 invariant-loop-rest decreases-loop-rest
+returns-2 c = omega (arith, exactly 1 c.loop-rest.rest (omega arith) (omega arith))
 
-add-result-3 : tie.Need-overflow-add-result-3 invariant-loop decreases-loop
+add-result-3 : tie.Need-overflow_add-result-then-rest-lt1000 invariant-loop-rest decreases-loop-rest
 add-result-3 c = omega (arith, short c.before.before.before.before.before)
 
-returns-3 : tie.Need-returns-3 invariant-loop decreases-loop
-returns-3 c = omega (arith, exactly 2 c.before.before.before.before.loop.rest (omega arith) (omega arith))
+returns-3 : tie.Need-returns-then-rest-lt1000 invariant-loop-rest decreases-loop-rest
+returns-3 c = omega (arith, exactly 2 c.loop-rest.rest (omega arith) (omega arith))
 
-add-result-4 : tie.Need-overflow-add-result-4 invariant-loop decreases-loop
+add-result-4 : tie.Need-overflow_add-result-2 invariant-loop-rest decreases-loop-rest
 add-result-4 c = omega (arith, short c.before.before.before.before.before)
 
-returns-4 : tie.Need-returns-4 invariant-loop decreases-loop
-returns-4 c = omega (arith, exactly 3 c.before.before.before.before.loop.rest (omega arith) (omega arith))
+returns-4 : tie.Need-returns invariant-loop-rest decreases-loop-rest
+returns-4 c = omega (arith, exactly 3 c.loop-rest.rest (omega arith) (omega arith))
 
 pub count_spec : {M : Type 1} → statement M
 count_spec =
     tie.close
     (tie.spec
-    invariant-loop
-    decreases-loop
+    invariant-loop-rest
+    decreases-loop-rest
     (λ c. omega arith)
     add-cut
     (λ c. omega arith)

@@ -6,7 +6,7 @@ use Rattle.receiver.proofs.made_for.Tie as tie
 
 returns : tie.Need-returns
 unfolding made_for
-returns c = rw c.fresh-stream.ensures
+returns c = rw c.fresh_stream-stream.ensures
 
-pub made-for-spec : {M : Type 1} → statement M
-made-for-spec = tie.close (tie.spec (λ c κs. search rules) returns)
+pub made_for_spec : {M : Type 1} → statement M
+made_for_spec = tie.close (tie.spec (λ c κs. search rules) returns)

@@ -17,9 +17,9 @@ use Rattle.receiver.specs.contracts.step_in_place as f
 use Rattle.receiver.proofs.step_in_place.Statement as stated
 use Rattle.receiver.proofs.step_in_place.Code as code
 
-pub step-in-place-spec : {M : Type 1} → stated.statement M
+pub step_in_place_spec : {M : Type 1} → stated.statement M
 unfolding code.routine tables_of
-step-in-place-spec 𝓤 𝓛 𝓜 𝓡 =
+step_in_place_spec 𝓤 𝓛 𝓜 𝓡 =
     in_place 𝓛 𝓜 𝓡 code.env lendable (w32 ∷ w64 ∷ []) (advance.clauses 𝓛 𝓜.mem 𝓡.run) advance-def.name
     advance-def.routine
     code.calls-receiver::advance::advance (advance-thm.met 𝓤 𝓛 𝓜 𝓡) (λ κs a. tt) (λ κs a. id⊢ 𝓤 _) (λ h ns. AsStep h ns.0 ns.1.0)

@@ -23,27 +23,27 @@ of-sample : (file : List ℕ) (y : Layout) (i : ℕ) {a : Arrival} → a ≡ arr
     → (a ≡ arrival_found file y i) × ArrivalOfSample file y i a
 of-sample file y i e = (e, arrival-of-sample file y i e)
 
-returns : tie.Need-returns
+returns : tie.Need-returns-then-file-end
 unfolding arrival_found
 returns c =
-    let a = c.before.before.before.args in
+    let a = c.args in
     of-sample a.file.now a.layout a.i
     (rw (lt-ltb (length a.file.now) (arrivals_at a.layout + arrival_width * a.i + arrival_width) (omega arith)))
 
-returns-2 : tie.Need-returns-2
+returns-2 : tie.Need-returns
 unfolding arrival_found
 returns-2 c =
-    let a = c.before.before.before.before.before.args in
+    let a = c.args in
     let f = a.file.now in
-    let e = c.before.before.before.arrivals-at.ensures.0 in
-    let start : ℕ = c.before.before.before.arrivals-at.result + arrival_width * a.i in
+    let e = c.arrivals_at.ensures.0 in
+    let start : ℕ = c.arrivals_at.result + arrival_width * a.i in
     let r : arrivals_at a.layout + arrival_width * a.i + arrival_width ≤ length f = omega arith in
     of-sample f a.layout a.i
     (rw (le-ltb (length f) (arrivals_at a.layout + arrival_width * a.i + arrival_width) r)
-    (arrival-taken start f c.arrival-of.ensures ∙ ap (λ (n : ℕ). arrival_in (part (n + arrival_width * a.i) arrival_width f)) e))
+    (arrival-taken start f c.arrival_of.ensures ∙ ap (λ (n : ℕ). arrival_in (part (n + arrival_width * a.i) arrival_width f)) e))
 
-pub arrival-spec : {M : Type 1} → statement M
-arrival-spec =
+pub arrival_spec : {M : Type 1} → statement M
+arrival_spec =
     tie.close
     (tie.spec
     (λ c κs. search rules) (λ c. search rules) (λ c. search rules) (λ c. search rules)

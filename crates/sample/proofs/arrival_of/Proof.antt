@@ -11,19 +11,19 @@ use Rattle.sample.proofs.Items.{part-fits}
 use Rattle.sample.proofs.arrival_of.Statement.{statement}
 use Rattle.sample.proofs.arrival_of.Tie as tie
 
-cast-number : tie.Need-overflow-cast-number
+cast-number : tie.Need-overflow_cast-number
 cast-number c =
-    let s = c.before.before.args.twelve.now in
-    let o = below-fits w8 s c.before.shared-slice-known.given in
-    let b : c.number_at.result < 2 ^ 32 = rw c.number_at.ensures (part-fits number_width 0 s o) in
+    let s = c.args.twelve.now in
+    let o = below-fits w8 s c.shared_slice_known-1.given in
+    let b : c.number_at-number.result < 2 ^ 32 = rw c.number_at-number.ensures (part-fits number_width 0 s o) in
     omega arith
 
 returns : tie.Need-returns
 unfolding arrival_in
 returns c =
-    let n = c.before.number_at.ensures in
-    let t = c.number-at2.ensures in
+    let n = c.number_at-number.ensures in
+    let t = c.number_at-time.ensures in
     (λ j. record { number = n j; time = t j })
 
-pub arrival-of-spec : {M : Type 1} → statement M
-arrival-of-spec = tie.close (tie.spec (λ c κs. search rules) cast-number (λ c κs. search rules) returns)
+pub arrival_of_spec : {M : Type 1} → statement M
+arrival_of_spec = tie.close (tie.spec (λ c κs. search rules) cast-number (λ c κs. search rules) returns)

@@ -18,7 +18,7 @@ placed y e = (e, λ file. arrivals-from file y e)
 returns : tie.Need-returns
 returns c = placed _ (omega arith)
 
-pub arrivals-at-spec : {M : Type 1} → statement M
-arrivals-at-spec =
+pub arrivals_at_spec : {M : Type 1} → statement M
+arrivals_at_spec =
     tie.close
     (tie.spec (λ c. search rules) (λ c κs. search rules) (λ c. search rules) (λ c κs. search rules) (λ c. search rules) returns)

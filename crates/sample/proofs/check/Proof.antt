@@ -35,25 +35,25 @@ use Rattle.sample.proofs.check.Tie as tie
 -- ---- places in the code, each by one after it: after the label's section, after its octets and after the sent packets' section; and the
 -- file, at each of them and after the arrivals' section
 
-abbrev file : tie.After-known-told → List ℕ
-file l = l.before.before.before.before.before.args.file.now
+abbrev file : tie.In-Whole → List ℕ
+file l = l.args.file.now
 
-abbrev label_at : tie.Else1 → tie.After-known-told
+abbrev label_at : tie.Else-some_unshown → tie.In-Whole
 label_at o = o.before.before.before
 
-abbrev octets-at : tie.After-known-told2 → tie.Else1
-octets-at k = k.before.before.before.before
+abbrev octets-at : tie.In-Whole-sent → tie.Else-some_unshown
+octets-at k = k.before.before
 
-abbrev sent-at : tie.After-known-told3 → tie.After-known-told2
-sent-at b = b.before.before.before.before
+abbrev sent-at : tie.In-Whole-arrived → tie.In-Whole-sent
+sent-at b = b.before.before
 
-abbrev file-o : tie.Else1 → List ℕ
+abbrev file-o : tie.Else-some_unshown → List ℕ
 file-o o = file (label_at o)
 
-abbrev file-k : tie.After-known-told2 → List ℕ
+abbrev file-k : tie.In-Whole-sent → List ℕ
 file-k k = file-o (octets-at k)
 
-abbrev file-b : tie.After-known-told3 → List ℕ
+abbrev file-b : tie.In-Whole-arrived → List ℕ
 file-b b = file-k (sent-at b)
 
 -- the answer with a refusal that applies
@@ -66,88 +66,88 @@ promised : (f : List ℕ) → Octets f → ExactFile f × (((longest ≡ longest
 promised f o = (exact f o, ((refl, lengths f o), in_order))
 
 -- after the label: nothing of its section is refused, and its count and its end are those of the file
-labelled : (c : tie.After-known-told)
+labelled : (c : tie.In-Whole)
     → (label_stage (file c) ≡ 0)
-    × (c.before.label.given.0.0 ≡ label_count (file c))
-    × (c.before.label.given.0.1.0 ≡ sent_at (file c))
+    × (c.in-Whole.label_count ≡ label_count (file c))
+    × (c.in-Whole.sent_at ≡ sent_at (file c))
 labelled c =
     whole-section 0 octet_width 0 label_most long_label (file c)
-    (sym c.before.before.before.section-at.ensures ∙ c.before.label.given.1)
+    (sym c.section_at-label.ensures ∙ c.in-Whole.is)
 
 -- after its octets are looked at
-looked : (c : tie.After-some-unshown) → c.some-unshown.result ≡ some_unshown (sample_in (file c.before.before)).label
+looked : (c : tie.After-some_unshown) → c.some_unshown.result ≡ some_unshown (sample_in (file c.before.before)).label
 unfolding sample_in
 looked c =
-    let l = c.before.before in
-    let f = file l in
-    let w = labelled l in
-    let e : l.before.label.given.0.1.0 - count_width ≡ label_count f = omega arith in
-    c.some-unshown.ensures ∙ ap (λ (n : ℕ). some_unshown (part (items_at 0) n f)) e
+    let l = c in
+    let f = file l.before.before in
+    let w = labelled l.before.before in
+    let e : l.in-Whole.sent_at - count_width ≡ label_count f = omega arith in
+    c.some_unshown.ensures ∙ ap (λ (n : ℕ). some_unshown (part (items_at 0) n f)) e
 
 -- all of them can be shown
-shown : (c : tie.Else1) → some_unshown (sample_in (file-o c)).label ≡ false
-shown c = sym (looked c.before) ∙ c.if1.false
+shown : (c : tie.Else-some_unshown) → some_unshown (sample_in (file-o c)).label ≡ false
+shown c = sym (looked c.before) ∙ c.if-some_unshown.false
 
 -- after the sent packets
-counted : (c : tie.After-known-told2)
+counted : (c : tie.In-Whole-sent)
     → (sent_stage (file-k c) ≡ 0)
-    × (c.before.sent.given.0.0 ≡ sent_count (file-k c))
-    × (c.before.sent.given.0.1.0 ≡ arrived_at (file-k c))
+    × (c.in-Whole-sent.sent_count ≡ sent_count (file-k c))
+    × (c.in-Whole-sent.arrived_at ≡ arrived_at (file-k c))
 counted c =
     let l = label_at (octets-at c) in
     let f = file l in
     whole-section (sent_at f) size_width 1 sent_most sent_outside f
-    (sym (c.before.before.before.section-at2.ensures
-    ∙ ap (λ (n : ℕ). section_reading n size_width 1 sent_most sent_outside f) (labelled l).2) ∙ c.before.sent.given.1)
+    (sym (c.section_at-sent.ensures
+    ∙ ap (λ (n : ℕ). section_reading n size_width 1 sent_most sent_outside f) (labelled l).2) ∙ c.in-Whole-sent.is)
 
 -- after the arrivals
-arrived : (c : tie.After-known-told3)
+arrived : (c : tie.In-Whole-arrived)
     → (arrived_stage (file-b c) ≡ 0)
-    × (c.before.arrived.given.0.0 ≡ arrival_count (file-b c))
-    × (c.before.arrived.given.0.1.0 ≡ file_end (file-b c))
+    × (c.in-Whole-arrived.arrival_count ≡ arrival_count (file-b c))
+    × (c.in-Whole-arrived.end ≡ file_end (file-b c))
 arrived c =
-    let k = c.before.before.before.before in
-    let f = file-k k in
+    let k = c in
+    let f = file-k k.before.before in
     whole-section (arrived_at f) arrival_width 0 arrivals_most many_arrivals f
-    (sym (c.before.before.before.section-at3.ensures
-    ∙ ap (λ (n : ℕ). section_reading n arrival_width 0 arrivals_most many_arrivals f) (counted k).2) ∙ c.before.arrived.given.1)
+    (sym (c.section_at-arrived.ensures
+    ∙ ap (λ (n : ℕ). section_reading n arrival_width 0 arrivals_most many_arrivals f) (counted k.before.before).2) ∙ c.in-Whole-arrived.is)
 
 -- the arrivals lie within the file
-sections-within : (c : tie.After-known-told3)
-    → items_at c.before.before.before.before.before.sent.given.0.1.0 + arrival_width * c.before.arrived.given.0.0
+sections-within : (c : tie.In-Whole-arrived)
+    → items_at c.in-Whole-sent.arrived_at + arrival_width * c.in-Whole-arrived.arrival_count
     ≤ length (file-b c)
 sections-within c =
-    let k = c.before.before.before.before in
-    let f = file-k k in
+    let k = c in
+    let f = file-k k.before.before in
     let u = arrived c in
-    let v = counted k in
+    let v = counted k.before.before in
     let s = stage-none (arrived_at f) arrival_width judge_arrivals f u.0 in
     omega arith
 
 -- after the arrivals are judged: theirs is the first refusal, if any
-judged : (c : tie.After-judge-file) → file_refusal (file-b c.before.before) ≡ c.judge-file.result
+judged : (c : tie.After-judge_file-refusal) → file_refusal (file-b c.before.before) ≡ c.judge_file-refusal.result
 unfolding sample_in
 judged c =
-    let b = c.before.before in
-    let k = b.before.before.before.before in
-    let o = k.before.before.before.before in
-    let l = o.before.before.before in
-    let f = file l in
-    let u = arrived b in
-    let v = counted k in
+    let b = c in
+    let k = b in
+    let o = k in
+    let l = o in
+    let f = file l.before.before.before.before.before.before.before.before.before in
+    let u = arrived b.before.before in
+    let v = counted k.before.before.before.before in
     let e : end_stage f ≡ 0 = ap (λ t. refusal_if t octets_follow) (le-ltb (file_end f) (length f) (omega arith)) in
-    refused-arrivals f (labelled l).0 (shown o) v.0 u.0 c.judge-file.result e
-    (sym (c.judge-file.ensures ∙ (λ i. judge (v.1 i) 0 (items_in arrival_width arrival_in (u.1 i) (drop (items_at (v.2 i)) f)))))
+    refused-arrivals f (labelled l.before.before.before.before.before.before.before.before.before).0 (shown o.before.before.before.before.before.before) v.0 u.0 c.judge_file-refusal.result e
+    (sym (c.judge_file-refusal.ensures ∙ (λ i. judge (v.1 i) 0 (items_in arrival_width arrival_in (u.1 i) (drop (items_at (v.2 i)) f)))))
 
 -- where nothing is refused
-accepted : (c : tie.Else3) → WholeFile (file-b c.before.before.before)
-accepted c = refused_none (file-b c.before.before.before) (judged c.before ∙ c.if3.false)
+accepted : (c : tie.Else-refusal-ne0) → WholeFile (file-b c.before.before.before)
+accepted c = refused_none (file-b c.before.before.before) (judged c.before ∙ c.if-refusal-ne0.false)
 
 -- and each count is within its limit
-within : (c : tie.Else3)
-    → ((label_at (octets-at (sent-at c.before.before.before))).before.label.given.0.0 ≤ label_most)
-    × ((sent-at c.before.before.before).before.sent.given.0.0 ≤ sent_most)
-    × (c.before.before.before.before.arrived.given.0.0 ≤ arrivals_most)
+within : (c : tie.Else-refusal-ne0)
+    → ((label_at (octets-at (sent-at c.before.before.before))).in-Whole.label_count ≤ label_most)
+    × ((sent-at c.before.before.before).in-Whole-sent.sent_count ≤ sent_most)
+    × (c.in-Whole-arrived.arrival_count ≤ arrivals_most)
 within c =
     let w = accepted c in
     let p = labelled (label_at (octets-at (sent-at c.before.before.before))) in
@@ -155,143 +155,143 @@ within c =
     let r = arrived c.before.before.before in
     (omega arith, omega arith, omega arith)
 
-enum_told : tie.Need-enum-told
+enum_told : tie.Need-enum_told-1
 enum_told c = search rules
 
-returns : tie.Need-returns
+returns : tie.Need-returns-in_default
 returns c =
-    let f = c.before.before.before.before.before.before.args.file.now in
-    let s = c.before.before.before.before.section-at.ensures in
-    let r = c.before.refusal-of-section.ensures ∙ ap refusal_of_section s ∙ refusal-section 0 octet_width 0 label_most long_label f in
-    let p = refused-section 0 octet_width 0 label_most long_label f (sym s ∙ c.before.before.enum_told.given.1) in (
-      answer f (label_stage f) p (refused-label f (label_stage f) p refl) c.refused-layout.ensures r,
-      promised f (below-fits w8 f c.before.before.before.before.before.shared-slice-known.given),
+    let f = c.args.file.now in
+    let s = c.section_at-label.ensures in
+    let r = c.refusal_of_section.ensures ∙ ap refusal_of_section s ∙ refusal-section 0 octet_width 0 label_most long_label f in
+    let p = refused-section 0 octet_width 0 label_most long_label f (sym s ∙ c.in_default.is) in (
+      answer f (label_stage f) p (refused-label f (label_stage f) p refl) c.refused_layout.ensures r,
+      promised f (below-fits w8 f c.shared_slice_known-1.given),
     )
 
-sub-shown : tie.Need-overflow-sub-shown
+sub-shown : tie.Need-slice_bounds-shown-count
 sub-shown c =
     let w = labelled c in
     omega arith
 
-part-shown-start : tie.Need-slice-bounds-shown-start
+part-shown-start : tie.Need-slice_bounds-shown-start
 part-shown-start c =
     let w = labelled c in
     omega arith
 
-part-shown-end : tie.Need-slice-bounds-shown-end
+part-shown-end : tie.Need-slice_bounds-shown-end
 part-shown-end c =
     let w = labelled c in
     let s = stage-none 0 octet_width judge_label (file c) w.0 in
     omega arith
 
-returns-2 : tie.Need-returns-2
+returns-2 : tie.Need-returns-then-some_unshown
 returns-2 c =
-    let l = c.before.before.before.before in
-    let f = file l in
-    let o = sym (looked c.before.before) ∙ c.before.if1.true in (
-      answer f octet_outside (omega arith) (refused-octets f (labelled l).0 o) c.refused-layout2.ensures refl,
-      promised f (below-fits w8 f l.before.before.before.before.shared-slice-known.given),
+    let l = c in
+    let f = file l.before.before.before.before in
+    let o = sym (looked c.before.before) ∙ c.if-some_unshown.true in (
+      answer f octet_outside (omega arith) (refused-octets f (labelled l.before.before.before.before).0 o) c.refused_layout-then-some_unshown.ensures refl,
+      promised f (below-fits w8 f l.shared_slice_known-1.given),
     )
 
-section-at-requires-2 : tie.Need-section-at-requires-2
+section-at-requires-2 : tie.Need-section_at-sent-requires
 section-at-requires-2 c κs =
-    let l = c.before.before.before in
-    let w = labelled l in
-    let s = stage-none 0 octet_width judge_label (file l) w.0 in
+    let l = c in
+    let w = labelled l.before.before.before in
+    let s = stage-none 0 octet_width judge_label (file l.before.before.before) w.0 in
     (omega arith, omega arith, omega arith)
 
-returns-3 : tie.Need-returns-3
+returns-3 : tie.Need-returns-in_default-sent
 returns-3 c =
-    let o = c.before.before.before.before.before in
-    let l = o.before.before.before in
-    let f = file l in
-    let w = labelled l in
+    let o = c in
+    let l = o in
+    let f = file l.before.before.before.before.before.before.before in
+    let w = labelled l.before.before.before.before.before.before.before in
     let s =
-    c.before.before.before.before.section-at2.ensures
+    c.section_at-sent.ensures
     ∙ ap (λ (n : ℕ). section_reading n size_width 1 sent_most sent_outside f) w.2 in
     let r =
-    c.before.refusal-of-section2.ensures ∙ ap refusal_of_section s ∙ refusal-section (sent_at f) size_width 1 sent_most sent_outside f in
-    let p = refused-section (sent_at f) size_width 1 sent_most sent_outside f (sym s ∙ c.before.before.enum-told2.given.1) in (
-      answer f (sent_stage f) p (refused-sent f w.0 (shown o) (sent_stage f) p refl) c.refused-layout3.ensures r,
-      promised f (below-fits w8 f l.before.before.before.before.shared-slice-known.given),
+    c.refusal_of_section-in_default-sent.ensures ∙ ap refusal_of_section s ∙ refusal-section (sent_at f) size_width 1 sent_most sent_outside f in
+    let p = refused-section (sent_at f) size_width 1 sent_most sent_outside f (sym s ∙ c.in_default-sent.is) in (
+      answer f (sent_stage f) p (refused-sent f w.0 (shown o.before.before.before.before) (sent_stage f) p refl) c.refused_layout-in_default-sent.ensures r,
+      promised f (below-fits w8 f l.shared_slice_known-1.given),
     )
 
-section-at-requires-3 : tie.Need-section-at-requires-3
+section-at-requires-3 : tie.Need-section_at-arrived-requires
 section-at-requires-3 c κs =
     let w = counted c in
     let f = file-k c in
     let s = stage-none (sent_at f) size_width judge_sent f w.0 in
     (omega arith, omega arith, omega arith)
 
-returns-4 : tie.Need-returns-4
+returns-4 : tie.Need-returns-in_default-arrived
 returns-4 c =
-    let b = c.before.before.before.before.before in
-    let o = b.before.before.before.before in
-    let l = o.before.before.before in
-    let f = file l in
-    let v = counted b in
+    let b = c in
+    let o = b in
+    let l = o in
+    let f = file l.before.before.before.before.before.before.before.before.before in
+    let v = counted b.before.before.before.before in
     let s =
-    c.before.before.before.before.section-at3.ensures
+    c.section_at-arrived.ensures
     ∙ ap (λ (n : ℕ). section_reading n arrival_width 0 arrivals_most many_arrivals f) v.2 in
     let r =
-    c.before.refusal-of-section3.ensures ∙ ap refusal_of_section s
+    c.refusal_of_section-in_default-arrived.ensures ∙ ap refusal_of_section s
     ∙ refusal-section (arrived_at f) arrival_width 0 arrivals_most many_arrivals f in
-    let p = refused-section (arrived_at f) arrival_width 0 arrivals_most many_arrivals f (sym s ∙ c.before.before.enum-told3.given.1) in (
-      answer f (arrived_stage f) p (refused-arrived f (labelled l).0 (shown o) v.0 (arrived_stage f) p refl)
-          c.refused-layout4.ensures r,
-      promised f (below-fits w8 f l.before.before.before.before.shared-slice-known.given),
+    let p = refused-section (arrived_at f) arrival_width 0 arrivals_most many_arrivals f (sym s ∙ c.in_default-arrived.is) in (
+      answer f (arrived_stage f) p (refused-arrived f (labelled l.before.before.before.before.before.before.before.before.before).0 (shown o.before.before.before.before.before.before) v.0 (arrived_stage f) p refl)
+          c.refused_layout-in_default-arrived.ensures r,
+      promised f (below-fits w8 f l.shared_slice_known-1.given),
     )
 
-returns-5 : tie.Need-returns-5
+returns-5 : tie.Need-returns-then-end-file
 returns-5 c =
-    let b = c.before.before in
-    let k = b.before.before.before.before in
-    let o = k.before.before.before.before in
-    let l = o.before.before.before in
-    let f = file l in
-    let u = arrived b in
+    let b = c in
+    let k = b in
+    let o = k in
+    let l = o in
+    let f = file l.before.before.before.before.before.before.before.before.before in
+    let u = arrived b.before.before in
     let e : end_stage f ≡ octets_follow = ap (λ t. refusal_if t octets_follow) (lt-ltb (file_end f) (length f) (omega arith)) in (
-      answer f octets_follow (omega arith) (refused_end f (labelled l).0 (shown o) (counted k).0 u.0 octets_follow (omega arith) e)
-          c.refused-layout5.ensures refl,
-      promised f (below-fits w8 f l.before.before.before.before.shared-slice-known.given),
+      answer f octets_follow (omega arith) (refused_end f (labelled l.before.before.before.before.before.before.before.before.before).0 (shown o.before.before.before.before.before.before) (counted k.before.before.before.before).0 u.0 octets_follow (omega arith) e)
+          c.refused_layout-then-end-file.ensures refl,
+      promised f (below-fits w8 f l.shared_slice_known-1.given),
     )
 
-add_at : tie.Need-overflow-add-at
+add_at : tie.Need-overflow_add-at
 add_at c =
     let s = sections-within c.before in
     omega arith
 
-judge-file-requires : tie.Need-judge-file-requires
+judge-file-requires : tie.Need-judge_file-refusal-requires
 judge-file-requires c κs =
     let s = sections-within c.before in
     omega arith
 
-returns-6 : tie.Need-returns-6
+returns-6 : tie.Need-returns-then-refusal-ne0
 returns-6 c =
     let l = label_at (octets-at (sent-at c.before.before.before.before)) in
     let f = file l in
     let j = judged c.before.before in
-    let n : 0 < c.before.before.judge-file.result = omega (arith, c.before.if3.true) in (
-      answer f c.before.before.judge-file.result n j c.refused-layout6.ensures refl,
-      promised f (below-fits w8 f l.before.before.before.before.shared-slice-known.given),
+    let n : 0 < c.judge_file-refusal.result = omega (arith, c.if-refusal-ne0.true) in (
+      answer f c.judge_file-refusal.result n j c.refused_layout-then-refusal-ne0.ensures refl,
+      promised f (below-fits w8 f l.shared_slice_known-1.given),
     )
 
-returns-7 : tie.Need-returns-7
+returns-7 : tie.Need-returns
 returns-7 c =
-    let b = c.before.before.before in
-    let k = b.before.before.before.before in
-    let l = label_at (octets-at k) in
+    let b = c in
+    let k = b in
+    let l = label_at (octets-at k.before.before.before.before.before) in
     let f = file l in
-    let j = judged c.before ∙ c.if3.false in
+    let j = judged c.before ∙ c.if-refusal-ne0.false in
     let p = (labelled l).1 in
-    let q = (counted k).1 in
-    let r = (arrived b).1 in (
+    let q = (counted k.before.before.before.before.before).1 in
+    let r = (arrived b.before.before.before).1 in (
       (λ i. record { refusal = 0; label = p i; sent = q i; arrivals = r i }) ∙ sym (layout-accepted f j),
-      promised f (below-fits w8 f l.before.before.before.before.shared-slice-known.given),
+      promised f (below-fits w8 f l.shared_slice_known-1.given),
     )
 
-pub check-spec : {M : Type 1} → statement M
-check-spec =
+pub check_spec : {M : Type 1} → statement M
+check_spec =
     tie.close
     (tie.spec
     (λ c κs. search rules) (λ c. search rules)

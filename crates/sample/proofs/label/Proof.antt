@@ -15,39 +15,39 @@ use Rattle.sample.proofs.Answers.{found-refusal, found-refused, found-counts, fo
 use Rattle.sample.proofs.label.Statement.{statement}
 use Rattle.sample.proofs.label.Tie as tie
 
-returns : tie.Need-returns
+returns : tie.Need-returns-then-layout-ne0
 returns c =
-    let f = c.before.before.before.before.before.args.file.now in
-    let o = c.before.before.before.before.before.args.file.ptr in
+    let f = c.args.file.now in
+    let o = c.args.file.ref_ptr in
     let d =
-    found-refused f c.before.before.before.check.result c.before.before.before.check.ensures.0
-    (omega (arith, c.before.if1.true)) in
+    found-refused f c.check-layout.result c.check-layout.ensures.0
+    (omega (arith, c.if-layout-ne0.true)) in
     (sym (ap (λ (x : Decoded). (sample_of x).label) d), ap (λ (x : Decoded). (o.0, label_place x + o.1)) (sym d))
 
-part-result-end-2 : tie.Need-slice-bounds-result-end-2
+part-result-end-2 : tie.Need-slice_bounds-result-end-2
 part-result-end-2 c =
-    let f = c.before.before.before.before.before.before.args.file.now in
-    let y = c.before.before.before.before.check in
-    let w = refused_none f (found-refusal f y.result y.ensures.0 ∙ c.before.before.if1.false) in
-    let n = ap (λ (x : Layout). x.label) (found-counts f y.result y.ensures.0 c.before.before.if1.false) in
+    let f = c.args.file.now in
+    let y = c.check-layout in
+    let w = refused_none f (found-refusal f y.result y.ensures.0 ∙ c.if-layout-ne0.false) in
+    let n = ap (λ (x : Layout). x.label) (found-counts f y.result y.ensures.0 c.if-layout-ne0.false) in
     let e = w.ends in
     omega arith
 
-returns-2 : tie.Need-returns-2
+returns-2 : tie.Need-returns
 unfolding sample_in
 returns-2 c =
-    let f = c.before.before.before.before.before.before.before.args.file.now in
-    let o = c.before.before.before.before.before.before.before.args.file.ptr in
-    let y = c.before.before.before.before.before.check in
-    let d = found-accepted f y.result y.ensures.0 c.before.before.before.if1.false in
-    let n = ap (λ (x : Layout). x.label) (found-counts f y.result y.ensures.0 c.before.before.before.if1.false) in
-    let k : c.before.end_of_lem.result - count_width ≡ label_count f = omega arith in (
+    let f = c.args.file.now in
+    let o = c.args.file.ref_ptr in
+    let y = c.check-layout in
+    let d = found-accepted f y.result y.ensures.0 c.if-layout-ne0.false in
+    let n = ap (λ (x : Layout). x.label) (found-counts f y.result y.ensures.0 c.if-layout-ne0.false) in
+    let k : c.end_of-end.result - count_width ≡ label_count f = omega arith in (
       ap (λ (m : ℕ). part (items_at 0) m f) k ∙ sym (ap (λ (x : Decoded). (sample_of x).label) d),
       ap (λ (x : Decoded). (o.0, label_place x + o.1)) (sym d),
     )
 
-pub label-spec : {M : Type 1} → statement M
-label-spec =
+pub label_spec : {M : Type 1} → statement M
+label_spec =
     tie.close
     (tie.spec
     (λ c κs. search rules) (λ c. search rules) (λ c. search rules) (λ c. search rules)

@@ -15,24 +15,24 @@ use Rattle.sample.proofs.OfSample.{size-of-sample}
 use Rattle.sample.proofs.payload_size.Statement.{statement}
 use Rattle.sample.proofs.payload_size.Tie as tie
 
-cast-result : tie.Need-overflow-cast-result
+cast-result : tie.Need-overflow_cast-result
 cast-result c =
-    let a = c.before.before.before.args in
-    let o = below-fits w8 a.file.now c.before.before.shared-slice-known.given in
+    let a = c.args in
+    let o = below-fits w8 a.file.now c.shared_slice_known-1.given in
     let b : c.number_at.result < 2 ^ 16 =
-    rw c.number_at.ensures (part-fits size_width (c.before.sizes-at.result + size_width * a.j) a.file.now o) in
+    rw c.number_at.ensures (part-fits size_width (c.sizes_at.result + size_width * a.j) a.file.now o) in
     omega arith
 
 returns : tie.Need-returns
 unfolding size_found
 returns c =
-    let a = c.before.before.before.args in
+    let a = c.args in
     let e =
     c.number_at.ensures
-    ∙ ap (λ (n : ℕ). be_value (part (n + size_width * a.j) size_width a.file.now)) c.before.sizes-at.ensures in
+    ∙ ap (λ (n : ℕ). be_value (part (n + size_width * a.j) size_width a.file.now)) c.sizes_at.ensures in
     (e, size-of-sample a.file.now a.layout a.j e)
 
-pub payload-size-spec : {M : Type 1} → statement M
-payload-size-spec =
+pub payload_size_spec : {M : Type 1} → statement M
+payload_size_spec =
     tie.close
     (tie.spec (λ c κs. search rules) (λ c. search rules) (λ c. search rules) (λ c κs. search rules) cast-result returns)

@@ -23,85 +23,85 @@ use Rattle.sample.proofs.read.Tie as tie
 
 -- ---- places in the code: the start, after `check`, after the lists were room long enough, after the sizes were filled
 
-abbrev start : tie.After-check → tie.Start
+abbrev start : tie.After-check-layout → tie.Start
 start q = q.before.before.before.before.before
 
-abbrev checked : tie.Else2 → tie.After-check
+abbrev checked : tie.Else-too_short → tie.After-check-layout
 checked k = k.before.before.before.before
 
-abbrev long-enough : tie.After-fill-sizes → tie.Else2
+abbrev long-enough : tie.After-fill_sizes → tie.Else-too_short
 long-enough s = s.before.before.before.before
 
-abbrev sizes-filled : tie.After-arrivals-at → tie.After-fill-sizes
+abbrev sizes-filled : tie.After-arrivals_at → tie.After-fill_sizes
 sizes-filled n = n.before.before.before.before
 
 -- where the lists are long enough
-room : (c : tie.Else2)
+room : (c : tie.Else-too_short)
     → Room (start (checked c)).args.file.now (start (checked c)).args.sizes.now (start (checked c)).args.numbers.now
     (start (checked c)).args.times.now
-    (checked c).check.result
+    (checked c).check-layout.result
 room c =
     let q = checked c in
     let a = (start q).args in
-    room-found a.file.now a.sizes.now a.numbers.now a.times.now q.check.result q.check.ensures.0
-    c.before.before.if1.false
-    (sym c.before.too_short.ensures ∙ c.if2.false)
+    room-found a.file.now a.sizes.now a.numbers.now a.times.now q.check-layout.result q.check-layout.ensures.0
+    c.if-layout-ne0.false
+    (sym c.too_short.ensures ∙ c.if-too_short.false)
 
-returns : tie.Need-returns
+returns : tie.Need-returns-then-layout-ne0
 returns c =
-    let q = c.before.before in
-    let a = (start q).args in
+    let q = c in
+    let a = (start q.before.before).args in
     let f = a.file.now in (
-      read-refused f a.sizes.now a.numbers.now a.times.now q.check.result q.check.ensures.0
-          (omega (arith, c.if1.true)),
-      written-again f (below-fits w8 f q.before.before.before.before.shared-slice-known.given),
+      read-refused f a.sizes.now a.numbers.now a.times.now q.check-layout.result q.check-layout.ensures.0
+          (omega (arith, c.if-layout-ne0.true)),
+      written-again f (below-fits w8 f q.shared_slice_known-1.given),
     )
 
-returns-2 : tie.Need-returns-2
+returns-2 : tie.Need-returns-then-too_short
 returns-2 c =
-    let q = c.before.before.before.before.before in
-    let a = (start q).args in
+    let q = c in
+    let a = (start q.before.before.before.before.before).args in
     let f = a.file.now in (
       subst (λ (y : Layout). ReadFrom f a.sizes.now a.numbers.now a.times.now y a.sizes.now a.numbers.now
-          a.times.now) (sym c.refused-layout.ensures)
-          (read_short f a.sizes.now a.numbers.now a.times.now q.check.result q.check.ensures.0
-          c.before.before.before.if1.false
-          (sym c.before.before.too_short.ensures ∙ c.before.if2.true)),
-      written-again f (below-fits w8 f q.before.before.before.before.shared-slice-known.given),
+          a.times.now) (sym c.refused_layout.ensures)
+          (read_short f a.sizes.now a.numbers.now a.times.now q.check-layout.result q.check-layout.ensures.0
+          c.if-layout-ne0.false
+          (sym c.too_short.ensures ∙ c.if-too_short.true)),
+      written-again f (below-fits w8 f q.shared_slice_known-1.given),
     )
 
-fill-sizes-requires : tie.Need-fill-sizes-requires
+fill-sizes-requires : tie.Need-fill_sizes-requires
 fill-sizes-requires c κs =
     let w = room c.before.before.before in
-    let p = c.before.before.sizes-at.ensures in
+    let p = c.sizes_at.ensures in
     omega arith
 
-fill-arrivals-requires : tie.Need-fill-arrivals-requires
+fill-arrivals-requires : tie.Need-fill_arrivals-requires
 fill-arrivals-requires c κs =
     let w = room (long-enough (sizes-filled c.before.before)) in
-    let p = c.before.before.arrivals-at.ensures.0 in
+    let p = c.arrivals_at.ensures.0 in
     omega arith
 
-returns-3 : tie.Need-returns-3
+returns-3 : tie.Need-returns
 returns-3 c =
-    let t = c.before.before.before.before in
-    let s = sizes-filled t.before.before.before in
+    let t = c in
+    let s = sizes-filled t.before.before.before.before.before.before.before in
     let k = long-enough s in
     let q = checked k in
     let a = (start q).args in
     let f = a.file.now in
-    let y = q.check.result in
-    let m = s.before.before.before.sizes-at.ensures in
-    let n = t.before.before.before.arrivals-at.ensures.0 in (
-      read-filled f a.sizes.now a.numbers.now a.times.now y q.check.ensures.0 k.before.before.if1.left
-          s.fill-sizes.last.1.1.1.0 t.fill-arrivals.new.1.1.1.0 t.fill-arrivals.new.1.1.1.1.0
-          (sym k.before.too_short.ensures ∙ k.if2.left)
-          (s.fill-sizes.ensures ∙ ap (λ (p : ℕ). over (items_in size_width be_value y.sent (drop p f)) a.sizes.now) m)
-          (t.fill-arrivals.ensures.0
+    let y = q.check-layout.result in
+    let m = s.sizes_at.ensures in
+    let n = t.arrivals_at.ensures.0 in (
+      read-filled f a.sizes.now a.numbers.now a.times.now y q.check-layout.ensures.0 k.if-layout-ne0.false
+          s.fill_sizes.new.sizes t.fill_arrivals.new.numbers t.fill_arrivals.new.times
+          (sym k.too_short.ensures ∙ k.if-too_short.false)
+          (s.fill_sizes.ensures ∙ ap (λ (p : ℕ). over (items_in size_width be_value y.sent (drop p f)) a.sizes.now) m)
+          (t.fill_arrivals.ensures.0
           ∙ ap (λ (p : ℕ). over (numbers_of (items_in arrival_width arrival_in y.arrivals (drop p f))) a.numbers.now) n)
-          (t.fill-arrivals.ensures.1
+          (t.fill_arrivals.ensures.1
           ∙ ap (λ (p : ℕ). over (times_of (items_in arrival_width arrival_in y.arrivals (drop p f))) a.times.now) n),
-      written-again f (below-fits w8 f q.before.before.before.before.shared-slice-known.given),
+      written-again f (below-fits w8 f q.shared_slice_known-1.given),
     )
 
 pub read_spec : {M : Type 1} → statement M

@@ -7,22 +7,22 @@ use Rattle.sample.specs.Judge.{sample_refusal}
 use Rattle.sample.proofs.refusal_of_sample.Statement.{statement}
 use Rattle.sample.proofs.refusal_of_sample.Tie as tie
 
-returns : tie.Need-returns
+returns : tie.Need-returns-then-outside
 unfolding sample_refusal
 returns c =
-    simp (sym c.before.outside.ensures ∙ c.if1.true)
+    simp (sym c.outside.ensures ∙ c.if-outside.true)
 
-returns-2 : tie.Need-returns-2
+returns-2 : tie.Need-returns-then-some_unshown
 unfolding sample_refusal
 returns-2 c =
-    simp (sym c.before.before.before.outside.ensures ∙ c.before.before.if1.false, sym c.before.some-unshown.ensures ∙ c.if2.true)
+    simp (sym c.outside.ensures ∙ c.if-outside.false, sym c.some_unshown.ensures ∙ c.if-some_unshown.true)
 
-returns-3 : tie.Need-returns-3
+returns-3 : tie.Need-returns
 unfolding sample_refusal
 returns-3 c =
-    simp (sym c.before.before.before.before.outside.ensures ∙ c.before.before.before.if1.false, sym c.before.before.some-unshown.ensures ∙ c.before.if2.false, sym c.refusal-of-lists.ensures)
-    (sym (first_one c.refusal-of-lists.result))
+    simp (sym c.outside.ensures ∙ c.if-outside.false, sym c.some_unshown.ensures ∙ c.if-some_unshown.false, sym c.refusal_of_lists.ensures)
+    (sym (first_one c.refusal_of_lists.result))
 
-pub refusal-of-sample-spec : {M : Type 1} → statement M
-refusal-of-sample-spec =
+pub refusal_of_sample_spec : {M : Type 1} → statement M
+refusal_of_sample_spec =
     tie.close (tie.spec (λ c κs. search rules) returns (λ c κs. search rules) returns-2 (λ c κs. search rules) returns-3)

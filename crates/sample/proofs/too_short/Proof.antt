@@ -6,20 +6,20 @@ use Rattle.sample.specs.Calls.{lists_short}
 use Rattle.sample.proofs.too_short.Statement.{statement}
 use Rattle.sample.proofs.too_short.Tie as tie
 
-returns : tie.Need-returns
+returns : tie.Need-returns-then-sizes-layout
 unfolding lists_short
 returns c =
-    simp (lt-ltb _ _ c.if1.true)
+    simp (lt-ltb _ _ c.if-sizes-layout.true)
 
-returns-2 : tie.Need-returns-2
+returns-2 : tie.Need-returns-then-numbers-layout
 unfolding lists_short
 returns-2 c =
-    simp (le-ltb _ _ c.before.before.if1.false, lt-ltb _ _ c.if2.true)
+    simp (le-ltb _ _ c.if-sizes-layout.false, lt-ltb _ _ c.if-numbers-layout.true)
 
-returns-3 : tie.Need-returns-3
+returns-3 : tie.Need-returns
 unfolding lists_short
 returns-3 c =
-    simp (le-ltb _ _ c.before.before.before.if1.false, le-ltb _ _ c.before.if2.false)
+    simp (le-ltb _ _ c.if-sizes-layout.false, le-ltb _ _ c.if-numbers-layout.false)
 
-pub too-short-spec : {M : Type 1} → statement M
-too-short-spec = tie.close (tie.spec (λ c. search rules) returns (λ c. search rules) returns-2 (λ c. search rules) returns-3)
+pub too_short_spec : {M : Type 1} → statement M
+too_short_spec = tie.close (tie.spec (λ c. search rules) returns (λ c. search rules) returns-2 (λ c. search rules) returns-3)

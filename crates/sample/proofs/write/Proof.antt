@@ -24,32 +24,32 @@ use Rattle.sample.proofs.write.Tie as tie
 
 -- ---- places in the code: the start, before and after the first test, after the places were computed, and after the label was written
 
-abbrev start : tie.After-slice-known → tie.Start
+abbrev start : tie.After-slice_known-1 → tie.Start
 start k = k.before.before.before.before.before
 
-abbrev untested : tie.Else1 → tie.After-slice-known
+abbrev untested : tie.Else-refusal-ne0 → tie.After-slice_known-1
 untested e = e.before.before
 
-abbrev unrefused : tie.After-end-of3 → tie.Else1
+abbrev unrefused : tie.After-end_of-end → tie.Else-refusal-ne0
 unrefused p = p.before.before.before
 
-abbrev label-written : tie.After-write-sizes → tie.After-write-label
+abbrev label-written : tie.After-write_sizes → tie.After-write_label
 label-written s = s.before.before.before.before
 
-abbrev computed : tie.After-write-label → tie.After-end-of3
+abbrev computed : tie.After-write_label → tie.After-end_of-end
 computed l = l.before.before.before
 
 -- what was written reads back as the same lists
-again : (c : tie.After-slice-known)
+again : (c : tie.After-slice_known-1)
     → ReadAgain (start c).args.label.now (start c).args.sizes.now (start c).args.numbers.now (start c).args.times.now
 again c =
     let a = (start c).args in
     read_again a.label.now a.sizes.now a.numbers.now a.times.now
-    (below-fits w16 a.sizes.now c.before.before.before.shared-slice-known2.given)
-    (below-fits w64 a.times.now c.before.shared-slice-known4.given)
+    (below-fits w16 a.sizes.now c.shared_slice_known-2-1.given)
+    (below-fits w64 a.times.now c.shared_slice_known-4-1.given)
 
 -- where nothing of the lists is refused
-limited : (c : tie.Else1)
+limited : (c : tie.Else-refusal-ne0)
     → (length (start (untested c)).args.label.now ≤ label_most)
     × (some_unshown (start (untested c)).args.label.now ≡ false)
     × ListsFit (length (start (untested c)).args.sizes.now) (start (untested c)).args.numbers.now
@@ -57,84 +57,84 @@ limited : (c : tie.Else1)
 limited c =
     let a = (start (untested c)).args in
     label-fit a.label.now a.sizes.now a.numbers.now a.times.now
-    (sym c.before.refusal-of-sample.ensures ∙ c.if1.false)
+    (sym c.refusal_of_sample-refusal.ensures ∙ c.if-refusal-ne0.false)
 
-returns : tie.Need-returns
+returns : tie.Need-returns-then-refusal-ne0
 returns c =
-    let k = c.before.before in
-    let a = (start k).args in (
+    let k = c in
+    let a = (start k.before.before).args in (
       write-refused a.label.now a.sizes.now a.numbers.now a.times.now a.out.now
-          c.before.refusal-of-sample.result c.if1.true c.before.refusal-of-sample.ensures,
-      again k,
+          c.refusal_of_sample-refusal.result c.if-refusal-ne0.true c.refusal_of_sample-refusal.ensures,
+      again k.before.before,
     )
 
-end-of-requires-2 : tie.Need-end-of-requires-2
+end-of-requires-2 : tie.Need-end_of-arrived_at-requires
 end-of-requires-2 c κs =
     let l = limited c.before in
     omega arith
 
-end-of-requires-3 : tie.Need-end-of-requires-3
+end-of-requires-3 : tie.Need-end_of-end-requires
 end-of-requires-3 c κs =
     let l = limited c.before.before in
     omega arith
 
-abbrev begun : tie.After-end-of3 → tie.Start
+abbrev begun : tie.After-end_of-end → tie.Start
 begun c = start (untested (unrefused c))
 
 -- the places that are computed are those of the layout
-places : (c : tie.After-end-of3)
-    → (c.before.before.end_of_lem.result ≡ sent_start (length (begun c).args.label.now))
-    × (c.before.end-of2.result ≡ arrived_start (length (begun c).args.label.now) (length (begun c).args.sizes.now))
-    × (c.end-of3.result
+places : (c : tie.After-end_of-end)
+    → (c.end_of-sent_at.result ≡ sent_start (length (begun c).args.label.now))
+    × (c.end_of-arrived_at.result ≡ arrived_start (length (begun c).args.label.now) (length (begun c).args.sizes.now))
+    × (c.end_of-end.result
     ≡ last_end (length (begun c).args.label.now) (length (begun c).args.sizes.now) (length (begun c).args.numbers.now))
 places c =
     (omega arith, omega arith, omega arith)
 
-returns-2 : tie.Need-returns-2
+returns-2 : tie.Need-returns-then-out-end
 returns-2 c =
     let u = unrefused c.before in
     let k = untested u in
     let a = (start k).args in (
       write-short a.label.now a.sizes.now a.numbers.now a.times.now a.out.now
-          (sym u.if1.left ∙ u.before.refusal-of-sample.ensures) (limited u).2.same
-          c.before.end-of3.result (places c.before).2 c.if2.true,
+          (sym u.if-refusal-ne0.false ∙ u.refusal_of_sample-refusal.ensures) (limited u).2.same
+          c.end_of-end.result (places c.before).2 c.if-out-end.true,
       again k,
     )
 
-write-arrivals-requires : tie.Need-write-arrivals-requires
+write-arrivals-requires : tie.Need-write_arrivals-requires
 write-arrivals-requires c κs =
-    let s = c.before.before.before in
-    let w = label-written s in
+    let s = c in
+    let w = label-written s.before.before.before in
     let l = limited (unrefused (computed w)) in
-    let p = s.write-sizes.auto.1.0 in
-    let q = w.write-label.kept.1.0 in
-    let r = w.before.before.if2.left in
+    let p = s.write_sizes.auto.out in
+    let q = w.write_label.auto.out in
+    let r = w.if-out-end.false in
     (l.2.same, omega arith)
 
-cast-t19 : tie.Need-overflow-cast-t19
+cast-t19 : tie.Need-overflow_cast-result
 cast-t19 c =
     let l = limited (unrefused (computed (label-written c.before.before.before.before.before.before))) in
     omega arith
 
-returns-3 : tie.Need-returns-3
+returns-3 : tie.Need-returns
 returns-3 c =
-    let s = c.before.before.before.before.before.before in
-    let w = label-written s in
+    let s = c in
+    let w = label-written s.before.before.before.before.before.before in
     let e = computed w in
     let u = unrefused e in
     let k = untested u in
     let a = (start k).args in
     let p = places e in (
       write-filled a.label.now a.sizes.now a.numbers.now a.times.now a.out.now
-          (sym u.if1.left ∙ u.before.refusal-of-sample.ensures) (limited u).2.same
-          e.end-of3.result p.2 e.before.before.end_of_lem.result e.before.end-of2.result p.0 p.1
-          c.before.before.write-arrivals.new.1.1.0 w.before.before.if2.left
-          (c.before.before.write-arrivals.ensures
-          ∙ ap (splice e.before.end-of2.result (section (length a.numbers.now)
+          (sym u.if-refusal-ne0.false ∙ u.refusal_of_sample-refusal.ensures) (limited u).2.same
+          e.end_of-end.result p.2 e.end_of-sent_at.result e.end_of-arrived_at.result p.0 p.1
+          c.write_arrivals.new.out w.if-out-end.false
+          (c.write_arrivals.ensures
+          ∙ ap (splice e.end_of-arrived_at.result (section (length a.numbers.now)
           (item_octets arrival_octets (arrivals_from a.numbers.now a.times.now))))
-          (s.write-sizes.ensures
-          ∙ ap (splice e.before.before.end_of_lem.result (section (length a.sizes.now) (item_octets size_octets a.sizes.now)))
-          w.write-label.ensures)),
+          (s.write_sizes.ensures
+          ∙ ap (splice e.end_of-sent_at.result (section (length a.sizes.now) (item_octets size_octets a.sizes.now)))
+          w.write_label.ensures)),
       again k,
     )
 

@@ -8,33 +8,33 @@ use Rattle.text_lines.proofs.Firsts.{LeftFrom, ends-here, goes_on, ends_last}
 use Rattle.text_lines.proofs.line_end.Statement.{statement}
 use Rattle.text_lines.proofs.line_end.Tie as tie
 
-abbrev invariant-loop : tie.invariant-loop
-invariant-loop text at end₀ end = LeftFrom text at end
+abbrev invariant-loop-end : tie.invariant-loop-end
+invariant-loop-end text at end₀ end = LeftFrom text at end
 
-abbrev decreases-loop : tie.decreases-loop
-decreases-loop text at end₀ end = length text - end
+abbrev decreases-loop-end : tie.decreases-loop-end
+decreases-loop-end text at end₀ end = length text - end
 
-loop-holds : tie.Need-loop-init invariant-loop decreases-loop
+loop-holds : tie.Need-loop-end-init invariant-loop-end decreases-loop-end
 loop-holds c = record { within = search rules; left = refl }
 
-returns : tie.Need-returns invariant-loop decreases-loop
+returns : tie.Need-returns-then-text-end-eq10 invariant-loop-end decreases-loop-end
 returns c = ends-here _ _ _ (search rules) (search rules) (search rules)
 
-loop-less : tie.Need-loop-smaller invariant-loop decreases-loop
+loop-less : tie.Need-loop-end-smaller invariant-loop-end decreases-loop-end
 loop-less c = omega arith
 
-loop-again : tie.Need-loop-preserved invariant-loop decreases-loop
+loop-again : tie.Need-loop-end-preserved invariant-loop-end decreases-loop-end
 loop-again c = goes_on _ _ _ (search rules) (search rules) (search rules)
 
-returns-2 : tie.Need-returns-2 invariant-loop decreases-loop
+returns-2 : tie.Need-returns invariant-loop-end decreases-loop-end
 returns-2 c = ends_last _ _ _ (search rules) (search rules)
 
-pub line-end-spec : {M : Type 1} → statement M
-line-end-spec =
+pub line_end_spec : {M : Type 1} → statement M
+line_end_spec =
     tie.close
     (tie.spec
-    invariant-loop
-    decreases-loop
+    invariant-loop-end
+    decreases-loop-end
     loop-holds
     (λ c. search rules)
     (λ c. search rules)

@@ -25,29 +25,29 @@ module _ (n : ℕ) (text : List ℕ) (p : LinePart) (e : p ≡ line_part n text)
       let k : p.start + p.length - p.start ≡ p.length = omega arith in
       rw k (ap (λ (q : LinePart). take q.length (drop q.start text)) e ∙ t.line)
 
-add-end : tie.Need-overflow-add-end
+add-end : tie.Need-overflow_add-end
 add-end c =
-    let a = c.before.before.before.args in
-    let r = c.before.line-part in
+    let a = c.args in
+    let r = c.line_part-part in
     omega (arith, ends a.n a.text.now _ r.ensures.0 r.ensures.1)
 
-part-result-end : tie.Need-slice-bounds-result-end
+part-result-end : tie.Need-slice_bounds-result-end
 part-result-end c =
-    let a = c.before.before.before.args in
-    let r = c.before.line-part in
+    let a = c.args in
+    let r = c.line_part-part in
     ends a.n a.text.now _ r.ensures.0 r.ensures.1
 
 returns : tie.Need-returns
 returns c =
-    let a = c.before.before.before.before.args in
-    let r = c.before.before.line-part in
-    let o = a.text.ptr in (
+    let a = c.args in
+    let r = c.line_part-part in
+    let o = a.text.ref_ptr in (
       told a.n a.text.now _ r.ensures.0 r.ensures.1,
       ap (λ (k : ℕ). (o.0, k + o.1)) (begins a.n a.text.now _ r.ensures.0 r.ensures.1),
     )
 
-pub line-of-spec : {M : Type 1} → statement M
-line-of-spec =
+pub line_of_spec : {M : Type 1} → statement M
+line_of_spec =
     tie.close
     (tie.spec
     (λ c κs. search rules) add-end (λ c. search rules) (λ c. search rules) part-result-end returns)

@@ -8,15 +8,15 @@ use Rattle.text_lines.proofs.line_part.Tie as tie
 
 returns : tie.Need-returns
 returns c =
-    let a = c.before.before.before.args in
-    let s = c.before.line-start in
-    let e = c.line-end in (
+    let a = c.args in
+    let s = c.line_start-start in
+    let e = c.line_end-end in (
       part-told a.n a.text.now _ _ s.ensures.1 s.ensures.2 e.ensures,
       part-there a.n a.text.now _ _ s.ensures.1 s.ensures.2 e.ensures,
     )
 
-pub line-part-spec : {M : Type 1} → statement M
-line-part-spec =
+pub line_part_spec : {M : Type 1} → statement M
+line_part_spec =
     tie.close
     (tie.spec
-    (λ c κs. search rules) (λ c κs. search rules) (λ c. omega (arith, c.line-end.ensures.place)) returns)
+    (λ c κs. search rules) (λ c κs. search rules) (λ c. omega (arith, c.line_end-end.ensures.place)) returns)

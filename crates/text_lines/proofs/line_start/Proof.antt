@@ -12,49 +12,49 @@ use Rattle.text_lines.proofs.Firsts.{line-none, start-last, line_after, start_fi
 use Rattle.text_lines.proofs.line_start.Statement.{statement}
 use Rattle.text_lines.proofs.line_start.Tie as tie
 
-abbrev invariant-loop : tie.invariant-loop
-invariant-loop text n at₀ left₀ at left =
+abbrev invariant-loop-left : tie.invariant-loop-left
+invariant-loop-left text n at₀ left₀ at left =
     (at ≤ length text) × (line_of n text ≡ line_of left (drop at text)) × (line_start n text ≡ at + line_start left (drop at text))
 
-abbrev decreases-loop : tie.decreases-loop
-decreases-loop text n at₀ left₀ at left = left
+abbrev decreases-loop-left : tie.decreases-loop-left
+decreases-loop-left text n at₀ left₀ at left = left
 
-loop-holds : tie.Need-loop-init invariant-loop decreases-loop
+loop-holds : tie.Need-loop-left-init invariant-loop-left decreases-loop-left
 loop-holds c = (omega arith, refl, sym (zero-add _))
 
-line-end-requires : tie.Need-line-end-requires invariant-loop decreases-loop
+line-end-requires : tie.Need-line_end-at-requires invariant-loop-left decreases-loop-left
 line-end-requires c κs = search rules
 
-returns : tie.Need-returns invariant-loop decreases-loop
+returns : tie.Need-returns-then-text-at invariant-loop-left decreases-loop-left
 returns c =
-    let l = c.before.before.loop in
-    let text = c.before.before.before.before.args.text.now in
-    let last = c.if1.true in (
+    let l = c.loop-left in
+    let text = c.args.text.now in
+    let last = c.if-text-at.true in (
       l.invariant.0,
       l.invariant.1 ∙ line-none text l.at l.left last,
       omega (arith, l.invariant.2, start-last text l.at l.left last),
     )
 
-loop-again : tie.Need-loop-preserved invariant-loop decreases-loop
+loop-again : tie.Need-loop-left-preserved invariant-loop-left decreases-loop-left
 loop-again c =
-    let l = c.before.before.before.loop in
-    let text = c.before.before.before.before.before.args.text.now in
-    let e = c.line-end in
-    let some = c.before.before.loop-test.true in (
+    let l = c.loop-left in
+    let text = c.args.text.now in
+    let e = c.line_end-at in
+    let some = c.loop-left-test.true in (
       e.ensures.within,
       l.invariant.1 ∙ line_after text l.at e.result l.left some e.ensures,
       l.invariant.2 ∙ start-after text l.at e.result l.left some e.ensures,
     )
 
-returns-2 : tie.Need-returns-2 invariant-loop decreases-loop
+returns-2 : tie.Need-returns invariant-loop-left decreases-loop-left
 returns-2 c =
-    let l = c.before.loop in
-    let text = c.before.before.before.args.text.now in
-    let z : l.left ≡ 0 = omega (arith, c.loop-test.false) in
+    let l = c.loop-left in
+    let text = c.args.text.now in
+    let z : l.left ≡ 0 = omega (arith, c.loop-left-test.false) in
     let s = l.invariant.2 ∙ ap (λ (k : ℕ). l.at + line_start k (drop l.at text)) z in
     (l.invariant.0, l.invariant.1 ∙ ap (λ (k : ℕ). line_of k (drop l.at text)) z, omega (arith, s, start_first (drop l.at text)))
 
-pub line-start-spec : {M : Type 1} → statement M
-line-start-spec =
+pub line_start_spec : {M : Type 1} → statement M
+line_start_spec =
     tie.close
-    (tie.spec invariant-loop decreases-loop loop-holds returns line-end-requires (λ c. search rules) (λ c. omega arith) loop-again returns-2)
+    (tie.spec invariant-loop-left decreases-loop-left loop-holds returns line-end-requires (λ c. search rules) (λ c. omega arith) loop-again returns-2)

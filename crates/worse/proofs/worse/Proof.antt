@@ -29,17 +29,17 @@ label_at : (j : tie.After-compare) (l : Link) → j.compare.result.link ≡ l
 label_at j l f = label_of (one_at j) (other_at j) j.compare.result j.compare.ensures l f
 
 place_at : (j : tie.After-compare) (l : Link) → j.compare.result.link ≡ l
-    → chosen (start j).args.first.ptr (place_in (start j).args.first.ptr (label_place (one_at j)))
-    (place_in (start j).args.second.ptr (label_place (other_at j))) l
-    ≡ worse_place (one_at j) (other_at j) (start j).args.first.ptr (start j).args.second.ptr
+    → chosen (start j).args.first.ref_ptr (place_in (start j).args.first.ref_ptr (label_place (one_at j)))
+    (place_in (start j).args.second.ref_ptr (label_place (other_at j))) l
+    ≡ worse_place (one_at j) (other_at j) (start j).args.first.ref_ptr (start j).args.second.ref_ptr
 place_at j l f =
-    place_of (one_at j) (other_at j) j.compare.result j.compare.ensures l f (start j).args.first.ptr (start j).args.second.ptr
+    place_of (one_at j) (other_at j) j.compare.result j.compare.ensures l f (start j).args.first.ref_ptr (start j).args.second.ref_ptr
 
 returns : tie.Need-returns
 returns c =
     let j = c.before.before.before in
     let f : j.compare.result.link ≡ Refused = search c.before.enum_told.given in
-    let p = (start j).args.first.ptr in
+    let p = (start j).args.first.ref_ptr in
     let k : 0 + p.1 ≡ p.1 = omega arith in
     (label_at j Refused f, ap (λ (n : ℕ). (p.0, n)) k ∙ place_at j Refused f)
 

@@ -5,13 +5,13 @@ use Rattle.decimal.specs.Reading.{digit}
 use Rattle.decimal.proofs.reading.is_digit.Statement.{statement}
 use Rattle.decimal.proofs.reading.is_digit.Tie as tie
 
-returns : tie.Need-returns
+returns : tie.Need-returns-then-octet-lt48
 unfolding digit
-returns c = simp (lt-leb _ _ c.if1.true)
+returns c = simp (lt-leb _ _ c.if-octet-lt48.true)
 
-returns-2 : tie.Need-returns-2
+returns-2 : tie.Need-returns
 unfolding digit
-returns-2 c = simp (le-leb _ _ c.if1.false)
+returns-2 c = simp (le-leb _ _ c.if-octet-lt48.false)
 
-pub is-digit-spec : {M : Type 1} → statement M
-is-digit-spec = tie.close (tie.spec returns returns-2)
+pub is_digit_spec : {M : Type 1} → statement M
+is_digit_spec = tie.close (tie.spec returns returns-2)

@@ -12,41 +12,41 @@ use Rattle.decimal.proofs.reading.number_at.Statement.{statement}
 use Rattle.decimal.proofs.reading.number_at.Tie as tie
 
 -- value₀ and end₀ are value and end where the loop begins
-abbrev invariant-loop : tie.invariant-loop
-invariant-loop s at value₀ end₀ value end = Passed s at value end
+abbrev invariant-loop-end : tie.invariant-loop-end
+invariant-loop-end s at value₀ end₀ value end = Passed s at value end
 
-abbrev decreases-loop : tie.decreases-loop
-decreases-loop s at value₀ end₀ value end = length s - end
+abbrev decreases-loop-end : tie.decreases-loop-end
+decreases-loop-end s at value₀ end₀ value end = length s - end
 
-loop-holds : tie.Need-loop-init invariant-loop decreases-loop
+loop-holds : tie.Need-loop-end-init invariant-loop-end decreases-loop-end
 loop-holds c = passed_none _ _
 
-returns : tie.Need-returns invariant-loop decreases-loop
+returns : tie.Need-returns-then-not-is_digit invariant-loop-end decreases-loop-end
 returns c = (
-  passed-all _ _ _ _ c.before.before.before.before.loop.invariant (sym c.before.is_digit.ensures ∙ not-true _ c.if1.true),
+  passed-all _ _ _ _ c.loop-end.invariant (sym c.is_digit.ensures ∙ c.if-not-is_digit.true),
   back,
 )
 
-with-digit-requires : tie.Need-with-digit-requires invariant-loop decreases-loop
-with-digit-requires c κs = digit-bounds _ (sym c.before.is_digit.ensures ∙ not-false _ c.if1.false)
+with-digit-requires : tie.Need-with_digit-value-requires invariant-loop-end decreases-loop-end
+with-digit-requires c κs = digit-bounds _ (sym c.is_digit.ensures ∙ c.if-not-is_digit.false)
 
-loop-again : tie.Need-loop-preserved invariant-loop decreases-loop
+loop-again : tie.Need-loop-end-preserved invariant-loop-end decreases-loop-end
 loop-again c =
-    passed-more _ _ _ _ c.before.before.before.before.before.loop.invariant c.with-digit.result
-    c.before.before.before.before.loop-test.true
-    (sym c.before.before.is_digit.ensures ∙ not-false _ c.before.if1.false) c.with-digit.ensures
+    passed-more _ _ _ _ c.loop-end.invariant c.with_digit-value.result
+    c.loop-end-test.true
+    (sym c.is_digit.ensures ∙ c.if-not-is_digit.false) c.with_digit-value.ensures
 
-returns-2 : tie.Need-returns-2 invariant-loop decreases-loop
+returns-2 : tie.Need-returns invariant-loop-end decreases-loop-end
 returns-2 c =
-    let past = none-past c.before.before.before.args.s.now c.before.loop.end c.loop-test.false in
-    (passed-all _ _ _ _ c.before.loop.invariant past, back)
+    let past = none-past c.args.s.now c.loop-end.end c.loop-end-test.false in
+    (passed-all _ _ _ _ c.loop-end.invariant past, back)
 
-pub number-at-spec : {M : Type 1} → statement M
-number-at-spec =
+pub number_at_spec : {M : Type 1} → statement M
+number_at_spec =
     tie.close
     (tie.spec
-    invariant-loop
-    decreases-loop
+    invariant-loop-end
+    decreases-loop-end
     loop-holds
     (λ c. search rules) (λ c κs. search rules)
     returns

@@ -31,17 +31,17 @@ carries k r e = (
   ),
 )
 
-returns : tie.Need-returns
+returns : tie.Need-returns-then-outside
 unfolding fresh_of
 returns c =
-    let s = c.before.before in
-    carries s.before.args.k _ (simp (sym s.outside.ensures ∙ c.before.if1.true, c.made-for.ensures))
+    let s = c in
+    carries s.args.k _ (simp (sym s.outside.ensures ∙ c.if-outside.true, c.made_for.ensures))
 
-returns-2 : tie.Need-returns-2
+returns-2 : tie.Need-returns
 unfolding fresh_of
 returns-2 c =
-    let s = c.before.before in
-    carries s.before.args.k _ (simp (sym s.outside.ensures ∙ c.before.if1.false, c.made-for2.ensures))
+    let s = c in
+    carries s.args.k _ (simp (sym s.outside.ensures ∙ c.if-outside.false, c.made_for-2.ensures))
 
-pub fresh-spec : {M : Type 1} → statement M
-fresh-spec = tie.close (tie.spec (λ c κs. search rules) (λ c κs. search rules) returns (λ c κs. search rules) returns-2)
+pub fresh_spec : {M : Type 1} → statement M
+fresh_spec = tie.close (tie.spec (λ c κs. search rules) (λ c κs. search rules) returns (λ c κs. search rules) returns-2)

@@ -10,21 +10,21 @@ use Rattle.receiver.proofs.Fits.{stream-facts}
 use Rattle.receiver.proofs.Receiver.is_fit.Statement.{statement}
 use Rattle.receiver.proofs.Receiver.is_fit.Tie as tie
 
-returns : tie.Need-returns
+returns : tie.Need-returns-then-not-stream_fit
 unfolding fit
-returns c = simp (sym c.before.stream-fit.ensures ∙ not-true _ c.if1.true)
+returns c = simp (sym c.stream_fit.ensures ∙ c.if-not-stream_fit.true)
 
-places-fit-requires : tie.Need-places-fit-requires
+places-fit-requires : tie.Need-places_fit-requires
 places-fit-requires c κs =
-    let s = c.before.before.before.before.before.before in
-    let h = stream-facts _ (sym s.before.stream-fit.ensures ∙ not-false _ s.if1.false) in
+    let s = c in
+    let h = stream-facts _ (sym s.stream_fit.ensures ∙ s.if-not-stream_fit.false) in
     ((h.sent-high, omega (arith, h.arrived-high, h.sent-high)), (search rules, (search rules, search rules)))
 
-returns-2 : tie.Need-returns-2
+returns-2 : tie.Need-returns
 unfolding fit oldest_first
 returns-2 c =
-    let s = c.before.before.before.before.before.before.before in
-    simp (sym s.before.stream-fit.ensures ∙ not-false _ s.if1.false, c.places-fit.ensures)
+    let s = c in
+    simp (sym s.stream_fit.ensures ∙ s.if-not-stream_fit.false, c.places_fit.ensures)
 
-pub is-fit-spec : {M : Type 1} → statement M
-is-fit-spec = tie.close (tie.spec (λ c κs. search rules) returns places-fit-requires returns-2)
+pub is_fit_spec : {M : Type 1} → statement M
+is_fit_spec = tie.close (tie.spec (λ c κs. search rules) returns places-fit-requires returns-2)

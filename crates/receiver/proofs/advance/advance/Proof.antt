@@ -9,5 +9,5 @@ returns : tie.Need-returns
 unfolding oldest_first
 returns c = c.advance.ensures
 
-pub advance-spec : {M : Type 1} → statement M
-advance-spec = tie.close (tie.spec (λ c κs. search rules) returns)
+pub advance_spec : {M : Type 1} → statement M
+advance_spec = tie.close (tie.spec (λ c κs. search rules) returns)

@@ -20,53 +20,53 @@ state_at c =
     (oldest_first c.args.down c.args.numbers.now) (oldest_first c.args.down c.args.times.now)
 
 -- past the first test there is no refusal
-no-refusal : (c : tie.Else1) → step_refusal (state_at c.before.before) c.before.before.args.number c.before.before.args.time
+no-refusal : (c : tie.Else-refusal-ne0) → step_refusal (state_at c.before.before) c.args.number c.args.time
     ≡ 0
 unfolding step_refusal fit
-no-refusal c = sym c.before.step-refusal.ensures ∙ c.if1.false
+no-refusal c = sym c.step_refusal-refusal.ensures ∙ c.if-refusal-ne0.false
 
 -- so what an accepted arrival has holds, whatever the marks
-accepted : (c : tie.Else1) →
-    Unrefused (whole c.before.before.args.s [] (oldest_first c.before.before.args.down
-    c.before.before.args.positions.now) (oldest_first c.before.before.args.down c.before.before.args.numbers.now)
-    (oldest_first c.before.before.args.down c.before.before.args.times.now)) c.before.before.args.number
-accepted c = accepted-facts _ _ _ (sym c.before.step-refusal.ensures ∙ c.if1.false)
+accepted : (c : tie.Else-refusal-ne0) →
+    Unrefused (whole c.args.s [] (oldest_first c.args.down
+    c.args.positions.now) (oldest_first c.args.down c.args.numbers.now)
+    (oldest_first c.args.down c.args.times.now)) c.args.number
+accepted c = accepted-facts _ _ _ (sym c.step_refusal-refusal.ensures ∙ c.if-refusal-ne0.false)
 
-returns : tie.Need-returns
+returns : tie.Need-returns-then-refusal-ne0
 unfolding step_refusal fit
 returns c =
-    let s = c.before.before in
-    outcome-refused (state_at s) s.args.number s.args.time _ c.if1.true c.before.step-refusal.ensures
+    let s = c in
+    outcome-refused (state_at s.before.before) s.args.number s.args.time _ c.if-refusal-ne0.true c.step_refusal-refusal.ensures
 
-is-marked-requires : tie.Need-is-marked-requires
+is-marked-requires : tie.Need-is_marked-requires
 is-marked-requires c κs =
     let a = accepted c in
     (a.number-low, omega (arith, a.number-high, a.stream.sent-high))
 
-returns-2 : tie.Need-returns-2
+returns-2 : tie.Need-returns-then-is_marked
 returns-2 c =
-    let s = c.before.before.before.before in
-    outcome-duplicate (state_at s) s.args.number s.args.time (no-refusal c.before.before)
-    (sym c.before.is-marked.ensures ∙ c.if2.true)
+    let s = c in
+    outcome-duplicate (state_at s.before.before.before.before) s.args.number s.args.time (no-refusal c.before.before)
+    (sym c.is_marked.ensures ∙ c.if-is_marked.true)
 
-returns-3 : tie.Need-returns-3
+returns-3 : tie.Need-returns-then-s-number
 returns-3 c =
-    let s = c.before.before.before.before.before.before.before in
-    outcome-in-order (state_at s) s.args.number s.args.time (no-refusal c.before.before.before.before.before)
-    (sym c.before.before.before.before.is-marked.ensures ∙ c.before.before.before.if2.false) c.before.if3.true
+    let s = c in
+    outcome-in-order (state_at s.before.before.before.before.before.before.before) s.args.number s.args.time (no-refusal c.before.before.before.before.before)
+    (sym c.is_marked.ensures ∙ c.if-is_marked.false) c.if-s-number.true
 
-late-outcome-requires : tie.Need-late-outcome-requires
-late-outcome-requires c κs = (accepted c.before.before.before.before, c.before.before.before.before.before.before.requires)
+late-outcome-requires : tie.Need-late_outcome-requires
+late-outcome-requires c κs = (accepted c.before.before.before.before, c.requires)
 
-returns-4 : tie.Need-returns-4
+returns-4 : tie.Need-returns
 returns-4 c =
-    let s = c.before.before.before.before.before.before.before in
-    outcome-late (state_at s) s.args.number s.args.time (no-refusal c.before.before.before.before.before) _
-    (sym c.before.before.before.before.is-marked.ensures ∙ c.before.before.before.if2.false) c.before.if3.false
-    c.late-outcome.ensures
+    let s = c in
+    outcome-late (state_at s.before.before.before.before.before.before.before) s.args.number s.args.time (no-refusal c.before.before.before.before.before) _
+    (sym c.is_marked.ensures ∙ c.if-is_marked.false) c.if-s-number.false
+    c.late_outcome.ensures
 
-pub decide-spec : {M : Type 1} → statement M
-decide-spec =
+pub decide_spec : {M : Type 1} → statement M
+decide_spec =
     tie.close
     (tie.spec
     (λ c κs. search rules)

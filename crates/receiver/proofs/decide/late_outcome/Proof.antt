@@ -20,53 +20,53 @@ held_at c = held_of c.args.s (places_by c.args.down c.args.positions.now c.args.
 abbrev arrival_at : tie.Start → Arrival
 arrival_at c = record { number = c.args.number; time = c.args.time }
 
-returns : tie.Need-returns
+returns : tie.Need-returns-then-s-found
 unfolding kept_of
 returns c =
-    let s = c.before.before.before in
-    let h = held_at s in
-    late-none s.args.s h.places (arrival_at s)
-    (search-none h.places s.args.number h.kept _ c.if1.true c.before.before.place-above.ensures)
+    let s = c in
+    let h = held_at s.before.before.before in
+    late-none s.args.s h.places (arrival_at s.before.before.before)
+    (search-none h.places s.args.number h.kept _ c.if-s-found.true c.place_above-found.ensures)
 
-lateness-from-requires : tie.Need-lateness-from-requires
+lateness-from-requires : tie.Need-lateness_from-lateness-requires
 lateness-from-requires c κs =
-    let s = c.before.before.before.before.before.before in
-    let p = after-place _ s.args.number s.args.time s.requires.0 0 (omega (arith, c.before.before.before.if1.false)) in
+    let s = c in
+    let p = after-place _ s.args.number s.args.time s.requires.0 0 (omega (arith, c.if-s-found.false)) in
     let full = s.requires.1 in
     (p.0, (p.1, (full.0, full.1.1)))
 
-returns-2 : tie.Need-returns-2
+returns-2 : tie.Need-returns-then-number-s
 unfolding kept_of place_at
 returns-2 c =
-    let s = c.before.before.before.before.before.before.before in
-    let h = held_at s in
-    late-beyond s.args.s h.places (arrival_at s) _ _ _
-    (search-found h.places s.args.number h.kept _ c.before.before.before.before.if1.false
-    c.before.before.before.before.before.before.place-above.ensures)
-    c.before.before.if2.true
-    (oldest-kept h (omega (arith, c.before.before.before.before.if1.false)))
-    (c.lateness-from.ensures (get_or h.places.numbers 0 0))
+    let s = c in
+    let h = held_at s.before.before.before.before.before.before.before in
+    late-beyond s.args.s h.places (arrival_at s.before.before.before.before.before.before.before) _ _ _
+    (search-found h.places s.args.number h.kept _ c.if-s-found.false
+    c.place_above-found.ensures)
+    c.if-number-s.true
+    (oldest-kept h (omega (arith, c.if-s-found.false)))
+    (c.lateness_from-lateness.ensures (get_or h.places.numbers 0 0))
 
-lateness-from-requires-2 : tie.Need-lateness-from-requires-2
+lateness-from-requires-2 : tie.Need-lateness_from-lateness-requires-2
 lateness-from-requires-2 c κs =
-    let s = c.before.before.before.before.before.before in
-    let p = after-place _ s.args.number s.args.time s.requires.0 _ c.before.before.before.if1.false in
+    let s = c in
+    let p = after-place _ s.args.number s.args.time s.requires.0 _ c.if-s-found.false in
     let full = s.requires.1 in
     (p.0, (p.1, (full.0, full.1.1)))
 
-returns-3 : tie.Need-returns-3
+returns-3 : tie.Need-returns
 unfolding kept_of place_at
 returns-3 c =
-    let s = c.before.before.before.before.before.before.before in
-    let h = held_at s in
-    late-exact s.args.s h.places (arrival_at s) _ _
-    (search-found h.places s.args.number h.kept _ c.before.before.before.before.if1.false
-    c.before.before.before.before.before.before.place-above.ensures)
-    c.before.before.if2.false
-    (c.lateness-from2.ensures (get_or h.places.numbers c.before.before.before.before.before.before.place-above.result 0))
+    let s = c in
+    let h = held_at s.before.before.before.before.before.before.before in
+    late-exact s.args.s h.places (arrival_at s.before.before.before.before.before.before.before) _ _
+    (search-found h.places s.args.number h.kept _ c.if-s-found.false
+    c.place_above-found.ensures)
+    c.if-number-s.false
+    (c.lateness_from-lateness-2.ensures (get_or h.places.numbers c.place_above-found.result 0))
 
-pub late-outcome-spec : {M : Type 1} → statement M
-late-outcome-spec =
+pub late_outcome_spec : {M : Type 1} → statement M
+late_outcome_spec =
     tie.close
     (tie.spec
     (λ c κs. search rules) (λ c. search rules)

@@ -13,29 +13,29 @@ use Rattle.receiver.proofs.decide.lateness_from.Tie as tie
 
 -- the position that was read
 position-read : (c : tie.After-wide) → c.wide.result ≡ get_or
-    (oldest_first c.before.before.before.args.down c.before.before.before.args.positions.now)
-    c.before.before.before.args.i 0
+    (oldest_first c.args.down c.args.positions.now)
+    c.args.i 0
 position-read c =
-    let s = c.before.before.before in
+    let s = c in
     c.wide.ensures ∙ read_at s.args.positions.now s.requires.1.1.0 s.args.down _ _ s.requires.0
-    c.before.before.place.ensures.0
+    c.place-at.ensures.0
 
-sub-t13 : tie.Need-overflow-sub-t13
-sub-t13 c = omega (arith, position-read c, c.before.before.before.requires.1.0)
+sub-t13 : tie.Need-overflow_sub-result
+sub-t13 c = omega (arith, position-read c, c.requires.1.0)
 
 returns : tie.Need-returns
 unfolding lateness_from extent_from late_from
 returns c s =
-    let a = c.before.before.before.before.before in
+    let a = c in
     rw (
-      position-read c.before.before,
+      position-read c.before.before.before,
       c.elapsed.ensures,
       read_at a.args.times.now a.requires.1.1.1 a.args.down _ _ a.requires.0
-          c.before.before.before.before.place.ensures.0,
+          c.place-at.ensures.0,
     )
 
-pub lateness-from-spec : {M : Type 1} → statement M
-lateness-from-spec =
+pub lateness_from_spec : {M : Type 1} → statement M
+lateness_from_spec =
     tie.close
     (tie.spec
     (λ c κs. search rules) (λ c. search rules) (λ c. search rules) (λ c κs. search rules)

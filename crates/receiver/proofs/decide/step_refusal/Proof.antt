@@ -14,53 +14,53 @@ use Rattle.receiver.proofs.decide.step_refusal.Statement.{statement}
 use Rattle.receiver.proofs.decide.step_refusal.Tie as tie
 
 -- past the second test the numbers are fit
-stream-known : (c : tie.Else2) → stream_fit c.before.before.before.before.args.s ≡ true
-stream-known c = sym c.before.before.before.stream-fit.ensures ∙ not-false _ c.before.before.if1.false
+stream-known : (c : tie.Else-not-places_fit) → stream_fit c.args.s ≡ true
+stream-known c = sym c.stream_fit.ensures ∙ c.if-not-stream_fit.false
 
 -- and so are the places
-places-known : (c : tie.Else2) →
-    places_fit c.before.before.before.before.args.s (places_by c.before.before.before.before.args.down
-    c.before.before.before.before.args.positions.now c.before.before.before.before.args.numbers.now
-    c.before.before.before.before.args.times.now) ≡ true
-places-known c = sym c.before.places-fit.ensures ∙ not-false _ c.if2.false
+places-known : (c : tie.Else-not-places_fit) →
+    places_fit c.args.s (places_by c.args.down
+    c.args.positions.now c.args.numbers.now
+    c.args.times.now) ≡ true
+places-known c = sym c.places_fit.ensures ∙ c.if-not-places_fit.false
 
-returns : tie.Need-returns
+returns : tie.Need-returns-then-not-stream_fit
 unfolding step_refusal fit
-returns c = simp (sym c.before.stream-fit.ensures ∙ not-true _ c.if1.true)
+returns c = simp (sym c.stream_fit.ensures ∙ c.if-not-stream_fit.true)
 
-places-fit-requires : tie.Need-places-fit-requires
+places-fit-requires : tie.Need-places_fit-requires
 places-fit-requires c κs =
-    let h = stream-facts _ (sym c.before.stream-fit.ensures ∙ not-false _ c.if1.false) in
-    ((h.sent-high, omega (arith, h.arrived-high, h.sent-high)), c.before.before.requires)
+    let h = stream-facts _ (sym c.stream_fit.ensures ∙ c.if-not-stream_fit.false) in
+    ((h.sent-high, omega (arith, h.arrived-high, h.sent-high)), c.requires)
 
-returns-2 : tie.Need-returns-2
+returns-2 : tie.Need-returns-then-not-places_fit
 unfolding step_refusal fit
 returns-2 c =
-    let f = sym c.before.before.before.stream-fit.ensures ∙ not-false _ c.before.before.if1.false in
-    let p = sym c.before.places-fit.ensures ∙ not-true _ c.if2.true in
+    let f = sym c.stream_fit.ensures ∙ c.if-not-stream_fit.false in
+    let p = sym c.places_fit.ensures ∙ c.if-not-places_fit.true in
     simp (f, p)
 
-add-if3 : tie.Need-overflow-add-if3
+add-if3 : tie.Need-overflow_add-s
 add-if3 c =
     let h = stream-facts _ (stream-known c.before) in
     record { fits = omega (arith, h.accepted-high) }
 
-returns-3 : tie.Need-returns-3
+returns-3 : tie.Need-returns-then-s-eq-PACKETS
 unfolding step_refusal fit
 returns-3 c =
     let f = stream-known c.before.before in
     let p = places-known c.before.before in
-    simp (f, p, eq-eqb _ _ c.if3.true)
+    simp (f, p, eq-eqb _ _ c.if-s-eq-PACKETS.true)
 
-returns-4 : tie.Need-returns-4
+returns-4 : tie.Need-returns
 unfolding step_refusal fit
 returns-4 c =
     let f = stream-known c.before.before.before.before in
     let p = places-known c.before.before.before.before in
-    simp (f, p, ne_eqb _ _ c.before.before.if3.false) (c.judge-one.ensures ∙ sym (first_one _))
+    simp (f, p, ne_eqb _ _ c.if-s-eq-PACKETS.false) (c.judge_one.ensures ∙ sym (first_one _))
 
-pub step-refusal-spec : {M : Type 1} → statement M
-step-refusal-spec =
+pub step_refusal_spec : {M : Type 1} → statement M
+step_refusal_spec =
     tie.close
     (tie.spec
     (λ c κs. search rules)

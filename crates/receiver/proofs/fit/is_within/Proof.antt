@@ -5,11 +5,11 @@ use borrow.Author.Tests.{le-leb, lt-leb}
 use Rattle.receiver.proofs.fit.is_within.Statement.{statement}
 use Rattle.receiver.proofs.fit.is_within.Tie as tie
 
-returns : tie.Need-returns
-returns c = simp (lt-leb 1 c.before.args.value (omega arith))
+returns : tie.Need-returns-then-value-eq0
+returns c = simp (lt-leb 1 c.args.value (omega arith))
 
-returns-2 : tie.Need-returns-2
-returns-2 c = simp (le-leb 1 c.before.args.value (omega arith))
+returns-2 : tie.Need-returns
+returns-2 c = simp (le-leb 1 c.args.value (omega arith))
 
-pub is-within-spec : {M : Type 1} → statement M
-is-within-spec = tie.close (tie.spec returns returns-2)
+pub is_within_spec : {M : Type 1} → statement M
+is_within_spec = tie.close (tie.spec returns returns-2)

@@ -9,26 +9,26 @@ use Rattle.receiver.proofs.FitTests.{positions-unfit, numbers-unfit, times-decid
 use Rattle.receiver.proofs.fit.places_fit.Statement.{statement}
 use Rattle.receiver.proofs.fit.places_fit.Tie as tie
 
-returns : tie.Need-returns
+returns : tie.Need-returns-then-kept-gt-WINDOW
 returns c = places-false _ _ (λ h. omega arith)
 
-returns-2 : tie.Need-returns-2
+returns-2 : tie.Need-returns-then-s
 returns-2 c = places-false _ _ (λ h. omega arith)
 
-returns-3 : tie.Need-returns-3
-returns-3 c = positions-unfit _ _ (sym c.before.all-within.ensures ∙ not-true _ c.if3.true)
+returns-3 : tie.Need-returns-then-not-all_within
+returns-3 c = positions-unfit _ _ (sym c.all_within.ensures ∙ c.if-not-all_within.true)
 
-returns-4 : tie.Need-returns-4
-returns-4 c = numbers-unfit _ _ (sym c.before.all-within2.ensures ∙ not-true _ c.if4.true)
+returns-4 : tie.Need-returns-then-not-all_within-2
+returns-4 c = numbers-unfit _ _ (sym c.all_within-2.ensures ∙ c.if-not-all_within-2.true)
 
-returns-5 : tie.Need-returns-5
+returns-5 : tie.Need-returns
 returns-5 c =
-    times-decide _ _ (search rules) (search rules) (sym c.before.before.before.before.before.all-within.ensures
-    ∙ not-false _ c.before.before.before.before.if3.false)
-    (sym c.before.before.all-within2.ensures ∙ not-false _ c.before.if4.false) _ c.none_after.ensures
+    times-decide _ _ (search rules) (search rules) (sym c.all_within.ensures
+    ∙ c.if-not-all_within.false)
+    (sym c.all_within-2.ensures ∙ c.if-not-all_within-2.false) _ c.none_after.ensures
 
-pub places-fit-spec : {M : Type 1} → statement M
-places-fit-spec =
+pub places_fit_spec : {M : Type 1} → statement M
+places_fit_spec =
     tie.close
     (tie.spec
     (λ c. search rules)

@@ -7,26 +7,26 @@ use Rattle.receiver.proofs.Fits.{stream-pass, stream-false}
 use Rattle.receiver.proofs.fit.stream_fit.Statement.{statement}
 use Rattle.receiver.proofs.fit.stream_fit.Tie as tie
 
-returns-11 : tie.Need-returns-11
+returns-11 : tie.Need-returns
 returns-11 c =
-    let late = c.before.before.before.before.before.before.before in
-    let early = late.before.before.before.before.before.before in
+    let late = c in
+    let early = late in
     sym (stream-pass _
     (omega (
       arith,
-      early.before.before.before.before.before.before.before.if1.false,
-      early.before.before.before.before.before.if2.false,
-      early.before.before.before.if3.false,
-      early.if4.false,
-      late.before.before.before.before.if5.false,
-      late.before.before.if6.false,
-      late.if7.false,
-      c.before.before.before.before.before.if8.false,
-      c.before.before.before.if9.false,
+      early.if-s-eq0.false,
+      early.if-s-gt-PACKETS.false,
+      early.if-s.false,
+      early.if-s-2.false,
+      late.if-s-3.false,
+      late.if-s-4.false,
+      late.if-s-5.false,
+      c.if-s-gt-SQUARES_MOST.false,
+      c.if-s-eq0-2.false,
     )))
 
-pub stream-fit-spec : {M : Type 1} → statement M
-stream-fit-spec =
+pub stream_fit_spec : {M : Type 1} → statement M
+stream_fit_spec =
     tie.close
     (tie.spec
     (λ c. stream-false _ (λ h. omega arith))

@@ -7,21 +7,21 @@ use Rattle.receiver.proofs.OldestFirst.{read_at}
 use Rattle.receiver.proofs.kept.dropped_after.Statement.{statement}
 use Rattle.receiver.proofs.kept.dropped_after.Tie as tie
 
-returns : tie.Need-returns
-returns c = simp (eq-eqb _ _ c.if1.true)
+returns : tie.Need-returns-then-size-eq0
+returns c = simp (eq-eqb _ _ c.if-size-eq0.true)
 
-returns-2 : tie.Need-returns-2
-returns-2 c = simp (ne_eqb _ _ c.before.if1.false, lt-ltb _ _ c.if2.true)
+returns-2 : tie.Need-returns-then-kept-most
+returns-2 c = simp (ne_eqb _ _ c.if-size-eq0.false, lt-ltb _ _ c.if-kept-most.true)
 
-returns-3 : tie.Need-returns-3
+returns-3 : tie.Need-returns
 returns-3 c =
-    let s = c.before.before.before.before.before in
+    let s = c in
     simp (
-      ne_eqb _ _ c.before.before.before.before.if1.false,
-      le-ltb _ _ c.before.before.before.if2.false,
-      c.wide.ensures ∙ read_at s.args.numbers.now s.requires s.args.down 0 _ (omega arith) c.before.before.place.ensures.0,
+      ne_eqb _ _ c.if-size-eq0.false,
+      le-ltb _ _ c.if-kept-most.false,
+      c.wide.ensures ∙ read_at s.args.numbers.now s.requires s.args.down 0 _ (omega arith) c.place.ensures.0,
     )
 
-pub dropped-after-spec : {M : Type 1} → statement M
-dropped-after-spec =
+pub dropped_after_spec : {M : Type 1} → statement M
+dropped_after_spec =
     tie.close (tie.spec returns returns-2 (λ c κs. search rules) (λ c. search rules) (λ c. search rules) (λ c κs. search rules) returns-3)

@@ -16,46 +16,46 @@ use Rattle.receiver.proofs.kept.place_above.Statement.{statement}
 use Rattle.receiver.proofs.kept.place_above.Tie as tie
 
 -- i₀ is `i` where the loop begins, i is it at its head
-abbrev invariant-loop : tie.invariant-loop
-invariant-loop numbers down kept number count i₀ i = (i ≤ count) × ((k : ℕ) → k < i → ltb number (get_or (oldest_first down numbers) k 0) ≡ false)
+abbrev invariant-loop-i : tie.invariant-loop-i
+invariant-loop-i numbers down kept number count i₀ i = (i ≤ count) × ((k : ℕ) → k < i → ltb number (get_or (oldest_first down numbers) k 0) ≡ false)
 
-abbrev decreases-loop : tie.decreases-loop
-decreases-loop numbers down kept number count i₀ i = count - i
+abbrev decreases-loop-i : tie.decreases-loop-i
+decreases-loop-i numbers down kept number count i₀ i = count - i
 
-loop-holds : tie.Need-loop-init invariant-loop decreases-loop
+loop-holds : tie.Need-loop-i-init invariant-loop-i decreases-loop-i
 loop-holds c = (search rules, below_none _)
 
-returns : tie.Need-returns invariant-loop decreases-loop
+returns : tie.Need-returns-then-number-wide invariant-loop-i decreases-loop-i
 returns c =
-    let s = c.before.before.before.before.before.before in
-    let l = c.before.before.before.before.before.loop in
+    let s = c in
+    let l = c.loop-i in
     let h : l.i < window_places = search rules in
     let e =
-    c.before.wide.ensures ∙ read_at s.args.numbers.now s.requires.1 s.args.down l.i _ h
-    c.before.before.before.place.ensures.0 in
+    c.wide.ensures ∙ read_at s.args.numbers.now s.requires.1 s.args.down l.i _ h
+    c.place.ensures.0 in
     record { place-high = search rules; before = l.invariant.1; above = λ h. omega (arith, e) }
 
-loop-again : tie.Need-loop-preserved invariant-loop decreases-loop
+loop-again : tie.Need-loop-i-preserved invariant-loop-i decreases-loop-i
 loop-again c =
-    let s = c.before.before.before.before.before.before in
-    let l = c.before.before.before.before.before.loop in
+    let s = c in
+    let l = c.loop-i in
     let h : l.i < window_places = search rules in
     let e =
-    c.before.wide.ensures ∙ read_at s.args.numbers.now s.requires.1 s.args.down l.i _ h
-    c.before.before.before.place.ensures.0 in
+    c.wide.ensures ∙ read_at s.args.numbers.now s.requires.1 s.args.down l.i _ h
+    c.place.ensures.0 in
     let low : get_or (oldest_first s.args.down s.args.numbers.now) l.i 0 ≤ s.args.number = omega (arith, e) in
     (search rules, below_more _ _ l.invariant.1 (le-ltb _ _ low))
 
-returns-2 : tie.Need-returns-2 invariant-loop decreases-loop
+returns-2 : tie.Need-returns invariant-loop-i decreases-loop-i
 returns-2 c =
-    record { place-high = search rules; before = λ k h. c.before.loop.invariant.1 k (omega arith); above = λ h. absurd (omega arith) }
+    record { place-high = search rules; before = λ k h. c.loop-i.invariant.1 k (omega arith); above = λ h. absurd (omega arith) }
 
-pub place-above-spec : {M : Type 1} → statement M
-place-above-spec =
+pub place_above_spec : {M : Type 1} → statement M
+place_above_spec =
     tie.close
     (tie.spec
-    invariant-loop
-    decreases-loop
+    invariant-loop-i
+    decreases-loop-i
     loop-holds
     (λ c κs. search rules)
     (λ c. search rules) (λ c. search rules) (λ c κs. search rules)

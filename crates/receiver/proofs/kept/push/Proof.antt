@@ -29,14 +29,14 @@ room : (l : List ℕ) → length l ≡ window_places → (down : Bool) (kept mos
 unfolding pushed
 room l size down kept most p v h m e = rw (lt-ltb kept most h) (write-at l size down kept p v (omega arith) e)
 
-returns : tie.Need-returns
+returns : tie.Need-returns-then-kept-most
 returns c =
-    let s = c.before.before in
+    let s = c in
     let a = s.args in
-    let h = c.before.if1.true in
+    let h = c.if-kept-most.true in
     let m = s.requires.1.0.1 in
     let full = s.requires.1.1 in
-    let e = c.place.ensures.0 in (
+    let e = c.place-end.ensures.0 in (
       room a.positions.now full.0 a.down a.kept a.most _ _ h m e,
       (
         room a.numbers.now full.1.0 a.down a.kept a.most _ _ h m e,
@@ -44,12 +44,12 @@ returns c =
       ),
     )
 
-returns-2 : tie.Need-returns-2
+returns-2 : tie.Need-returns-then-count-eq-WINDOW
 returns-2 c =
-    let s = c.before.before.before.before.before.before in
+    let s = c in
     let a = s.args in
-    let h : a.most ≤ a.kept = c.before.before.before.before.before.if1.false in
-    let e : window_places - 1 + 1 ≡ a.kept = omega (arith, c.before.before.before.before.if2.true) in
+    let h : a.most ≤ a.kept = c.if-kept-most.false in
+    let e : window_places - 1 + 1 ≡ a.kept = omega (arith, c.if-count-eq-WINDOW.true) in
     let p = c.put_last.ensures in (
       no_room a.kept a.most (window_places - 1) h e (oldest_first a.down a.positions.now) _ _ p.0,
       (
@@ -58,13 +58,13 @@ returns-2 c =
       ),
     )
 
-returns-3 : tie.Need-returns-3
+returns-3 : tie.Need-returns
 returns-3 c =
-    let s = c.before.before.before.before.before.before in
+    let s = c in
     let a = s.args in
-    let h : a.most ≤ a.kept = c.before.before.before.before.before.if1.false in
+    let h : a.most ≤ a.kept = c.if-kept-most.false in
     let e : (a.kept - 1) + 1 ≡ a.kept = omega (arith, s.requires.1.0.0) in
-    let p = c.put-last2.ensures in (
+    let p = c.put_last-2.ensures in (
       no_room a.kept a.most (a.kept - 1) h e (oldest_first a.down a.positions.now) _ _ p.0,
       (
         no_room a.kept a.most (a.kept - 1) h e (oldest_first a.down a.numbers.now) _ _ p.1.0,

@@ -11,28 +11,28 @@ use Rattle.receiver.proofs.kept.put_last.Statement.{statement}
 use Rattle.receiver.proofs.kept.put_last.Tie as tie
 
 -- positions₀, numbers₀, times₀ and i₀ are the arrays and `i` where the loop begins, positions, numbers, times and i are they at its head
-abbrev invariant-loop : tie.invariant-loop
-invariant-loop positions₀ numbers₀ times₀ down last position number time i₀ positions numbers times i =
+abbrev invariant-loop-i : tie.invariant-loop-i
+invariant-loop-i positions₀ numbers₀ times₀ down last position number time i₀ positions numbers times i =
     (i ≤ last) × (Moved down positions₀ positions i × (Moved down numbers₀ numbers i × Moved down times₀ times i))
 
-abbrev decreases-loop : tie.decreases-loop
-decreases-loop positions₀ numbers₀ times₀ down last position number time i₀ positions numbers times i = last - i
+abbrev decreases-loop-i : tie.decreases-loop-i
+decreases-loop-i positions₀ numbers₀ times₀ down last position number time i₀ positions numbers times i = last - i
 
-loop-holds : tie.Need-loop-init invariant-loop decreases-loop
+loop-holds : tie.Need-loop-i-init invariant-loop-i decreases-loop-i
 loop-holds c =
     let full = c.requires.1 in
     (search rules, (moved_none _ _ full.0, (moved_none _ _ full.1.0, moved_none _ _ full.1.1)))
 
-loop-again : tie.Need-loop-preserved invariant-loop decreases-loop
+loop-again : tie.Need-loop-i-preserved invariant-loop-i decreases-loop-i
 loop-again c =
-    let s = c.before.before.before.before.before.before.before in
+    let s = c in
     let a = s.args in
-    let l = c.before.before.before.before.before.before.loop in
+    let l = c.loop-i in
     let full = s.requires.1 in
     let few : a.last < window_places = s.requires.0 in
-    let more : l.i < a.last = c.before.before.before.before.before.loop-test.true in
-    let to = c.before.before.before.before.place.ensures.0 in
-    let from = c.before.before.before.place2.ensures.0 in (
+    let more : l.i < a.last = c.loop-i-test.true in
+    let to = c.place-to.ensures.0 in
+    let from = c.place-from.ensures.0 in (
       search rules,
       (
         moved_more a.down a.positions.now full.0 a.last few _ _ _ _ more to from l.invariant.1.0,
@@ -43,15 +43,15 @@ loop-again c =
       ),
     )
 
-returns : tie.Need-returns invariant-loop decreases-loop
+returns : tie.Need-returns invariant-loop-i decreases-loop-i
 returns c =
-    let s = c.before.before.before in
+    let s = c in
     let a = s.args in
-    let l = c.before.before.loop in
+    let l = c.loop-i in
     let full = s.requires.1 in
     let few : a.last < window_places = s.requires.0 in
     let all : l.i ≡ a.last = omega arith in
-    let end = c.place3.ensures.0 in (
+    let end = c.place-end.ensures.0 in (
       moved-last a.down a.positions.now full.0 a.last few _ _ _ _ all end l.invariant.1.0,
       (
         moved-last a.down a.numbers.now full.1.0 a.last few _ _ _ _ all end l.invariant.1.1.0,
@@ -59,12 +59,12 @@ returns c =
       ),
     )
 
-pub put-last-spec : {M : Type 1} → statement M
-put-last-spec =
+pub put_last_spec : {M : Type 1} → statement M
+put_last_spec =
     tie.close
     (tie.spec
-    invariant-loop
-    decreases-loop
+    invariant-loop-i
+    decreases-loop-i
     loop-holds
     (λ c κs. search rules) (λ c. search rules) (λ c κs. search rules)
     (λ c. search rules) (λ c. search rules) (λ c. search rules) (λ c. search rules) (λ c. search rules)

@@ -16,11 +16,11 @@ use Rattle.receiver.proofs.marking.mark.Tie as tie
 returns : tie.Need-returns
 unfolding with_mark
 returns c =
-    let b = bit_of c.before.args.number in
-    let low : b < 64 = mod-lt (c.before.args.number - 1) (lit< tt) in
+    let b = bit_of c.args.number in
+    let low : b < 64 = mod-lt (c.args.number - 1) (lit< tt) in
     let e : 1 * 2 ^ b % 2 ^ 64 ≡ 2 ^ b = shl_exact 1 b 64 (lit< tt) (omega arith) ∙ one-mul (2 ^ b) in
-    ap (λ (w : ℕ). set c.before.args.marks.now (word_of c.before.args.number)
-    (bit_or (get_or c.before.args.marks.now (word_of c.before.args.number) 0) w)) e
+    ap (λ (w : ℕ). set c.args.marks.now (word_of c.args.number)
+    (bit_or (get_or c.args.marks.now (word_of c.args.number) 0) w)) e
 
 pub mark_spec : {M : Type 1} → statement M
 mark_spec =

@@ -6,7 +6,7 @@ use Rattle.receiver.proofs.numbers.after_duplicate.Tie as tie
 
 returns : tie.Need-returns
 unfolding duplicate_stream
-returns c = rw c.next-reference.ensures
+returns c = rw c.next_reference.ensures
 
-pub after-duplicate-spec : {M : Type 1} → statement M
-after-duplicate-spec = tie.close (tie.spec (λ c. search rules) (λ c κs. search rules) returns)
+pub after_duplicate_spec : {M : Type 1} → statement M
+after_duplicate_spec = tie.close (tie.spec (λ c. search rules) (λ c κs. search rules) returns)

@@ -8,21 +8,21 @@ use Rattle.receiver.proofs.numbers.after_in_order.Tie as tie
 
 returns : tie.Need-returns
 returns c =
-    let runs = c.before.before.before.before.before.before in
-    let a = runs.before.args in
+    let runs = c in
+    let a = runs.args in
     λ positions times.
     rw (
-      runs.lengthened.ensures,
-      c.before.before.before.next-after.ensures,
-      c.before.before.kept-after.ensures,
-      c.before.next-reference.ensures,
-      c.dropped-after.ensures,
+      runs.lengthened-runs.ensures,
+      c.next_after.ensures,
+      c.kept_after.ensures,
+      c.next_reference.ensures,
+      c.dropped_after.ensures,
     )
-    (in-order-numbers a.most runs.before.requires.1.1.0 a.s positions (oldest_first a.down a.numbers.now) times a.size
+    (in-order-numbers a.most runs.requires.1.1.0 a.s positions (oldest_first a.down a.numbers.now) times a.size
     a.number a.time)
 
-pub after-in-order-spec : {M : Type 1} → statement M
-after-in-order-spec =
+pub after_in_order_spec : {M : Type 1} → statement M
+after_in_order_spec =
     tie.close
     (tie.spec
     (λ c κs. search rules) (λ c. search rules) (λ c. search rules) (λ c κs. search rules) (λ c κs. search rules)

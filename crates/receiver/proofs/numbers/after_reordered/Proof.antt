@@ -6,8 +6,8 @@ use Rattle.receiver.proofs.numbers.after_reordered.Tie as tie
 
 returns : tie.Need-returns
 unfolding reordered_stream
-returns c = rw (c.before.next-after.ensures, c.next-reference.ensures, c.before.before.before.closed.ensures)
+returns c = rw (c.next_after.ensures, c.next_reference.ensures, c.closed-runs.ensures)
 
-pub after-reordered-spec : {M : Type 1} → statement M
-after-reordered-spec =
+pub after_reordered_spec : {M : Type 1} → statement M
+after_reordered_spec =
     tie.close (tie.spec (λ c κs. search rules) (λ c. search rules) (λ c κs. search rules) (λ c κs. search rules) returns)

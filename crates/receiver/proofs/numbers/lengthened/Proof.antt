@@ -9,5 +9,5 @@ returns : tie.Need-returns
 unfolding lengthened
 returns c = refl
 
-pub lengthened-spec : {M : Type 1} → statement M
-lengthened-spec = tie.close (tie.spec (λ c. search rules) returns)
+pub lengthened_spec : {M : Type 1} → statement M
+lengthened_spec = tie.close (tie.spec (λ c. search rules) returns)

@@ -5,13 +5,13 @@ use Rattle.rfc4737.specs.Order.{next_after}
 use Rattle.receiver.proofs.numbers.next_after.Statement.{statement}
 use Rattle.receiver.proofs.numbers.next_after.Tie as tie
 
-returns : tie.Need-returns
+returns : tie.Need-returns-then-next-number
 unfolding next_after
-returns c = simp (le-leb _ _ c.if1.true)
+returns c = simp (le-leb _ _ c.if-next-number.true)
 
-returns-2 : tie.Need-returns-2
+returns-2 : tie.Need-returns
 unfolding next_after
-returns-2 c = simp (lt-leb _ _ c.if1.false)
+returns-2 c = simp (lt-leb _ _ c.if-next-number.false)
 
-pub next-after-spec : {M : Type 1} → statement M
-next-after-spec = tie.close (tie.spec (λ c. search rules) returns returns-2)
+pub next_after_spec : {M : Type 1} → statement M
+next_after_spec = tie.close (tie.spec (λ c. search rules) returns returns-2)

@@ -5,10 +5,10 @@ use Rattle.receiver.proofs.parts.advance.Statement.{statement}
 use Rattle.receiver.proofs.parts.advance.Tie as tie
 
 returns : tie.Need-returns
-returns c = rw c.before.before.before.before.before.at_most.ensures at c.advance-within.ensures
+returns c = rw c.at_most.ensures at c.advance_within.ensures
 
-pub advance-spec : {M : Type 1} → statement M
-advance-spec =
+pub advance_spec : {M : Type 1} → statement M
+advance_spec =
     tie.close
     (tie.spec
     (λ c κs. search rules) (λ c κs. search rules) (λ c κs. search rules) (λ c κs. search rules) (λ c κs. search rules)

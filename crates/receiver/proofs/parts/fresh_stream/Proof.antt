@@ -8,5 +8,5 @@ returns : tie.Need-returns
 unfolding fresh_stream
 returns c = refl
 
-pub fresh-stream-spec : {M : Type 1} → statement M
-fresh-stream-spec = tie.close (tie.spec returns)
+pub fresh_stream_spec : {M : Type 1} → statement M
+fresh_stream_spec = tie.close (tie.spec returns)

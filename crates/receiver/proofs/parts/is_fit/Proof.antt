@@ -9,21 +9,21 @@ use Rattle.receiver.proofs.Fits.{stream-facts}
 use Rattle.receiver.proofs.parts.is_fit.Statement.{statement}
 use Rattle.receiver.proofs.parts.is_fit.Tie as tie
 
-returns : tie.Need-returns
+returns : tie.Need-returns-then-not-stream_fit
 unfolding fit
-returns c = simp (sym c.before.stream-fit.ensures ∙ not-true _ c.if1.true)
+returns c = simp (sym c.stream_fit.ensures ∙ c.if-not-stream_fit.true)
 
-places-fit-requires : tie.Need-places-fit-requires
+places-fit-requires : tie.Need-places_fit-requires
 places-fit-requires c κs =
-    let h = stream-facts _ (sym c.before.stream-fit.ensures ∙ not-false _ c.if1.false) in
+    let h = stream-facts _ (sym c.stream_fit.ensures ∙ c.if-not-stream_fit.false) in
     ((h.sent-high, omega (arith, h.arrived-high, h.sent-high)), (search rules, (search rules, search rules)))
 
-returns-2 : tie.Need-returns-2
+returns-2 : tie.Need-returns
 unfolding fit
-returns-2 c = simp (sym c.before.before.stream-fit.ensures ∙ not-false _ c.before.if1.false, c.places-fit.ensures)
+returns-2 c = simp (sym c.stream_fit.ensures ∙ c.if-not-stream_fit.false, c.places_fit.ensures)
 
-pub is-fit-spec : {M : Type 1} → statement M
-is-fit-spec =
+pub is_fit_spec : {M : Type 1} → statement M
+is_fit_spec =
     tie.close
     (tie.spec
     (λ c κs. search rules) (λ c κs. search rules) (λ c κs. search rules) (λ c κs. search rules)

@@ -23,86 +23,86 @@ abbrev time : Arrival → ℕ
 time a = a.time
 
 -- numbers₀, times₀ and i₀ are the values where the loop begins, numbers, times and i those at its head
-abbrev invariant-loop : tie.invariant-loop
-invariant-loop file at count numbers₀ times₀ i₀ numbers times i =
+abbrev invariant-loop-i : tie.invariant-loop-i
+invariant-loop-i file at count numbers₀ times₀ i₀ numbers times i =
     (i ≤ count) × (numbers ≡ take i (values_from number count at file) ++ drop i numbers₀)
     × (times ≡ take i (values_from time count at file) ++ drop i times₀)
 
-abbrev decreases-loop : tie.decreases-loop
-decreases-loop file at count numbers₀ times₀ i₀ numbers times i =
+abbrev decreases-loop-i : tie.decreases-loop-i
+decreases-loop-i file at count numbers₀ times₀ i₀ numbers times i =
     count - i
 
 -- the list of numbers keeps its length
-kept-numbers : (c : tie.At-loop invariant-loop decreases-loop)
-    → length c.loop.numbers ≡ length c.before.before.before.before.args.numbers.now
+kept-numbers : (c : tie.At-loop-i invariant-loop-i decreases-loop-i)
+    → length c.loop-i.numbers ≡ length c.args.numbers.now
 kept-numbers c =
-    let a = c.before.before.before.before.args in
+    let a = c.args in
     let e = values-many number a.count a.at a.file.now in
-    ap length c.loop.invariant.1
-    ∙ fill-length (values_from number a.count a.at a.file.now) a.numbers.now c.loop.i (omega arith) (omega arith)
+    ap length c.loop-i.invariant.1
+    ∙ fill-length (values_from number a.count a.at a.file.now) a.numbers.now c.loop-i.i (omega arith) (omega arith)
 
 -- the list of times keeps its length
-kept-times : (c : tie.At-loop invariant-loop decreases-loop) → length c.loop.times ≡ length c.before.before.before.before.args.times.now
+kept-times : (c : tie.At-loop-i invariant-loop-i decreases-loop-i) → length c.loop-i.times ≡ length c.args.times.now
 kept-times c =
-    let a = c.before.before.before.before.args in
+    let a = c.args in
     let e = values-many time a.count a.at a.file.now in
-    ap length c.loop.invariant.2
-    ∙ fill-length (values_from time a.count a.at a.file.now) a.times.now c.loop.i (omega arith) (omega arith)
+    ap length c.loop-i.invariant.2
+    ∙ fill-length (values_from time a.count a.at a.file.now) a.times.now c.loop-i.i (omega arith) (omega arith)
 
-loop-holds : tie.Need-loop-init invariant-loop decreases-loop
+loop-holds : tie.Need-loop-i-init invariant-loop-i decreases-loop-i
 loop-holds c =
     (search rules, refl, refl)
 
-slice-write-numbers : tie.Need-slice-write-numbers invariant-loop decreases-loop
+slice-write-numbers : tie.Need-bounds-numbers-i invariant-loop-i decreases-loop-i
 slice-write-numbers c =
     let s = kept-numbers c.before.before.before in
     omega arith
 
-slice-write-times : tie.Need-slice-write-times invariant-loop decreases-loop
+slice-write-times : tie.Need-bounds-times-i invariant-loop-i decreases-loop-i
 slice-write-times c =
     let s = kept-times c.before.before.before in
     omega arith
 
-loop-again : tie.Need-loop-preserved invariant-loop decreases-loop
+loop-again : tie.Need-loop-i-preserved invariant-loop-i decreases-loop-i
 loop-again c =
-    let l = c.before.before.before in
-    let a = l.before.before.before.before.args in
+    let l = c in
+    let a = l.args in
     let f = a.file.now in
     let m = values-many number a.count a.at f in
     let n = values-many time a.count a.at f in (
       search rules,
-      fill-next (values_from number a.count a.at f) a.numbers.now l.loop.i 0 (omega arith) (omega arith) l.loop.invariant.1
-          (value_found number a.count a.at f l.loop.i c.before.before.loop-test.true
-          (arrival-taken (a.at + arrival_width * l.loop.i) f c.arrival-of.ensures)),
-      fill-next (values_from time a.count a.at f) a.times.now l.loop.i 0 (omega arith) (omega arith) l.loop.invariant.2
-          (value_found time a.count a.at f l.loop.i c.before.before.loop-test.true
-          (arrival-taken (a.at + arrival_width * l.loop.i) f c.arrival-of.ensures)),
+      fill-next (values_from number a.count a.at f) a.numbers.now l.loop-i.i 0 (omega arith) (omega arith) l.loop-i.invariant.1
+          (value_found number a.count a.at f l.loop-i.i c.loop-i-test.true
+          (arrival-taken (a.at + arrival_width * l.loop-i.i) f c.arrival_of-arrival.ensures)),
+      fill-next (values_from time a.count a.at f) a.times.now l.loop-i.i 0 (omega arith) (omega arith) l.loop-i.invariant.2
+          (value_found time a.count a.at f l.loop-i.i c.loop-i-test.true
+          (arrival-taken (a.at + arrival_width * l.loop-i.i) f c.arrival_of-arrival.ensures)),
     )
 
-same_length : tie.Need-same-length invariant-loop decreases-loop
+same_length : tie.Need-shape_of-numbers invariant-loop-i decreases-loop-i
 same_length c =
     kept-numbers c.before
 
-same-length-2 : tie.Need-same-length-2 invariant-loop decreases-loop
+same-length-2 : tie.Need-shape_of-times invariant-loop-i decreases-loop-i
 same-length-2 c =
     kept-times c.before
 
-returns : tie.Need-returns invariant-loop decreases-loop
+returns : tie.Need-returns invariant-loop-i decreases-loop-i
 returns c =
-    let a = c.before.before.before.before.before.args in
+    let a = c.args in
     let f = a.file.now in
     let m = values-many number a.count a.at f in
     let n = values-many time a.count a.at f in (
-      fill_done (values_from number a.count a.at f) a.numbers.now c.before.loop.i (omega arith) c.before.loop.invariant.1,
-      fill_done (values_from time a.count a.at f) a.times.now c.before.loop.i (omega arith) c.before.loop.invariant.2,
+      fill_done (values_from number a.count a.at f) a.numbers.now c.loop-i.i (omega arith) c.loop-i.invariant.1,
+      fill_done (values_from time a.count a.at f) a.times.now c.loop-i.i (omega arith) c.loop-i.invariant.2,
     )
 
-pub fill-arrivals-spec : {M : Type 1} → statement M
-fill-arrivals-spec =
+pub fill_arrivals_spec : {M : Type 1} → statement M
+fill_arrivals_spec =
     tie.close
     (tie.spec
-    invariant-loop
-    decreases-loop
+    invariant-loop-i
+    decreases-loop-i
     loop-holds
     (λ c. search rules) (λ c. search rules) (λ c. search rules) (λ c. search rules) (λ c. search rules)
     (λ c. search rules) (λ c κs. search rules) (λ c. search rules)

@@ -23,12 +23,12 @@ abbrev sizes_from : List ℕ → ℕ → ℕ → List ℕ
 sizes_from file at count = items_in size_width be_value count (drop at file)
 
 -- sizes₀ and i₀ are the values where the loop begins, sizes and i those at its head
-abbrev invariant-loop : tie.invariant-loop
-invariant-loop file at count sizes₀ i₀ sizes i =
+abbrev invariant-loop-i : tie.invariant-loop-i
+invariant-loop-i file at count sizes₀ i₀ sizes i =
     (i ≤ count) × (sizes ≡ splice i (drop i (sizes_from file at count)) sizes₀)
 
-abbrev decreases-loop : tie.decreases-loop
-decreases-loop file at count sizes₀ i₀ sizes i =
+abbrev decreases-loop-i : tie.decreases-loop-i
+decreases-loop-i file at count sizes₀ i₀ sizes i =
     i
 
 -- the length of the list
@@ -47,16 +47,16 @@ down xs old i j s h k e f =
     ∙ ap (λ (ys : List ℕ). splice j ys old) (sym (drop-cons xs j 0 (omega arith) ∙ ap (λ (n : ℕ). get_or xs j 0 ∷ drop n xs) s)))
 
 -- the list keeps its length
-kept : (c : tie.At-loop invariant-loop decreases-loop) → length c.loop.sizes ≡ length c.before.before.before.args.sizes.now
+kept : (c : tie.At-loop-i invariant-loop-i decreases-loop-i) → length c.loop-i.sizes ≡ length c.args.sizes.now
 kept c =
-    let a = c.before.before.before.args in
+    let a = c.args in
     let e = items-length size_width be_value a.count (drop a.at a.file.now) in
-    ap length c.loop.invariant.1
-    ∙ long (sizes_from a.file.now a.at a.count) a.sizes.now c.loop.i (omega arith) (omega arith)
+    ap length c.loop-i.invariant.1
+    ∙ long (sizes_from a.file.now a.at a.count) a.sizes.now c.loop-i.i (omega arith) (omega arith)
 
-loop-holds : tie.Need-loop-init invariant-loop decreases-loop
+loop-holds : tie.Need-loop-i-init invariant-loop-i decreases-loop-i
 loop-holds c =
-    let a = c.before.before.args in
+    let a = c.args in
     let e = items-length size_width be_value a.count (drop a.at a.file.now) in
     let xs = sizes_from a.file.now a.at a.count in
     let n : length xs ≤ a.count = omega arith in (
@@ -64,50 +64,50 @@ loop-holds c =
       sym (ap (λ (ys : List ℕ). splice a.count ys a.sizes.now) (drop_of_length-le xs n) ∙ splice-nil a.count a.sizes.now),
     )
 
-cast-sizes : tie.Need-overflow-cast-sizes invariant-loop decreases-loop
+cast-sizes : tie.Need-overflow_cast-sizes invariant-loop-i decreases-loop-i
 cast-sizes c =
-    let a = c.before.before.before.before.before.before.args in
-    let o = below-fits w8 a.file.now c.before.before.before.before.before.shared-slice-known.given in
+    let a = c.args in
+    let o = below-fits w8 a.file.now c.shared_slice_known-1.given in
     let b : c.number_at.result < 2 ^ 16 =
-    taken-fits (a.at + size_width * (c.before.before.before.loop.i - 1)) size_width 0 size_width a.file.now o
+    taken-fits (a.at + size_width * (c.loop-i.i - 1)) size_width 0 size_width a.file.now o
     c.number_at.ensures in
     omega arith
 
-slice-write-sizes : tie.Need-slice-write-sizes invariant-loop decreases-loop
+slice-write-sizes : tie.Need-bounds-sizes-i invariant-loop-i decreases-loop-i
 slice-write-sizes c =
     let s = kept c.before.before.before in
     omega arith
 
-loop-again : tie.Need-loop-preserved invariant-loop decreases-loop
+loop-again : tie.Need-loop-i-preserved invariant-loop-i decreases-loop-i
 loop-again c =
-    let l = c.before.before.before in
-    let a = l.before.before.before.args in
+    let l = c in
+    let a = l.args in
     let e = items-length size_width be_value a.count (drop a.at a.file.now) in
-    let j = l.loop.i - 1 in
+    let j = l.loop-i.i - 1 in
     let p : j < a.count = omega arith in (
       search rules,
-      down (sizes_from a.file.now a.at a.count) a.sizes.now l.loop.i j (omega arith) (omega arith) (omega arith)
-          l.loop.invariant.1
+      down (sizes_from a.file.now a.at a.count) a.sizes.now l.loop-i.i j (omega arith) (omega arith) (omega arith)
+          l.loop-i.invariant.1
           (size-taken a.count a.at a.file.now j c.number_at.result p c.number_at.ensures),
     )
 
-same_length : tie.Need-same-length invariant-loop decreases-loop
+same_length : tie.Need-shape_of-sizes invariant-loop-i decreases-loop-i
 same_length c =
     kept c.before
 
-returns : tie.Need-returns invariant-loop decreases-loop
+returns : tie.Need-returns invariant-loop-i decreases-loop-i
 returns c =
-    let a = c.before.before.before.before.args in
-    let z : c.before.loop.i ≡ 0 = omega arith in
+    let a = c.args in
+    let z : c.loop-i.i ≡ 0 = omega arith in
     let xs = sizes_from a.file.now a.at a.count in
-    c.before.loop.invariant.1 ∙ ap (λ (n : ℕ). splice n (drop n xs) a.sizes.now) z ∙ sym (over-splice xs a.sizes.now)
+    c.loop-i.invariant.1 ∙ ap (λ (n : ℕ). splice n (drop n xs) a.sizes.now) z ∙ sym (over-splice xs a.sizes.now)
 
-pub fill-sizes-spec : {M : Type 1} → statement M
-fill-sizes-spec =
+pub fill_sizes_spec : {M : Type 1} → statement M
+fill_sizes_spec =
     tie.close
     (tie.spec
-    invariant-loop
-    decreases-loop
+    invariant-loop-i
+    decreases-loop-i
     loop-holds
     (λ c. search rules) (λ c. search rules) (λ c. search rules) (λ c. search rules) (λ c. search rules)
     (λ c. search rules) (λ c. search rules) (λ c κs. search rules)

@@ -23,73 +23,73 @@ abbrev standing : List ℕ → ℕ → ℕ → List Arrival
 standing file at count = items_in arrival_width arrival_in count (drop at file)
 
 -- reference₀ and i₀ are the values where the loop begins, reference and i those at its head
-abbrev invariant-loop : tie.invariant-loop
-invariant-loop file at sent count reference₀ i₀ reference i =
+abbrev invariant-loop-i : tie.invariant-loop-i
+invariant-loop-i file at sent count reference₀ i₀ reference i =
     (i ≤ count) × (judge sent 0 (standing file at count) ≡ judge sent reference (drop i (standing file at count)))
 
-abbrev decreases-loop : tie.decreases-loop
-decreases-loop file at sent count reference₀ i₀ reference i =
+abbrev decreases-loop-i : tie.decreases-loop-i
+decreases-loop-i file at sent count reference₀ i₀ reference i =
     count - i
 
 -- in a turn there is an arrival at i
-turn : (c : tie.In-loop invariant-loop decreases-loop)
-    → c.before.loop.i < length (standing c.before.before.before.args.file.now c.before.before.before.args.at
-    c.before.before.before.args.count)
+turn : (c : tie.In-loop-i invariant-loop-i decreases-loop-i)
+    → c.loop-i.i < length (standing c.args.file.now c.args.at
+    c.args.count)
 turn c =
-    let a = c.before.before.before.args in
+    let a = c.args in
     let e = items-length arrival_width arrival_in a.count (drop a.at a.file.now) in
     omega arith
 
 -- it is the one that was read
-arrival-there : (c : tie.After-arrival-of invariant-loop decreases-loop)
-    → c.arrival-of.result
-    ≡ get_or (standing c.before.before.before.before.before.args.file.now c.before.before.before.before.before.args.at
-    c.before.before.before.before.before.args.count) c.before.before.before.loop.i no_arrival
+arrival-there : (c : tie.After-arrival_of-arrival invariant-loop-i decreases-loop-i)
+    → c.arrival_of-arrival.result
+    ≡ get_or (standing c.args.file.now c.args.at
+    c.args.count) c.loop-i.i no_arrival
 arrival-there c =
-    let a = c.before.before.before.before.before.args in
-    arrival-taken (a.at + arrival_width * c.before.before.before.loop.i) a.file.now c.arrival-of.ensures
-    ∙ sym (items-stand arrival_width arrival_in a.count a.at a.file.now c.before.before.before.loop.i no_arrival
-    c.before.before.loop-test.true)
+    let a = c.args in
+    arrival-taken (a.at + arrival_width * c.loop-i.i) a.file.now c.arrival_of-arrival.ensures
+    ∙ sym (items-stand arrival_width arrival_in a.count a.at a.file.now c.loop-i.i no_arrival
+    c.loop-i-test.true)
 
-loop-holds : tie.Need-loop-init invariant-loop decreases-loop
+loop-holds : tie.Need-loop-i-init invariant-loop-i decreases-loop-i
 loop-holds c =
     (search rules, refl)
 
-returns : tie.Need-returns invariant-loop decreases-loop
+returns : tie.Need-returns-then-judged-ne0 invariant-loop-i decreases-loop-i
 returns c =
-    let f = c.before.before.before.before in
-    let t = f.before.before in
-    let l = t.before in
-    let a = l.before.before.args in
-    judged-stop a.sent (standing a.file.now a.at a.count) l.loop.reference l.loop.i no_arrival
-    f.arrival-of.result (turn t) (arrival-there f) l.loop.invariant.1
-    c.before.before.judge-next.result c.before.before.judge-next.ensures c.if1.true
+    let f = c in
+    let t = f in
+    let l = t in
+    let a = l.args in
+    judged-stop a.sent (standing a.file.now a.at a.count) l.loop-i.reference l.loop-i.i no_arrival
+    f.arrival_of-arrival.result (turn t.before.before.before.before.before.before) (arrival-there f.before.before.before.before) l.loop-i.invariant.1
+    c.judge_next-judged.result c.judge_next-judged.ensures c.if-judged-ne0.true
 
-loop-again : tie.Need-loop-preserved invariant-loop decreases-loop
+loop-again : tie.Need-loop-i-preserved invariant-loop-i decreases-loop-i
 loop-again c =
-    let f = c.before.before.before.before in
-    let t = f.before.before in
-    let l = t.before in
-    let a = l.before.before.args in (
+    let f = c in
+    let t = f in
+    let l = t in
+    let a = l.args in (
       search rules,
-      judged-next a.sent (standing a.file.now a.at a.count) l.loop.reference l.loop.i no_arrival
-          f.arrival-of.result (turn t) (arrival-there f) l.loop.invariant.1
-          c.before.before.judge-next.result c.before.before.judge-next.ensures c.if1.false,
+      judged-next a.sent (standing a.file.now a.at a.count) l.loop-i.reference l.loop-i.i no_arrival
+          f.arrival_of-arrival.result (turn t.before.before.before.before.before.before) (arrival-there f.before.before.before.before) l.loop-i.invariant.1
+          c.judge_next-judged.result c.judge_next-judged.ensures c.if-judged-ne0.false,
     )
 
-returns-2 : tie.Need-returns-2 invariant-loop decreases-loop
+returns-2 : tie.Need-returns invariant-loop-i decreases-loop-i
 returns-2 c =
-    let a = c.before.before.before.args in
+    let a = c.args in
     let e = items-length arrival_width arrival_in a.count (drop a.at a.file.now) in
-    judge-done a.sent (standing a.file.now a.at a.count) c.before.loop.reference c.before.loop.i (omega arith)
-    c.before.loop.invariant.1
+    judge-done a.sent (standing a.file.now a.at a.count) c.loop-i.reference c.loop-i.i (omega arith)
+    c.loop-i.invariant.1
 
-pub judge-file-spec : {M : Type 1} → statement M
-judge-file-spec =
+pub judge_file_spec : {M : Type 1} → statement M
+judge_file_spec =
     tie.close
     (tie.spec
-    invariant-loop
-    decreases-loop
+    invariant-loop-i
+    decreases-loop-i
     loop-holds
     (λ c. search rules) (λ c. search rules) (λ c. search rules) (λ c. search rules) (λ c. search rules)
     (λ c. search rules) (λ c κs. search rules) (λ c. search rules) (λ c κs. search rules)

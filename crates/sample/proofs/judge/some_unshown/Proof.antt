@@ -14,46 +14,46 @@ use Rattle.sample.proofs.judge.some_unshown.Statement.{statement}
 use Rattle.sample.proofs.judge.some_unshown.Tie as tie
 
 -- i₀ is i where the loop begins
-abbrev invariant-loop : tie.invariant-loop
-invariant-loop octets i₀ i = (i ≤ length octets) × (some_unshown octets ≡ some_unshown (drop i octets))
+abbrev invariant-loop-i : tie.invariant-loop-i
+invariant-loop-i octets i₀ i = (i ≤ length octets) × (some_unshown octets ≡ some_unshown (drop i octets))
 
-abbrev decreases-loop : tie.decreases-loop
-decreases-loop octets i₀ i = length octets - i
+abbrev decreases-loop-i : tie.decreases-loop-i
+decreases-loop-i octets i₀ i = length octets - i
 
 -- an octet fits 64 bits
 wide : {n : ℕ} → Fits w8 n → Fits w64 n
 wide h = record { fits = omega (arith, h.fits) }
 
-loop-holds : tie.Need-loop-init invariant-loop decreases-loop
+loop-holds : tie.Need-loop-i-init invariant-loop-i decreases-loop-i
 loop-holds c = (search rules, refl)
 
-cast-outside : tie.Need-overflow-cast-outside invariant-loop decreases-loop
-cast-outside c = wide (c.shared-slice-known2.given _)
+cast-outside : tie.Need-overflow_cast-octets invariant-loop-i decreases-loop-i
+cast-outside c = wide (c.shared_slice_known-in-loop-i-1.given _)
 
-returns : tie.Need-returns invariant-loop decreases-loop
+returns : tie.Need-returns-then-outside invariant-loop-i decreases-loop-i
 returns c =
-    let l = c.before.before.before.before in
-    unshown-stop l.before.before.args.octets.now l.loop.i c.before.before.before.loop-test.true l.loop.invariant.1
-    (sym c.before.outside.ensures ∙ c.if1.true)
+    let l = c in
+    unshown-stop l.args.octets.now l.loop-i.i c.loop-i-test.true l.loop-i.invariant.1
+    (sym c.outside.ensures ∙ c.if-outside.true)
 
-loop-again : tie.Need-loop-preserved invariant-loop decreases-loop
+loop-again : tie.Need-loop-i-preserved invariant-loop-i decreases-loop-i
 loop-again c =
-    let l = c.before.before.before.before in (
+    let l = c in (
       search rules,
-      unshown-next l.before.before.args.octets.now l.loop.i c.before.before.before.loop-test.true l.loop.invariant.1
-          (sym c.before.outside.ensures ∙ c.if1.false),
+      unshown-next l.args.octets.now l.loop-i.i c.loop-i-test.true l.loop-i.invariant.1
+          (sym c.outside.ensures ∙ c.if-outside.false),
     )
 
-returns-2 : tie.Need-returns-2 invariant-loop decreases-loop
+returns-2 : tie.Need-returns invariant-loop-i decreases-loop-i
 returns-2 c =
-    unshown-done c.before.before.before.args.octets.now c.before.loop.i (search rules) c.before.loop.invariant.1
+    unshown-done c.args.octets.now c.loop-i.i (search rules) c.loop-i.invariant.1
 
-pub some-unshown-spec : {M : Type 1} → statement M
-some-unshown-spec =
+pub some_unshown_spec : {M : Type 1} → statement M
+some_unshown_spec =
     tie.close
     (tie.spec
-    invariant-loop
-    decreases-loop
+    invariant-loop-i
+    decreases-loop-i
     loop-holds
     (λ c. search rules)
     cast-outside

@@ -9,15 +9,15 @@ use borrow.Author.Rules.{rules}
 use Rattle.sample.proofs.sections.count_at.Statement.{statement}
 use Rattle.sample.proofs.sections.count_at.Tie as tie
 
-returns : tie.Need-returns
+returns : tie.Need-returns-then-file-at
 unfolding reading_to
 returns c =
-    simp (lt-ltb _ _ c.if1.true)
+    simp (lt-ltb _ _ c.if-file-at.true)
 
-returns-2 : tie.Need-returns-2
+returns-2 : tie.Need-returns
 unfolding reading_to count_at
 returns-2 c =
-    simp (le-ltb _ _ c.before.if1.false) (ap Value c.number_at.ensures)
+    simp (le-ltb _ _ c.if-file-at.false) (ap Value c.number_at.ensures)
 
-pub count-at-spec : {M : Type 1} → statement M
-count-at-spec = tie.close (tie.spec (λ c. search rules) returns (λ c κs. search rules) returns-2)
+pub count_at_spec : {M : Type 1} → statement M
+count_at_spec = tie.close (tie.spec (λ c. search rules) returns (λ c κs. search rules) returns-2)

@@ -5,15 +5,15 @@ use Rattle.sample.specs.Private.{reading_to}
 use Rattle.sample.proofs.sections.place_in.Statement.{statement}
 use Rattle.sample.proofs.sections.place_in.Tie as tie
 
-returns : tie.Need-returns
+returns : tie.Need-returns-then-file-place
 unfolding reading_to
 returns c =
-    simp (lt-ltb _ _ c.if1.true)
+    simp (lt-ltb _ _ c.if-file-place.true)
 
-returns-2 : tie.Need-returns-2
+returns-2 : tie.Need-returns
 unfolding reading_to
 returns-2 c =
-    simp (le-ltb _ _ c.if1.false)
+    simp (le-ltb _ _ c.if-file-place.false)
 
-pub place-in-spec : {M : Type 1} → statement M
-place-in-spec = tie.close (tie.spec returns returns-2)
+pub place_in_spec : {M : Type 1} → statement M
+place_in_spec = tie.close (tie.spec returns returns-2)

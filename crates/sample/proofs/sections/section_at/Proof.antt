@@ -20,75 +20,75 @@ use Rattle.sample.proofs.sections.section_at.Tie as tie
 
 -- ---- places in the code: the start, and after the count was read
 
-abbrev start : tie.After-known-told → tie.Start
-start k = k.before.before.before.before.before
+abbrev start : tie.In-Value → tie.Start
+start k = k.before.before.before
 
-abbrev count-read : tie.After-place-in → tie.After-known-told
+abbrev count-read : tie.After-place_in → tie.In-Value
 count-read e = e.before.before.before.before
 
 -- after the count was read: the file has it, and it is that count
-counted : (c : tie.After-known-told) → (ltb (length (start c).args.file.now) (items_at (start c).args.at) ≡ false)
-    × (c.before.count.given.0.0 ≡ count_at (start c).args.at (start c).args.file.now)
+counted : (c : tie.In-Value) → (ltb (length (start c).args.file.now) (items_at (start c).args.at) ≡ false)
+    × (c.in-Value.count ≡ count_at (start c).args.at (start c).args.file.now)
 counted c =
     let a = (start c).args in
-    read-valued _ _ a.file.now (sym c.before.before.before.count_at.ensures ∙ c.before.count.given.1)
+    read-valued _ _ a.file.now (sym c.count_at.ensures ∙ c.in-Value.is)
 
 -- its items have no more octets than the greatest count of arrivals
-items : (c : tie.After-known-told) → (start c).args.width * c.before.count.given.0.0 ≤ arrival_width * 65535
+items : (c : tie.In-Value) → (start c).args.width * c.in-Value.count ≤ arrival_width * 65535
 items c =
     let a = (start c).args in
-    let o = below-fits w8 a.file.now c.before.before.before.before.shared-slice-known.given in
-    let b : c.before.count.given.0.0 < 2 ^ 16 = rw (counted c).1 (count_fits a.at a.file.now o) in
-    section-fits a.width c.before.count.given.0.0 (start c).requires.1 b
+    let o = below-fits w8 a.file.now c.shared_slice_known-1.given in
+    let b : c.in-Value.count < 2 ^ 16 = rw (counted c).1 (count_fits a.at a.file.now o) in
+    section-fits a.width c.in-Value.count (start c).requires.1 b
 
-enum_told : tie.Need-enum-told
+enum_told : tie.Need-enum_told-1
 enum_told c = search rules
 
-returns : tie.Need-returns
+returns : tie.Need-returns-in_default
 returns c =
-    let a = c.before.before.before.before.args in
+    let a = c.args in
     section-ended a.at a.width a.least a.most a.refusal a.file.now
-    (read-ended _ _ a.file.now (sym c.before.before.count_at.ensures ∙ c.enum_told.given.1))
+    (read-ended _ _ a.file.now (sym c.count_at.ensures ∙ c.in_default.is))
 
-returns-2 : tie.Need-returns-2
+returns-2 : tie.Need-returns-then-outside
 returns-2 c =
     let a = (start c.before.before).args in
     let k = counted c.before.before in
     section-judged a.at a.width a.least a.most a.refusal a.file.now k.0 (search rules)
-    (sym (ap (outside a.least a.most) k.1) ∙ sym c.before.outside.ensures ∙ c.if1.true)
+    (sym (ap (outside a.least a.most) k.1) ∙ sym c.outside.ensures ∙ c.if-outside.true)
 
-end-of-requires : tie.Need-end-of-requires
+end-of-requires : tie.Need-end_of-requires
 end-of-requires c κs =
     let p = items c.before.before in
     omega arith
 
-returns-3 : tie.Need-returns-3
+returns-3 : tie.Need-returns-in_default-place_in
 returns-3 c =
-    let r = count-read c.before.before in
+    let r = count-read c.before in
     let a = (start r).args in
     let k = counted r in
-    let e = c.before.before.before.end_of_lem.ensures ∙ ap (end_of a.at a.width) k.1 in
+    let e = c.end_of.ensures ∙ ap (end_of a.at a.width) k.1 in
     section-short a.at a.width a.least a.most a.refusal a.file.now k.0
-    (sym (ap (outside a.least a.most) k.1) ∙ sym c.before.before.before.before.before.outside.ensures
-    ∙ c.before.before.before.before.if1.false)
+    (sym (ap (outside a.least a.most) k.1) ∙ sym c.outside.ensures
+    ∙ c.if-outside.false)
     (sym (ap (ltb (length a.file.now)) e)
-    ∙ read-ended _ _ a.file.now (sym c.before.before.IsPlace-in.ensures ∙ c.enum-told2.given.1))
+    ∙ read-ended _ _ a.file.now (sym c.place_in.ensures ∙ c.in_default-place_in.is))
 
-returns-4 : tie.Need-returns-4
+returns-4 : tie.Need-returns
 returns-4 c =
-    let r = count-read c.before.before.before in
+    let r = count-read c.before in
     let a = (start r).args in
     let k = counted r in
-    let e = c.before.before.before.before.end_of_lem.ensures ∙ ap (end_of a.at a.width) k.1 in
-    let p = read-valued _ _ a.file.now (sym c.before.before.before.IsPlace-in.ensures ∙ c.before.end.given.1) in
+    let e = c.end_of.ensures ∙ ap (end_of a.at a.width) k.1 in
+    let p = read-valued _ _ a.file.now (sym c.place_in.ensures ∙ c.in-Value-place_in.is) in
     ap₂ (λ (m n : ℕ). Whole m n) k.1 (p.1 ∙ e)
     ∙ section-whole a.at a.width a.least a.most a.refusal a.file.now k.0
-    (sym (ap (outside a.least a.most) k.1) ∙ sym c.before.before.before.before.before.before.outside.ensures
-    ∙ c.before.before.before.before.before.if1.false)
+    (sym (ap (outside a.least a.most) k.1) ∙ sym c.outside.ensures
+    ∙ c.if-outside.false)
     (sym (ap (ltb (length a.file.now)) e) ∙ p.0)
 
-pub section-at-spec : {M : Type 1} → statement M
-section-at-spec =
+pub section_at_spec : {M : Type 1} → statement M
+section_at_spec =
     tie.close
     (tie.spec
     (λ c κs. search rules) (λ c. search rules)

@@ -12,12 +12,12 @@ use Rattle.sample.proofs.sections.write_label.Tie as tie
 
 returns : tie.Need-returns
 returns c =
-    let p = c.before.before.before.before.before.before in
-    let a = p.before.before.before.before.args in
-    let k = p.put-number.auto.0 in
+    let p = c in
+    let a = p.args in
+    let k = p.put_number.auto.out in
     section-done 0 (length a.label.now) a.label.now a.out.now (search rules)
-    p.put-number.ensures.0
-    (c.before.before.put-octets.ensures ∙ put-room count_width a.label.now p.put-number.new.0 (omega arith))
+    p.put_number.ensures.0
+    (c.put_octets.ensures ∙ put-room count_width a.label.now p.put_number.new.out (omega arith))
 
-pub write-label-spec : {M : Type 1} → statement M
-write-label-spec = tie.close (tie.spec (λ c κs. search rules) (λ c κs. search rules) (λ c. search rules) returns)
+pub write_label_spec : {M : Type 1} → statement M
+write_label_spec = tie.close (tie.spec (λ c κs. search rules) (λ c κs. search rules) (λ c. search rules) returns)

@@ -14,78 +14,78 @@ use Rattle.sample.proofs.sections.write_sizes.Statement.{statement}
 use Rattle.sample.proofs.sections.write_sizes.Tie as tie
 
 -- out₀ and i₀ are the values where the loop begins, so out₀ has the count; out and i are those at its head
-abbrev invariant-loop : tie.invariant-loop
-invariant-loop sizes out₀ at i₀ out i =
+abbrev invariant-loop-i : tie.invariant-loop-i
+invariant-loop-i sizes out₀ at i₀ out i =
     (i ≤ length sizes) × (out ≡ splice (items_at at) (item_octets size_octets (take i sizes)) out₀)
 
-abbrev decreases-loop : tie.decreases-loop
-decreases-loop sizes out₀ at i₀ out i =
+abbrev decreases-loop-i : tie.decreases-loop-i
+decreases-loop-i sizes out₀ at i₀ out i =
     length sizes - i
 
 -- there is room for all sizes
-room : (c : tie.At-loop invariant-loop decreases-loop)
-    → items_at c.before.before.before.before.before.before.before.args.at + size_width * length
-    c.before.before.before.before.before.before.before.args.sizes.now
-    ≤ length c.before.before.before.put-number.new.0
+room : (c : tie.At-loop-i invariant-loop-i decreases-loop-i)
+    → items_at c.args.at + size_width * length
+    c.args.sizes.now
+    ≤ length c.put_number.new.out
 room c =
-    let k = c.before.before.before.put-number.auto.0 in
-    omega (arith, c.before.before.before.before.before.before.before.requires)
+    let k = c.put_number.auto.out in
+    omega (arith, c.requires)
 
 -- the length stays
-kept : (c : tie.At-loop invariant-loop decreases-loop) → length c.loop.out ≡ length c.before.before.before.put-number.new.0
+kept : (c : tie.At-loop-i invariant-loop-i decreases-loop-i) → length c.loop-i.out ≡ length c.put_number.new.out
 kept c =
-    let a = c.before.before.before.before.before.before.before.args in
-    write-length size_octets size_width size-long a.sizes.now (items_at a.at) c.before.before.before.put-number.new.0
-    (room c) c.loop.i c.loop.invariant.1 c.loop.invariant.0
+    let a = c.args in
+    write-length size_octets size_width size-long a.sizes.now (items_at a.at) c.put_number.new.out
+    (room c) c.loop-i.i c.loop-i.invariant.1 c.loop-i.invariant.0
 
-loop-holds : tie.Need-loop-init invariant-loop decreases-loop
+loop-holds : tie.Need-loop-i-init invariant-loop-i decreases-loop-i
 loop-holds c =
-    let a = c.before.before.before.before.before.before.args in
-    let k = c.before.before.put-number.auto.0 in (
+    let a = c.args in
+    let k = c.put_number.auto.out in (
       search rules,
-      write-start size_octets size_width size-long a.sizes.now (items_at a.at) c.before.before.put-number.new.0 (omega arith),
+      write-start size_octets size_width size-long a.sizes.now (items_at a.at) c.put_number.new.out (omega arith),
     )
 
-part-size-end : tie.Need-slice-bounds-size-end invariant-loop decreases-loop
+part-size-end : tie.Need-slice_bounds-size-end invariant-loop-i decreases-loop-i
 part-size-end c =
     let k = kept c.before in
     let r = room c.before in
     omega arith
 
-cast-put-number : tie.Need-overflow-cast-put-number invariant-loop decreases-loop
+cast-put-number : tie.Need-overflow_cast-sizes invariant-loop-i decreases-loop-i
 cast-put-number c =
-    omega (arith, c.shared-slice-known2.given c.before.before.before.loop.i)
+    omega (arith, c.shared_slice_known-in-loop-i-1.given c.loop-i.i)
 
-loop-again : tie.Need-loop-preserved invariant-loop decreases-loop
+loop-again : tie.Need-loop-i-preserved invariant-loop-i decreases-loop-i
 loop-again c =
-    let l = c.before.before.before.before.before.before in
-    let a = l.before.before.before.before.before.before.before.args in (
+    let l = c in
+    let a = l.args in (
       search rules,
-      write-next size_octets size_width size-long a.sizes.now (items_at a.at) l.before.before.before.put-number.new.0
-          (room l) l.loop.i l.loop.invariant.1 0
-          c.before.before.before.before.before.loop-test.true c.before.before.put-number2.ensures.0,
+      write-next size_octets size_width size-long a.sizes.now (items_at a.at) l.put_number.new.out
+          (room l.before.before.before.before.before.before) l.loop-i.i l.loop-i.invariant.1 0
+          c.loop-i-test.true c.put_number-in-loop-i.ensures.0,
     )
 
-same_length : tie.Need-same-length invariant-loop decreases-loop
+same_length : tie.Need-shape_of-out invariant-loop-i decreases-loop-i
 same_length c =
-    kept c.before ∙ c.before.before.before.before.put-number.auto.0
+    kept c.before ∙ c.put_number.auto.out
 
-returns : tie.Need-returns invariant-loop decreases-loop
+returns : tie.Need-returns invariant-loop-i decreases-loop-i
 returns c =
-    let l = c.before in
-    let a = l.before.before.before.before.before.before.before.args in
+    let l = c in
+    let a = l.args in
     let n = octets-many size_octets size_width size-long a.sizes.now in
     section-done a.at (length a.sizes.now) (item_octets size_octets a.sizes.now) a.out.now (omega arith)
-    l.before.before.before.put-number.ensures.0
-    (write_done size_octets size_width size-long a.sizes.now (items_at a.at) l.before.before.before.put-number.new.0 (room l)
-    l.loop.i l.loop.invariant.1 c.loop-test.false)
+    l.put_number.ensures.0
+    (write_done size_octets size_width size-long a.sizes.now (items_at a.at) l.put_number.new.out (room l.before)
+    l.loop-i.i l.loop-i.invariant.1 c.loop-i-test.false)
 
-pub write-sizes-spec : {M : Type 1} → statement M
-write-sizes-spec =
+pub write_sizes_spec : {M : Type 1} → statement M
+write_sizes_spec =
     tie.close
     (tie.spec
-    invariant-loop
-    decreases-loop
+    invariant-loop-i
+    decreases-loop-i
     (λ c κs. search rules)
     loop-holds
     (λ c. search rules) (λ c. search rules) (λ c. search rules) (λ c. search rules) (λ c. search rules)
