@@ -19,44 +19,44 @@ use Rattle.metrics.proofs.engine.advance.Tie as tie
 
 -- ---- places
 
-abbrev start : tie.After-class-of → tie.Start
-start c = c.before.before.before.before.before.before.before
+abbrev start : tie.After-class_of-class → tie.Start
+start c = c.before.before.before.before.before
 
-abbrev after-class-of : tie.After-late-figures → tie.After-class-of
-after-class-of c = c.before.before.before.before
+abbrev after-class-of : tie.After-late_figures-late → tie.After-class_of-class
+after-class-of c = c.before.before
 
-abbrev after-late-figures : tie.After-answer-by-arg2 → tie.After-late-figures
-after-late-figures c = c.before.before.before.before
+abbrev after-late-figures : tie.After-answer-by-arg2 → tie.After-late_figures-late
+after-late-figures c = c
 
 -- the arrival's number is that of record i + 1, and that of a packet
 number : (c : tie.Start) → (c.args.arrival.number ≡ (arrival_at (decode c.args.file.now) c.args.i).number)
     × (1 ≤ c.args.arrival.number) × (c.args.arrival.number ≤ sent_most)
 number c = number-few _ _ _ c.requires.0 _ c.requires.1
 
-class-of-requires : tie.Need-class-of-requires
-class-of-requires c κs = (number c.before.before.before.before.before.before).2
+class-of-requires : tie.Need-class_of-class-requires
+class-of-requires c κs = (number c.before.before.before.before).2
 
-late-figures-requires : tie.Need-late-figures-requires
+late-figures-requires : tie.Need-late_figures-late-requires
 late-figures-requires c κs =
-    let s = start c.before.before.before in
-    let p = s.pre in (
+    let s = start c.before in
+    let p = s.requires in (
       engine-filling _ _ _ p.0 _ _ _ _ _ p.2,
       (number s).1,
       (number s).2,
       (links-laid _ _ _ p.0 _ _ _ _ p.2.follows.numbered p.2.linked).1,
     )
 
-answer-by-requires : tie.Need-answer-by-requires
+answer-by-requires : tie.Need-answer_by-answer-requires
 answer-by-requires c κs =
     let s = start (after-class-of (after-late-figures c)) in
-    let p = s.pre in
+    let p = s.requires in
     let n = number s in
     let d = decode s.args.file.now in
     let fs = firsts (before d s.args.i) in
-    let k = (after-class-of (after-late-figures c)).class_of.result in
-    let e = (after-class-of (after-late-figures c)).class_of.ensures in
+    let k = (after-class-of (after-late-figures c)).class_of-class.result in
+    let e = (after-class-of (after-late-figures c)).class_of-class.ensures in
     let f = p.2.follows in
-    let late = c.before.before.before.before.late-figures.ensures.1 fs f.numbered p.2.totalled in (
+    let late = c.late_figures-late.ensures.1 fs f.numbered p.2.totalled in (
       p.0,
       p.1,
       f.numbered,
@@ -66,29 +66,29 @@ answer-by-requires c κs =
           (new_told d s.args.i _ _ _ _ f _ n.0 n.1 n.2 _ e) late.1,
     )
 
-note-requires : tie.Need-note-requires
+note-requires : tie.Need-note-after-requires
 note-requires c κs =
     let s =
-    start (after-class-of (after-late-figures c.before.before.before.before)) in
-    noting _ _ _ s.pre.0 _ _ _ _ s.pre.2.follows _ (number s).0
+    start (after-class-of (after-late-figures c)) in
+    noting _ _ _ s.requires.0 _ _ _ _ s.requires.2.follows _ (number s).0
 
 returns : tie.Need-returns
 returns c =
-    let s = start (after-class-of (after-late-figures c.before.before.before.before.before.before)) in
+    let s = start (after-class-of (after-late-figures c)) in
     let n = number s in
-    let f = s.pre.2.follows in
-    let e = (after-class-of (after-late-figures c.before.before.before.before.before.before)).class_of.ensures in
+    let f = s.requires.2.follows in
+    let e = (after-class-of (after-late-figures c)).class_of-class.ensures in
     let late =
-    (after-late-figures c.before.before.before.before.before.before).late-figures.ensures.1 _ f.numbered
-    s.pre.2.totalled in (
-      c.before.before.before.before.before.answer-by.ensures,
+    (after-late-figures c).late_figures-late.ensures.1 _ f.numbered
+    s.requires.2.totalled in (
+      c.answer_by-answer.ensures,
       told (decode s.args.file.now) s.args.i _ _ _ _ f _ n.0 n.1 n.2 _ e,
-      engine-next _ _ _ s.pre.0 _ _ _ _ f _ n.0 n.1 n.2 _ e _ _ late.1 _ _ _ _ c.before.note.ensures _ _
-          s.pre.2.linked late.0,
+      engine-next _ _ _ s.requires.0 _ _ _ _ f _ n.0 n.1 n.2 _ e _ _ late.1 _ _ _ _ c.note-after.ensures _ _
+          s.requires.2.linked late.0,
     )
 
-pub advance-spec : {M : Type 1} → statement M
-advance-spec =
+pub advance_spec : {M : Type 1} → statement M
+advance_spec =
     tie.close
     (tie.spec
     class-of-requires

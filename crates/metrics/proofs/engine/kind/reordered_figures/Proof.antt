@@ -14,15 +14,15 @@ place c =
     let p = c.requires in
     omega (arith, late-place _ _ _ _ _ p.0 p.1 _ _ p.2 p.3, p.0.inside, p.0.file.few)
 
-late-time-requires : tie.Need-late-time-requires
-late-time-requires c κs = let p = c.before.requires in (p.0, p.1, p.2, p.3, p.4)
+late-time-requires : tie.Need-late_time-late-requires
+late-time-requires c κs = let p = c.requires in (p.0, p.1, p.2, p.3, p.4)
 
 returns : tie.Need-returns
 returns c =
-    let p = c.before.before.requires in
-    late-whole _ _ _ _ _ p.0 p.1 _ _ p.2 p.3 _ _ _ c.late-time.ensures p.5 p.6
+    let p = c.requires in
+    late-whole _ _ _ _ _ p.0 p.1 _ _ p.2 p.3 _ _ _ c.late_time-late.ensures p.5 p.6
 
-pub reordered-figures-spec : {M : Type 1} → statement M
-reordered-figures-spec =
+pub reordered_figures_spec : {M : Type 1} → statement M
+reordered_figures_spec =
     tie.close (tie.spec late-time-requires (λ c. omega (arith, place c.before.before)) (λ c. omega (arith, place c.before.before))
     (λ c. omega (arith, place c.before.before)) returns)

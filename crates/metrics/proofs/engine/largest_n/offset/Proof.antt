@@ -14,50 +14,50 @@ use Rattle.metrics.proofs.engine.largest_n.offset.Statement.{statement}
 use Rattle.metrics.proofs.engine.largest_n.offset.Tie as tie
 
 -- sum₀ and p₀ are sum and p where the loop begins
-abbrev invariant-loop : tie.invariant-loop
-invariant-loop file layout numbers from count s sum₀ p₀ sum p = (sum ≤ 65535 * p) × OffsetTo numbers count s (size_of (decode file)) from p sum
+abbrev invariant-loop-p : tie.invariant-loop-p
+invariant-loop-p file layout numbers from count s sum₀ p₀ sum p = (sum ≤ 65535 * p) × OffsetTo numbers count s (size_of (decode file)) from p sum
 
-abbrev decreases-loop : tie.decreases-loop
-decreases-loop file layout numbers from count s sum₀ p₀ sum p = count - p
+abbrev decreases-loop-p : tie.decreases-loop-p
+decreases-loop-p file layout numbers from count s sum₀ p₀ sum p = count - p
 
-loop-holds : tie.Need-loop-init invariant-loop decreases-loop
+loop-holds : tie.Need-loop-p-init invariant-loop-p decreases-loop-p
 loop-holds c = (omega arith, λ fs h zero. sym zero)
 
-size-of-requires : tie.Need-size-of-requires invariant-loop decreases-loop
+size-of-requires : tie.Need-size_of-sum-requires invariant-loop-p decreases-loop-p
 size-of-requires c κs =
-    let k = c.before.before.before.before.before.before.requires in
-    let n = k.2.inside c.before.before.before.before.loop.p c.before.before.before.loop-test.true in
-    (k.0, omega (arith, n, c.before.wide.ensures), omega (arith, n, c.before.wide.ensures))
+    let k = c.requires in
+    let n = k.2.inside c.loop-p.p c.loop-p-test.true in
+    (k.0, omega (arith, n, c.wide-number.ensures), omega (arith, n, c.wide-number.ensures))
 
-add-sum : tie.Need-overflow-add-sum invariant-loop decreases-loop
-add-sum c = omega (arith, c.type_size.ensures.1)
+add-sum : tie.Need-overflow_add-sum invariant-loop-p decreases-loop-p
+add-sum c = omega (arith, c.size_of-sum.ensures.1)
 
-loop-again : tie.Need-loop-preserved invariant-loop decreases-loop
+loop-again : tie.Need-loop-p-preserved invariant-loop-p decreases-loop-p
 loop-again c =
-    let l = c.before.before.before.before.loop in
-    let n = c.before.wide.ensures in
-    let inside = c.before.before.before.loop-test.true in
-    let a = c.before.before.before.before.before.before.args in
+    let l = c.loop-p in
+    let n = c.wide-number.ensures in
+    let inside = c.loop-p-test.true in
+    let a = c.args in
     let size = size_of (decode a.file.now) in (
-      ⊎_elim (λ w. omega (arith, w.1.ensures.1)) (λ w. omega arith) c.if1.branch,
+      ⊎_elim (λ w. omega (arith, w.1.ensures.1)) (λ w. omega arith) c.if-s-number.branch,
       ⊎_elim
-          (λ w. rw w.2 (offset-greater _ _ _ _ _ inside n size a.from _ _ w.0.taken w.1.ensures.0 l.invariant.1))
-          (λ w. rw w.1 (offset-same _ _ _ _ _ inside n size a.from _ w.0.left l.invariant.1))
-          c.if1.branch,
+          (λ w. rw w.2 (offset-greater _ _ _ _ _ inside n size a.from _ _ w.0.true w.1.ensures.0 l.invariant.1))
+          (λ w. rw w.1 (offset-same _ _ _ _ _ inside n size a.from _ w.0.false l.invariant.1))
+          c.if-s-number.branch,
     )
 
-returns : tie.Need-returns invariant-loop decreases-loop
+returns : tie.Need-returns invariant-loop-p decreases-loop-p
 returns c =
     let a =
-    c.before.before.before.args in offset-all _ _ _ (size_of (decode a.file.now)) a.from _ _ c.loop-test.false
-    c.before.loop.invariant.1
+    c.args in offset-all _ _ _ (size_of (decode a.file.now)) a.from _ _ c.loop-p-test.false
+    c.loop-p.invariant.1
 
-pub offset-spec : {M : Type 1} → statement M
-offset-spec =
+pub offset_spec : {M : Type 1} → statement M
+offset_spec =
     tie.close
     (tie.spec
-    invariant-loop
-    decreases-loop
+    invariant-loop-p
+    decreases-loop-p
     loop-holds
     (λ c. omega arith)
     (λ c. omega arith)
