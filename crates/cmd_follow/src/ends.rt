@@ -18,6 +18,9 @@ pub(crate) const UNWRITTEN: u32 = 3;
 // K is refused.
 pub(crate) const REFUSED: u32 = 4;
 
+// What reads the output has gone away.
+pub(crate) const GONE: u32 = 5;
+
 // The name of descriptor 3, on which the program says how it ended.
 const STATUS: &str = "/dev/fd/3";
 
@@ -35,6 +38,9 @@ pub(crate) fn say_end(rt: &impl Files, end: u32) {
     }
     if end == UNWRITTEN {
         return say(rt, b"unwritten");
+    }
+    if end == GONE {
+        return say(rt, b"gone");
     }
     if end == REFUSED {
         return say(rt, b"refused");

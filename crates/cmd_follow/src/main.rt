@@ -1,17 +1,17 @@
 // The follow program: steps a receiver by the lines of a text log as they come on standard input. Its argument is K. For each line it
 // writes the outcome on standard output at once, and the counts at the end. Its memory does not grow with the input. It ends when the
 // input ends, when standard input can't be read, or when a line can't be written. Its exit status is 0, and it says on descriptor 3 how
-// it ended: `done`, `unread`, `unwritten`, or `refused` if K is refused.
+// it ended: `done`, `unread`, `unwritten`, `gone` if what reads its output has gone away, or `refused` if K is refused.
 #![tactic(auto)]
 
 mod ends;
 
-use ends::{GOING, INPUT_ENDED, REFUSED, UNREAD, UNWRITTEN, say_end};
+use ends::{GOING, GONE, INPUT_ENDED, REFUSED, UNREAD, UNWRITTEN, say_end};
 use follow::LINE_OCTETS;
 use program::{argument, write_first};
 use receiver::Receiver;
 use rfc4737::refusal::STATE_FULL;
-use std::io::Read;
+use std::io::{ErrorKind, Read};
 use std::num::wrapping_add_u64;
 use std::rt::Files;
 
@@ -42,12 +42,13 @@ fn tell_full(rt: &impl Eprint, line: u64) {
     );
 }
 
-// Writes the first n octets of `out`. Returns GOING, or UNWRITTEN if they can't be written.
+// Writes the first n octets of `out`. Returns GOING; or UNWRITTEN if they can't be written, GONE if it is for want of a reader.
 fn write_line(rt: &impl Print, out: &[u8], n: usize) -> u32 {
-    if write_first(rt, out, n).is_ok() {
-        return GOING;
+    match write_first(rt, out, n) {
+        Ok(()) => GOING,
+        Err(e) if e.kind() == ErrorKind::BrokenPipe => GONE,
+        Err(_) => UNWRITTEN,
     }
-    UNWRITTEN
 }
 
 // Says that the receiver is full at the first line that is refused for it. Returns whether this was said, now or before.
