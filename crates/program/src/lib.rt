@@ -1,6 +1,6 @@
 // What the programs of the command share: writing to standard output, reading a file, and the arguments. Contracts can say nothing about
-// what a program reads and writes, so these functions promise only that they end, and
-// return an error where a read or a write fails. Only programs use this crate.
+// what a program reads and writes, so these functions promise only that they end, and return an error where a read or a write fails. Only
+// programs use this crate.
 #![tactic(auto)]
 
 ghost use Rattle.std.specs.Prelude.{◌≤◌, length, IfOk};
@@ -33,12 +33,12 @@ fn start_of(octets: &[u8], n: usize) -> &[u8]
     &octets[0..n]
 }
 
-// Writes the first n octets; nothing if there are fewer.
+// Writes the first n octets. Fails if there are fewer.
 pub fn write_first(rt: &impl Print, octets: &[u8], n: usize) -> io::Result<()> {
     if n <= octets.len() {
         return write_word(rt, start_of(octets, n));
     }
-    Ok(())
+    Err(io::Error::from(io::ErrorKind::InvalidInput))
 }
 
 // Writes the words of a refusal; nothing for a number that is no refusal.
