@@ -3,7 +3,6 @@
 -- `offset-same`, and after the last it is the byte offset over all (`offset-all`). The measure is the number of positions left. Assumes
 -- nothing.
 use mathlib.Core.Path.{sym}
-use mathlib.Core.Logic.{⊎_elim}
 use Prim.Native.Nat.{◌-◌, ◌*◌, ◌≤◌}
 use native.Mathlib.Omega.{arith}
 use borrow.Author.Rules.{rules}
@@ -12,6 +11,7 @@ use Rattle.metrics.specs.Sample.{size_of}
 use Rattle.metrics.proofs.Reordered.{OffsetTo, offset-greater, offset-same, offset-all}
 use Rattle.metrics.proofs.engine.largest_n.offset.Statement.{statement}
 use Rattle.metrics.proofs.engine.largest_n.offset.Tie as tie
+use Rattle.metrics.proofs.engine.largest_n.offset.Tie.{then-s-number, else-s-number}
 
 -- sum₀ and p₀ are sum and p where the loop begins
 abbrev invariant-loop-p : tie.invariant-loop-p
@@ -39,11 +39,14 @@ loop-again c =
     let inside = c.loop-p-test.true in
     let a = c.args in
     let size = size_of (decode a.file.now) in (
-      ⊎_elim (λ w. omega (arith, w.1.ensures.1)) (λ w. omega arith) c.if-s-number.branch,
-      ⊎_elim
-          (λ w. rw w.2 (offset-greater _ _ _ _ _ inside n size a.from _ _ w.0.true w.1.ensures.0 l.invariant.1))
-          (λ w. rw w.1 (offset-same _ _ _ _ _ inside n size a.from _ w.0.false l.invariant.1))
-          c.if-s-number.branch,
+      elim c.if-s-number.branch [
+        then-s-number w ↦ omega (arith, w.size_of-sum.ensures.1)
+      | else-s-number w ↦ omega arith
+      ],
+      elim c.if-s-number.branch [
+        then-s-number w ↦ rw w.sum-is (offset-greater _ _ _ _ _ inside n size a.from _ _ w.if-s-number.true w.size_of-sum.ensures.0 l.invariant.1)
+      | else-s-number w ↦ rw w.sum-is (offset-same _ _ _ _ _ inside n size a.from _ w.if-s-number.false l.invariant.1)
+      ],
     )
 
 returns : tie.Need-returns invariant-loop-p decreases-loop-p
