@@ -1,14 +1,12 @@
 -- `metrics::engine::advance` meets its contract: the class by the tables is the answer's (`told`). `late_figures` returns a reordered
 -- packet's byte offset, as it has not arrived (`new_told`), and its largest n; `answer_by` makes the answer from them. Noting the record
 -- then gives the state after it (`engine-next`). Assumes nothing.
-use mathlib.Core.Path.{◌≡◌, ap, ◌∙◌}
-use Prim.Native.Nat.{◌≤◌}
+use mathlib.Core.Path.{ap, ◌∙◌}
 use Rattle.rfc4737.specs.Arrivals.{firsts}
 use Rattle.rfc4737.specs.Extent.{byte_offset, largest_n}
-use Rattle.rfc4737.specs.Judge.{sent_most}
 use Rattle.sample.specs.Decode.{decode}
 use Rattle.metrics.specs.Sample.{size_of}
-use Rattle.metrics.specs.Records.{arrival_at, before}
+use Rattle.metrics.specs.Records.{before}
 use Rattle.metrics.proofs.TablesFollow.{number-few}
 use Rattle.metrics.proofs.AnswersByClass.{told, new_told, late-both}
 use Rattle.metrics.proofs.NotingArrivals.{noting}

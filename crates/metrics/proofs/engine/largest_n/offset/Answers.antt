@@ -1,6 +1,6 @@
 -- The next position is `offset-greater` or `offset-same`, and after the last the sum is the byte offset over all (`offset-all`). Assumes
 -- nothing.
-use Rattle.std.proofs.Common.{arith, rules, sym}
+use Rattle.std.proofs.Common.{arith, sym}
 use Rattle.sample.specs.Decode.{decode}
 use Rattle.metrics.specs.Sample.{size_of}
 use Rattle.metrics.proofs.Reordered.{offset-greater, offset-same, offset-all}
@@ -27,13 +27,13 @@ loop-p-preserved c =
     let a = c.args in
     let size = size_of (decode a.file.now) in (
       elim c.if-s-number.branch [
-        then-s-number w ↦ omega (arith, w.sum-is, w.size_of-sum.ensures.1)
-      | else-s-number w ↦ omega (arith, w.sum-is)
+        | then-s-number w ↦ omega (arith, w.sum-is, w.size_of-sum.ensures.1)
+        | else-s-number w ↦ omega (arith, w.sum-is)
       ],
       elim c.if-s-number.branch [
-        then-s-number w ↦ rw w.sum-is (offset-greater _ _ _ _ _ inside n size a.from _ _ w.if-s-number.true w.size_of-sum.ensures.0
+        | then-s-number w ↦ rw w.sum-is (offset-greater _ _ _ _ _ inside n size a.from _ _ w.if-s-number.true w.size_of-sum.ensures.0
             l.invariant.1)
-      | else-s-number w ↦ rw w.sum-is (offset-same _ _ _ _ _ inside n size a.from _ w.if-s-number.false l.invariant.1)
+        | else-s-number w ↦ rw w.sum-is (offset-same _ _ _ _ _ inside n size a.from _ w.if-s-number.false l.invariant.1)
       ],
     )
 

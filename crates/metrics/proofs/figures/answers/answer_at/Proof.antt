@@ -1,4 +1,4 @@
--- `metrics::figures::answers::answer_at-record` meets its contract: the class by the tables is the answer's (`told`), and `answer_by` makes the
+-- `metrics::figures::answers::answer_at` meets its contract: the class by the tables is the answer's (`told`), and `answer_by` makes the
 -- answer. For a reordered packet it takes the largest n and the byte offset, which is summed from the discontinuity on, as it is 0 over
 -- the first arrivals before it (`late-alone`). Assumes nothing.
 use mathlib.Core.Path.{◌≡◌, ap, ◌∙◌}
