@@ -5,14 +5,6 @@ use borrow.Author.Rules.{rules}
 use Rattle.metrics.proofs.figures.shares_after.Statement.{statement}
 use Rattle.metrics.proofs.figures.shares_after.Tie as tie
 
--- ---- places
-
-abbrev start : tie.After-largest-by-links-arg2 → tie.Start
-start c = c
-
-abbrev if1-left : tie.After-largest-by-links-arg2 → tie.Else-links-at-ne0
-if1-left c = c
-
 returns : tie.Need-returns-then-links-at-ne0
 returns c = let p = c.requires in shared-copy _ _ _ p.0 _ _ _ c.if-links-at-ne0.true
 
@@ -23,8 +15,8 @@ returns-2 c =
 
 returns-3 : tie.Need-returns
 returns-3 c =
-    let p = (start c).requires in
-    shared-late _ _ _ p.0 _ _ _ (if1-left c).if-links-at-ne0.false p.1
+    let p = c.requires in
+    shared-late _ _ _ p.0 _ _ _ c.if-links-at-ne0.false p.1
     c.if-shares-number.false _ c.largest_by_links-largest.ensures.1
     _ _ c.n_reordered_after.ensures c.n_reordered_after-2.ensures
 

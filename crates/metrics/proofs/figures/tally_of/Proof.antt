@@ -107,8 +107,7 @@ loop-again c =
     let at = c in
     let l = at.loop-i in (
       omega (arith, (here at.before.before.before.before.before.before).inside),
-      noted-follows _ _ _ (here at.before.before.before.before.before.before) _ _ _ _ l.invariant.1 _ (after-number-of
-          c).number_of-number.ensures.0 _ _ _ _ _ c.note-state.ensures,
+      noted-follows _ _ _ (here at.before.before.before.before.before.before) _ _ _ _ l.invariant.1 _ c.number_of-number.ensures.0 _ _ _ _ _ c.note-state.ensures,
       c.tally_after.ensures _ (class-answer at.before.before.before.before.before.before) ∙ tally-next _ _ _ (here at.before.before.before.before.before.before) _ l.invariant.2,
     )
 

@@ -3,7 +3,6 @@
 use Prim.Native.Nat.{◌≤◌}
 use native.Mathlib.Omega.{arith}
 use Rattle.metrics.proofs.AnswersByClass.{late-place, late-whole}
-use borrow.Author.Rules.{rules}
 use Rattle.rfc4737.specs.Judge.{sent_most}
 use Rattle.metrics.proofs.engine.kind.reordered_figures.Statement.{statement}
 use Rattle.metrics.proofs.engine.kind.reordered_figures.Tie as tie

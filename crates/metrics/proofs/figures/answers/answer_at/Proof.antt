@@ -1,4 +1,4 @@
--- `metrics::figures::answers::answer_at-record` meets its contract: the class by the tables is the answer's (`told`), and `answer_by` makes the
+-- `metrics::figures::answers::answer_at` meets its contract: the class by the tables is the answer's (`told`), and `answer_by` makes the
 -- answer. For a reordered packet it takes the largest n and the byte offset, which is summed from the discontinuity on, as it is 0 over
 -- the first arrivals before it (`late-alone`). Assumes nothing.
 use mathlib.Core.Path.{◌≡◌, ap, ◌∙◌}
@@ -19,11 +19,6 @@ use Rattle.metrics.proofs.AnswersByClass.{told, packets, late-place, late-alone}
 use Rattle.metrics.proofs.figures.answers.answer_at.Statement.{statement}
 use Rattle.metrics.proofs.figures.answers.answer_at.Tie as tie
 
--- ---- places
-
-abbrev start : tie.In-Reordered-1 → tie.Start
-start c = c.before.before.before.before
-
 -- the number that is read is that of record i + 1
 number : (c : tie.After-arrival_at-arrival) → c.arrival_at-arrival.result.number
     ≡ (arrival_at (decode c.args.file.now) c.args.i).number
@@ -38,18 +33,18 @@ class-answer c =
     c.requires.1 _ (number c.before) n.1 n.2 _ c.class_of-class.ensures
 
 -- where it is reordered, that of such a packet
-late : (c : tie.In-Reordered) → ClassOf (start c).args.state.count
-    (Class.Reordered c.in-Reordered.at) (answer_at (decode (start c).args.file.now)
-    (start c).args.i)
+late : (c : tie.In-Reordered) → ClassOf c.args.state.count
+    (Class.Reordered c.in-Reordered.at) (answer_at (decode c.args.file.now)
+    c.args.i)
 late c = rw c.in-Reordered.is at (class-answer c.before)
 
 -- there are few first arrivals before it, and their numbers are those of packets
-known : (c : tie.In-Reordered) → ((start c).args.state.count ≤ sent_most)
-    × Packets (start c).args.numbers.now (start c).args.state.count
-    (start c).args.layout.sent
+known : (c : tie.In-Reordered) → (c.args.state.count ≤ sent_most)
+    × Packets c.args.numbers.now c.args.state.count
+    c.args.layout.sent
 known c =
     let p =
-    (start c).requires in packets _ _ (start c).args.i p.0.file _ _ p.1.numbered
+    c.requires in packets _ _ c.args.i p.0.file _ _ p.1.numbered
     (omega (arith, p.0.inside))
 
 class-of-requires : tie.Need-class_of-class-requires
@@ -71,20 +66,20 @@ answer-by-requires-2 c κs =
     (p.0, c.arrival_at-arrival.ensures.0, p.1.numbered, p.1.recorded, class-answer c.before, rw is tt)
 
 sub-offset : tie.Need-overflow_sub-at
-sub-offset c = let p = (start c).requires in (late-place _ _ _ _ _ p.0 (late c) _ _ p.1.numbered p.1.recorded).0
+sub-offset c = let p = c.requires in (late-place _ _ _ _ _ p.0 (late c) _ _ p.1.numbered p.1.recorded).0
 
 offset-requires : tie.Need-offset-offset-requires
-offset-requires c κs = ((start c).requires.0.file, (known c).0, (known c).1)
+offset-requires c κs = (c.requires.0.file, (known c).0, (known c).1)
 
 largest-requires : tie.Need-largest-largest-requires
 largest-requires c κs = (known c.before).0
 
 answer-by-requires-3 : tie.Need-answer_by-requires-in-Reordered
 answer-by-requires-3 c κs =
-    let p = (start c).requires in
+    let p = c.requires in
     let at = c.in-Reordered.at in
-    let d = decode (start c).args.file.now in
-    let fs = firsts (before d (start c).args.i) in
+    let d = decode c.args.file.now in
+    let fs = firsts (before d c.args.i) in
     let n = number c.before.before.before.before in
     let alone =
     ap (byte_offset (size_of d) (take (at - 1) fs)) n ∙ late-alone _ _ _ _ _ p.0 (late c.before.before) _ _ p.1.numbered

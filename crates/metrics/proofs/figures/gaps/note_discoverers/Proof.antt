@@ -5,7 +5,7 @@
 use Prim.Native.Nat.{◌≤◌, ◌-◌}
 use native.Mathlib.Omega.{arith}
 use Rattle.sample.specs.Decode.{decode, Decoded}
-use Rattle.metrics.specs.Records.{before, answer_at, HasRecord}
+use Rattle.metrics.specs.Records.{answer_at, HasRecord}
 use Rattle.metrics.specs.Private.Tables.{ClassOf}
 use borrow.Author.Rules.{rules}
 use Rattle.metrics.proofs.TablesFollow.{numbered-le}

@@ -1,9 +1,6 @@
 -- `metrics::figures::needs::needs_after` meets its contract: a duplicate leaves the needs (`after-duplicate`), any other packet adds its
 -- own (`after-in-order`, `after-reordered`). Assumes nothing.
-use mathlib.Core.Path.{◌≡◌, sym, subst}
 use borrow.Author.Rules.{rules}
-use Rattle.metrics.specs.declared.figures.needs.Needs.{Needs}
-use Rattle.metrics.specs.Private.Needs.{NeedsOf}
 use Rattle.metrics.proofs.Accommodation.{after-duplicate, after-in-order, after-reordered}
 use Rattle.metrics.proofs.figures.needs.needs_after.Statement.{statement}
 use Rattle.metrics.proofs.figures.needs.needs_after.Tie as tie

@@ -2,7 +2,7 @@
 -- needs and counts are those of their answers. The class of record i + 1 is its answer's (`told`), `need_of` returns its need, and
 -- `needs_after` adds it (`needs-next`). The measure is the number of arrivals left. Assumes nothing.
 use Prim.Native.Nat.{◌-◌, ◌≤◌, ◌<◌}
-use mathlib.Core.Path.{◌≡◌, sym, ap, ◌∙◌}
+use mathlib.Core.Path.{◌≡◌, sym}
 use native.Mathlib.Omega.{arith}
 use borrow.Author.Rules.{rules}
 use Rattle.rfc4737.specs.Arrivals.{firsts}

@@ -1,9 +1,7 @@
 -- `metrics::figures::needs::step_of` meets its contract: a need of at most `low` has index 0 (`step-low`); any other has the first index
 -- past its distance from `low` (`step_past`), which is 1 if the shift is 64 or more. Assumes nothing.
-use Prim.Native.Nat.{ℕ, ◌+◌, ◌-◌, ◌/◌, ◌^◌, ◌<◌, ◌≤◌}
-use mathlib.Core.Path.{◌≡◌, sym, ap, ◌∙◌}
+use Prim.Native.Nat.{◌-◌, ◌^◌}
 use native.Mathlib.Omega.{arith}
-use lib.Dec.{leb}
 use native.Mathlib.Nat.{div-le_self}
 use borrow.Author.Rules.{rules}
 use Rattle.metrics.proofs.Accommodation.{step-low, step_past, step-far}

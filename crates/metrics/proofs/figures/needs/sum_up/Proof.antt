@@ -1,12 +1,8 @@
 -- `metrics::figures::needs::sum_up` meets its contract. The loop's invariant: below j each count is the sum up to its index, from j on
 -- the counts are as they were, and `sum` is that of the first j. The measure is the number of counts left. Assumes nothing.
-use mathlib.Core.Path.{◌≡◌, refl, sym, ◌∙◌}
-use Prim.Native.Nat.{ℕ, suc, ◌+◌, ◌-◌, ◌≤◌, ◌<◌}
+use Prim.Native.Nat.{◌-◌}
 use native.Mathlib.Omega.{arith}
-use lib.ListN.{length, get_or}
-use borrow.Author.Rules.{rules}
 use Rattle.metrics.specs.Figures.{step_count}
-use Rattle.metrics.specs.Private.Needs.{count_to}
 use Rattle.metrics.proofs.Accommodation.{SummedTo, summed-start, summed-next, summed-sum}
 use Rattle.metrics.proofs.figures.needs.sum_up.Statement.{statement}
 use Rattle.metrics.proofs.figures.needs.sum_up.Tie as tie

@@ -37,7 +37,7 @@ same_length c = simp length-set refl
 
 returns : tie.Need-returns
 returns c =
-    let r = c.args.t3 in
+    let r = c.args.row in
     let long : length r ≡ 8 = search rules in
     row-set c.args.at (get_or r 0 0) (get_or r 1 0) (get_or r 2 0) (get_or r 3 0) (get_or r 4 0) (get_or r 5 0) (get_or r 6 0) (get_or r 7 0)
     c.args.rows.now c.requires

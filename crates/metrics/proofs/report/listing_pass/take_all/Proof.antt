@@ -28,25 +28,25 @@ after-take-records c = c.before.before.before.before.before
 returns : tie.Need-returns-then-not-first
 returns c =
     first-differs _ _ (start c.before.before.before.before).requires.0 _ _ c.take_header-first.ensures
-    (c.if-not-first.true)
+    (not-true _ c.if-not-first.true)
 
 take-records-requires : tie.Need-take_records-passed-requires
 take-records-requires c κs =
     let h = (start c.before.before.before.before.before).requires in
     let first = c.take_header-first.ensures in
-    let s = first_taken _ _ h.0 _ _ first (c.if-not-first.false) in
+    let s = first_taken _ _ h.0 _ _ first (not-false _ c.if-not-first.false) in
     (h.0, record { room = λ e. omega (arith, h.1.room e, first.places); inside = taken-inside s }, s)
 
 returns-2 : tie.Need-returns-then-not-lines
 returns-2 c =
     record-differs _ _ (start (after-take-header c.before.before.before.before.before)).requires.0 _ _
     (after-take-header c.before.before.before.before.before).take_header-first.ensures _
-    c.take_records-passed.ensures (c.if-not-lines.true)
+    c.take_records-passed.ensures (not-true _ c.if-not-lines.true)
 
 take-end-requires : tie.Need-take_end-last-requires
 take-end-requires c κs =
     let h = (start (after-take-header (after-take-records c.before.before))).requires in
-    let s = (after-take-records c.before.before).take_records-passed.ensures.all (c.if-not-lines.false) in (
+    let s = (after-take-records c.before.before).take_records-passed.ensures.all (not-false _ c.if-not-lines.false) in (
       record {
         room = λ e. omega (
           arith,
@@ -65,8 +65,8 @@ part-after-requires c κs =
     let h = (start (after-take-header (after-take-records c.before.before.before.before.before))).requires.0 in
     let s =
     (after-take-records c.before.before.before.before.before).take_records-passed.ensures.all
-    (c.if-not-lines.false) in
-    taken-fits (start (after-take-header (after-take-records c.before.before.before.before.before))).well-formed.1.1.1.0.0
+    (not-false _ c.if-not-lines.false) in
+    taken-fits (start (after-take-header (after-take-records c.before.before.before.before.before))).well_formed.1.1.1.0.0
     (omega (
       arith,
       sample-within a.file.now a.layout h
@@ -80,7 +80,7 @@ returns-3 : tie.Need-returns
 returns-3 c =
     let s =
     (after-take-records c.before.before.before.before.before.before).take_records-passed.ensures.all
-    (c.if-not-lines.false) in
+    (not-false _ c.if-not-lines.false) in
     rw c.part_after.ensures (last_taken _ _ (start (after-take-header
     (after-take-records c.before.before.before.before.before.before))).requires.0 _ _
     (after-take-header (after-take-records c.before.before.before.before.before.before)).take_header-first.ensures s.0 s.1

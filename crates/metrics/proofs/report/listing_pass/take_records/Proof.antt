@@ -135,14 +135,14 @@ returns c =
     (head (after-arrival-at (after-advance c.before.before.before.before))).loop-i.invariant.3
     (ap (λ (b : Arrival). b.number) (after-arrival-at (after-advance c.before.before.before.before)).arrival_at-arrival.ensures.0)
     (after-advance c.before.before.before.before).advance-step.ensures.0
-    c.take_record-part.ensures _ (c.if-not-part.true))
+    c.take_record-part.ensures _ (not-true _ c.if-not-part.true))
 
 add_at : tie.Need-overflow_add-at invariant-loop-i decreases-loop-i
 add_at c = omega (arith, fits c.before.before)
 
 counts-after-requires : tie.Need-counts_after-counts-requires invariant-loop-i decreases-loop-i
 counts-after-requires c κs =
-    let r = (after-arrival-at (after-advance c.before.before.before.before)) in
+    let r = (after-arrival-at (after-advance c.before.before.before.before)).before in
     rw (head (after-arrival-at (after-advance c.before.before.before.before))).loop-i.invariant.2
     (counts-within _ (omega (arith, answers-length _ _ _ (here r), few r)))
 
@@ -163,7 +163,7 @@ loop-again c =
       passed-next _ _ _ _ h l.invariant.3 (ap (λ (b : Arrival). b.number)
           (after-arrival-at (after-advance c.before.before.before.before.before.before)).arrival_at-arrival.ensures.0) step.0
           c.take_record-part.ensures
-          (c.if-not-part.false),
+          (not-false _ c.if-not-part.false),
     )
 
 same-length-2 : tie.Need-shape_of-out invariant-loop-i decreases-loop-i
