@@ -14,11 +14,11 @@ product-fits m n h k =
     mul-le-mul {n₁ = m} {m₁ = n} {n₂ = 4294967295} {m₂ = 4294967295} (omega arith) (omega arith) in
     record { fits = omega arith }
 
-mul-due : tie.Need-overflow-mul-due
+mul-due : tie.Need-overflow_mul-due
 mul-due c = product-fits _ _ (search rules) (search rules)
 
-mul-given : tie.Need-overflow-mul-given
+mul-given : tie.Need-overflow_mul-given
 mul-given c = product-fits _ _ (search rules) (search rules)
 
-pub enough-spec : {M : Type 1} → statement M
-enough-spec = tie.close (tie.spec mul-due mul-given (λ c. search rules))
+pub enough_spec : {M : Type 1} → statement M
+enough_spec = tie.close (tie.spec mul-due mul-given (λ c. search rules))

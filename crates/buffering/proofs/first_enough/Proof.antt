@@ -12,46 +12,46 @@ use Rattle.metrics.specs.Figures.{step_count}
 use Rattle.buffering.proofs.first_enough.Statement.{statement}
 use Rattle.buffering.proofs.first_enough.Tie as tie
 
-abbrev invariant-loop : tie.invariant-loop
-invariant-loop counts part whole all j₀ j = (j ≤ step_count) × ((k : ℕ) → k < j → leb (part * all) (whole * get_or counts k 0) ≡ false)
+abbrev invariant-loop-j : tie.invariant-loop-j
+invariant-loop-j counts part whole all j₀ j = (j ≤ step_count) × ((k : ℕ) → k < j → leb (part * all) (whole * get_or counts k 0) ≡ false)
 
-abbrev decreases-loop : tie.decreases-loop
-decreases-loop counts part whole all j₀ j = step_count - j
+abbrev decreases-loop-j : tie.decreases-loop-j
+decreases-loop-j counts part whole all j₀ j = step_count - j
 
-returns : tie.Need-returns invariant-loop decreases-loop
+returns : tie.Need-returns-then-enough invariant-loop-j decreases-loop-j
 returns c =
-    let l = c.before.before.before.before.loop in
-    record { within = l.invariant.0; before = l.invariant.1; found = λ h. sym c.before.enough.ensures ∙ c.if1.true }
+    let l = c.loop-j in
+    record { within = l.invariant.0; before = l.invariant.1; found = λ h. sym c.enough.ensures ∙ c.if-enough.true }
 
-loop-again : tie.Need-loop-preserved invariant-loop decreases-loop
+loop-again : tie.Need-loop-j-preserved invariant-loop-j decreases-loop-j
 loop-again c =
-    let l = c.before.before.before.before.loop in
-    let t = c.before.before.before.loop-test.true in (
+    let l = c.loop-j in
+    let t = c.loop-j-test.true in (
       omega (arith, t),
-      below_more (λ (k : ℕ). leb (c.before.before.before.before.before.args.part
-          * c.before.before.before.before.before.args.all)
-          (c.before.before.before.before.before.args.whole
-          * get_or c.before.before.before.before.before.args.counts.now k 0) ≡ false) l.j l.invariant.1
-          (sym c.before.enough.ensures ∙ c.if1.false),
+      below_more (λ (k : ℕ). leb (c.args.part
+          * c.args.all)
+          (c.args.whole
+          * get_or c.args.counts.now k 0) ≡ false) l.j l.invariant.1
+          (sym c.enough.ensures ∙ c.if-enough.false),
     )
 
-returns-2 : tie.Need-returns-2 invariant-loop decreases-loop
+returns-2 : tie.Need-returns invariant-loop-j decreases-loop-j
 returns-2 c =
-    let l = c.before.loop in
-    record { within = l.invariant.0; before = l.invariant.1; found = λ h. absurd (omega (arith, h, c.loop-test.false)) }
+    let l = c.loop-j in
+    record { within = l.invariant.0; before = l.invariant.1; found = λ h. absurd (omega (arith, h, c.loop-j-test.false)) }
 
-pub first-enough-spec : {M : Type 1} → statement M
-first-enough-spec =
+pub first_enough_spec : {M : Type 1} → statement M
+first_enough_spec =
     tie.close
     (tie.spec
-    invariant-loop
-    decreases-loop
+    invariant-loop-j
+    decreases-loop-j
     (λ c. (omega arith, below_none _))
-    (λ c. omega (arith, c.loop-test.true))
-    (λ c. omega (arith, c.loop-test.true))
+    (λ c. omega (arith, c.loop-j-test.true))
+    (λ c. omega (arith, c.loop-j-test.true))
     (λ c κs. search rules)
     returns
-    (λ c. omega (arith, c.before.before.before.loop-test.true))
-    (λ c. omega (arith, c.before.before.before.loop-test.true))
+    (λ c. omega (arith, c.loop-j-test.true))
+    (λ c. omega (arith, c.loop-j-test.true))
     loop-again
     returns-2)

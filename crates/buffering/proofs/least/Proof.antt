@@ -21,70 +21,70 @@ use Rattle.buffering.proofs.least.Statement.{statement}
 use Rattle.buffering.proofs.least.Tie as tie
 
 -- b₀ are the bounds where the loop begins, b those at its head
-abbrev invariant-loop : tie.invariant-loop
-invariant-loop file measure part whole b₀ b = Between measure part whole (answers_of (decode file)) b
+abbrev invariant-loop-b : tie.invariant-loop-b
+invariant-loop-b file measure part whole b₀ b = Between measure part whole (answers_of (decode file)) b
 
-abbrev decreases-loop : tie.decreases-loop
-decreases-loop file measure part whole b₀ b = b.high - b.low
+abbrev decreases-loop-b : tie.decreases-loop-b
+decreases-loop-b file measure part whole b₀ b = b.high - b.low
 
 -- the theorems that the contract carries besides the answer
-carries : (c : tie.After-accommodated-steps invariant-loop decreases-loop)
-    → RestoresFile (decode c.before.before.args.file.now)
+carries : (c : tie.After-accommodated_steps-steps invariant-loop-b decreases-loop-b)
+    → RestoresFile (decode c.args.file.now)
     × (HoldsOffset × (RestoresOrder × (SizesAreLeast × (OneLeast × (MoreIsNoWorse × AllIsGreatest)))))
 carries c =
-    let file = c.before.before.args.file.now in (
-      restores file (below-fits w8 file c.before.shared-slice-known.given),
+    let file = c.args.file.now in (
+      restores file (below-fits w8 file c.shared_slice_known-1.given),
       (holds-offset, (restores-order, (sizes-are-least, (one-least, (more-is-no-worse, all-is-greatest))))),
     )
 
 -- the refusal is the file's own
-refusal_is : (c : tie.After-accommodated-steps invariant-loop decreases-loop) → c.accommodated-steps.result.refusal
-    ≡ decoded_refusal (decode c.before.before.args.file.now)
-refusal_is c = steps-refusal _ _ _ _ _ c.accommodated-steps.ensures
+refusal_is : (c : tie.After-accommodated_steps-steps invariant-loop-b decreases-loop-b) → c.accommodated_steps-steps.result.refusal
+    ≡ decoded_refusal (decode c.args.file.now)
+refusal_is c = steps-refusal _ _ _ _ _ c.accommodated_steps-steps.ensures
 
-returns : tie.Need-returns invariant-loop decreases-loop
+returns : tie.Need-returns-then-steps-ne-NONE invariant-loop-b decreases-loop-b
 returns c =
-    let q = c.before.before in
-    (least-refused _ _ _ _ _ (refusal_is q) c.if1.true, carries q)
+    let q = c in
+    (least-refused _ _ _ _ _ (refusal_is q.before.before) c.if-steps-ne-NONE.true, carries q.before.before)
 
-returns-2 : tie.Need-returns-2 invariant-loop decreases-loop
+returns-2 : tie.Need-returns-then-outside invariant-loop-b decreases-loop-b
 returns-2 c =
-    let q = c.before.before.before.before in (
-      least-outside _ _ _ _ (sym (refusal_is q) ∙ c.before.before.if1.false)
-          (sym c.before.outside.ensures ∙ c.if2.true),
-      carries q,
+    let q = c in (
+      least-outside _ _ _ _ (sym (refusal_is q.before.before.before.before) ∙ c.if-steps-ne-NONE.false)
+          (sym c.outside.ensures ∙ c.if-outside.true),
+      carries q.before.before.before.before,
     )
 
-loop-holds : tie.Need-loop-init invariant-loop decreases-loop
+loop-holds : tie.Need-loop-b-init invariant-loop-b decreases-loop-b
 loop-holds c =
-    let q = c.before.before.before.before.accommodated-steps in
-    rw (steps-greatest _ _ _ _ _ q.ensures) (start _ _ _ _ (between 1 _ _ (sym c.before.outside.ensures ∙ c.if2.false)).1)
+    let q = c.accommodated_steps-steps in
+    rw (steps-greatest _ _ _ _ _ q.ensures) (start _ _ _ _ (between 1 _ _ (sym c.outside.ensures ∙ c.if-outside.false)).1)
 
-narrowed-requires : tie.Need-narrowed-requires invariant-loop decreases-loop
-narrowed-requires c κs = (c.if3.true, c.before.before.loop.invariant)
+narrowed-requires : tie.Need-narrowed-b-requires invariant-loop-b decreases-loop-b
+narrowed-requires c κs = (c.loop-b-test.true, c.loop-b.invariant)
 
-loop-less : tie.Need-loop-smaller invariant-loop decreases-loop
-loop-less c = c.narrowed.ensures.1
+loop-less : tie.Need-loop-b-smaller invariant-loop-b decreases-loop-b
+loop-less c = c.narrowed-b.ensures.1
 
-loop-again : tie.Need-loop-preserved invariant-loop decreases-loop
-loop-again c = c.narrowed.ensures.0
+loop-again : tie.Need-loop-b-preserved invariant-loop-b decreases-loop-b
+loop-again c = c.narrowed-b.ensures.0
 
-returns-3 : tie.Need-returns-3 invariant-loop decreases-loop
+returns-3 : tie.Need-returns invariant-loop-b decreases-loop-b
 returns-3 c =
-    let tests = c.before.before.before in
-    let q = tests.before.before.before.before in
-    let accepted = sym (refusal_is q) ∙ tests.before.before.if1.false in (
-      least-found _ _ _ _ accepted (sym tests.before.outside.ensures ∙ tests.if2.false) _
-          (met _ _ _ _ _ c.before.before.loop.invariant c.if3.false),
-      carries q,
+    let tests = c in
+    let q = tests in
+    let accepted = sym (refusal_is q.before.before.before.before.before.before.before) ∙ tests.if-steps-ne-NONE.false in (
+      least-found _ _ _ _ accepted (sym tests.outside.ensures ∙ tests.if-outside.false) _
+          (met _ _ _ _ _ c.loop-b.invariant c.loop-b-test.false),
+      carries q.before.before.before.before.before.before.before,
     )
 
-pub least-spec : {M : Type 1} → statement M
-least-spec =
+pub least_spec : {M : Type 1} → statement M
+least_spec =
     tie.close
     (tie.spec
-    invariant-loop
-    decreases-loop
+    invariant-loop-b
+    decreases-loop-b
     (λ c κs. search rules)
     returns
     (λ c κs. search rules)

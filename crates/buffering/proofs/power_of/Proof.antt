@@ -11,5 +11,5 @@ use Rattle.buffering.proofs.power_of.Tie as tie
 returns : tie.Need-returns
 returns c = ap (λ (n : ℕ). n % 2 ^ 64) (one-mul (2 ^ c.args.shift)) ∙ mod-eq_of_lt (pow-lt {j = 64} (omega (arith, c.requires)))
 
-pub power-of-spec : {M : Type 1} → statement M
-power-of-spec = tie.close (tie.spec (λ c. omega (arith, c.requires)) returns)
+pub power_of_spec : {M : Type 1} → statement M
+power_of_spec = tie.close (tie.spec (λ c. omega (arith, c.requires)) returns)

@@ -11,33 +11,33 @@ use Rattle.metrics.specs.Figures.{step_count}
 use Rattle.buffering.proofs.shift_for.Statement.{statement}
 use Rattle.buffering.proofs.shift_for.Tie as tie
 
-abbrev invariant-loop : tie.invariant-loop
-invariant-loop distance shift₀ shift = shift ≤ 57
+abbrev invariant-loop-shift : tie.invariant-loop-shift
+invariant-loop-shift distance shift₀ shift = shift ≤ 57
 
-abbrev decreases-loop : tie.decreases-loop
-decreases-loop distance shift₀ shift = 57 - shift
+abbrev decreases-loop-shift : tie.decreases-loop-shift
+decreases-loop-shift distance shift₀ shift = 57 - shift
 
-returns : tie.Need-returns invariant-loop decreases-loop
-returns c = (c.before.before.loop.invariant, (div-lt_iff_lt-mul (pow_pos c.before.before.loop.shift)).0 c.if1.true)
+returns : tie.Need-returns-then-distance-shift invariant-loop-shift decreases-loop-shift
+returns c = (c.loop-shift.invariant, (div-lt_iff_lt-mul (pow_pos c.loop-shift.shift)).0 c.if-distance-shift.true)
 
-returns-2 : tie.Need-returns-2 invariant-loop decreases-loop
+returns-2 : tie.Need-returns invariant-loop-shift decreases-loop-shift
 returns-2 c =
-    let l = c.before.loop in
-    let e : l.shift ≡ 57 = omega (arith, l.invariant, c.loop-test.false) in
+    let l = c.loop-shift in
+    let e : l.shift ≡ 57 = omega (arith, l.invariant, c.loop-shift-test.false) in
     let w : step_count * 2 ^ l.shift ≡ 18446744073709551616 = ap (λ (n : ℕ). step_count * 2 ^ n) e in
     (l.invariant, omega (arith, w))
 
-pub shift-for-spec : {M : Type 1} → statement M
-shift-for-spec =
+pub shift_for_spec : {M : Type 1} → statement M
+shift_for_spec =
     tie.close
     (tie.spec
-    invariant-loop
-    decreases-loop
+    invariant-loop-shift
+    decreases-loop-shift
     (λ c. omega arith)
     (λ c. search rules)
-    (λ c. omega (arith, c.loop-test.true))
+    (λ c. omega (arith, c.loop-shift-test.true))
     returns
-    (λ c. omega (arith, c.before.loop-test.true))
-    (λ c. omega (arith, c.before.loop-test.true))
-    (λ c. omega (arith, c.before.loop-test.true))
+    (λ c. omega (arith, c.loop-shift-test.true))
+    (λ c. omega (arith, c.loop-shift-test.true))
+    (λ c. omega (arith, c.loop-shift-test.true))
     returns-2)

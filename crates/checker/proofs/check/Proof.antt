@@ -12,34 +12,34 @@ use Rattle.checker.proofs.check.Statement.{statement}
 use Rattle.checker.proofs.check.Tie as tie
 
 -- the theorems that it carries: yes exactly for the sample's listing, the start that decides, and the cases
-carries : (c : tie.After-agreement)
-    → AgreesExactly (decode c.before.before.before.args.file.now)
-    × (StartDecides (decode c.before.before.before.args.file.now) × ListingCasesHold)
+carries : (c : tie.After-agreement-agreement)
+    → AgreesExactly (decode c.args.file.now)
+    × (StartDecides (decode c.args.file.now) × ListingCasesHold)
 carries c =
-    (agrees-exactly _, (start-decides (decode c.before.before.before.args.file.now) c.agreement.ensures.1, cases-hold))
+    (agrees-exactly _, (start-decides (decode c.args.file.now) c.agreement-agreement.ensures.1, cases-hold))
 
-returns : tie.Need-returns
+returns : tie.Need-returns-then-agreement-ne-NONE
 returns c =
-    let l = c.before.before in
-    (checked_refused _ _ _ l.agreement.ensures.0 c.if1.true, carries l)
+    let l = c in
+    (checked_refused _ _ _ l.agreement-agreement.ensures.0 c.if-agreement-ne-NONE.true, carries l.before.before)
 
-returns-2 : tie.Need-returns-2
+returns-2 : tie.Need-returns-then-agreement
 returns-2 c =
-    let l = c.before.before.before in
-    (checked-same _ _ _ l.agreement.ensures.0 c.before.if1.false c.if2.true, carries l)
+    let l = c in
+    (checked-same _ _ _ l.agreement-agreement.ensures.0 c.if-agreement-ne-NONE.false c.if-agreement.true, carries l.before.before.before)
 
-wrong-line-requires : tie.Need-wrong-line-requires
+wrong-line-requires : tie.Need-wrong_line-requires
 wrong-line-requires c κs =
-    let l = c.before.before.before in
-    octets-most _ _ _ l.agreement.ensures.0 c.before.if1.false l.agreement.ensures.1
+    let l = c in
+    octets-most _ _ _ l.agreement-agreement.ensures.0 c.if-agreement-ne-NONE.false l.agreement-agreement.ensures.1
 
-returns-3 : tie.Need-returns-3
+returns-3 : tie.Need-returns
 returns-3 c =
-    let l = c.before.before.before.before in (
-      checked-wrong _ _ _ l.agreement.ensures.0 c.before.before.if1.false c.before.if2.false _ c.wrong-line.ensures,
-      carries l,
+    let l = c in (
+      checked-wrong _ _ _ l.agreement-agreement.ensures.0 c.if-agreement-ne-NONE.false c.if-agreement.false _ c.wrong_line.ensures,
+      carries l.before.before.before.before,
     )
 
-pub check-spec : {M : Type 1} → statement M
-check-spec =
+pub check_spec : {M : Type 1} → statement M
+check_spec =
     tie.close (tie.spec (λ c κs. search rules) returns returns-2 wrong-line-requires returns-3)

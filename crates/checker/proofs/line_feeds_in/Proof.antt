@@ -12,41 +12,41 @@ use Rattle.checker.proofs.line_feeds_in.Statement.{statement}
 use Rattle.checker.proofs.line_feeds_in.Tie as tie
 
 -- count₀ and i₀ are the values where the loop begins, count and i those at its head
-abbrev invariant-loop : tie.invariant-loop
-invariant-loop text count₀ i₀ count i = (i ≤ length text) × (count ≡ feeds (take i text))
+abbrev invariant-loop-i : tie.invariant-loop-i
+invariant-loop-i text count₀ i₀ count i = (i ≤ length text) × (count ≡ feeds (take i text))
 
-abbrev decreases-loop : tie.decreases-loop
-decreases-loop text count₀ i₀ count i = length text - i
+abbrev decreases-loop-i : tie.decreases-loop-i
+decreases-loop-i text count₀ i₀ count i = length text - i
 
-loop-holds : tie.Need-loop-init invariant-loop decreases-loop
+loop-holds : tie.Need-loop-i-init invariant-loop-i decreases-loop-i
 unfolding feeds
 loop-holds c = (omega arith, refl)
 
 -- with the octet at i
-next : (c : tie.After-one-if-line-feed invariant-loop decreases-loop)
-    → c.before.before.before.loop.count + c.one-if-line-feed.result ≡ feeds
-    (take (c.before.before.before.loop.i + 1) c.before.before.before.before.before.args.text.now)
+next : (c : tie.After-one_if_line_feed-count invariant-loop-i decreases-loop-i)
+    → c.loop-i.count + c.one_if_line_feed-count.result ≡ feeds
+    (take (c.loop-i.i + 1) c.args.text.now)
 next c =
-    let l = c.before.before.before.loop in
-    rw l.invariant.1 (feeds-next _ l.i c.one-if-line-feed.result (omega arith) c.one-if-line-feed.ensures)
+    let l = c.loop-i in
+    rw l.invariant.1 (feeds-next _ l.i c.one_if_line_feed-count.result (omega arith) c.one_if_line_feed-count.ensures)
 
-add-count : tie.Need-overflow-add-count invariant-loop decreases-loop
+add-count : tie.Need-overflow_add-count invariant-loop-i decreases-loop-i
 add-count c =
-    let i = c.before.before.before.loop.i in
-    omega (arith, next c, feeds-take-le (i + 1) c.before.before.before.before.before.args.text.now)
+    let i = c.loop-i.i in
+    omega (arith, next c, feeds-take-le (i + 1) c.args.text.now)
 
-loop-again : tie.Need-loop-preserved invariant-loop decreases-loop
+loop-again : tie.Need-loop-i-preserved invariant-loop-i decreases-loop-i
 loop-again c = (omega arith, next c)
 
-returns : tie.Need-returns invariant-loop decreases-loop
-returns c = c.before.loop.invariant.1 ∙ ap feeds (take_all c.before.loop.i c.before.before.before.args.text.now (omega arith))
+returns : tie.Need-returns invariant-loop-i decreases-loop-i
+returns c = c.loop-i.invariant.1 ∙ ap feeds (take_all c.loop-i.i c.args.text.now (omega arith))
 
-pub line-feeds-in-spec : {M : Type 1} → statement M
-line-feeds-in-spec =
+pub line_feeds_in_spec : {M : Type 1} → statement M
+line_feeds_in_spec =
     tie.close
     (tie.spec
-    invariant-loop
-    decreases-loop
+    invariant-loop-i
+    decreases-loop-i
     loop-holds
     (λ c. omega arith)
     (λ c κs. search rules)

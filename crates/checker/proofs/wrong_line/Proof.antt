@@ -11,26 +11,26 @@ use Rattle.checker.proofs.Feeds.{feeds-take-le}
 use Rattle.checker.proofs.wrong_line.Statement.{statement}
 use Rattle.checker.proofs.wrong_line.Tie as tie
 
-slice-aggregate-line-feeds-in : tie.Need-slice-aggregate-line-feeds-in
+slice-aggregate-line-feeds-in : tie.Need-slice_bounds-line_feeds_in-end
 slice-aggregate-line-feeds-in c =
-    let a = c.before.before.args in
-    sym (length-take-le a.octets a.listing.now c.before.before.requires.0)
+    let a = c.args in
+    sym (length-take-le a.octets a.listing.now c.requires.0)
 
 -- the line feeds are few
-few : (c : tie.After-line-feeds-in) → c.line-feeds-in.result ≤ listing_octets
+few : (c : tie.After-line_feeds_in) → c.line_feeds_in.result ≤ listing_octets
 few c =
-    let a = c.before.before.before.args in
-    omega (arith, c.line-feeds-in.ensures, c.before.before.before.requires.1, feeds-take-le a.octets a.listing.now)
+    let a = c.args in
+    omega (arith, c.line_feeds_in.ensures, c.requires.1, feeds-take-le a.octets a.listing.now)
 
-add-t6 : tie.Need-overflow-add-t6
+add-t6 : tie.Need-overflow_add-result
 add-t6 c = omega (arith, few c)
 
-cast-t7 : tie.Need-overflow-cast-t7
+cast-t7 : tie.Need-overflow_cast-result
 cast-t7 c = omega (arith, few c)
 
 returns : tie.Need-returns
-returns c = ap (λ (n : ℕ). Verdict.WrongLine (1 + n)) c.line-feeds-in.ensures
+returns c = ap (λ (n : ℕ). Verdict.WrongLine (1 + n)) c.line_feeds_in.ensures
 
-pub wrong-line-spec : {M : Type 1} → statement M
-wrong-line-spec =
+pub wrong_line_spec : {M : Type 1} → statement M
+wrong_line_spec =
     tie.close (tie.spec slice-aggregate-line-feeds-in (λ c κs. search rules) add-t6 cast-t7 returns)

@@ -12,22 +12,22 @@ use Rattle.disorder.proofs.total.Statement.{statement}
 use Rattle.disorder.proofs.total.Tie as tie
 
 -- what the check finds lays the file out
-found : (c : tie.After-check) → FileLayout (decode c.before.before.args.file.now) c.check.result
-found c = rw c.check.ensures.0 (laid _ (λ i. (c.before.shared-slice-known.given i).fits))
+found : (c : tie.After-check-layout) → FileLayout (decode c.args.file.now) c.check-layout.result
+found c = rw c.check-layout.ensures.0 (laid _ (λ i. (c.shared_slice_known-1.given i).fits))
 
-disorder-of-requires : tie.Need-disorder-of-requires
+disorder-of-requires : tie.Need-disorder_of-requires
 disorder-of-requires c κs = found c
 
 returns : tie.Need-returns
 unfolding sample_disorder
 returns c =
     let h = found c.before in (
-      rw (h.laid, c.disorder-of.ensures),
+      rw (h.laid, c.disorder_of.ensures),
       (
         sums-offsets _ _ h,
-        (offsets-count-pairs, (wrong-least, disorder-moved _ (λ i. (c.before.before.shared-slice-known.given i).fits))),
+        (offsets-count-pairs, (wrong-least, disorder-moved _ (λ i. (c.shared_slice_known-1.given i).fits))),
       ),
     )
 
-pub total-spec : {M : Type 1} → statement M
-total-spec = tie.close (tie.spec (λ c κs. search rules) disorder-of-requires returns)
+pub total_spec : {M : Type 1} → statement M
+total_spec = tie.close (tie.spec (λ c κs. search rules) disorder-of-requires returns)

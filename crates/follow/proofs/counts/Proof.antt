@@ -8,11 +8,11 @@ use Rattle.follow.proofs.counts.Tie as tie
 
 returns : tie.Need-returns
 returns c =
-    let written = c.before.before.before.before.before.before.write-counts.ensures in
-    (text-put written.0 c.before.before.write-text.ensures, omega (arith, written.0.place, written.1))
+    let written = c.write_counts-n.ensures in
+    (text-put written.0 c.write_text.ensures, omega (arith, written.0.place, written.1))
 
-pub counts-spec : {M : Type 1} → statement M
-counts-spec = tie.close (tie.spec (λ c. search rules) (λ c κs. search rules) (λ c. search rules)
-    (λ c. (stands c.before.before.write-counts.ensures.0).0)
-    (λ c κs. omega (arith, (stands c.before.before.before.write-counts.ensures.0).0, c.before.before.before.write-counts.ensures.1))
+pub counts_spec : {M : Type 1} → statement M
+counts_spec = tie.close (tie.spec (λ c. search rules) (λ c κs. search rules) (λ c. search rules)
+    (λ c. (stands c.write_counts-n.ensures.0).0)
+    (λ c κs. omega (arith, (stands c.write_counts-n.ensures.0).0, c.write_counts-n.ensures.1))
     (λ c. search rules) returns)

@@ -8,11 +8,11 @@ use Rattle.follow.proofs.line_text.Tie as tie
 
 returns : tie.Need-returns
 returns c =
-    let written = c.before.before.before.before.before.before.write-line.ensures in
-    (text-put written.0 c.before.before.write-text.ensures, omega (arith, written.0.place, written.1))
+    let written = c.write_line-n.ensures in
+    (text-put written.0 c.write_text.ensures, omega (arith, written.0.place, written.1))
 
-pub line-text-spec : {M : Type 1} → statement M
-line-text-spec = tie.close (tie.spec (λ c. search rules) (λ c κs. search rules) (λ c. search rules)
-    (λ c. (stands c.before.before.write-line.ensures.0).0)
-    (λ c κs. omega (arith, (stands c.before.before.before.write-line.ensures.0).0, c.before.before.before.write-line.ensures.1))
+pub line_text_spec : {M : Type 1} → statement M
+line_text_spec = tie.close (tie.spec (λ c. search rules) (λ c κs. search rules) (λ c. search rules)
+    (λ c. (stands c.write_line-n.ensures.0).0)
+    (λ c κs. omega (arith, (stands c.write_line-n.ensures.0).0, c.write_line-n.ensures.1))
     (λ c. search rules) returns)

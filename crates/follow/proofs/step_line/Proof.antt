@@ -6,11 +6,11 @@ use borrow.Author.Rules.{rules}
 use Rattle.follow.proofs.step_line.Statement.{statement}
 use Rattle.follow.proofs.step_line.Tie as tie
 
-returns : tie.Need-returns
-returns c = followed-refused _ _ c.if1.true
+returns : tie.Need-returns-then-read-ne0
+returns c = followed-refused _ _ c.if-read-ne0.true
 
-returns-2 : tie.Need-returns-2
-returns-2 c = c.step.ensures ∙ followed-step _ _ c.before.if1.false
+returns-2 : tie.Need-returns
+returns-2 c = c.step.ensures ∙ followed-step _ _ c.if-read-ne0.false
 
-pub step-line-spec : {M : Type 1} → statement M
-step-line-spec = tie.close (tie.spec returns (λ c κs. search rules) returns-2)
+pub step_line_spec : {M : Type 1} → statement M
+step_line_spec = tie.close (tie.spec returns (λ c κs. search rules) returns-2)

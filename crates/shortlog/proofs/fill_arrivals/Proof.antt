@@ -18,109 +18,109 @@ use Rattle.shortlog.proofs.fill_arrivals.Statement.{statement}
 use Rattle.shortlog.proofs.fill_arrivals.Tie as tie
 
 -- numbers₀, times₀, greatest₀, at₀ and i₀ are the values where the loop begins, numbers, times, greatest, at and i those at its head
-abbrev invariant-loop : tie.invariant-loop
-invariant-loop range log numbers₀ times₀ greatest₀ at₀ i₀ numbers times greatest at i =
+abbrev invariant-loop-at : tie.invariant-loop-at
+invariant-loop-at range log numbers₀ times₀ greatest₀ at₀ i₀ numbers times greatest at i =
     Filled range log numbers₀ times₀ greatest at i numbers times
 
-abbrev decreases-loop : tie.decreases-loop
-decreases-loop range log numbers₀ times₀ greatest₀ at₀ i₀ numbers times greatest at i = length log - at
+abbrev decreases-loop-at : tie.decreases-loop-at
+decreases-loop-at range log numbers₀ times₀ greatest₀ at₀ i₀ numbers times greatest at i = length log - at
 
 -- ---- places in the code: the loop's head (l), and after the number of a line is found (n)
 
-abbrev start : tie.At-loop invariant-loop decreases-loop → tie.Start invariant-loop decreases-loop
+abbrev start : tie.At-loop-at invariant-loop-at decreases-loop-at → tie.Start invariant-loop-at decreases-loop-at
 start l = l.before.before.before.before
 
-abbrev log-at : tie.At-loop invariant-loop decreases-loop → List ℕ
+abbrev log-at : tie.At-loop-at invariant-loop-at decreases-loop-at → List ℕ
 log-at l = (start l).args.log.now
 
-abbrev head : tie.After-number-found invariant-loop decreases-loop → tie.At-loop invariant-loop decreases-loop
-head n = n.before.before.before.before.before.before
+abbrev head : tie.After-number_found-full invariant-loop-at decreases-loop-at → tie.At-loop-at invariant-loop-at decreases-loop-at
+head n = n.before.before.before.before
 
 -- the line that is read
-read : (n : tie.After-number-found invariant-loop decreases-loop) → let given = n.before.before.short.given.0 in
-    line_in (head n).loop.at (drop (head n).loop.at (log-at (head n))) ≡ Read given.0 given.1.0 given.1.1.0
-read n = sym n.before.before.before.before.line_at_lem.ensures ∙ n.before.before.short.given.1
+read : (n : tie.After-number_found-full invariant-loop-at decreases-loop-at) → let given = n.in-Read in
+    line_in (head n).loop-at.at (drop (head n).loop-at.at (log-at (head n))) ≡ Read given.short given.time given.end
+read n = sym n.line_at.ensures ∙ n.in-Read.is
 
 -- it is one of the log's
-within : (n : tie.After-number-found invariant-loop decreases-loop)
-    → (head n).loop.i < length (lines_found (start (head n)).args.range (log-at (head n)))
+within : (n : tie.After-number_found-full invariant-loop-at decreases-loop-at)
+    → (head n).loop-at.i < length (lines_found (start (head n)).args.range (log-at (head n)))
 within n =
-    within-lines _ _ _ _ (start (head n)).pre _ _ _ _ _ (head n).loop.invariant _ _ _ (read n) n.number-found.result
-    n.number-found.ensures
+    within-lines _ _ _ _ (start (head n)).requires _ _ _ _ _ (head n).loop-at.invariant _ _ _ (read n) n.number_found-full.result
+    n.number_found-full.ensures
 
-loop-holds : tie.Need-loop-init invariant-loop decreases-loop
-loop-holds c = filled_none _ _ _ _ c.before.before.before.requires
+loop-holds : tie.Need-loop-at-init invariant-loop-at decreases-loop-at
+loop-holds c = filled_none _ _ _ _ c.requires
 
-enum_told : tie.Need-enum-told invariant-loop decreases-loop
+enum_told : tie.Need-enum_told-1 invariant-loop-at decreases-loop-at
 enum_told c = search rules
 
-same_length : tie.Need-same-length invariant-loop decreases-loop
-same_length c = let l = c.before.before.before.before in kept-numbers _ _ _ _ (start l).requires _ _ _ _ _ l.loop.invariant
+same_length : tie.Need-shape_of-numbers-in_default invariant-loop-at decreases-loop-at
+same_length c = let l = c in kept-numbers _ _ _ _ (start l.before.before.before).requires _ _ _ _ _ l.loop-at.invariant
 
-same-length-2 : tie.Need-same-length-2 invariant-loop decreases-loop
-same-length-2 c = let l = c.before.before.before.before in kept-times _ _ _ _ (start l).requires _ _ _ _ _ l.loop.invariant
+same-length-2 : tie.Need-shape_of-times-in_default invariant-loop-at decreases-loop-at
+same-length-2 c = let l = c in kept-times _ _ _ _ (start l.before.before.before).requires _ _ _ _ _ l.loop-at.invariant
 
-returns : tie.Need-returns invariant-loop decreases-loop
+returns : tie.Need-returns-in_default invariant-loop-at decreases-loop-at
 returns c =
-    let l = c.before.before.before.before in
+    let l = c in
     absurd
-    (none-bad _ _ _ _ (start l).requires _ _ _ _ _ l.loop.invariant
-    c.before.before.before.loop-test.true (sym c.before.before.line_at_lem.ensures ∙ c.enum_told.given.1))
+    (none-bad _ _ _ _ (start l.before.before.before).requires _ _ _ _ _ l.loop-at.invariant
+    c.loop-at-test.true (sym c.line_at.ensures ∙ c.in_default.is))
 
-slice-write-numbers : tie.Need-slice-write-numbers invariant-loop decreases-loop
+slice-write-numbers : tie.Need-bounds-numbers-i invariant-loop-at decreases-loop-at
 slice-write-numbers c =
     let l = head c in
-    let p = (start l).pre in
-    let k = kept-numbers _ _ _ _ p _ _ _ _ _ l.loop.inv in
+    let p = (start l).requires in
+    let k = kept-numbers _ _ _ _ p _ _ _ _ _ l.loop-at.invariant in
     omega (arith, within c, p.numbers_room)
 
-slice-write-times : tie.Need-slice-write-times invariant-loop decreases-loop
+slice-write-times : tie.Need-bounds-times-i invariant-loop-at decreases-loop-at
 slice-write-times c =
     let l = head c in
-    let p = (start l).pre in
-    let k = kept-times _ _ _ _ p _ _ _ _ _ l.loop.inv in
+    let p = (start l).requires in
+    let k = kept-times _ _ _ _ p _ _ _ _ _ l.loop-at.invariant in
     omega (arith, within c, p.times_room)
 
-next-greatest-requires : tie.Need-next-greatest-requires invariant-loop decreases-loop
+next-greatest-requires : tie.Need-next_greatest-greatest-requires invariant-loop-at decreases-loop-at
 next-greatest-requires c κs =
-    small-number _ _ _ _ (start (head c)).pre _ _ _ _ _ (head c).loop.invariant _ _ _ (read c) c.number-found.result
-    c.number-found.ensures
+    small-number _ _ _ _ (start (head c)).requires _ _ _ _ _ (head c).loop-at.invariant _ _ _ (read c) c.number_found-full.result
+    c.number_found-full.ensures
 
-add-i : tie.Need-overflow-add-i invariant-loop decreases-loop
-add-i c = omega (arith, within c.before, (start (head c.before)).pre.times_room)
+add-i : tie.Need-overflow_add-i invariant-loop-at decreases-loop-at
+add-i c = omega (arith, within c.before, (start (head c.before)).requires.times_room)
 
-loop-less : tie.Need-loop-smaller invariant-loop decreases-loop
+loop-less : tie.Need-loop-at-smaller invariant-loop-at decreases-loop-at
 loop-less c =
-    let n = c.before in omega (arith, (line_read _ _ (read n)).onward, n.before.before.before.before.before.loop-test.true)
+    let n = c in omega (arith, (line_read _ _ (read n.before)).onward, n.loop-at-test.true)
 
-loop-again : tie.Need-loop-preserved invariant-loop decreases-loop
+loop-again : tie.Need-loop-at-preserved invariant-loop-at decreases-loop-at
 loop-again c =
-    let n = c.before in
-    let l = head n in
+    let n = c in
+    let l = head n.before in
     let a = (start l).args in
-    let p = (start l).pre in
-    let w = within n in
-    let h : l.loop.i < length a.numbers.now = omega (arith, p.numbers_room) in
-    let k : l.loop.i < length a.times.now = omega (arith, p.times_room) in
-    filled_next _ _ _ _ p _ _ _ _ _ l.loop.inv _ _ _ (read n) n.number-found.result n.number-found.ensures
-    c.next-greatest.result c.next-greatest.ensures
-    (λ xs e b d. fill-next xs a.numbers.now l.loop.i 0 b h d e) (λ xs e b d. fill-next xs a.times.now l.loop.i 0 b k d e)
+    let p = (start l).requires in
+    let w = within n.before in
+    let h : l.loop-at.i < length a.numbers.now = omega (arith, p.numbers_room) in
+    let k : l.loop-at.i < length a.times.now = omega (arith, p.times_room) in
+    filled_next _ _ _ _ p _ _ _ _ _ l.loop-at.invariant _ _ _ (read n.before) n.number_found-full.result n.number_found-full.ensures
+    c.next_greatest-greatest.result c.next_greatest-greatest.ensures
+    (λ xs e b d. fill-next xs a.numbers.now l.loop-at.i 0 b h d e) (λ xs e b d. fill-next xs a.times.now l.loop-at.i 0 b k d e)
 
-same-length-3 : tie.Need-same-length-3 invariant-loop decreases-loop
-same-length-3 c = kept-numbers _ _ _ _ (start c.before).pre _ _ _ _ _ c.before.loop.invariant
+same-length-3 : tie.Need-shape_of-numbers invariant-loop-at decreases-loop-at
+same-length-3 c = kept-numbers _ _ _ _ (start c.before).requires _ _ _ _ _ c.loop-at.invariant
 
-same-length-4 : tie.Need-same-length-4 invariant-loop decreases-loop
-same-length-4 c = kept-times _ _ _ _ (start c.before).pre _ _ _ _ _ c.before.loop.invariant
+same-length-4 : tie.Need-shape_of-times invariant-loop-at decreases-loop-at
+same-length-4 c = kept-times _ _ _ _ (start c.before).requires _ _ _ _ _ c.loop-at.invariant
 
-returns-2 : tie.Need-returns-2 invariant-loop decreases-loop
-returns-2 c = filled-done _ _ _ _ (start c.before).pre _ _ _ _ _ c.before.loop.invariant c.loop-test.false
+returns-2 : tie.Need-returns invariant-loop-at decreases-loop-at
+returns-2 c = filled-done _ _ _ _ (start c.before).requires _ _ _ _ _ c.loop-at.invariant c.loop-at-test.false
 
-pub fill-arrivals-spec : {M : Type 1} → statement M
-fill-arrivals-spec =
+pub fill_arrivals_spec : {M : Type 1} → statement M
+fill_arrivals_spec =
     tie.close
     (tie.spec
-    invariant-loop
-    decreases-loop
+    invariant-loop-at
+    decreases-loop-at
     loop-holds
     (λ c κs. search rules) (λ c. search rules)
     enum_told

@@ -7,7 +7,7 @@ use Rattle.shortlog.proofs.import_8.Statement.{statement}
 use Rattle.shortlog.proofs.import_8.Tie as tie
 
 returns : tie.Need-returns
-returns c = (c.before.before.before.before.import.ensures, (every-log, as-given))
+returns c = (c.import.ensures, (every-log, as-given))
 
-pub import-8-spec : {M : Type 1} → statement M
-import-8-spec = tie.close (tie.spec (λ c κs. search rules) (λ c. search rules) (λ c. search rules) returns)
+pub import_8_spec : {M : Type 1} → statement M
+import_8_spec = tie.close (tie.spec (λ c κs. search rules) (λ c. search rules) (λ c. search rules) returns)

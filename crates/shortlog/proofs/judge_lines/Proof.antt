@@ -21,129 +21,129 @@ use Rattle.shortlog.proofs.judge_lines.Statement.{statement}
 use Rattle.shortlog.proofs.judge_lines.Tie as tie
 
 -- greatest₀, reference₀, at₀ and count₀ are the values where the loop begins, greatest, reference, at and count those at its head
-abbrev invariant-loop : tie.invariant-loop
-invariant-loop range log k greatest₀ reference₀ at₀ count₀ greatest reference at count =
+abbrev invariant-loop-at : tie.invariant-loop-at
+invariant-loop-at range log k greatest₀ reference₀ at₀ count₀ greatest reference at count =
     (greatest ≤ sent_most) × (count ≤ arrivals_most)
     × (judge_lines k 0 0 (lines_found range log) ≡ judge_lines k count reference (found_from range greatest (decoded_lines (drop at log))))
 
-abbrev decreases-loop : tie.decreases-loop
-decreases-loop range log k greatest₀ reference₀ at₀ count₀ greatest reference at count = length log - at
+abbrev decreases-loop-at : tie.decreases-loop-at
+decreases-loop-at range log k greatest₀ reference₀ at₀ count₀ greatest reference at count = length log - at
 
 -- ---- places in the code: the loop's head (l), after a line is read (r), after its number is found (n), where it is not refused (f)
 
-abbrev start : tie.At-loop invariant-loop decreases-loop → tie.Start invariant-loop decreases-loop
+abbrev start : tie.At-loop-at invariant-loop-at decreases-loop-at → tie.Start invariant-loop-at decreases-loop-at
 start l = l.before.before
 
-abbrev log-at : tie.At-loop invariant-loop decreases-loop → List ℕ
+abbrev log-at : tie.At-loop-at invariant-loop-at decreases-loop-at → List ℕ
 log-at l = (start l).args.log.now
 
-abbrev head : tie.After-known-told invariant-loop decreases-loop → tie.At-loop invariant-loop decreases-loop
-head r = r.before.before.before.before.before
+abbrev head : tie.In-Read invariant-loop-at decreases-loop-at → tie.At-loop-at invariant-loop-at decreases-loop-at
+head r = r.before.before.before
 
-abbrev read_at : tie.After-number-found invariant-loop decreases-loop → tie.After-known-told invariant-loop decreases-loop
+abbrev read_at : tie.After-number_found-number invariant-loop-at decreases-loop-at → tie.In-Read invariant-loop-at decreases-loop-at
 read_at n = n.before.before
 
-abbrev found_at : tie.Else2 invariant-loop decreases-loop → tie.After-number-found invariant-loop decreases-loop
+abbrev found_at : tie.Else-refusal-ne0 invariant-loop-at decreases-loop-at → tie.After-number_found-number invariant-loop-at decreases-loop-at
 found_at f = f.before.before
 
 -- the line that is read
-read : (r : tie.After-known-told invariant-loop decreases-loop)
-    → line_in (head r).loop.at (drop (head r).loop.at (log-at (head r)))
-    ≡ Read r.before.short.given.0.0 r.before.short.given.0.1.0 r.before.short.given.0.1.1.0
-read r = sym r.before.before.before.line_at_lem.ensures ∙ r.before.short.given.1
+read : (r : tie.In-Read invariant-loop-at decreases-loop-at)
+    → line_in (head r).loop-at.at (drop (head r).loop-at.at (log-at (head r)))
+    ≡ Read r.in-Read.short r.in-Read.time r.in-Read.end
+read r = sym r.line_at.ensures ∙ r.in-Read.is
 
 -- it is the first of those left
-first : (r : tie.After-known-told invariant-loop decreases-loop) → let given = r.before.short.given.0 in
-    decoded_lines (drop (head r).loop.at (log-at (head r)))
-    ≡ arrived (record { number = given.0; time = given.1.0 }) ∷ decoded_lines (drop given.1.1.0 (log-at (head r)))
+first : (r : tie.In-Read invariant-loop-at decreases-loop-at) → let given = r.in-Read in
+    decoded_lines (drop (head r).loop-at.at (log-at (head r)))
+    ≡ arrived (record { number = given.short; time = given.time }) ∷ decoded_lines (drop given.end (log-at (head r)))
 first r = (line_read _ _ (read r)).lead
 
 -- with its number
-found : (n : tie.After-number-found invariant-loop decreases-loop) → let l = head (read_at n) in let given = (read_at n).before.short.given.0 in
-    found_from (start l).args.range l.loop.greatest (decoded_lines (drop l.loop.at (log-at l)))
-    ≡ arrived (record { number = n.number-found.result; time = given.1.0 })
-    ∷ found_from (start l).args.range (max l.loop.greatest n.number-found.result) (decoded_lines (drop given.1.1.0 (log-at l)))
-found n = found-next _ _ _ _ (first (read_at n)) n.number-found.ensures
+found : (n : tie.After-number_found-number invariant-loop-at decreases-loop-at) → let l = head (read_at n) in let given = (read_at n).in-Read in
+    found_from (start l).args.range l.loop-at.greatest (decoded_lines (drop l.loop-at.at (log-at l)))
+    ≡ arrived (record { number = n.number_found-number.result; time = given.time })
+    ∷ found_from (start l).args.range (max l.loop-at.greatest n.number_found-number.result) (decoded_lines (drop given.end (log-at l)))
+found n = found-next _ _ _ _ (first (read_at n)) n.number_found-number.ensures
 
 -- which is at most K
-small : (f : tie.Else2 invariant-loop decreases-loop) → (found_at f).number-found.result ≤ sent_most
+small : (f : tie.Else-refusal-ne0 invariant-loop-at decreases-loop-at) → (found_at f).number_found-number.result ≤ sent_most
 small f =
-    let o = one_split _ _ _ (sym f.before.judge-one.ensures ∙ f.if2.false) in
-    omega (arith, o.0.1, (start (head (read_at (found_at f)))).pre)
+    let o = one_split _ _ _ (sym f.judge_one-refusal.ensures ∙ f.if-refusal-ne0.false) in
+    omega (arith, o.0.1, (start (head (read_at (found_at f)))).requires)
 
 -- ---- the needs
 
-loop-holds : tie.Need-loop-init invariant-loop decreases-loop
+loop-holds : tie.Need-loop-at-init invariant-loop-at decreases-loop-at
 loop-holds c =
-    let a = c.before.args in
+    let a = c.args in
     (search rules, search rules, ap (judge_lines a.k 0 0) (found-start a.range a.log.now))
 
-enum_told : tie.Need-enum-told invariant-loop decreases-loop
+enum_told : tie.Need-enum_told-1 invariant-loop-at decreases-loop-at
 enum_told c = search rules
 
-returns : tie.Need-returns invariant-loop decreases-loop
+returns : tie.Need-returns-in_default invariant-loop-at decreases-loop-at
 returns c =
-    let l = c.before.before.before.before.before in
+    let l = c in
     let u =
-    line-unread (log-at l) l.loop.at c.before.before.before.before.loop-test.true
-    (sym c.before.before.before.line_at_lem.ensures ∙ c.before.enum_told.given.1) in
-    c.refused-at.ensures
-    ∙ judge-bad (start l).args.k _ l.loop.count l.loop.reference _ l.loop.invariant.2 (found-bad _ _ u.lead)
+    line-unread (log-at l.before.before.before.before) l.loop-at.at c.loop-at-test.true
+    (sym c.line_at.ensures ∙ c.in_default.is) in
+    c.refused_at.ensures
+    ∙ judge-bad (start l.before.before.before.before).args.k _ l.loop-at.count l.loop-at.reference _ l.loop-at.invariant.2 (found-bad _ _ u.lead)
 
-returns-2 : tie.Need-returns-2 invariant-loop decreases-loop
+returns-2 : tie.Need-returns-then-count-ge-ARRIVALS_MOST invariant-loop-at decreases-loop-at
 returns-2 c =
-    let r = c.before.before in
-    let l = head r in
-    c.refused-at2.ensures
-    ∙ judge-many (start l).args.k _ l.loop.count l.loop.reference _ l.loop.inv.2 _ _ (found-next _ _ _ _ (first r) refl)
-    c.before.if1.true
+    let r = c in
+    let l = head r.before.before in
+    c.refused_at-then-count-ge-ARRIVALS_MOST.ensures
+    ∙ judge-many (start l).args.k _ l.loop-at.count l.loop-at.reference _ l.loop-at.invariant.2 _ _ (found-next _ _ _ _ (first r.before.before) refl)
+    c.if-count-ge-ARRIVALS_MOST.true
 
-returns-3 : tie.Need-returns-3 invariant-loop decreases-loop
+returns-3 : tie.Need-returns-then-refusal-ne0 invariant-loop-at decreases-loop-at
 returns-3 c =
-    let j = c.before.before.judge-one in
-    let n = c.before.before.before in
-    let l = head (read_at n) in
-    c.refused-at3.ensures
-    ∙ judge-stop (start l).args.k _ l.loop.count l.loop.reference _ l.loop.inv.2 _ _ (found n) n.before.if1.false
-    j.result j.ensures c.before.if2.true
+    let j = c.judge_one-refusal in
+    let n = c in
+    let l = head (read_at n.before.before.before) in
+    c.refused_at-then-refusal-ne0.ensures
+    ∙ judge-stop (start l).args.k _ l.loop-at.count l.loop-at.reference _ l.loop-at.invariant.2 _ _ (found n.before.before.before) n.if-count-ge-ARRIVALS_MOST.false
+    j.result j.ensures c.if-refusal-ne0.true
 
-next-greatest-requires : tie.Need-next-greatest-requires invariant-loop decreases-loop
+next-greatest-requires : tie.Need-next_greatest-greatest-requires invariant-loop-at decreases-loop-at
 next-greatest-requires c κs = small c
 
-loop-less : tie.Need-loop-smaller invariant-loop decreases-loop
+loop-less : tie.Need-loop-at-smaller invariant-loop-at decreases-loop-at
 loop-less c =
     let r = read_at (found_at c.before.before) in
-    omega (arith, (line_read _ _ (read r)).onward, r.before.before.before.before.loop-test.taken)
+    omega (arith, (line_read _ _ (read r)).onward, r.loop-at-test.true)
 
-loop-again : tie.Need-loop-preserved invariant-loop decreases-loop
+loop-again : tie.Need-loop-at-preserved invariant-loop-at decreases-loop-at
 loop-again c =
-    let f = c.before.before in
-    let j = f.before.judge-one in
-    let n = found_at f in
+    let f = c in
+    let j = f.judge_one-refusal in
+    let n = found_at f.before.before in
     let l = head (read_at n) in
     let a = (start l).args in
-    let g = c.before.next-greatest in (
-      omega (arith, g.ensures, small f, l.loop.inv.0),
-      omega (arith, n.before.if1.left),
-      judge-next a.k _ l.loop.count l.loop.reference _ l.loop.inv.2 _ _ (found n) n.before.if1.left j.result
-          j.ensures f.if2.false c.next-reference.ensures
-          ∙ ap (λ (x : ℕ). judge_lines a.k (l.loop.count + 1) c.next-reference.result
-          (found_from a.range x (decoded_lines (drop (read_at n).before.short.given.0.1.1.0 (log-at l)))))
+    let g = c.next_greatest-greatest in (
+      omega (arith, g.ensures, small f.before.before, l.loop-at.invariant.0),
+      omega (arith, n.if-count-ge-ARRIVALS_MOST.false),
+      judge-next a.k _ l.loop-at.count l.loop-at.reference _ l.loop-at.invariant.2 _ _ (found n) n.if-count-ge-ARRIVALS_MOST.false j.result
+          j.ensures f.if-refusal-ne0.false c.next_reference-reference.ensures
+          ∙ ap (λ (x : ℕ). judge_lines a.k (l.loop-at.count + 1) c.next_reference-reference.result
+          (found_from a.range x (decoded_lines (drop (read_at n).in-Read.end (log-at l)))))
           (sym g.ensures),
     )
 
-returns-4 : tie.Need-returns-4 invariant-loop decreases-loop
+returns-4 : tie.Need-returns invariant-loop-at decreases-loop-at
 returns-4 c =
-    let l = c.before in
-    judge-done (start l).args.k _ l.loop.count l.loop.reference _ l.loop.invariant.2
-    (found_none _ _ (none_left (log-at l) l.loop.at c.loop-test.false))
+    let l = c in
+    judge-done (start l.before).args.k _ l.loop-at.count l.loop-at.reference _ l.loop-at.invariant.2
+    (found_none _ _ (none_left (log-at l.before) l.loop-at.at c.loop-at-test.false))
 
-pub judge-lines-spec : {M : Type 1} → statement M
-judge-lines-spec =
+pub judge_lines_spec : {M : Type 1} → statement M
+judge_lines_spec =
     tie.close
     (tie.spec
-    invariant-loop
-    decreases-loop
+    invariant-loop-at
+    decreases-loop-at
     loop-holds
     (λ c κs. search rules) (λ c. search rules)
     enum_told

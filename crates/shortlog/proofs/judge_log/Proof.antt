@@ -11,18 +11,18 @@ use Rattle.textlog.specs.Decode.{judge_decoded}
 use Rattle.shortlog.proofs.judge_log.Statement.{statement}
 use Rattle.shortlog.proofs.judge_log.Tie as tie
 
-returns : tie.Need-returns
+returns : tie.Need-returns-then-outside
 unfolding judge_decoded
-returns c = c.refused-at.ensures ∙ sym (simp (sym c.before.before.outside.ensures ∙ c.before.if1.true))
+returns c = c.refused_at.ensures ∙ sym (simp (sym c.outside.ensures ∙ c.if-outside.true))
 
-judge-lines-requires : tie.Need-judge-lines-requires
+judge-lines-requires : tie.Need-judge_lines-requires
 judge-lines-requires c κs =
     (limit-none 1 sent_most _ sent_outside (omega arith) (ap (λ (b : Bool). refusal_if b sent_outside)
-    (sym c.before.outside.ensures ∙ c.if1.false))).1
+    (sym c.outside.ensures ∙ c.if-outside.false))).1
 
-returns-2 : tie.Need-returns-2
+returns-2 : tie.Need-returns
 unfolding judge_decoded
-returns-2 c = c.judge-lines.ensures ∙ sym (simp (sym c.before.before.outside.ensures ∙ c.before.if1.false))
+returns-2 c = c.judge_lines.ensures ∙ sym (simp (sym c.outside.ensures ∙ c.if-outside.false))
 
-pub judge-log-spec : {M : Type 1} → statement M
-judge-log-spec = tie.close (tie.spec (λ c κs. search rules) (λ c κs. search rules) returns judge-lines-requires returns-2)
+pub judge_log_spec : {M : Type 1} → statement M
+judge_log_spec = tie.close (tie.spec (λ c κs. search rules) (λ c κs. search rules) returns judge-lines-requires returns-2)

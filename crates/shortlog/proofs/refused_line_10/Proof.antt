@@ -6,7 +6,7 @@ use Rattle.shortlog.proofs.refused_line_10.Statement.{statement}
 use Rattle.shortlog.proofs.refused_line_10.Tie as tie
 
 returns : tie.Need-returns
-returns c = ap (λ (x : LogJudgement). x.line) c.judge-log.ensures
+returns c = ap (λ (x : LogJudgement). x.line) c.judge_log.ensures
 
-pub refused-line-10-spec : {M : Type 1} → statement M
-refused-line-10-spec = tie.close (tie.spec (λ c κs. search rules) returns)
+pub refused_line_10_spec : {M : Type 1} → statement M
+refused_line_10_spec = tie.close (tie.spec (λ c κs. search rules) returns)

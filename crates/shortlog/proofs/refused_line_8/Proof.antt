@@ -6,7 +6,7 @@ use Rattle.shortlog.proofs.refused_line_8.Statement.{statement}
 use Rattle.shortlog.proofs.refused_line_8.Tie as tie
 
 returns : tie.Need-returns
-returns c = ap (λ (x : LogJudgement). x.line) c.judge-log.ensures
+returns c = ap (λ (x : LogJudgement). x.line) c.judge_log.ensures
 
-pub refused-line-8-spec : {M : Type 1} → statement M
-refused-line-8-spec = tie.close (tie.spec (λ c κs. search rules) returns)
+pub refused_line_8_spec : {M : Type 1} → statement M
+refused_line_8_spec = tie.close (tie.spec (λ c κs. search rules) returns)

@@ -17,17 +17,17 @@ product-fits m n h k =
     mul-le-mul {n₁ = m} {m₁ = n} {n₂ = 4294967295} {m₂ = 4294967295} (omega arith) (omega arith) in
     record { fits = omega arith }
 
-mul-ours : tie.Need-overflow-mul-ours
+mul-ours : tie.Need-overflow_mul-ours
 mul-ours c = product-fits _ _ (search rules) (search rules)
 
-mul-theirs : tie.Need-overflow-mul-theirs
+mul-theirs : tie.Need-overflow_mul-theirs
 mul-theirs c = product-fits _ _ (search rules) (search rules)
 
 returns : tie.Need-returns
 unfolding greater
 returns c = refl
 
-pub greater-spec : {M : Type 1} → statement M
-greater-spec =
+pub greater_spec : {M : Type 1} → statement M
+greater_spec =
     tie.close
     (tie.spec (λ c. search rules) (λ c. search rules) mul-ours (λ c. search rules) (λ c. search rules) mul-theirs returns)

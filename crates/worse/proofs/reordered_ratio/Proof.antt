@@ -4,13 +4,13 @@ use Rattle.worse.specs.Worse.{reordered_ratio}
 use Rattle.worse.proofs.reordered_ratio.Statement.{statement}
 use Rattle.worse.proofs.reordered_ratio.Tie as tie
 
-returns : tie.Need-returns
+returns : tie.Need-returns-then-counts-eq0
 unfolding reordered_ratio
-returns c = simp (eq-eqb _ _ c.if1.true)
+returns c = simp (eq-eqb _ _ c.if-counts-eq0.true)
 
-returns-2 : tie.Need-returns-2
+returns-2 : tie.Need-returns
 unfolding reordered_ratio
-returns-2 c = simp (ne_eqb _ _ c.if1.false)
+returns-2 c = simp (ne_eqb _ _ c.if-counts-eq0.false)
 
-pub reordered-ratio-spec : {M : Type 1} → statement M
-reordered-ratio-spec = tie.close (tie.spec returns returns-2)
+pub reordered_ratio_spec : {M : Type 1} → statement M
+reordered_ratio_spec = tie.close (tie.spec returns returns-2)

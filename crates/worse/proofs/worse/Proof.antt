@@ -15,48 +15,48 @@ use Rattle.worse.proofs.Compared.{label_of, place_of}
 use Rattle.worse.proofs.worse.Statement.{statement}
 use Rattle.worse.proofs.worse.Tie as tie
 
-abbrev start : tie.After-compare → tie.Start
+abbrev start : tie.After-compare-link → tie.Start
 start j = j.before.before.before
 
-abbrev one_at : tie.After-compare → Decoded
+abbrev one_at : tie.After-compare-link → Decoded
 one_at j = decode (start j).args.first.now
 
-abbrev other_at : tie.After-compare → Decoded
+abbrev other_at : tie.After-compare-link → Decoded
 other_at j = decode (start j).args.second.now
 
-label_at : (j : tie.After-compare) (l : Link) → j.compare.result.link ≡ l
+label_at : (j : tie.After-compare-link) (l : Link) → j.compare-link.result.link ≡ l
     → chosen [] (sample_of (one_at j)).label (sample_of (other_at j)).label l ≡ worse_label (one_at j) (other_at j)
-label_at j l f = label_of (one_at j) (other_at j) j.compare.result j.compare.ensures l f
+label_at j l f = label_of (one_at j) (other_at j) j.compare-link.result j.compare-link.ensures l f
 
-place_at : (j : tie.After-compare) (l : Link) → j.compare.result.link ≡ l
+place_at : (j : tie.After-compare-link) (l : Link) → j.compare-link.result.link ≡ l
     → chosen (start j).args.first.ref_ptr (place_in (start j).args.first.ref_ptr (label_place (one_at j)))
     (place_in (start j).args.second.ref_ptr (label_place (other_at j))) l
     ≡ worse_place (one_at j) (other_at j) (start j).args.first.ref_ptr (start j).args.second.ref_ptr
 place_at j l f =
-    place_of (one_at j) (other_at j) j.compare.result j.compare.ensures l f (start j).args.first.ref_ptr (start j).args.second.ref_ptr
+    place_of (one_at j) (other_at j) j.compare-link.result j.compare-link.ensures l f (start j).args.first.ref_ptr (start j).args.second.ref_ptr
 
-returns : tie.Need-returns
+returns : tie.Need-returns-in-Refused
 returns c =
-    let j = c.before.before.before in
-    let f : j.compare.result.link ≡ Refused = search c.before.enum_told.given in
-    let p = (start j).args.first.ref_ptr in
+    let j = c in
+    let f : j.compare-link.result.link ≡ Refused = search c.enum_told-1.given in
+    let p = (start j.before.before).args.first.ref_ptr in
     let k : 0 + p.1 ≡ p.1 = omega arith in
-    (label_at j Refused f, ap (λ (n : ℕ). (p.0, n)) k ∙ place_at j Refused f)
+    (label_at j.before.before Refused f, ap (λ (n : ℕ). (p.0, n)) k ∙ place_at j.before.before Refused f)
 
-returns-2 : tie.Need-returns-2
+returns-2 : tie.Need-returns-in-First
 returns-2 c =
-    let j = c.before.before.before in
-    let f : j.compare.result.link ≡ First = search c.before.enum-told2.given in
-    (c.label.ensures.0 ∙ label_at j First f, c.label.ensures.1 ∙ place_at j First f)
+    let j = c in
+    let f : j.compare-link.result.link ≡ First = search c.enum_told-in-First-1.given in
+    (c.label.ensures.0 ∙ label_at j.before.before First f, c.label.ensures.1 ∙ place_at j.before.before First f)
 
-returns-3 : tie.Need-returns-3
+returns-3 : tie.Need-returns-in-Second
 returns-3 c =
-    let j = c.before.before.before in
-    let f : j.compare.result.link ≡ Second = search c.before.enum-told3.given in
-    (c.label2.ensures.0 ∙ label_at j Second f, c.label2.ensures.1 ∙ place_at j Second f)
+    let j = c in
+    let f : j.compare-link.result.link ≡ Second = search c.enum_told-in-Second-1.given in
+    (c.label-in-Second.ensures.0 ∙ label_at j.before.before Second f, c.label-in-Second.ensures.1 ∙ place_at j.before.before Second f)
 
-pub worse-spec : {M : Type 1} → statement M
-worse-spec =
+pub worse_spec : {M : Type 1} → statement M
+worse_spec =
     tie.close
     (tie.spec
     (λ c κs. search rules) (λ c. search rules) (λ c. search rules) (λ c. search rules) (λ c. search rules)

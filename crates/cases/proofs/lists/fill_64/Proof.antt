@@ -5,14 +5,14 @@ use Rattle.cases.proofs.Filled.{as_many, Filled, filled_none, filled-length, fil
 use Rattle.cases.proofs.lists.fill_64.Statement.{statement}
 use Rattle.cases.proofs.lists.fill_64.Tie as tie
 
-pub fill-64-spec : {M : Type 1} → statement M
-fill-64-spec =
+pub fill_64_spec : {M : Type 1} → statement M
+fill_64_spec =
     tie.close
     (tie.spec
     (λ text out₀ _ _ _ out i. Filled 18446744073709551615 text out₀ i out)
     (λ _ _ _ _ i-end _ i. i-end - i)
     (search rules) (search rules) (λ c. filled_none) (search rules) (search rules)
-    (λ c. filled-room c.before.before.loop.invariant (omega arith)) (search rules) (search rules)
-    (λ c. filled_next c.before.before.loop.invariant (omega arith) c.number-to.ensures)
-    (λ c. filled-length c.before.loop.invariant)
-    (λ c. (c.before.before.before.count.ensures ∙ sym (as_many _), filled-done c.before.loop.invariant (omega arith))))
+    (λ c. filled-room c.loop-i.invariant (omega arith)) (search rules) (search rules)
+    (λ c. filled_next c.loop-i.invariant (omega arith) c.number_to.ensures)
+    (λ c. filled-length c.loop-i.invariant)
+    (λ c. (c.count-n.ensures ∙ sym (as_many _), filled-done c.loop-i.invariant (omega arith))))

@@ -5,9 +5,9 @@ use Rattle.cases.proofs.Filled.{first_taken}
 use Rattle.cases.proofs.lists.first_16.Statement.{statement}
 use Rattle.cases.proofs.lists.first_16.Tie as tie
 
-pub first-16-spec : {M : Type 1} → statement M
-first-16-spec =
+pub first_16_spec : {M : Type 1} → statement M
+first_16_spec =
     tie.close
     (tie.spec
     (search rules) (search rules) (search rules) (search rules)
-    (λ c. let a = c.before.before.before.args in first_taken a.n a.list.now c.before.least.ensures))
+    (λ c. let a = c.args in first_taken a.n a.list.now c.least-end.ensures))

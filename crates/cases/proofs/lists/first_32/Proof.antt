@@ -5,9 +5,9 @@ use Rattle.cases.proofs.Filled.{first_taken}
 use Rattle.cases.proofs.lists.first_32.Statement.{statement}
 use Rattle.cases.proofs.lists.first_32.Tie as tie
 
-pub first-32-spec : {M : Type 1} → statement M
-first-32-spec =
+pub first_32_spec : {M : Type 1} → statement M
+first_32_spec =
     tie.close
     (tie.spec
     (search rules) (search rules) (search rules) (search rules)
-    (λ c. let a = c.before.before.before.args in first_taken a.n a.list.now c.before.least.ensures))
+    (λ c. let a = c.args in first_taken a.n a.list.now c.least-end.ensures))

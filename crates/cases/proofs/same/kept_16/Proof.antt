@@ -3,8 +3,8 @@ use Rattle.std.proofs.Common.{◌≡◌, ◌-◌, length, rules}
 use Rattle.cases.proofs.same.kept_16.Statement.{statement}
 use Rattle.cases.proofs.same.kept_16.Tie as tie
 
-pub kept-16-spec : {M : Type 1} → statement M
-kept-16-spec =
+pub kept_16_spec : {M : Type 1} → statement M
+kept_16_spec =
     tie.close
     (tie.spec
     (λ list _ _ _ i-end _. i-end ≡ length list)

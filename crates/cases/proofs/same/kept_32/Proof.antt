@@ -3,8 +3,8 @@ use Rattle.std.proofs.Common.{◌≡◌, ◌-◌, length, rules}
 use Rattle.cases.proofs.same.kept_32.Statement.{statement}
 use Rattle.cases.proofs.same.kept_32.Tie as tie
 
-pub kept-32-spec : {M : Type 1} → statement M
-kept-32-spec =
+pub kept_32_spec : {M : Type 1} → statement M
+kept_32_spec =
     tie.close
     (tie.spec
     (λ list _ _ _ i-end _. i-end ≡ length list)

@@ -3,8 +3,8 @@ use Rattle.std.proofs.Common.{◌≡◌, ◌-◌, length, rules}
 use Rattle.cases.proofs.same.kept_64.Statement.{statement}
 use Rattle.cases.proofs.same.kept_64.Tie as tie
 
-pub kept-64-spec : {M : Type 1} → statement M
-kept-64-spec =
+pub kept_64_spec : {M : Type 1} → statement M
+kept_64_spec =
     tie.close
     (tie.spec
     (λ list _ _ _ i-end _. i-end ≡ length list)

@@ -3,8 +3,8 @@ use Rattle.std.proofs.Common.{◌≡◌, ◌-◌, length, rules}
 use Rattle.cases.proofs.same.kept_8.Statement.{statement}
 use Rattle.cases.proofs.same.kept_8.Tie as tie
 
-pub kept-8-spec : {M : Type 1} → statement M
-kept-8-spec =
+pub kept_8_spec : {M : Type 1} → statement M
+kept_8_spec =
     tie.close
     (tie.spec
     (λ list _ _ _ i-end _. i-end ≡ length list)

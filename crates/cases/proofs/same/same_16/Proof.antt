@@ -3,8 +3,8 @@ use Rattle.std.proofs.Common.{◌-◌, ◌≤◌, rules}
 use Rattle.cases.proofs.same.same_16.Statement.{statement}
 use Rattle.cases.proofs.same.same_16.Tie as tie
 
-pub same-16-spec : {M : Type 1} → statement M
-same-16-spec =
+pub same_16_spec : {M : Type 1} → statement M
+same_16_spec =
     tie.close
     (tie.spec
     (λ _ _ _ i. i ≤ 64)

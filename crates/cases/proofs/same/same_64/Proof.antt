@@ -3,8 +3,8 @@ use Rattle.std.proofs.Common.{◌-◌, ◌≤◌, rules}
 use Rattle.cases.proofs.same.same_64.Statement.{statement}
 use Rattle.cases.proofs.same.same_64.Tie as tie
 
-pub same-64-spec : {M : Type 1} → statement M
-same-64-spec =
+pub same_64_spec : {M : Type 1} → statement M
+same_64_spec =
     tie.close
     (tie.spec
     (λ _ _ _ i. i ≤ 64)

@@ -4,8 +4,8 @@ use Rattle.std.proofs.Common.{◌≡◌, ◌+◌, ◌-◌, ◌*◌, ◌≤◌, l
 use Rattle.cases.proofs.series.put_series.Statement.{statement}
 use Rattle.cases.proofs.series.put_series.Tie as tie
 
-pub put-series-spec : {M : Type 1} → statement M
-put-series-spec =
+pub put_series_spec : {M : Type 1} → statement M
+put_series_spec =
     tie.close
     (tie.spec
     (λ out₀ _ _ _ count _ _ _ _ _ out place _ counter. (counter ≤ count) × (place ≤ 4294967295 + 65535 * counter)

@@ -3,8 +3,8 @@ use Rattle.std.proofs.Common.{◌≡◌, ◌-◌, length, rules}
 use Rattle.cases.proofs.series.series_32.Statement.{statement}
 use Rattle.cases.proofs.series.series_32.Tie as tie
 
-pub series-32-spec : {M : Type 1} → statement M
-series-32-spec =
+pub series_32_spec : {M : Type 1} → statement M
+series_32_spec =
     tie.close
     (tie.spec
     (λ out₀ _ _ _ _ i-end out _ _. (i-end ≡ length out) × (length out ≡ length out₀))

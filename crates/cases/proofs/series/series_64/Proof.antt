@@ -3,8 +3,8 @@ use Rattle.std.proofs.Common.{◌≡◌, ◌-◌, length, rules}
 use Rattle.cases.proofs.series.series_64.Statement.{statement}
 use Rattle.cases.proofs.series.series_64.Tie as tie
 
-pub series-64-spec : {M : Type 1} → statement M
-series-64-spec =
+pub series_64_spec : {M : Type 1} → statement M
+series_64_spec =
     tie.close
     (tie.spec
     (λ out₀ _ _ _ _ i-end out _ _. (i-end ≡ length out) × (length out ≡ length out₀))

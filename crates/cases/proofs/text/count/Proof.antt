@@ -20,21 +20,21 @@ count_spec =
     (λ c.
     let l = c.before.before.before in
     let a = l.before.before.args in
-    let e = c.before.end-at in
-    let m = count-more a.text.now a.separator l.loop.at e.result e.ensures.0 c.before.before.loop-test.true in
-    let z = count_none a.text.now a.separator (c.before.end-at.result + 1) (omega arith) in
-    omega (arith, l.loop.invariant.2, m, z))
+    let e = c.before.end_at-end in
+    let m = count-more a.text.now a.separator l.loop-at.at e.result e.ensures.0 c.before.before.loop-at-test.true in
+    let z = count_none a.text.now a.separator (c.before.end_at-end.result + 1) (omega arith) in
+    omega (arith, l.loop-at.invariant.2, m, z))
     (search rules) (search rules)
     -- another part may follow
     (λ c.
     let l = c.before.before.before in
     let a = l.before.before.args in
-    let e = c.before.end-at in
-    let m = count-more a.text.now a.separator l.loop.at e.result e.ensures.0 c.before.before.loop-test.true in
-    (search rules, search rules, omega (arith, l.loop.invariant.2, m)))
+    let e = c.before.end_at-end in
+    let m = count-more a.text.now a.separator l.loop-at.at e.result e.ensures.0 c.before.before.loop-at-test.true in
+    (search rules, search rules, omega (arith, l.loop-at.invariant.2, m)))
     -- nothing is left
     (λ c.
     let l = c.before in
     let a = l.before.before.args in
-    let z = count_none a.text.now a.separator l.loop.at c.loop-test.false in
-    omega (arith, l.loop.invariant.2, z)))
+    let z = count_none a.text.now a.separator l.loop-at.at c.loop-at-test.false in
+    omega (arith, l.loop-at.invariant.2, z)))

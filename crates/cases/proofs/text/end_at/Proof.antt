@@ -7,8 +7,8 @@ use Rattle.cases.proofs.Parts.{no-separator-more, no-separator-here, no-separato
 use Rattle.cases.proofs.text.end_at.Statement.{statement}
 use Rattle.cases.proofs.text.end_at.Tie as tie
 
-pub end-at-spec : {M : Type 1} → statement M
-end-at-spec =
+pub end_at_spec : {M : Type 1} → statement M
+end_at_spec =
     tie.close
     (tie.spec
     (λ text separator from _ end. Counted (separator_at separator) text from end × (end ≤ length text))
@@ -16,12 +16,12 @@ end-at-spec =
     (λ c. (counted_none _ _ _, search rules))
     (search rules)
     (λ c. (
-      no-separator-here _ c.before.before.before.loop.invariant.0 c.before.before.loop-test.true (eq-eqb _ _ c.if1.true),
+      no-separator-here _ c.loop-end.invariant.0 c.loop-end-test.true (eq-eqb _ _ c.if-text-end.true),
       search rules,
     ))
     (search rules) (search rules)
     (λ c. (
-      no-separator-more _ c.before.before.before.loop.invariant.0 c.before.before.loop-test.true (ne_eqb _ _ c.if1.false),
+      no-separator-more _ c.loop-end.invariant.0 c.loop-end-test.true (ne_eqb _ _ c.if-text-end.false),
       search rules,
     ))
-    (λ c. (no-separator-past _ c.before.loop.invariant.0 c.loop-test.false, search rules)))
+    (λ c. (no-separator-past _ c.loop-end.invariant.0 c.loop-end-test.false, search rules)))

@@ -7,12 +7,12 @@ use Rattle.cases.proofs.Parts.{number-found}
 use Rattle.cases.proofs.text.number.Statement.{statement}
 use Rattle.cases.proofs.text.number.Tie as tie
 
-pub number-spec : {M : Type 1} → statement M
-number-spec =
+pub number_spec : {M : Type 1} → statement M
+number_spec =
     tie.close
     (tie.spec
     (search rules) (search rules)
     (λ c.
     let a = c.before.before.before.args in
-    ap (λ (x : Number). x.value) c.number_at.ensures.0 ∙ ap part_number c.before.part.ensures
+    ap (λ (x : Number). x.value) c.number_at-digits.ensures.0 ∙ ap part_number c.before.part.ensures
     ∙ number-found a.text.now a.n))

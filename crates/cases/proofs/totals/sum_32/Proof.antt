@@ -3,8 +3,8 @@ use Rattle.std.proofs.Common.{◌≡◌, ◌-◌, length, rules}
 use Rattle.cases.proofs.totals.sum_32.Statement.{statement}
 use Rattle.cases.proofs.totals.sum_32.Tie as tie
 
-pub sum-32-spec : {M : Type 1} → statement M
-sum-32-spec =
+pub sum_32_spec : {M : Type 1} → statement M
+sum_32_spec =
     tie.close
     (tie.spec
     (λ list _ _ i-end _ _. i-end ≡ length list)

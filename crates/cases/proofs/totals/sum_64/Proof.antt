@@ -3,8 +3,8 @@ use Rattle.std.proofs.Common.{◌≡◌, ◌-◌, length, rules}
 use Rattle.cases.proofs.totals.sum_64.Statement.{statement}
 use Rattle.cases.proofs.totals.sum_64.Tie as tie
 
-pub sum-64-spec : {M : Type 1} → statement M
-sum-64-spec =
+pub sum_64_spec : {M : Type 1} → statement M
+sum_64_spec =
     tie.close
     (tie.spec
     (λ list _ _ i-end _ _. i-end ≡ length list)

@@ -3,8 +3,8 @@ use Rattle.std.proofs.Common.{◌≡◌, ◌-◌, length, rules}
 use Rattle.cases.proofs.totals.sum_8.Statement.{statement}
 use Rattle.cases.proofs.totals.sum_8.Tie as tie
 
-pub sum-8-spec : {M : Type 1} → statement M
-sum-8-spec =
+pub sum_8_spec : {M : Type 1} → statement M
+sum_8_spec =
     tie.close
     (tie.spec
     (λ list _ _ i-end _ _. i-end ≡ length list)

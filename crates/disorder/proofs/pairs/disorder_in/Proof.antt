@@ -22,64 +22,64 @@ use Rattle.disorder.proofs.pairs.disorder_in.Statement.{statement}
 use Rattle.disorder.proofs.pairs.disorder_in.Tie as tie
 
 -- counts₀ to i₀ are the values where the loop begins, counts to i those at its head; counts is the tree, d the decoded file
-abbrev invariant-loop : tie.invariant-loop
-invariant-loop file layout counts₀ seen₀ p₀ i₀ counts seen p i =
+abbrev invariant-loop-i : tie.invariant-loop-i
+invariant-loop-i file layout counts₀ seen₀ p₀ i₀ counts seen p i =
     (i ≤ layout.arrivals) × SeenTable (decode file) i seen × PairTree layout.sent (firsts (before (decode file) i)) counts p
 
-abbrev decreases-loop : tie.decreases-loop
-decreases-loop file layout counts₀ seen₀ p₀ i₀ counts seen p i = layout.arrivals - i
+abbrev decreases-loop-i : tie.decreases-loop-i
+decreases-loop-i file layout counts₀ seen₀ p₀ i₀ counts seen p i = layout.arrivals - i
 
 -- ---- places
 
-abbrev head : tie.Then1 invariant-loop decreases-loop → tie.At-loop invariant-loop decreases-loop
+abbrev head : tie.In-loop-i invariant-loop-i decreases-loop-i → tie.At-loop-i invariant-loop-i decreases-loop-i
 head t = t.before.before
 
-abbrev start : tie.At-loop invariant-loop decreases-loop → tie.Start invariant-loop decreases-loop
+abbrev start : tie.At-loop-i invariant-loop-i decreases-loop-i → tie.Start invariant-loop-i decreases-loop-i
 start l = l.before.before.before.before
 
-abbrev read : tie.After-slice-known2 invariant-loop decreases-loop → tie.After-arrival invariant-loop decreases-loop
+abbrev read : tie.After-slice_known-in-loop-i-1 invariant-loop-i decreases-loop-i → tie.After-arrival-number invariant-loop-i decreases-loop-i
 read c = c.before.before.before.before
 
 -- ---- the needs
 
 -- record i + 1 is there
-here : (t : tie.Then1 invariant-loop decreases-loop)
-    → HasRecord (decode (start (head t)).args.file.now) (start (head t)).args.layout (head t).loop.i
-here t = record { file = (start (head t)).pre.0; inside = t.if1.true }
+here : (t : tie.In-loop-i invariant-loop-i decreases-loop-i)
+    → HasRecord (decode (start (head t)).args.file.now) (start (head t)).args.layout (head t).loop-i.i
+here t = record { file = (start (head t)).requires.0; inside = t.loop-i-test.true }
 
 -- its number
-known : (c : tie.After-arrival invariant-loop decreases-loop)
-    → (c.arrival.result.number ≡ (arrival_at (decode (start (head c.before)).args.file.now) (head c.before).loop.i).number)
-    × (1 ≤ c.arrival.result.number) × (c.arrival.result.number ≤ sent_most)
+known : (c : tie.After-arrival-number invariant-loop-i decreases-loop-i)
+    → (c.arrival-number.result.number ≡ (arrival_at (decode (start (head c.before)).args.file.now) (head c.before).loop-i.i).number)
+    × (1 ≤ c.arrival-number.result.number) × (c.arrival-number.result.number ≤ sent_most)
 known c =
     let h = here c.before in
-    let k = arrival-known _ _ h.file _ h.inside c.arrival.ensures.1 in
+    let k = arrival-known _ _ h.file _ h.inside c.arrival-number.ensures.1 in
     (ap (λ (a : Arrival). a.number) k.0, k.1, k.2)
 
-loop-holds : tie.Need-loop-init invariant-loop decreases-loop
+loop-holds : tie.Need-loop-i-init invariant-loop-i decreases-loop-i
 loop-holds c =
-    let s = c.before.before.before in
+    let s = c in
     let d = decode s.args.file.now in
     let k = s.args.layout.sent in (
       omega arith,
       arrived-start d,
-      subst (λ (tree : List ℕ). PairTree k (firsts (before d 0)) tree c.no_pairs.result) (sym s.requires.1)
-          (subst (λ (p : Pairs). PairTree k (firsts (before d 0)) (replicate (k + 1) 0) p) (sym c.no_pairs.ensures) (paired-start k d)),
+      subst (λ (tree : List ℕ). PairTree k (firsts (before d 0)) tree c.no_pairs-p.result) (sym s.requires.1)
+          (subst (λ (p : Pairs). PairTree k (firsts (before d 0)) (replicate (k + 1) 0) p) (sym c.no_pairs-p.ensures) (paired-start k d)),
     )
 
-cast-at : tie.Need-overflow-cast-at invariant-loop decreases-loop
+cast-at : tie.Need-overflow_cast-at invariant-loop-i decreases-loop-i
 cast-at c = omega (arith, (known c).2)
 
-array-read-arrived : tie.Need-array-read-arrived invariant-loop decreases-loop
+array-read-arrived : tie.Need-bounds-seen-at invariant-loop-i decreases-loop-i
 array-read-arrived c = omega (arith, (known c).2)
 
-pairs-after-requires : tie.Need-pairs-after-requires invariant-loop decreases-loop
+pairs-after-requires : tie.Need-pairs_after-p-requires invariant-loop-i decreases-loop-i
 pairs-after-requires c κs =
     let n = known c.before in
     let h = here c.before.before in
     let l = head c.before.before in
     let d = decode (start l).args.file.now in
-    let k = l.loop.inv.2 in (
+    let k = l.loop-i.invariant.2 in (
       n.1,
       omega (arith, n.0, (h.file.numbers _ h.inside).1, k.places),
       record {
@@ -89,7 +89,7 @@ pairs-after-requires c κs =
         few = omega (
           arith,
           k.count,
-          length-firsts (before d l.loop.i),
+          length-firsts (before d l.loop-i.i),
           before-length _ _ _ h,
           h.inside,
           h.file.few,
@@ -97,42 +97,42 @@ pairs-after-requires c κs =
       },
     )
 
-array-write-seen : tie.Need-array-write-seen invariant-loop decreases-loop
+array-write-seen : tie.Need-bounds-seen-at-in-loop-i invariant-loop-i decreases-loop-i
 array-write-seen c = omega (arith, (known (read c)).2)
 
-add-i : tie.Need-overflow-add-i invariant-loop decreases-loop
+add-i : tie.Need-overflow_add-i invariant-loop-i decreases-loop-i
 add-i c = let h = here (read c).before in omega (arith, h.inside, h.file.few)
 
-loop-less : tie.Need-loop-smaller invariant-loop decreases-loop
+loop-less : tie.Need-loop-i-smaller invariant-loop-i decreases-loop-i
 loop-less c = omega (arith, (here (read c).before).inside)
 
-loop-again : tie.Need-loop-preserved invariant-loop decreases-loop
+loop-again : tie.Need-loop-i-preserved invariant-loop-i decreases-loop-i
 loop-again c =
-    let l = (head (read c).before).loop in
+    let l = (head (read c).before).loop-i in
     let h = here (read c).before in
     let n = known (read c) in (
       omega (arith, h.inside),
-      arrived-next _ _ _ h _ l.inv.1 _ n.0 n.2,
-      rw (firsts-seen _ _ _ h _ l.inv.1 _ n.0 n.2) (c.before.before.pairs-after.ensures _ _ _ (sym n.0) l.inv.2),
+      arrived-next _ _ _ h _ l.invariant.1 _ n.0 n.2,
+      rw (firsts-seen _ _ _ h _ l.invariant.1 _ n.0 n.2) (c.pairs_after-p.ensures _ _ _ (sym n.0) l.invariant.2),
     )
 
-same_length : tie.Need-same-length invariant-loop decreases-loop
+same_length : tie.Need-shape_of-counts invariant-loop-i decreases-loop-i
 same_length c =
-    let l = c.before.before in
-    let s = start l in
-    l.loop.invariant.2.places ∙ sym (ap length s.pre.1 ∙ length-replicate (s.args.layout.sent + 1) 0)
+    let l = c in
+    let s = start l.before.before in
+    l.loop-i.invariant.2.places ∙ sym (ap length s.requires.1 ∙ length-replicate (s.args.layout.sent + 1) 0)
 
-returns : tie.Need-returns invariant-loop decreases-loop
+returns : tie.Need-returns invariant-loop-i decreases-loop-i
 returns c =
-    let l = c.before.before in
-    disorder-end _ _ _ (start l).requires.0 c.if1.false _ _ _ l.loop.invariant.2
+    let l = c in
+    disorder-end _ _ _ (start l.before.before).requires.0 c.loop-i-test.false _ _ _ l.loop-i.invariant.2
 
-pub disorder-in-spec : {M : Type 1} → statement M
-disorder-in-spec =
+pub disorder_in_spec : {M : Type 1} → statement M
+disorder_in_spec =
     tie.close
     (tie.spec
-    invariant-loop
-    decreases-loop
+    invariant-loop-i
+    decreases-loop-i
     (λ c κs. search rules)
     loop-holds
     (λ c κs. search rules)

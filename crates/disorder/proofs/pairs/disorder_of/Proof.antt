@@ -20,16 +20,16 @@ zeros n h =
     let k : i < n = omega (arith, g, many n h) in
     get_or-take n (replicate {A = ℕ} number_places 0) i 0 k ∙ get_or-replicate number_places i 0 0 (omega arith) ∙ sym (get_or-replicate n i 0 0 k))
 
-slice-aggregate-tree : tie.Need-slice-aggregate-tree
-slice-aggregate-tree c = sym (many _ (omega (arith, c.before.before.before.requires.sent_few)))
+slice-aggregate-tree : tie.Need-slice_bounds-tree-end
+slice-aggregate-tree c = sym (many _ (omega (arith, c.requires.sent_few)))
 
-disorder-in-requires : tie.Need-disorder-in-requires
+disorder-in-requires : tie.Need-disorder_in-requires
 disorder-in-requires c κs =
-    let s = c.before.before.before in
+    let s = c in
     (s.requires, zeros (s.args.layout.sent + 1) (omega (arith, s.requires.sent_few)))
 
-pub disorder-of-spec : {M : Type 1} → statement M
-disorder-of-spec =
+pub disorder_of_spec : {M : Type 1} → statement M
+disorder_of_spec =
     tie.close
     (tie.spec
     (λ c. search rules) (λ c. search rules) (λ c. search rules)

@@ -15,71 +15,71 @@ use Rattle.disorder.proofs.pairs.pairs_after.Tie as tie
 
 -- ---- places
 
-abbrev above : tie.After-struct-known2 → tie.Then2
+abbrev above : tie.After-struct_known-then-p-number-1 → tie.Then-p-number
 above c = c.before.before.before.before.before
 
-abbrev start-t : tie.Then2 → tie.Start
+abbrev start-t : tie.Then-p-number → tie.Start
 start-t t = t.before.before.before.before
 
-abbrev asked : tie.After-struct-known3 → tie.After-sum-to
+abbrev asked : tie.After-struct_known-2-1 → tie.After-sum_to-lower
 asked c = c.before.before.before.before.before
 
-abbrev start-s : tie.After-sum-to → tie.Start
-start-s s = s.before.before.before.before.before.before
+abbrev start-s : tie.After-sum_to-lower → tie.Start
+start-s s = s.before.before.before.before.before
 
 -- ---- the needs
 
-returns : tie.Need-returns
-returns c = λ k fs a e h. rw c.if1.true h
+returns : tie.Need-returns-then-arrived
+returns c = λ k fs a e h. rw c.if-arrived.true h
 
-add-t10 : tie.Need-overflow-add-t10
+add-t10 : tie.Need-overflow_add-result
 add-t10 c = omega (arith, (start-t (above c)).requires.2.few)
 
-returns-2 : tie.Need-returns-2
+returns-2 : tie.Need-returns-then-p-number
 returns-2 c =
     let t = above c in
-    let p = (start-t t).pre in
+    let p = (start-t t).requires in
     let q = (start-t t).args.p in
     λ k fs a e h.
-    let up : q.greatest ≤ a.number = omega (arith, e, t.if2.taken) in
+    let up : q.greatest ≤ a.number = omega (arith, e, t.if-p-number.true) in
     let own : a.number ≤ a.number = omega arith in
     let is : q.wrong ≡ q.wrong + byte_offset (λ _. 1) fs a.number = omega (arith, h.above a.number up) in
-    rw (t.before.before.if1.left, ← e)
-    (paired-more k fs a _ _ _ (rw (← e) at p.0) p.2.few h (rw (← e) at c.before.before.before.add.ensures) q.wrong
+    rw (t.if-arrived.false, ← e)
+    (paired-more k fs a _ _ _ (rw (← e) at p.0) p.2.few h (rw (← e) at c.add.ensures) q.wrong
     a.number is up own)
 
-add-t16 : tie.Need-overflow-add-t16
+add-t16 : tie.Need-overflow_add-result-2
 add-t16 c = omega (arith, (start-s (asked c)).requires.2.few)
 
-sub-t17 : tie.Need-overflow-sub-t17
+sub-t17 : tie.Need-overflow_sub-result
 sub-t17 c =
     let s = asked c.before in
-    let k = (start-s s).pre.2 in
-    omega (arith, s.sum_to.ensures.0, lower-sum _ _ _ _ k.paired k.few (start-s s).args.number (start-s s).pre.1)
+    let k = (start-s s).requires.2 in
+    omega (arith, s.sum_to-lower.ensures.0, lower-sum _ _ _ _ k.paired k.few (start-s s).args.number (start-s s).requires.1)
 
-add-t18 : tie.Need-overflow-add-t18
+add-t18 : tie.Need-overflow_add-result-3
 add-t18 c = let k = (start-s (asked c.before.before)).requires.2 in omega (arith, k.few, k.paired.small)
 
-returns-3 : tie.Need-returns-3
+returns-3 : tie.Need-returns
 returns-3 c =
     let s = asked c.before.before in
-    let p = (start-s s).pre in
+    let p = (start-s s).requires in
     let q = (start-s s).args.p in
     let tree = (start-s s).args.counts.now in
     λ k fs a e h.
     let up : q.greatest ≤ q.greatest = omega arith in
-    let own : a.number ≤ q.greatest = omega (arith, e, s.before.before.if2.left) in
-    let w = q.wrong + (q.count - s.sum_to.result) in
+    let own : a.number ≤ q.greatest = omega (arith, e, s.if-p-number.false) in
+    let w = q.wrong + (q.count - s.sum_to-lower.result) in
     let inside : a.number < length tree = omega (arith, e, p.1) in
-    let lower : s.sum_to.result ≡ sum_to tree a.number = s.sum_to.ensures.0 ∙ ap (sum_to tree) (sym e) in
+    let lower : s.sum_to-lower.result ≡ sum_to tree a.number = s.sum_to-lower.ensures.0 ∙ ap (sum_to tree) (sym e) in
     let is : w ≡ q.wrong + byte_offset (λ _. 1) fs a.number =
     omega (arith, lower, lower-sum k fs tree q h p.2.few a.number inside) in
-    rw s.before.before.before.before.if1.left
-    (paired-more k fs a _ _ _ (rw (← e) at p.0) p.2.few h (rw (← e) at c.before.before.before.before.before.add2.ensures)
+    rw s.if-arrived.false
+    (paired-more k fs a _ _ _ (rw (← e) at p.0) p.2.few h (rw (← e) at c.add-2.ensures)
     w q.greatest is up own)
 
-pub pairs-after-spec : {M : Type 1} → statement M
-pairs-after-spec =
+pub pairs_after_spec : {M : Type 1} → statement M
+pairs_after_spec =
     tie.close
     (tie.spec
     returns

@@ -15,24 +15,24 @@ use Rattle.follow.proofs.text.write_accepted.Tie as tie
 returns : tie.Need-returns
 unfolding accepted_text
 returns c =
-    let e4 = c.before.before in
-    let e3 = e4.before.before.before.before.before.before in
-    let e2 = e3.before.before.before.before.before.before in
-    let e1 = e2.before.before.before.before.before.before in
-    let late = ap (λ (n : ℕ). between [] n (ascii ", copies ")) e1.before.before.before.before.reordered.ensures in (
-      then e1.write-between.ensures.0
-          (then e2.write-between2.ensures.0
-          (then (named late e3.write-between3.ensures.0) (then e4.write-between4.ensures.0 (nothing _ _)))),
+    let e4 = c in
+    let e3 = e4 in
+    let e2 = e3 in
+    let e1 = e2 in
+    let late = ap (λ (n : ℕ). between [] n (ascii ", copies ")) e1.reordered-late.ensures in (
+      then e1.write_between-one.ensures.0
+          (then e2.write_between-two.ensures.0
+          (then (named late e3.write_between-three.ensures.0) (then e4.write_between.ensures.0 (nothing _ _)))),
       omega (
         arith,
-        e1.write-between.ensures.1,
-        e2.write-between2.ensures.1,
-        e3.write-between3.ensures.1,
-        e4.write-between4.ensures.1,
+        e1.write_between-one.ensures.1,
+        e2.write_between-two.ensures.1,
+        e3.write_between-three.ensures.1,
+        e4.write_between.ensures.1,
       ),
     )
 
-pub write-accepted-spec : {M : Type 1} → statement M
-write-accepted-spec = tie.close (tie.spec (λ c. search rules) (λ c κs. search rules) (λ c. search rules) (λ c. search rules)
-    (λ c κs. search rules) (λ c. search rules) (λ c. search rules) (λ c κs. search rules) (λ c. search rules) (λ c. search rules)
-    (λ c κs. search rules) (λ c. search rules) (λ c. search rules) (λ c κs. search rules) (λ c. search rules) returns)
+pub write_accepted_spec : {M : Type 1} → statement M
+write_accepted_spec = tie.close (tie.spec (λ c. search rules) (λ c κs. search rules)
+    (λ c κs. search rules) (λ c κs. search rules)
+    (λ c κs. search rules) (λ c κs. search rules) (λ c. search rules) returns)

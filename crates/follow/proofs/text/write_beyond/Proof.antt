@@ -10,12 +10,12 @@ use Rattle.follow.proofs.text.write_beyond.Tie as tie
 returns : tie.Need-returns
 unfolding beyond_text
 returns c =
-    let e2 = c.before.before in
-    let e1 = e2.before.before.before.before.before in (
-      then e1.write-extent.ensures.0 (then e2.write_word.ensures.0 (nothing _ _)),
-      omega (arith, e1.write-extent.ensures.1, e2.write_word.ensures.1),
+    let e2 = c in
+    let e1 = e2 in (
+      then e1.write_extent-one.ensures.0 (then e2.write_word.ensures.0 (nothing _ _)),
+      omega (arith, e1.write_extent-one.ensures.1, e2.write_word.ensures.1),
     )
 
-pub write-beyond-spec : {M : Type 1} → statement M
-write-beyond-spec = tie.close (tie.spec (λ c. search rules) (λ c κs. search rules) (λ c. search rules) (λ c κs. search rules)
+pub write_beyond_spec : {M : Type 1} → statement M
+write_beyond_spec = tie.close (tie.spec (λ c κs. search rules) (λ c κs. search rules)
     (λ c. search rules) returns)

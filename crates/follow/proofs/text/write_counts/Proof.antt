@@ -9,9 +9,9 @@ use Rattle.follow.proofs.text.write_counts.Tie as tie
 returns : tie.Need-returns
 unfolding counts_text
 returns c =
-    let v = c.before.before.write-runs.ensures in
-    let w = c.before.before.before.before.before.before.write-accepted.ensures in
+    let v = c.write_runs.ensures in
+    let w = c.write_accepted-one.ensures in
     (then w.0 v.0, omega (arith, w.1, v.1))
 
-pub write-counts-spec : {M : Type 1} → statement M
-write-counts-spec = tie.close (tie.spec (λ c κs. search rules) (λ c κs. search rules) (λ c. search rules) returns)
+pub write_counts_spec : {M : Type 1} → statement M
+write_counts_spec = tie.close (tie.spec (λ c κs. search rules) (λ c κs. search rules) (λ c. search rules) returns)

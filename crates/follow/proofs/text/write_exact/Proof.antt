@@ -10,13 +10,13 @@ use Rattle.follow.proofs.text.write_exact.Tie as tie
 returns : tie.Need-returns
 unfolding exact_text
 returns c =
-    let e3 = c.before.before in
-    let e2 = e3.before.before.before.before.before in
-    let e1 = e2.before.before.before.before in (
-      then e1.write-extent.ensures.0 (then e2.write-late.ensures.0 (then e3.write_word.ensures.0 (nothing _ _))),
-      omega (arith, e1.write-extent.ensures.1, e2.write-late.ensures.1, e3.write_word.ensures.1),
+    let e3 = c in
+    let e2 = e3 in
+    let e1 = e2 in (
+      then e1.write_extent-one.ensures.0 (then e2.write_late-two.ensures.0 (then e3.write_word.ensures.0 (nothing _ _))),
+      omega (arith, e1.write_extent-one.ensures.1, e2.write_late-two.ensures.1, e3.write_word.ensures.1),
     )
 
-pub write-exact-spec : {M : Type 1} → statement M
-write-exact-spec = tie.close (tie.spec (λ c. search rules) (λ c κs. search rules) (λ c κs. search rules) (λ c. search rules)
+pub write_exact_spec : {M : Type 1} → statement M
+write_exact_spec = tie.close (tie.spec (λ c κs. search rules) (λ c κs. search rules)
     (λ c κs. search rules) (λ c. search rules) returns)

@@ -20,16 +20,16 @@ chosen : (words : List ℕ) (n : ℕ) (t : Bool) → eqb n 1 ≡ t
 unfolding extent_text
 chosen words n t e = ap (λ (u : Bool). between words n (cond u (ascii " packet, ") (ascii " packets, "))) (sym e)
 
-returns : tie.Need-returns
+returns : tie.Need-returns-then-extent-eq1
 returns c =
-    let w = c.before.before.write-between.ensures in
-    (named (chosen _ _ true (eq-eqb _ _ c.before.before.before.before.before.if1.true)) w.0, omega (arith, w.1))
+    let w = c.write_between.ensures in
+    (named (chosen _ _ true (eq-eqb _ _ c.if-extent-eq1.true)) w.0, omega (arith, w.1))
 
-returns-2 : tie.Need-returns-2
+returns-2 : tie.Need-returns
 returns-2 c =
-    let w = c.before.before.write-between2.ensures in
-    (named (chosen _ _ false (ne_eqb _ _ c.before.before.before.before.before.if1.false)) w.0, omega (arith, w.1))
+    let w = c.write_between-2.ensures in
+    (named (chosen _ _ false (ne_eqb _ _ c.if-extent-eq1.false)) w.0, omega (arith, w.1))
 
-pub write-extent-spec : {M : Type 1} → statement M
-write-extent-spec = tie.close (tie.spec (λ c. search rules) (λ c κs. search rules) (λ c. search rules) returns (λ c. search rules)
+pub write_extent_spec : {M : Type 1} → statement M
+write_extent_spec = tie.close (tie.spec (λ c κs. search rules) (λ c. search rules) returns
     (λ c κs. search rules) (λ c. search rules) returns-2)

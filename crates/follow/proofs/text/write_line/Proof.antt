@@ -9,9 +9,9 @@ use Rattle.follow.proofs.text.write_line.Tie as tie
 returns : tie.Need-returns
 unfolding line_text
 returns c =
-    let v = c.before.before.write-outcome.ensures in
-    let w = c.before.before.before.before.before.before.write-arrival.ensures in
+    let v = c.write_outcome.ensures in
+    let w = c.write_arrival-one.ensures in
     (then w.0 v.0, omega (arith, w.1, v.1))
 
-pub write-line-spec : {M : Type 1} → statement M
-write-line-spec = tie.close (tie.spec (λ c κs. search rules) (λ c κs. search rules) (λ c. search rules) returns)
+pub write_line_spec : {M : Type 1} → statement M
+write_line_spec = tie.close (tie.spec (λ c κs. search rules) (λ c κs. search rules) (λ c. search rules) returns)

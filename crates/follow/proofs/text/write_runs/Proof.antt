@@ -10,12 +10,12 @@ use Rattle.follow.proofs.text.write_runs.Tie as tie
 returns : tie.Need-returns
 unfolding runs_text
 returns c =
-    let e2 = c.before.before in
-    let e1 = e2.before.before.before.before.before.before in (
-      then e1.write-between.ensures.0 (then e2.write-between2.ensures.0 (nothing _ _)),
-      omega (arith, e1.write-between.ensures.1, e2.write-between2.ensures.1),
+    let e2 = c in
+    let e1 = e2 in (
+      then e1.write_between-one.ensures.0 (then e2.write_between.ensures.0 (nothing _ _)),
+      omega (arith, e1.write_between-one.ensures.1, e2.write_between.ensures.1),
     )
 
-pub write-runs-spec : {M : Type 1} → statement M
-write-runs-spec = tie.close (tie.spec (λ c. search rules) (λ c. search rules) (λ c κs. search rules) (λ c. search rules) (λ c. search rules)
+pub write_runs_spec : {M : Type 1} → statement M
+write_runs_spec = tie.close (tie.spec (λ c κs. search rules)
     (λ c κs. search rules) (λ c. search rules) returns)

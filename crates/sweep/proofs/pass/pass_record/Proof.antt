@@ -17,110 +17,110 @@ use Rattle.sweep.proofs.pass.pass_record.Tie as tie
 
 -- ---- places in the code: the start, from the place after the arrival is read and from that after the table is read
 
-abbrev begun : tie.After-arrival-at → tie.Start
+abbrev begun : tie.After-arrival_at-arrival → tie.Start
 begun a = a.before.before.before.before.before.before.before
 
-abbrev start : tie.After-index-of → tie.Start
-start w = begun w.before.before
+abbrev start : tie.After-index_of-mark → tie.Start
+start w = w.before.before.before.before.before.before.before.before.before
 
 -- the number that is read, and what stands at its packet
-known : (c : tie.After-index-of)
+known : (c : tie.After-index_of-mark)
     → KnownRecord (decode (start c).args.file.now) (start c).args.layout (start c).args.i
-    c.before.before.arrival-at.result.number c.index_of.result (start c).args.state
+    c.arrival_at-arrival.result.number c.index_of-mark.result (start c).args.state
 known c =
-    let n = c.before.before.arrival-at.ensures in
+    let n = c.arrival_at-arrival.ensures in
     let h = (start c).requires in
     record {
       has = h.0;
       is = ap (λ (a : Arrival). a.number) n.0;
       low = n.1;
       high = n.2;
-      stands = c.index_of.ensures ∙ h.1.at _ n.1 n.2;
+      stands = c.index_of-mark.ensures ∙ h.1.at _ n.1 n.2;
       count = h.1.count;
       next = h.1.next;
     }
 
-returns : tie.Need-returns
+returns : tie.Need-returns-then-mark-gt-MAX_RECORD
 returns c =
-    let o = c.before.before.before.before.before in
-    let p = o.before.before.before in
-    let g = p.before.before.before.before.before in
-    let w = g.before.before in
-    let copied = g.before.if1.true in
-    let e = g.figures.ensures ∙ figures-copy _ _ _ _ _ _ (known w) copied in
-    (held-copy _ _ _ _ _ _ (known w) _ (start w).requires.1 copied, refl, rw e at p.put-figures.ensures)
+    let o = c in
+    let p = o in
+    let g = p in
+    let w = g in
+    let copied = g.if-mark-gt-MAX_RECORD.true in
+    let e = g.figures-f.ensures ∙ figures-copy _ _ _ _ _ _ (known w.before.before.before.before.before.before.before.before.before.before.before.before.before.before.before) copied in
+    (held-copy _ _ _ _ _ _ (known w.before.before.before.before.before.before.before.before.before.before.before.before.before.before.before) _ (start w.before.before.before.before.before.before.before.before.before.before.before.before.before.before.before).requires.1 copied, refl, rw e at p.put_figures.ensures)
 
-add-count : tie.Need-overflow-add-count
+add-count : tie.Need-overflow_add-count
 add-count c = omega (arith, few _ _ _ _ _ _ (known c.before.before))
 
-sub-from : tie.Need-overflow-sub-from
+sub-from : tie.Need-overflow_sub-from
 sub-from c = (few _ _ _ _ _ _ (known c.before.before.before)).2
 
-returns-2 : tie.Need-returns-2
+returns-2 : tie.Need-returns-then-next-number
 returns-2 c =
-    let o = c.before.before.before.before.before in
-    let p = o.before.before.before in
-    let g = p.before.before.before.before.before in
-    let n = g.before.before.before in
-    let i = n.before.before in
-    let w = i.before.before.before in
-    let k = known w in
-    let t = (start w).requires.1 in
-    let new = i.before.before.if1.false in
-    let ahead = i.if2.true in
-    let f = n.note-skipped.ensures in
-    let e = g.figures2.ensures ∙ figures-in-order _ _ _ _ _ _ k new ahead in
-    (held-in-order _ _ _ _ _ _ k _ t ahead _ f new, rest-in-order _ _ _ _ _ _ k _ t ahead _ f, rw e at p.put-figures2.ensures)
+    let o = c in
+    let p = o in
+    let g = p in
+    let n = g in
+    let i = n in
+    let w = i in
+    let k = known w.before.before.before.before.before.before.before.before.before.before.before.before.before.before.before.before.before.before.before.before.before in
+    let t = (start w.before.before.before.before.before.before.before.before.before.before.before.before.before.before.before.before.before.before.before.before.before).requires.1 in
+    let new = i.if-mark-gt-MAX_RECORD.false in
+    let ahead = i.if-next-number.true in
+    let f = n.note_skipped.ensures in
+    let e = g.figures-f-then-next-number.ensures ∙ figures-in-order _ _ _ _ _ _ k new ahead in
+    (held-in-order _ _ _ _ _ _ k _ t ahead _ f new, rest-in-order _ _ _ _ _ _ k _ t ahead _ f, rw e at p.put_figures-then-next-number.ensures)
 
-sub-jump : tie.Need-overflow-sub-jump
-sub-jump c = (jump-inside _ _ _ _ _ _ (known c.before.before.before) c.before.before.if1.false c.if2.false).0
+sub-jump : tie.Need-overflow_sub-jump
+sub-jump c = (jump-inside _ _ _ _ _ _ (known c.before.before.before) c.if-mark-gt-MAX_RECORD.false c.if-next-number.false).0
 
-slice-read-extent : tie.Need-slice-read-extent
+slice-read-extent : tie.Need-bounds-positions-jump
 slice-read-extent c =
-    let w = c.before.before.before.before in
-    omega (arith, jump-inside _ _ _ _ _ _ (known w) c.before.before.before.if1.false c.before.if2.false, (start w).requires.2.positions)
+    let w = c in
+    omega (arith, jump-inside _ _ _ _ _ _ (known w.before.before.before.before) c.if-mark-gt-MAX_RECORD.false c.if-next-number.false, (start w.before.before.before.before).requires.2.positions)
 
-sub-extent : tie.Need-overflow-sub-extent
+sub-extent : tie.Need-overflow_sub-extent
 sub-extent c =
-    let w = c.before.before.before.before in
-    omega (arith, jump-before _ _ _ _ _ _ (known w) _ (start w).requires.3 c.before.before.before.if1.false c.before.if2.false)
+    let w = c in
+    omega (arith, jump-before _ _ _ _ _ _ (known w.before.before.before.before) _ (start w.before.before.before.before).requires.3 c.if-mark-gt-MAX_RECORD.false c.if-next-number.false)
 
-arrival-at-requires-2 : tie.Need-arrival-at-requires-2
+arrival-at-requires-2 : tie.Need-arrival_at-past-requires
 arrival-at-requires-2 c κs =
-    let w = c.before.before.before.before in
-    let h = (known w).has in
-    record { file = h.file; inside = omega (arith, jump-inside _ _ _ _ _ _ (known w) c.before.before.before.if1.false c.before.if2.false, h.inside) }
+    let w = c in
+    let h = (known w.before.before.before.before).has in
+    record { file = h.file; inside = omega (arith, jump-inside _ _ _ _ _ _ (known w.before.before.before.before) c.if-mark-gt-MAX_RECORD.false c.if-next-number.false, h.inside) }
 
-returns-3 : tie.Need-returns-3
+returns-3 : tie.Need-returns-then-own-past
 unfolding elapsed
 returns-3 c =
-    let o = c.before.before.before.before.before in
-    let p = o.before.before.before in
-    let g = p.before.before.before.before.before in
-    let l = g.before.before in
-    let w = l.before.before.before.before.before in
-    let new = l.before.before.before.before.if1.false in
-    let late = l.before.before.if2.false in
-    let own = w.before.before.arrival-at.ensures.0 in
-    let e = g.figures3.ensures ∙ (rw (lt-ltb _ _ g.before.if3.true) at (figures-late _ _ _ _ _ _ (known w) _ (start w).requires.3 new late _ _ l.arrival-at2.ensures.0 own)) in
-    (held-late _ _ _ _ _ _ (known w) _ (start w).requires.1 new late, rest-late _ _ _ _ _ _ (known w) _ (start w).requires.1, rw e at p.put-figures3.ensures)
+    let o = c in
+    let p = o in
+    let g = p in
+    let l = g in
+    let w = l in
+    let new = l.if-mark-gt-MAX_RECORD.false in
+    let late = l.if-next-number.false in
+    let own = w.arrival_at-arrival.ensures.0 in
+    let e = g.figures-f-then-own-past.ensures ∙ (rw (lt-ltb _ _ g.if-own-past.true) at (figures-late _ _ _ _ _ _ (known w.before.before.before.before.before.before.before.before.before.before.before.before.before.before.before.before.before.before.before.before) _ (start w.before.before.before.before.before.before.before.before.before.before.before.before.before.before.before.before.before.before.before.before).requires.3 new late _ _ l.arrival_at-past.ensures.0 own)) in
+    (held-late _ _ _ _ _ _ (known w.before.before.before.before.before.before.before.before.before.before.before.before.before.before.before.before.before.before.before.before) _ (start w.before.before.before.before.before.before.before.before.before.before.before.before.before.before.before.before.before.before.before.before).requires.1 new late, rest-late _ _ _ _ _ _ (known w.before.before.before.before.before.before.before.before.before.before.before.before.before.before.before.before.before.before.before.before) _ (start w.before.before.before.before.before.before.before.before.before.before.before.before.before.before.before.before.before.before.before.before).requires.1, rw e at p.put_figures-then-own-past.ensures)
 
-returns-4 : tie.Need-returns-4
+returns-4 : tie.Need-returns
 unfolding elapsed
 returns-4 c =
-    let o = c.before.before.before.before.before in
-    let p = o.before.before.before in
-    let g = p.before.before.before.before.before in
-    let l = g.before.before in
-    let w = l.before.before.before.before.before in
-    let new = l.before.before.before.before.if1.false in
-    let late = l.before.before.if2.false in
-    let own = w.before.before.arrival-at.ensures.0 in
-    let e = g.figures4.ensures ∙ (rw (le-ltb _ _ g.before.if3.false) at (figures-late _ _ _ _ _ _ (known w) _ (start w).requires.3 new late _ _ l.arrival-at2.ensures.0 own)) in
-    (held-late _ _ _ _ _ _ (known w) _ (start w).requires.1 new late, rest-late _ _ _ _ _ _ (known w) _ (start w).requires.1, rw e at p.put-figures4.ensures)
+    let o = c in
+    let p = o in
+    let g = p in
+    let l = g in
+    let w = l in
+    let new = l.if-mark-gt-MAX_RECORD.false in
+    let late = l.if-next-number.false in
+    let own = w.arrival_at-arrival.ensures.0 in
+    let e = g.figures-f-2.ensures ∙ (rw (le-ltb _ _ g.if-own-past.false) at (figures-late _ _ _ _ _ _ (known w.before.before.before.before.before.before.before.before.before.before.before.before.before.before.before.before.before.before.before.before) _ (start w.before.before.before.before.before.before.before.before.before.before.before.before.before.before.before.before.before.before.before.before).requires.3 new late _ _ l.arrival_at-past.ensures.0 own)) in
+    (held-late _ _ _ _ _ _ (known w.before.before.before.before.before.before.before.before.before.before.before.before.before.before.before.before.before.before.before.before) _ (start w.before.before.before.before.before.before.before.before.before.before.before.before.before.before.before.before.before.before.before.before).requires.1 new late, rest-late _ _ _ _ _ _ (known w.before.before.before.before.before.before.before.before.before.before.before.before.before.before.before.before.before.before.before.before) _ (start w.before.before.before.before.before.before.before.before.before.before.before.before.before.before.before.before.before.before.before.before).requires.1, rw e at p.put_figures-2.ensures)
 
-pub pass-record-spec : {M : Type 1} → statement M
-pass-record-spec =
+pub pass_record_spec : {M : Type 1} → statement M
+pass_record_spec =
     tie.close
     (tie.spec
     (λ c κs. search rules) (λ c. search rules) (λ c. search rules) (λ c. search rules) (λ c. search rules)

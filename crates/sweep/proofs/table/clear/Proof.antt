@@ -12,48 +12,48 @@ use Rattle.sweep.proofs.table.clear.Statement.{statement}
 use Rattle.sweep.proofs.table.clear.Tie as tie
 
 -- table₀ and k₀ are the values where the loop begins, table and k those at its head
-abbrev invariant-loop : tie.invariant-loop
-invariant-loop table₀ k₀ table k = (k ≤ table_places) × (table_places ≤ length table₀) × (table ≡ take k (replicate table_places 0) ++ drop k table₀)
+abbrev invariant-loop-k : tie.invariant-loop-k
+invariant-loop-k table₀ k₀ table k = (k ≤ table_places) × (table_places ≤ length table₀) × (table ≡ take k (replicate table_places 0) ++ drop k table₀)
 
-abbrev decreases-loop : tie.decreases-loop
-decreases-loop table₀ k₀ table k = table_places - k
+abbrev decreases-loop-k : tie.decreases-loop-k
+decreases-loop-k table₀ k₀ table k = table_places - k
 
 -- the table keeps its length
-kept : (c : tie.At-loop invariant-loop decreases-loop) → length c.loop.table ≡ length c.before.args.table.now
+kept : (c : tie.At-loop-k invariant-loop-k decreases-loop-k) → length c.loop-k.table ≡ length c.args.table.now
 kept c =
-    let n : c.loop.k ≤ length (replicate {A = ℕ} table_places 0) = simp length-replicate (omega arith) in
-    ap length c.loop.invariant.2 ∙ fill-length (replicate table_places 0) c.before.args.table.now c.loop.k n (omega arith)
+    let n : c.loop-k.k ≤ length (replicate {A = ℕ} table_places 0) = simp length-replicate (omega arith) in
+    ap length c.loop-k.invariant.2 ∙ fill-length (replicate table_places 0) c.args.table.now c.loop-k.k n (omega arith)
 
-loop-holds : tie.Need-loop-init invariant-loop decreases-loop
+loop-holds : tie.Need-loop-k-init invariant-loop-k decreases-loop-k
 loop-holds c = (omega arith, c.requires, refl)
 
-slice-write-table : tie.Need-slice-write-table invariant-loop decreases-loop
+slice-write-table : tie.Need-bounds-table-k invariant-loop-k decreases-loop-k
 slice-write-table c = let h = kept c.before in omega arith
 
-loop-again : tie.Need-loop-preserved invariant-loop decreases-loop
+loop-again : tie.Need-loop-k-preserved invariant-loop-k decreases-loop-k
 loop-again c =
     let l =
-    c.before.loop in (
+    c.loop-k in (
       omega arith,
-      l.inv.1,
+      l.invariant.1,
       fill-next (replicate table_places 0) _ l.k 0 (simp length-replicate (omega arith))
-          (omega arith) l.inv.2 (sym (get_or-replicate table_places l.k 0 0 (omega arith))),
+          (omega arith) l.invariant.2 (sym (get_or-replicate table_places l.k 0 0 (omega arith))),
     )
 
-same_length : tie.Need-same-length invariant-loop decreases-loop
+same_length : tie.Need-shape_of-table invariant-loop-k decreases-loop-k
 same_length c = kept c.before
 
-returns : tie.Need-returns invariant-loop decreases-loop
+returns : tie.Need-returns invariant-loop-k decreases-loop-k
 returns c =
-    fill_done (replicate table_places 0) _ c.before.loop.k (omega (arith, length-replicate {A = ℕ} table_places 0))
-    c.before.loop.invariant.2
+    fill_done (replicate table_places 0) _ c.loop-k.k (omega (arith, length-replicate {A = ℕ} table_places 0))
+    c.loop-k.invariant.2
 
 pub clear_spec : {M : Type 1} → statement M
 clear_spec =
     tie.close
     (tie.spec
-    invariant-loop
-    decreases-loop
+    invariant-loop-k
+    decreases-loop-k
     loop-holds
     (λ c. search rules)
     slice-write-table
