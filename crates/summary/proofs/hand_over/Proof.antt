@@ -11,20 +11,20 @@ use borrow.Author.Rules.{rules}
 use Rattle.summary.proofs.hand_over.Statement.{statement}
 use Rattle.summary.proofs.hand_over.Tie as tie
 
-returns : tie.Need-returns
-returns c = output-refused _ _ _ _ refl c.if1.true
+returns : tie.Need-returns-then-refusal-ne-NONE
+returns c = output-refused _ _ _ _ refl c.if-refusal-ne-NONE.true
 
-returns-2 : tie.Need-returns-2
-returns-2 c = output-short _ _ _ c.before.if1.false c.if2.true
+returns-2 : tie.Need-returns-then-out-text
+returns-2 c = output-short _ _ _ c.if-refusal-ne-NONE.false c.if-out-text.true
 
-returns-3 : tie.Need-returns-3
+returns-3 : tie.Need-returns
 returns-3 c =
-    let left = c.before.before.before.before in
-    let a = left.before.before.before.before.args in
-    let fits : length a.text.now ≤ length a.out.now = left.if2.false in
+    let left = c in
+    let a = left.args in
+    let fits : length a.text.now ≤ length a.out.now = left.if-out-text.false in
     let whole : 0 + length a.text.now ≤ length a.out.now = omega (arith, fits) in
-    output-written _ _ _ left.before.if1.false fits refl
-    (c.before.before.put-octets.ensures ∙ put-over 0 [] a.text.now a.out.now refl whole)
+    output-written _ _ _ left.if-refusal-ne-NONE.false fits refl
+    (c.put_octets.ensures ∙ put-over 0 [] a.text.now a.out.now refl whole)
 
-pub hand-over-spec : {M : Type 1} → statement M
-hand-over-spec = tie.close (tie.spec returns returns-2 (λ c κs. search rules) (λ c. search rules) (λ c. search rules) returns-3)
+pub hand_over_spec : {M : Type 1} → statement M
+hand_over_spec = tie.close (tie.spec returns returns-2 (λ c κs. search rules) (λ c. search rules) (λ c. search rules) returns-3)

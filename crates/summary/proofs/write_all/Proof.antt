@@ -33,70 +33,70 @@ whole d y {text} {records} e f g =
 
 -- ---- places in the code, each by one after it
 
-abbrev counts-at : tie.After-struct-known → tie.After-counts
+abbrev counts-at : tie.After-struct_known-1 → tie.After-counts
 counts-at c = c.before.before
 
-abbrev tally-at : tie.After-record-gaps → tie.After-tally
+abbrev tally-at : tie.After-record_gaps → tie.After-tally
 tally-at g = g.before.before.before.before
 
-abbrev text_at : tie.After-record-gaps → tie.After-write-text
-text_at g = (tally-at g).before.before
+abbrev text_at : tie.After-record_gaps → tie.After-write_text-n
+text_at g = (tally-at g)
 
-abbrev check-at : tie.After-record-gaps → tie.After-check
-check-at g = (text_at g).before.before
+abbrev check-at : tie.After-record_gaps → tie.After-check-layout
+check-at g = (text_at g)
 
-abbrev file-at : tie.After-check → List ℕ
-file-at y = y.before.before.before.args.file.now
+abbrev file-at : tie.After-check-layout → List ℕ
+file-at y = y.args.file.now
 
-abbrev gaps-at : tie.After-struct-known → tie.After-record-gaps
-gaps-at c = (counts-at c).before.before
+abbrev gaps-at : tie.After-struct_known-1 → tie.After-record_gaps
+gaps-at c = (counts-at c)
 
-abbrev known_at : tie.After-gaps3 → tie.After-struct-known
+abbrev known_at : tie.After-gaps-3-1 → tie.After-struct_known-1
 known_at c = c.before.before.before.before.before
 
 -- the file is laid out
-layout-known : (y : tie.After-check) → FileLayout (decode (file-at y)) y.check.result
-layout-known y = rw y.check.ensures.0 (laid _ (λ i. (y.before.before.shared-slice-known.given i).fits))
+layout-known : (y : tie.After-check-layout) → FileLayout (decode (file-at y)) y.check-layout.result
+layout-known y = rw y.check-layout.ensures.0 (laid _ (λ i. (y.shared_slice_known-1.given i).fits))
 
 -- the tally has 101 places
-places : (g : tie.After-record-gaps) → length (tally-at g).tally.result.tally ≡ 101
+places : (g : tie.After-record_gaps) → length (tally-at g).tally.result.tally ≡ 101
 places g = ap length (tallied (decode (file-at (check-at g))) _ (tally-at g).tally.ensures) ∙ length-tally _
 
 -- as many gaps are handed over as there are records
-records : (c : tie.After-gaps3)
-    → length (take (check-at (gaps-at (known_at c))).check.result.arrivals (gaps-at (known_at c)).record-gaps.new.1.0)
-    ≡ (check-at (gaps-at (known_at c))).check.result.arrivals
+records : (c : tie.After-gaps-3-1)
+    → length (take (check-at (gaps-at (known_at c))).check-layout.result.arrivals (gaps-at (known_at c)).record_gaps.new.gaps)
+    ≡ (check-at (gaps-at (known_at c))).check-layout.result.arrivals
 records c = length-take-le _ _ (omega (arith, (layout-known (check-at (gaps-at (known_at c)))).few))
 
-write-text-requires : tie.Need-write-text-requires
+write-text-requires : tie.Need-write_text-n-requires
 write-text-requires c κs = (layout-known c.before, omega arith)
 
-slice-aggregate-hand-over-all : tie.Need-slice-aggregate-hand-over-all
-slice-aggregate-hand-over-all c = (stands (text_at (gaps-at c.before.before)).write-text.ensures.0).0
+slice-aggregate-hand-over-all : tie.Need-slice_bounds-hand_over_all-end
+slice-aggregate-hand-over-all c = (stands (text_at (gaps-at c.before.before)).write_text-n.ensures.0).0
 
-array-share-prefix-gaps : tie.Need-array-share-prefix-gaps
+array-share-prefix-gaps : tie.Need-slice_bounds-gaps-end
 array-share-prefix-gaps c = omega (arith, (layout-known (check-at (gaps-at c.before.before.before.before))).few)
 
-hand-over-all-requires : tie.Need-hand-over-all-requires
+hand-over-all-requires : tie.Need-hand_over_all-requires
 hand-over-all-requires c κs =
     let g = gaps-at (known_at c) in
-    (at_most (text_at g).write-text.ensures, places g, search rules, omega (arith, records c, (layout-known (check-at g)).few))
+    (at_most (text_at g).write_text-n.ensures, places g, search rules, omega (arith, records c, (layout-known (check-at g)).few))
 
 returns : tie.Need-returns
 returns c =
-    let h = c.before.before.before in
-    let g = gaps-at (known_at h) in
+    let h = c in
+    let g = gaps-at (known_at h.before.before.before) in
     let y = check-at g in
     let d = decode (file-at y) in
     let all =
-    figures-known d y.check.result (layout-known y) (tally-at g).tally.ensures g.before.before.degrees-of.ensures
-    g.record-gaps.ensures.0 g.record-gaps.ensures.1 (counts-at (known_at h)).counts.ensures in
-    let o = c.before.before.hand-over-all.ensures (answers_of d) all in
-    let e = whole d y.check.result y.check.ensures.0 (stands (text_at g).write-text.ensures.0).1 (records h) in
-    (output-of (ap (λ (y : Layout). y.refusal) y.check.ensures.0) e o.0, omega (arith, o.1, ap length e))
+    figures-known d y.check-layout.result (layout-known y) (tally-at g).tally.ensures g.degrees_of-degrees.ensures
+    g.record_gaps.ensures.0 g.record_gaps.ensures.1 (counts-at (known_at h.before.before.before)).counts.ensures in
+    let o = c.hand_over_all.ensures (answers_of d) all in
+    let e = whole d y.check-layout.result y.check-layout.ensures.0 (stands (text_at g).write_text-n.ensures.0).1 (records h.before.before.before) in
+    (output-of (ap (λ (y : Layout). y.refusal) y.check-layout.ensures.0) e o.0, omega (arith, o.1, ap length e))
 
-pub write-all-spec : {M : Type 1} → statement M
-write-all-spec =
+pub write_all_spec : {M : Type 1} → statement M
+write_all_spec =
     tie.close
     (tie.spec
     (λ c κs. search rules) (λ c. search rules) write-text-requires (λ c κs. search rules) (λ c κs. search rules) (λ c. search rules)

@@ -11,13 +11,13 @@ use Rattle.summary.proofs.write_json.Tie as tie
 
 returns : tie.Need-returns
 returns c =
-    let t = c.before.before.before.before.before.before in
-    let y = t.before.before in
-    let d = decode y.before.before.before.args.file.now in
-    handed t.write-object.ensures d y.check.ensures.0 c.before.before.hand-over.ensures
+    let t = c in
+    let y = t in
+    let d = decode y.args.file.now in
+    handed t.write_object-n.ensures d y.check-layout.ensures.0 c.hand_over.ensures
 
-pub write-json-spec : {M : Type 1} → statement M
-write-json-spec = tie.close (tie.spec (λ c κs. search rules) (λ c. search rules)
-    (λ c κs. (rw c.before.check.ensures.0 (laid _ (λ i. (c.before.before.before.shared-slice-known.given i).fits)), omega arith))
-    (λ c. search rules) (λ c. (stands c.before.before.write-object.ensures.0).0)
-    (λ c κs. omega (arith, at_most c.before.before.before.write-object.ensures)) (λ c. search rules) returns)
+pub write_json_spec : {M : Type 1} → statement M
+write_json_spec = tie.close (tie.spec (λ c κs. search rules) (λ c. search rules)
+    (λ c κs. (rw c.check-layout.ensures.0 (laid _ (λ i. (c.shared_slice_known-1.given i).fits)), omega arith))
+    (λ c. search rules) (λ c. (stands c.write_object-n.ensures.0).0)
+    (λ c κs. omega (arith, at_most c.write_object-n.ensures)) (λ c. search rules) returns)

@@ -21,30 +21,30 @@ long : (n : ℕ) → 64 < n → long_label ≡ judge_label n
 unfolding outside
 long n h = sym (simp (le-leb 0 n (omega arith), lt-leb n 64 h))
 
-returns : tie.Need-returns
+returns : tie.Need-returns-then-label-gt-LABEL_MOST
 returns c =
-    (output-refused _ _ _ long_label (long _ c.if1.true) (λ z. omega (arith, z)), λ few. absurd (omega (arith, few, c.if1.true)))
+    (output-refused _ _ _ long_label (long _ c.if-label-gt-LABEL_MOST.true) (λ z. omega (arith, z)), λ few. absurd (omega (arith, few, c.if-label-gt-LABEL_MOST.true)))
 
-slice-aggregate-hand-over : tie.Need-slice-aggregate-hand-over
-slice-aggregate-hand-over c = (stands c.before.before.write-start.ensures.0).0
+slice-aggregate-hand-over : tie.Need-slice_bounds-hand_over-end
+slice-aggregate-hand-over c = (stands c.write_start-n.ensures.0).0
 
-hand-over-requires : tie.Need-hand-over-requires
+hand-over-requires : tie.Need-hand_over-requires
 hand-over-requires c κs =
-    let t = c.before.before.before.write-start.ensures in
+    let t = c.write_start-n.ensures in
     omega (arith, t.1, (stands t.0).0)
 
-returns-2 : tie.Need-returns-2
+returns-2 : tie.Need-returns
 returns-2 c =
-    let t = c.before.before.before.before.before.before in
-    let few = t.before.before.if1.false in
-    let none : 0 ≡ judge_label (length t.before.before.before.before.before.args.label.now) =
+    let t = c in
+    let few = t.if-label-gt-LABEL_MOST.false in
+    let none : 0 ≡ judge_label (length t.args.label.now) =
     sym (ap (λ (b : Bool). refusal_if b long_label) (not-outside 0 64 _ (omega arith) few)) in (
-      output-of none (stands t.write-start.ensures.0).1 c.before.before.hand-over.ensures,
-      λ _. omega (arith, t.write-start.ensures.0.place, t.write-start.ensures.1),
+      output-of none (stands t.write_start-n.ensures.0).1 c.hand_over.ensures,
+      λ _. omega (arith, t.write_start-n.ensures.0.place, t.write_start-n.ensures.1),
     )
 
-pub write-json-label-spec : {M : Type 1} → statement M
-write-json-label-spec =
+pub write_json_label_spec : {M : Type 1} → statement M
+write_json_label_spec =
     tie.close
     (tie.spec
     returns (λ c. search rules) (λ c κs. search rules) (λ c. search rules) slice-aggregate-hand-over hand-over-requires

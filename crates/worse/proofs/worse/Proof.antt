@@ -38,7 +38,7 @@ place_at j l f =
 returns : tie.Need-returns-in-Refused
 returns c =
     let j = c in
-    let f : j.compare-link.result.link ≡ Refused = search c.enum_told-1.given in
+    let f : j.compare-link.result.link ≡ Refused = c.in-Refused.is in
     let p = (start j.before.before).args.first.ref_ptr in
     let k : 0 + p.1 ≡ p.1 = omega arith in
     (label_at j.before.before Refused f, ap (λ (n : ℕ). (p.0, n)) k ∙ place_at j.before.before Refused f)
@@ -46,13 +46,13 @@ returns c =
 returns-2 : tie.Need-returns-in-First
 returns-2 c =
     let j = c in
-    let f : j.compare-link.result.link ≡ First = search c.enum_told-in-First-1.given in
+    let f : j.compare-link.result.link ≡ First = c.in-First.is in
     (c.label.ensures.0 ∙ label_at j.before.before First f, c.label.ensures.1 ∙ place_at j.before.before First f)
 
 returns-3 : tie.Need-returns-in-Second
 returns-3 c =
     let j = c in
-    let f : j.compare-link.result.link ≡ Second = search c.enum_told-in-Second-1.given in
+    let f : j.compare-link.result.link ≡ Second = c.in-Second.is in
     (c.label-in-Second.ensures.0 ∙ label_at j.before.before Second f, c.label-in-Second.ensures.1 ∙ place_at j.before.before Second f)
 
 pub worse_spec : {M : Type 1} → statement M

@@ -13,35 +13,35 @@ use Rattle.summary.proofs.all.degrees_of.Statement.{statement}
 use Rattle.summary.proofs.all.degrees_of.Tie as tie
 
 -- degrees and i are the values at the head of the loop
-abbrev invariant-loop : tie.invariant-loop
-invariant-loop file degrees₀ i₀ degrees i =
+abbrev invariant-loop-i : tie.invariant-loop-i
+invariant-loop-i file degrees₀ i₀ degrees i =
     (i ≤ 10) × (length degrees ≡ 10) × ((k : ℕ) → k < i → get_or degrees k 0 ≡ n_reordered (suc k) (answers_of (decode file)))
 
-abbrev decreases-loop : tie.decreases-loop
-decreases-loop file degrees₀ i₀ degrees i = 10 - i
+abbrev decreases-loop-i : tie.decreases-loop-i
+decreases-loop-i file degrees₀ i₀ degrees i = 10 - i
 
-loop-holds : tie.Need-loop-init invariant-loop decreases-loop
+loop-holds : tie.Need-loop-i-init invariant-loop-i decreases-loop-i
 loop-holds c = (omega arith, search rules, λ k h. absurd (omega (arith, h)))
 
-loop-again : tie.Need-loop-preserved invariant-loop decreases-loop
+loop-again : tie.Need-loop-i-preserved invariant-loop-i decreases-loop-i
 loop-again c =
-    let t = c.before in
-    let l = t.before.loop in
-    let inside = t.loop-test.true in
-    let d = decode t.before.before.before.args.file.now in
-    let v = several d _ c.n-reordered.result (omega arith) (omega (arith, inside)) c.n-reordered.ensures in (
+    let t = c in
+    let l = t.loop-i in
+    let inside = t.loop-i-test.true in
+    let d = decode t.args.file.now in
+    let v = several d _ c.n_reordered.result (omega arith) (omega (arith, inside)) c.n_reordered.ensures in (
       omega (arith, inside),
       search rules,
-      several-next (answers_of d) l.degrees l.i c.n-reordered.result.reordered (omega (arith, inside, l.invariant.1)) l.invariant.2 v,
+      several-next (answers_of d) l.degrees l.i c.n_reordered.result.reordered (omega (arith, inside, l.invariant.1)) l.invariant.2 v,
     )
 
-returns : tie.Need-returns invariant-loop decreases-loop
-returns c = record { at = λ k h. c.before.loop.invariant.2 k (omega (arith, h, c.before.loop.invariant.0, c.loop-test.false)) }
+returns : tie.Need-returns invariant-loop-i decreases-loop-i
+returns c = record { at = λ k h. c.loop-i.invariant.2 k (omega (arith, h, c.loop-i.invariant.0, c.loop-i-test.false)) }
 
-pub degrees-of-spec : {M : Type 1} → statement M
-degrees-of-spec =
+pub degrees_of_spec : {M : Type 1} → statement M
+degrees_of_spec =
     tie.close
     (tie.spec
-    invariant-loop decreases-loop loop-holds
+    invariant-loop-i decreases-loop-i loop-holds
     (λ c. search rules) (λ c. search rules) (λ c κs. search rules) (λ c. search rules) (λ c. search rules) (λ c. search rules)
     (λ c. search rules) loop-again returns)

@@ -14,45 +14,45 @@ use Rattle.summary.proofs.all.hand_over_all.Tie as tie
 
 -- ---- places
 
-abbrev start : tie.After-put-all → tie.Start
+abbrev start : tie.After-put_all-n → tie.Start
 start n = n.before.before.before.before.before.before.before
 
-abbrev first : tie.After-slice-known2 → tie.After-put-all
+abbrev first : tie.After-slice_known-2-1 → tie.After-put_all-n
 first c = c.before.before.before.before.before.before.before
 
-returns : tie.Need-returns
+returns : tie.Need-returns-then-refusal-ne-NONE
 returns c =
     λ l known.
-    let n = c.before.before.put_all.ensures in
+    let n = c.put_all-n.ensures in
     let p = n.1 l known in
-    (output-refused _ _ _ _ refl c.if1.true, omega (arith, n.0, p.place))
+    (output-refused _ _ _ _ refl c.if-refusal-ne-NONE.true, omega (arith, n.0, p.place))
 
-returns-2 : tie.Need-returns-2
+returns-2 : tie.Need-returns-then-out-n
 returns-2 c =
     λ l known.
-    let n = c.before.before.before.put_all.ensures in
+    let n = c.put_all-n.ensures in
     let p = n.1 l known in
     let a = (start c.before.before.before).args in
     let short : length a.out.now < length (a.summary.now ++ more_text l (length a.gaps.now)) =
-    omega (arith, p.place, c.if2.true) in
-    (output-short _ _ _ c.before.if1.false short, omega (arith, n.0, p.place))
+    omega (arith, p.place, c.if-out-n.true) in
+    (output-short _ _ _ c.if-refusal-ne-NONE.false short, omega (arith, n.0, p.place))
 
-returns-3 : tie.Need-returns-3
+returns-3 : tie.Need-returns
 returns-3 c =
     λ l known.
-    let left = c.before.before.before.before in
-    let n = (first c).put_all.ensures in
+    let left = c in
+    let n = (first c).put_all-n.ensures in
     let p = n.1 l known in
     let a = (start (first c)).args in
-    let count : (first c).put_all.result ≡ length (a.summary.now ++ more_text l (length a.gaps.now)) = omega (arith, p.place) in
+    let count : (first c).put_all-n.result ≡ length (a.summary.now ++ more_text l (length a.gaps.now)) = omega (arith, p.place) in
     let fits : length (a.summary.now ++ more_text l (length a.gaps.now)) ≤ length a.out.now =
-    omega (arith, count, left.if2.false) in (
-      output-written _ _ _ left.before.if1.false fits count (put-start (c.before.before.put-all2.ensures.1 l known) fits),
+    omega (arith, count, left.if-out-n.false) in (
+      output-written _ _ _ left.if-refusal-ne-NONE.false fits count (put-start (c.put_all.ensures.1 l known) fits),
       omega (arith, n.0, p.place),
     )
 
-pub hand-over-all-spec : {M : Type 1} → statement M
-hand-over-all-spec =
+pub hand_over_all_spec : {M : Type 1} → statement M
+hand_over_all_spec =
     tie.close
     (tie.spec
     (λ c. search rules) (λ c κs. search rules) returns returns-2 (λ c κs. search rules) (λ c. search rules) (λ c. search rules) returns-3)

@@ -11,19 +11,19 @@ use Rattle.summary.proofs.all.put_all.Tie as tie
 
 -- ---- places
 
-abbrev gaps : tie.After-slice-known5 → tie.After-put-section
+abbrev gaps : tie.After-slice_known-5-1 → tie.After-put_section-three
 gaps c = c.before.before.before.before.before.before
 
-abbrev counts : tie.After-put-section → tie.After-put-counts
-counts e3 = e3.before.before.before.before.before
+abbrev counts : tie.After-put_section-three → tie.After-put_counts-two
+counts e3 = e3.before.before.before.before.before.before
 
 returns : tie.Need-returns
 unfolding more_text
 returns c =
-    let e4 = c.before.before.put-runs.ensures in
-    let e3 = (gaps c).put-section.ensures in
-    let e2 = (counts (gaps c)).put-counts.ensures in
-    let e1 = (counts (gaps c)).before.before.before.before.put-text.ensures in (
+    let e4 = c.put_runs.ensures in
+    let e3 = (gaps c).put_section-three.ensures in
+    let e2 = (counts (gaps c)).put_counts-two.ensures in
+    let e1 = (counts (gaps c)).put_text-one.ensures in (
       search rules,
       λ l known.
           put_then e1
@@ -33,9 +33,9 @@ returns c =
           (put-nothing _ _)))),
     )
 
-pub put-all-spec : {M : Type 1} → statement M
-put-all-spec =
+pub put_all_spec : {M : Type 1} → statement M
+put_all_spec =
     tie.close
     (tie.spec
-    (λ c κs. search rules) (λ c κs. search rules) (λ c. search rules) (λ c κs. search rules) (λ c κs. search rules) (λ c. search rules)
+    (λ c κs. search rules) (λ c κs. search rules) (λ c κs. search rules) (λ c κs. search rules) (λ c. search rules)
     returns)

@@ -9,12 +9,12 @@ use Rattle.summary.proofs.all.put_over.Tie as tie
 
 returns : tie.Need-returns
 returns c =
-    let w = c.before.before.before.before.before.before.write-over.ensures in
-    let p = put-line w.0 c.before.before.put-text.ensures in
+    let w = c.write_over-n.ensures in
+    let p = put-line w.0 c.put_text.ensures in
     (p.0, omega (arith, p.1, w.1))
 
-pub put-over-spec : {M : Type 1} → statement M
-put-over-spec = tie.close (tie.spec (λ c. search rules) (λ c κs. search rules) (λ c. search rules)
-    (λ c. (stands c.before.before.before.write-over.ensures.0).0)
-    (λ c κs. omega (arith, at_most c.before.before.before.write-over.ensures, c.before.before.before.before.before.before.requires))
+pub put_over_spec : {M : Type 1} → statement M
+put_over_spec = tie.close (tie.spec (λ c. search rules) (λ c κs. search rules) (λ c. search rules)
+    (λ c. (stands c.write_over-n.ensures.0).0)
+    (λ c κs. omega (arith, at_most c.write_over-n.ensures, c.requires))
     (λ c. search rules) returns)

@@ -9,12 +9,12 @@ use Rattle.summary.proofs.all.put_runs.Tie as tie
 
 returns : tie.Need-returns
 returns c =
-    let w = c.before.before.before.before.before.before.write-runs.ensures in
-    let p = put-line w.0 c.before.before.put-text.ensures in
+    let w = c.write_runs-n.ensures in
+    let p = put-line w.0 c.put_text.ensures in
     (p.0, omega (arith, p.1, w.1))
 
-pub put-runs-spec : {M : Type 1} → statement M
-put-runs-spec = tie.close (tie.spec (λ c. search rules) (λ c κs. search rules) (λ c. search rules)
-    (λ c. (stands c.before.before.before.write-runs.ensures.0).0)
-    (λ c κs. omega (arith, at_most c.before.before.before.write-runs.ensures, c.before.before.before.before.before.before.requires))
+pub put_runs_spec : {M : Type 1} → statement M
+put_runs_spec = tie.close (tie.spec (λ c. search rules) (λ c κs. search rules) (λ c. search rules)
+    (λ c. (stands c.write_runs-n.ensures.0).0)
+    (λ c κs. omega (arith, at_most c.write_runs-n.ensures, c.requires))
     (λ c. search rules) returns)

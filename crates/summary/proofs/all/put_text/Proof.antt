@@ -4,8 +4,8 @@ use borrow.Author.Rules.{rules}
 use Rattle.summary.proofs.all.put_text.Statement.{statement}
 use Rattle.summary.proofs.all.put_text.Tie as tie
 
-pub put-text-spec : {M : Type 1} → statement M
-put-text-spec =
+pub put_text_spec : {M : Type 1} → statement M
+put_text_spec =
     tie.close
     (tie.spec
-    (λ c κs. search rules) (λ c. search rules) (λ c. search rules) (λ c. put-octets c.before.before.put-octets.ensures))
+    (λ c κs. search rules) (λ c. search rules) (λ c. search rules) (λ c. put-octets c.put_octets.ensures))

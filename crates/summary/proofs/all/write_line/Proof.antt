@@ -5,26 +5,26 @@ use borrow.Author.Rules.{rules}
 use Rattle.summary.proofs.all.write_line.Statement.{statement}
 use Rattle.summary.proofs.all.write_line.Tie as tie
 
-returns : tie.Need-returns
+returns : tie.Need-returns-in-Extent
 unfolding figure_line
 returns c =
-    let w = c.before.before.write-nonzero.ensures in
-    rw c.before.before.before.before.enum_told.given.1 (w.0, omega (arith, w.1))
+    let w = c.write_nonzero.ensures in
+    rw c.in-Extent.is (w.0, omega (arith, w.1))
 
-returns-2 : tie.Need-returns-2
+returns-2 : tie.Need-returns-in-Degree
 unfolding figure_line
 returns-2 c =
-    let w = c.before.before.write-pair.ensures in
-    rw c.before.before.before.before.enum-told2.given.1 (w.0, omega (arith, w.1))
+    let w = c.write_pair.ensures in
+    rw c.in-Degree.is (w.0, omega (arith, w.1))
 
-returns-3 : tie.Need-returns-3
+returns-3 : tie.Need-returns-in-Gap
 unfolding figure_line
 returns-3 c =
-    let w = c.before.before.write-nonzero2.ensures in
-    rw c.before.before.before.before.enum-told3.given.1 (w.0, omega (arith, w.1))
+    let w = c.write_nonzero-in-Gap.ensures in
+    rw c.in-Gap.is (w.0, omega (arith, w.1))
 
-pub write-line-spec : {M : Type 1} → statement M
-write-line-spec =
+pub write_line_spec : {M : Type 1} → statement M
+write_line_spec =
     tie.close
     (tie.spec
     (λ c. search rules) (λ c κs. search rules) (λ c. search rules) (λ c κs. search rules) (λ c. search rules) (λ c κs. search rules)

@@ -7,20 +7,20 @@ use borrow.Author.Rules.{rules}
 use Rattle.summary.proofs.all.write_nonzero.Statement.{statement}
 use Rattle.summary.proofs.all.write_nonzero.Tie as tie
 
-returns : tie.Need-returns
+returns : tie.Need-returns-then-figure-eq0
 unfolding extent_line
 returns c =
-    let a = c.before.before.args in
-    rw (eq-eqb _ _ c.if1.true) (nothing a.at a.out.now, omega arith)
+    let a = c.args in
+    rw (eq-eqb _ _ c.if-figure-eq0.true) (nothing a.at a.out.now, omega arith)
 
-returns-2 : tie.Need-returns-2
+returns-2 : tie.Need-returns
 unfolding extent_line
 returns-2 c =
-    let w = c.before.before.write-pair.ensures in
-    rw (ne_eqb _ _ c.before.before.before.before.if1.false) (w.0, omega (arith, w.1))
+    let w = c.write_pair.ensures in
+    rw (ne_eqb _ _ c.if-figure-eq0.false) (w.0, omega (arith, w.1))
 
-pub write-nonzero-spec : {M : Type 1} → statement M
-write-nonzero-spec =
+pub write_nonzero_spec : {M : Type 1} → statement M
+write_nonzero_spec =
     tie.close
     (tie.spec
     returns (λ c κs. search rules) (λ c. search rules) returns-2)

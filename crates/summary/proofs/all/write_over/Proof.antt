@@ -7,7 +7,7 @@ use Rattle.summary.proofs.all.write_over.Tie as tie
 
 returns : tie.Need-returns
 unfolding over_line
-returns c = (c.before.before.write-between.ensures.0, omega (arith, c.before.before.write-between.ensures.1))
+returns c = (c.write_between.ensures.0, omega (arith, c.write_between.ensures.1))
 
-pub write-over-spec : {M : Type 1} → statement M
-write-over-spec = tie.close (tie.spec (λ c. search rules) (λ c. search rules) (λ c κs. search rules) (λ c. search rules) returns)
+pub write_over_spec : {M : Type 1} → statement M
+write_over_spec = tie.close (tie.spec (λ c κs. search rules) (λ c. search rules) returns)

@@ -10,22 +10,20 @@ use Rattle.summary.proofs.all.write_pair.Tie as tie
 returns : tie.Need-returns
 unfolding pair_line
 returns c =
-    let e5 = c.before.before in
-    let e4 = e5.before.before.before.before.before in
-    let e3 = e4.before.before.before.before in
-    let e2 = e3.before.before.before.before.before in
-    let e1 = e2.before.before.before.before in (
-      then e1.write_word.ensures.0
-          (then e2.write-number.ensures.0
-          (then e3.write-word2.ensures.0
-          (then e4.write-number2.ensures.0
-          (then e5.write-word3.ensures.0 (nothing _ _))))),
-      omega (arith, e1.write_word.ensures.1, e2.write-number.ensures.1, e3.write-word2.ensures.1, e4.write-number2.ensures.1, e5.write-word3.ensures.1),
+    let e5 = c in
+    let e4 = e5 in
+    let e3 = e4 in
+    let e2 = e3 in
+    let e1 = e2 in (
+      then e1.write_word-one.ensures.0
+          (then e2.write_number-two.ensures.0
+          (then e3.write_word-three.ensures.0
+          (then e4.write_number-four.ensures.0
+          (then e5.write_word.ensures.0 (nothing _ _))))),
+      omega (arith, e1.write_word-one.ensures.1, e2.write_number-two.ensures.1, e3.write_word-three.ensures.1, e4.write_number-four.ensures.1, e5.write_word.ensures.1),
     )
 
-pub write-pair-spec : {M : Type 1} → statement M
-write-pair-spec =
+pub write_pair_spec : {M : Type 1} → statement M
+write_pair_spec =
     tie.close
-    (tie.spec
-    (λ c. search rules) (λ c κs. search rules) (λ c κs. search rules) (λ c. search rules) (λ c κs. search rules) (λ c κs. search rules)
-    (λ c. search rules) (λ c κs. search rules) (λ c. search rules) returns)
+    (tie.spec (λ c κs. search rules) (λ c κs. search rules) (λ c κs. search rules) (λ c κs. search rules) (λ c κs. search rules) (λ c. search rules) returns)

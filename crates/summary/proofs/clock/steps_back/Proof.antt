@@ -16,50 +16,50 @@ use Rattle.summary.proofs.clock.steps_back.Statement.{statement}
 use Rattle.summary.proofs.clock.steps_back.Tie as tie
 
 -- last₀ and i₀ are the values where the loop begins, last and i those at its head
-abbrev invariant-loop : tie.invariant-loop
-invariant-loop file layout last₀ i₀ last i =
+abbrev invariant-loop-i : tie.invariant-loop-i
+invariant-loop-i file layout last₀ i₀ last i =
     (i ≤ layout.arrivals) × (steps_back 0 (sample_arrivals (decode file)) ≡ steps_back last (drop i (sample_arrivals (decode file))))
 
-abbrev decreases-loop : tie.decreases-loop
-decreases-loop file layout last₀ i₀ last i = layout.arrivals - i
+abbrev decreases-loop-i : tie.decreases-loop-i
+decreases-loop-i file layout last₀ i₀ last i = layout.arrivals - i
 
 -- record i + 1
-known : (c : tie.After-arrival invariant-loop decreases-loop)
-    → c.arrival.result ≡ arrival_at (decode c.before.before.before.before.before.args.file.now)
-    c.before.before.before.loop.i
-known c = (arrival-known _ _ c.before.before.before.before.before.requires _ c.before.if1.true c.arrival.ensures.1).0
+known : (c : tie.After-arrival-time invariant-loop-i decreases-loop-i)
+    → c.arrival-time.result ≡ arrival_at (decode c.args.file.now)
+    c.loop-i.i
+known c = (arrival-known _ _ c.requires _ c.loop-i-test.true c.arrival-time.ensures.1).0
 
-loop-holds : tie.Need-loop-init invariant-loop decreases-loop
+loop-holds : tie.Need-loop-i-init invariant-loop-i decreases-loop-i
 loop-holds c = (omega arith, refl)
 
-returns : tie.Need-returns invariant-loop decreases-loop
+returns : tie.Need-returns-then-time-last invariant-loop-i decreases-loop-i
 returns c =
-    let r = c.before in
-    let s = r.before.before.before.before.before in
-    let l = r.before.before.before.loop in
-    sym (l.invariant.1 ∙ back-next _ _ s.requires l.i l.last r.before.if1.true r.arrival.result (known r)
-    ∙ rw (lt-ltb _ _ c.if2.true))
+    let r = c in
+    let s = r in
+    let l = r.loop-i in
+    sym (l.invariant.1 ∙ back-next _ _ s.requires l.i l.last r.loop-i-test.true r.arrival-time.result (known r.before)
+    ∙ rw (lt-ltb _ _ c.if-time-last.true))
 
-add-i : tie.Need-overflow-add-i invariant-loop decreases-loop
-add-i c = omega (arith, c.before.before.if1.true, c.before.before.before.before.before.before.requires.few)
+add-i : tie.Need-overflow_add-i invariant-loop-i decreases-loop-i
+add-i c = omega (arith, c.loop-i-test.true, c.requires.few)
 
-loop-less : tie.Need-loop-smaller invariant-loop decreases-loop
-loop-less c = omega (arith, c.before.before.if1.true)
+loop-less : tie.Need-loop-i-smaller invariant-loop-i decreases-loop-i
+loop-less c = omega (arith, c.loop-i-test.true)
 
-loop-again : tie.Need-loop-preserved invariant-loop decreases-loop
+loop-again : tie.Need-loop-i-preserved invariant-loop-i decreases-loop-i
 loop-again c =
-    let r = c.before in
-    let s = r.before.before.before.before.before in
-    let l = r.before.before.before.loop in (
-      omega (arith, r.before.if1.true),
-      l.invariant.1 ∙ back-next _ _ s.requires l.i l.last r.before.if1.true r.arrival.result (known r)
-          ∙ rw (le-ltb _ _ c.if2.false),
+    let r = c in
+    let s = r in
+    let l = r.loop-i in (
+      omega (arith, r.loop-i-test.true),
+      l.invariant.1 ∙ back-next _ _ s.requires l.i l.last r.loop-i-test.true r.arrival-time.result (known r.before)
+          ∙ rw (le-ltb _ _ c.if-time-last.false),
     )
 
-returns-2 : tie.Need-returns-2 invariant-loop decreases-loop
+returns-2 : tie.Need-returns invariant-loop-i decreases-loop-i
 returns-2 c =
-    let l = c.before.before.loop in
-    sym (l.invariant.1 ∙ back_end _ _ c.before.before.before.before.requires l.i l.last c.if1.false)
+    let l = c.loop-i in
+    sym (l.invariant.1 ∙ back_end _ _ c.requires l.i l.last c.loop-i-test.false)
 
-pub steps-back-spec : {M : Type 1} → statement M
-steps-back-spec = tie.close (tie.spec invariant-loop decreases-loop loop-holds (λ c κs. search rules) returns add-i loop-less loop-again returns-2)
+pub steps_back_spec : {M : Type 1} → statement M
+steps_back_spec = tie.close (tie.spec invariant-loop-i decreases-loop-i loop-holds (λ c κs. search rules) returns add-i loop-less loop-again returns-2)

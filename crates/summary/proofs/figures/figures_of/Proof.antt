@@ -20,18 +20,18 @@ disordered : (d : Decoded) (r : SampleDisorder) → r ≡ sample_disorder d → 
 unfolding sample_disorder
 disordered d r e = ap (λ (r : SampleDisorder). r.total) e
 
-steps-back-requires : tie.Need-steps-back-requires
-steps-back-requires c κs = c.before.before.before.before.before.before.requires
+steps-back-requires : tie.Need-steps_back-back-requires
+steps-back-requires c κs = c.requires
 
 returns : tie.Need-returns
 unfolding figures_of counts
 returns c =
-    let back = c.before.before in
-    let total = back.before in
-    let third = total.before in
-    let first = third.before in
-    let k = first.before.before in
-    let s = k.before.before in
+    let back = c in
+    let total = back in
+    let third = total in
+    let first = third in
+    let k = first in
+    let s = k in
     let d = decode s.args.file.now in
     let numbers = counted d k.counts.result k.counts.ensures in
     let arrived = ap (λ (k : Counts). k.arrived) numbers in
@@ -42,13 +42,13 @@ returns c =
       arrived = arrived i;
       copies = (numbers i).duplicates;
       reordered = (numbers i).reordered;
-      reordered1 = several d 1 first.n-reordered.result (omega arith) (omega arith) first.n-reordered.ensures i;
-      reordered3 = several d 3 third.n-reordered2.result (omega arith) (omega arith) third.n-reordered2.ensures i;
+      reordered1 = several d 1 first.n_reordered-first.result (omega arith) (omega arith) first.n_reordered-first.ensures i;
+      reordered3 = several d 3 third.n_reordered-third.result (omega arith) (omega arith) third.n_reordered-third.ensures i;
       disorder = disordered d total.total.result total.total.ensures.0 i;
       lost = ltb (arrived i) (sent i);
-      back = back.steps_back.ensures i;
+      back = back.steps_back-back.ensures i;
     }
 
-pub figures-of-spec : {M : Type 1} → statement M
-figures-of-spec = tie.close (tie.spec (λ c κs. search rules) (λ c κs. search rules) (λ c κs. search rules) (λ c κs. search rules)
+pub figures_of_spec : {M : Type 1} → statement M
+figures_of_spec = tie.close (tie.spec (λ c κs. search rules) (λ c κs. search rules) (λ c κs. search rules) (λ c κs. search rules)
     steps-back-requires returns)

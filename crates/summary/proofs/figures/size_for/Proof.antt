@@ -23,8 +23,8 @@ inside d m share r low high e =
 
 returns : tie.Need-returns
 returns c =
-    let s = c.before.before in
+    let s = c in
     inside _ s.args.measure s.args.share c.least.result s.requires.0 s.requires.1 c.least.ensures.0
 
-pub size-for-spec : {M : Type 1} → statement M
-size-for-spec = tie.close (tie.spec (λ c κs. search rules) returns)
+pub size_for_spec : {M : Type 1} → statement M
+size_for_spec = tie.close (tie.spec (λ c κs. search rules) returns)

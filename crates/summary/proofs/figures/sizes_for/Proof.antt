@@ -6,10 +6,10 @@ use Rattle.summary.proofs.figures.sizes_for.Tie as tie
 returns : tie.Need-returns
 unfolding sizes_for
 returns c =
-    let e2 = c.before in
-    let e1 = e2.before in
-    λ i. record { time = e1.size_for_lem.ensures i; packets = e2.size-for2.ensures i; octets = c.size-for3.ensures i }
+    let e2 = c in
+    let e1 = e2 in
+    λ i. record { time = e1.size_for-time.ensures i; packets = e2.size_for-packets.ensures i; octets = c.size_for-octets.ensures i }
 
-pub sizes-for-spec : {M : Type 1} → statement M
-sizes-for-spec = tie.close (tie.spec (λ c κs. c.before.requires) (λ c κs. c.before.before.requires) (λ c κs. c.before.before.before.requires)
+pub sizes_for_spec : {M : Type 1} → statement M
+sizes_for_spec = tie.close (tie.spec (λ c κs. c.requires) (λ c κs. c.requires) (λ c κs. c.requires)
     returns)

@@ -7,7 +7,7 @@ use Rattle.summary.proofs.json.write_end.Tie as tie
 
 returns : tie.Need-returns
 unfolding disorder_member
-returns c = (c.before.before.write-between.ensures.0, omega (arith, c.before.before.write-between.ensures.1))
+returns c = (c.write_between.ensures.0, omega (arith, c.write_between.ensures.1))
 
-pub write-end-spec : {M : Type 1} → statement M
-write-end-spec = tie.close (tie.spec (λ c. search rules) (λ c. search rules) (λ c κs. search rules) (λ c. search rules) returns)
+pub write_end_spec : {M : Type 1} → statement M
+write_end_spec = tie.close (tie.spec (λ c κs. search rules) (λ c. search rules) returns)

@@ -10,11 +10,11 @@ use Rattle.summary.proofs.json.write_flag.Tie as tie
 returns : tie.Need-returns
 unfolding flag_member
 returns c =
-    let e2 = c.before.before in
-    let e1 = e2.before.before.before.before in (
-      then e1.write_word.ensures.0 (then e2.write-bool.ensures.0 (nothing _ _)),
-      omega (arith, e1.write_word.ensures.1, e2.write-bool.ensures.1),
+    let e2 = c in
+    let e1 = e2 in (
+      then e1.write_word-one.ensures.0 (then e2.write_bool.ensures.0 (nothing _ _)),
+      omega (arith, e1.write_word-one.ensures.1, e2.write_bool.ensures.1),
     )
 
-pub write-flag-spec : {M : Type 1} → statement M
-write-flag-spec = tie.close (tie.spec (λ c κs. search rules) (λ c κs. search rules) (λ c. search rules) returns)
+pub write_flag_spec : {M : Type 1} → statement M
+write_flag_spec = tie.close (tie.spec (λ c κs. search rules) (λ c κs. search rules) (λ c. search rules) returns)

@@ -10,12 +10,12 @@ use Rattle.summary.proofs.json.write_limits.Tie as tie
 returns : tie.Need-returns
 unfolding limit_members
 returns c =
-    let e2 = c.before.before in
-    let e1 = e2.before.before.before.before.before in (
-      then e1.write-flag.ensures.0 (then e2.write-flag2.ensures.0 (nothing _ _)),
-      omega (arith, e1.write-flag.ensures.1, e2.write-flag2.ensures.1),
+    let e2 = c in
+    let e1 = e2 in (
+      then e1.write_flag-one.ensures.0 (then e2.write_flag.ensures.0 (nothing _ _)),
+      omega (arith, e1.write_flag-one.ensures.1, e2.write_flag.ensures.1),
     )
 
-pub write-limits-spec : {M : Type 1} → statement M
-write-limits-spec = tie.close (tie.spec (λ c. search rules) (λ c κs. search rules) (λ c. search rules) (λ c κs. search rules)
+pub write_limits_spec : {M : Type 1} → statement M
+write_limits_spec = tie.close (tie.spec (λ c κs. search rules) (λ c κs. search rules)
     (λ c. search rules) returns)

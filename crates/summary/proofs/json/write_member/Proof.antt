@@ -10,11 +10,11 @@ use Rattle.summary.proofs.json.write_member.Tie as tie
 returns : tie.Need-returns
 unfolding number_member
 returns c =
-    let e2 = c.before.before in
-    let e1 = e2.before.before.before.before in (
-      then e1.write_word.ensures.0 (then e2.write-number.ensures.0 (nothing _ _)),
-      omega (arith, e1.write_word.ensures.1, e2.write-number.ensures.1),
+    let e2 = c in
+    let e1 = e2 in (
+      then e1.write_word-one.ensures.0 (then e2.write_number.ensures.0 (nothing _ _)),
+      omega (arith, e1.write_word-one.ensures.1, e2.write_number.ensures.1),
     )
 
-pub write-member-spec : {M : Type 1} → statement M
-write-member-spec = tie.close (tie.spec (λ c κs. search rules) (λ c κs. search rules) (λ c. search rules) returns)
+pub write_member_spec : {M : Type 1} → statement M
+write_member_spec = tie.close (tie.spec (λ c κs. search rules) (λ c κs. search rules) (λ c. search rules) returns)

@@ -22,63 +22,63 @@ whole : (d : Decoded) (label : List ℕ) (f : Figures) → label ≡ (sample_of 
 unfolding summary_json
 whole d label f e g = ap₂ (λ (label : List ℕ) (f : Figures). object_of label f (answers_of d)) e g
 
-write-start-requires : tie.Need-write-start-requires
+write-start-requires : tie.Need-write_start-one-requires
 write-start-requires c κs =
-    let k = c.before.before.before.before in
-    let s = k.before in
-    let short = label-short s.args.file.now (λ i. (k.shared-slice-known.given i).fits) in
+    let k = c in
+    let s = k in
+    let short = label-short s.args.file.now (λ i. (k.shared_slice_known-1.given i).fits) in
     (omega (arith, ap length c.label.ensures.0, short), omega (arith, s.requires.1))
 
 -- these facts lie too far for the search
-write-end-requires : tie.Need-write-end-requires
+write-end-requires : tie.Need-write_end-requires
 write-end-requires c κs =
-    let e5 = c.before.before.before in
-    let e4 = e5.before.before.before.before in
-    let e3 = e4.before.before.before.before in
-    let e2 = e3.before.before.before.before in
-    let e1 = e2.before.before.before.before in
-    let s = e1.before.before.before.before.before.before in
+    let e5 = c in
+    let e4 = e5 in
+    let e3 = e4 in
+    let e2 = e3 in
+    let e1 = e2 in
+    let s = e1 in
     omega (
       arith,
-      e1.write-start.ensures.1,
-      e2.write-counts.ensures.1,
-      e3.write-needs.ensures.1,
-      e4.write-limits.ensures.1,
-      e5.write-ratios.ensures.1,
+      e1.write_start-one.ensures.1,
+      e2.write_counts-two.ensures.1,
+      e3.write_needs-three.ensures.1,
+      e4.write_limits-four.ensures.1,
+      e5.write_ratios-five.ensures.1,
       s.requires.1,
     )
 
 returns : tie.Need-returns
 unfolding object_of
 returns c =
-    let e6 = c.before.before in
-    let e5 = e6.before.before.before.before in
-    let e4 = e5.before.before.before.before in
-    let e3 = e4.before.before.before.before in
-    let e2 = e3.before.before.before.before in
-    let e1 = e2.before.before.before.before in
-    let label = e1.before in
-    let figures = label.before.before in
-    let s = figures.before.before.before in (
-      named (whole (decode s.args.file.now) _ figures.figures-of.result label.label.ensures.0 figures.figures-of.ensures)
-          (then e1.write-start.ensures.0
-          (then e2.write-counts.ensures.0
-          (then e3.write-needs.ensures.0
-          (then e4.write-limits.ensures.0
-          (then e5.write-ratios.ensures.0
-          (then e6.write-end.ensures.0 (nothing _ _))))))),
+    let e6 = c in
+    let e5 = e6 in
+    let e4 = e5 in
+    let e3 = e4 in
+    let e2 = e3 in
+    let e1 = e2 in
+    let label = e1 in
+    let figures = label in
+    let s = figures in (
+      named (whole (decode s.args.file.now) _ figures.figures_of-figures.result label.label.ensures.0 figures.figures_of-figures.ensures)
+          (then e1.write_start-one.ensures.0
+          (then e2.write_counts-two.ensures.0
+          (then e3.write_needs-three.ensures.0
+          (then e4.write_limits-four.ensures.0
+          (then e5.write_ratios-five.ensures.0
+          (then e6.write_end.ensures.0 (nothing _ _))))))),
       omega (
         arith,
-        e1.write-start.ensures.1,
-        e2.write-counts.ensures.1,
-        e3.write-needs.ensures.1,
-        e4.write-limits.ensures.1,
-        e5.write-ratios.ensures.1,
-        e6.write-end.ensures.1,
+        e1.write_start-one.ensures.1,
+        e2.write_counts-two.ensures.1,
+        e3.write_needs-three.ensures.1,
+        e4.write_limits-four.ensures.1,
+        e5.write_ratios-five.ensures.1,
+        e6.write_end.ensures.1,
       ),
     )
 
-pub write-object-spec : {M : Type 1} → statement M
-write-object-spec = tie.close (tie.spec (λ c κs. c.before.before.requires.0) (λ c κs. search rules) write-start-requires
+pub write_object_spec : {M : Type 1} → statement M
+write_object_spec = tie.close (tie.spec (λ c κs. c.requires.0) (λ c κs. search rules) write-start-requires
     (λ c κs. search rules) (λ c κs. search rules) (λ c κs. search rules) (λ c κs. search rules) write-end-requires (λ c. search rules)
     returns)

@@ -6,22 +6,22 @@ use borrow.Author.Rules.{rules}
 use Rattle.summary.proofs.json.write_octet.Statement.{statement}
 use Rattle.summary.proofs.json.write_octet.Tie as tie
 
-returns : tie.Need-returns
+returns : tie.Need-returns-then-is_escaped
 unfolding escaped_octet
 returns c =
-    let w = c.before.before.write_word.ensures in
-    let asked = c.before.before.before.before.before in
-    let e = sym asked.before.is-escaped.ensures ∙ asked.if1.true in
+    let w = c.write_word.ensures in
+    let asked = c in
+    let e = sym asked.is_escaped.ensures ∙ asked.if-is_escaped.true in
     (rw e w.0, omega (arith, w.1))
 
-returns-2 : tie.Need-returns-2
+returns-2 : tie.Need-returns
 unfolding escaped_octet
 returns-2 c =
-    let w = c.before.before.write-word2.ensures in
-    let asked = c.before.before.before.before.before in
-    let e = sym asked.before.is-escaped.ensures ∙ asked.if1.false in
+    let w = c.write_word-2.ensures in
+    let asked = c in
+    let e = sym asked.is_escaped.ensures ∙ asked.if-is_escaped.false in
     (rw e w.0, omega (arith, w.1))
 
-pub write-octet-spec : {M : Type 1} → statement M
-write-octet-spec = tie.close (tie.spec (λ c κs. search rules) (λ c. search rules) (λ c κs. search rules) (λ c. search rules) returns
+pub write_octet_spec : {M : Type 1} → statement M
+write_octet_spec = tie.close (tie.spec (λ c κs. search rules) (λ c. search rules) (λ c κs. search rules) (λ c. search rules) returns
     (λ c. search rules) (λ c κs. search rules) (λ c. search rules) returns-2)

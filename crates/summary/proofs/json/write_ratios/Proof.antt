@@ -10,13 +10,12 @@ use Rattle.summary.proofs.json.write_ratios.Tie as tie
 returns : tie.Need-returns
 unfolding ratio_members
 returns c =
-    let e3 = c.before.before in
-    let e2 = e3.before.before.before.before.before in
-    let e1 = e2.before.before.before.before.before in (
-      then e1.write-share.ensures.0 (then e2.write-share2.ensures.0 (then e3.write-share3.ensures.0 (nothing _ _))),
-      omega (arith, e1.write-share.ensures.1, e2.write-share2.ensures.1, e3.write-share3.ensures.1),
+    let e3 = c in
+    let e2 = e3 in
+    let e1 = e2 in (
+      then e1.write_share-one.ensures.0 (then e2.write_share-two.ensures.0 (then e3.write_share.ensures.0 (nothing _ _))),
+      omega (arith, e1.write_share-one.ensures.1, e2.write_share-two.ensures.1, e3.write_share.ensures.1),
     )
 
-pub write-ratios-spec : {M : Type 1} → statement M
-write-ratios-spec = tie.close (tie.spec (λ c. search rules) (λ c κs. search rules) (λ c. search rules) (λ c κs. search rules)
-    (λ c. search rules) (λ c κs. search rules) (λ c. search rules) returns)
+pub write_ratios_spec : {M : Type 1} → statement M
+write_ratios_spec = tie.close (tie.spec (λ c κs. search rules) (λ c κs. search rules) (λ c κs. search rules) (λ c. search rules) returns)

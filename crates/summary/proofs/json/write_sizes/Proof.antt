@@ -10,22 +10,22 @@ use Rattle.summary.proofs.json.write_sizes.Tie as tie
 returns : tie.Need-returns
 unfolding sizes_object
 returns c =
-    let e4 = c.before.before in
-    let e3 = e4.before.before.before.before.before.before in
-    let e2 = e3.before.before.before.before.before.before in
-    let e1 = e2.before.before.before.before.before.before in (
-      then e1.write-between.ensures.0 (then e2.write-between2.ensures.0 (then e3.write-between3.ensures.0
-          (then e4.write-between4.ensures.0 (nothing _ _)))),
+    let e4 = c in
+    let e3 = e4 in
+    let e2 = e3 in
+    let e1 = e2 in (
+      then e1.write_between-one.ensures.0 (then e2.write_between-two.ensures.0 (then e3.write_between-three.ensures.0
+          (then e4.write_between.ensures.0 (nothing _ _)))),
       omega (
         arith,
-        e1.write-between.ensures.1,
-        e2.write-between2.ensures.1,
-        e3.write-between3.ensures.1,
-        e4.write-between4.ensures.1,
+        e1.write_between-one.ensures.1,
+        e2.write_between-two.ensures.1,
+        e3.write_between-three.ensures.1,
+        e4.write_between.ensures.1,
       ),
     )
 
-pub write-sizes-spec : {M : Type 1} → statement M
-write-sizes-spec = tie.close (tie.spec (λ c. search rules) (λ c κs. search rules) (λ c. search rules) (λ c. search rules)
-    (λ c κs. search rules) (λ c. search rules) (λ c. search rules) (λ c κs. search rules) (λ c. search rules) (λ c. search rules)
+pub write_sizes_spec : {M : Type 1} → statement M
+write_sizes_spec = tie.close (tie.spec (λ c κs. search rules)
+    (λ c κs. search rules) (λ c κs. search rules)
     (λ c κs. search rules) (λ c. search rules) returns)

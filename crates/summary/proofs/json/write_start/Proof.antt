@@ -10,13 +10,13 @@ use Rattle.summary.proofs.json.write_start.Tie as tie
 returns : tie.Need-returns
 unfolding label_member
 returns c =
-    let e3 = c.before.before in
-    let e2 = e3.before.before.before.before.before in
-    let e1 = e2.before.before.before.before in (
-      then e1.write_word.ensures.0 (then e2.write-label.ensures.0 (then e3.write-word2.ensures.0 (nothing _ _))),
-      omega (arith, e1.write_word.ensures.1, e2.write-label.ensures.1, e3.write-word2.ensures.1),
+    let e3 = c in
+    let e2 = e3 in
+    let e1 = e2 in (
+      then e1.write_word-one.ensures.0 (then e2.write_label-two.ensures.0 (then e3.write_word.ensures.0 (nothing _ _))),
+      omega (arith, e1.write_word-one.ensures.1, e2.write_label-two.ensures.1, e3.write_word.ensures.1),
     )
 
-pub write-start-spec : {M : Type 1} → statement M
-write-start-spec = tie.close (tie.spec (λ c. search rules) (λ c κs. search rules) (λ c κs. search rules) (λ c. search rules)
+pub write_start_spec : {M : Type 1} → statement M
+write_start_spec = tie.close (tie.spec (λ c κs. search rules) (λ c κs. search rules)
     (λ c κs. search rules) (λ c. search rules) returns)

@@ -7,7 +7,7 @@ use Rattle.summary.proofs.lines.write_disorder.Tie as tie
 
 returns : tie.Need-returns
 unfolding disorder_line
-returns c = (c.before.before.write-between.ensures.0, omega (arith, c.before.before.write-between.ensures.1))
+returns c = (c.write_between.ensures.0, omega (arith, c.write_between.ensures.1))
 
-pub write-disorder-spec : {M : Type 1} → statement M
-write-disorder-spec = tie.close (tie.spec (λ c. search rules) (λ c. search rules) (λ c κs. search rules) (λ c. search rules) returns)
+pub write_disorder_spec : {M : Type 1} → statement M
+write_disorder_spec = tie.close (tie.spec (λ c κs. search rules) (λ c. search rules) returns)

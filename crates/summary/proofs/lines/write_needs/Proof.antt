@@ -10,13 +10,13 @@ use Rattle.summary.proofs.lines.write_needs.Tie as tie
 returns : tie.Need-returns
 unfolding needs_lines
 returns c =
-    let e3 = c.before.before in
-    let e2 = e3.before.before.before.before.before in
-    let e1 = e2.before.before.before.before in (
-      then e1.write_word.ensures.0 (then e2.write-rows.ensures.0 (then e3.write-word2.ensures.0 (nothing _ _))),
-      omega (arith, e1.write_word.ensures.1, e2.write-rows.ensures.1, e3.write-word2.ensures.1),
+    let e3 = c in
+    let e2 = e3 in
+    let e1 = e2 in (
+      then e1.write_word-one.ensures.0 (then e2.write_rows-two.ensures.0 (then e3.write_word.ensures.0 (nothing _ _))),
+      omega (arith, e1.write_word-one.ensures.1, e2.write_rows-two.ensures.1, e3.write_word.ensures.1),
     )
 
-pub write-needs-spec : {M : Type 1} → statement M
-write-needs-spec = tie.close (tie.spec (λ c. search rules) (λ c κs. search rules) (λ c κs. search rules) (λ c. search rules)
+pub write_needs_spec : {M : Type 1} → statement M
+write_needs_spec = tie.close (tie.spec (λ c κs. search rules) (λ c κs. search rules)
     (λ c κs. search rules) (λ c. search rules) returns)

@@ -9,8 +9,8 @@ use Rattle.summary.proofs.lines.write_row.Tie as tie
 
 returns : tie.Need-returns
 returns c =
-    let w = c.before.before.write-sizes.ensures in
-    (named (ap (sizes_line _) c.before.before.before.before.sizes-for.ensures) w.0, omega (arith, w.1))
+    let w = c.write_sizes.ensures in
+    (named (ap (sizes_line _) c.sizes_for-sizes.ensures) w.0, omega (arith, w.1))
 
-pub write-row-spec : {M : Type 1} → statement M
-write-row-spec = tie.close (tie.spec (λ c κs. search rules) (λ c κs. search rules) (λ c. search rules) returns)
+pub write_row_spec : {M : Type 1} → statement M
+write_row_spec = tie.close (tie.spec (λ c κs. search rules) (λ c κs. search rules) (λ c. search rules) returns)

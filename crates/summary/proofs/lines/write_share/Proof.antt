@@ -7,8 +7,8 @@ use Rattle.summary.proofs.lines.write_share.Tie as tie
 
 returns : tie.Need-returns
 unfolding share_line
-returns c = (c.before.before.write-ratio.ensures.0, omega (arith, c.before.before.write-ratio.ensures.1))
+returns c = (c.write_ratio.ensures.0, omega (arith, c.write_ratio.ensures.1))
 
-pub write-share-spec : {M : Type 1} → statement M
-write-share-spec = tie.close (tie.spec (λ c. search rules) (λ c. search rules) (λ c. search rules) (λ c. search rules)
+pub write_share_spec : {M : Type 1} → statement M
+write_share_spec = tie.close (tie.spec
     (λ c κs. search rules) (λ c. search rules) returns)

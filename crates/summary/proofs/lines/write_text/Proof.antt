@@ -20,29 +20,29 @@ whole d f e = ap (λ (f : Figures). text_of f (answers_of d)) e
 returns : tie.Need-returns
 unfolding text_of
 returns c =
-    let e6 = c.before.before in
-    let e5 = e6.before.before.before.before in
-    let e4 = e5.before.before.before.before in
-    let e3 = e4.before.before.before.before in
-    let e2 = e3.before.before.before.before in
-    let e1 = e2.before.before in
-    let s = e1.before.before.before in (
-      named (whole (decode s.args.file.now) e1.figures-of.result e1.figures-of.ensures)
-          (then e2.write-counts.ensures.0
-          (then e3.write-needs.ensures.0
-          (then e4.write-limits.ensures.0
-          (then e5.write-ratios.ensures.0
-          (then e6.write-disorder.ensures.0 (nothing _ _)))))),
+    let e6 = c in
+    let e5 = e6 in
+    let e4 = e5 in
+    let e3 = e4 in
+    let e2 = e3 in
+    let e1 = e2 in
+    let s = e1 in (
+      named (whole (decode s.args.file.now) e1.figures_of-figures.result e1.figures_of-figures.ensures)
+          (then e2.write_counts-one.ensures.0
+          (then e3.write_needs-two.ensures.0
+          (then e4.write_limits-three.ensures.0
+          (then e5.write_ratios-four.ensures.0
+          (then e6.write_disorder.ensures.0 (nothing _ _)))))),
       omega (
         arith,
-        e2.write-counts.ensures.1,
-        e3.write-needs.ensures.1,
-        e4.write-limits.ensures.1,
-        e5.write-ratios.ensures.1,
-        e6.write-disorder.ensures.1,
+        e2.write_counts-one.ensures.1,
+        e3.write_needs-two.ensures.1,
+        e4.write_limits-three.ensures.1,
+        e5.write_ratios-four.ensures.1,
+        e6.write_disorder.ensures.1,
       ),
     )
 
-pub write-text-spec : {M : Type 1} → statement M
-write-text-spec = tie.close (tie.spec (λ c κs. c.before.before.requires.0) (λ c κs. search rules) (λ c κs. search rules)
+pub write_text_spec : {M : Type 1} → statement M
+write_text_spec = tie.close (tie.spec (λ c κs. c.requires.0) (λ c κs. search rules) (λ c κs. search rules)
     (λ c κs. search rules) (λ c κs. search rules) (λ c κs. search rules) (λ c. search rules) returns)

@@ -8,12 +8,12 @@ use Rattle.summary.proofs.parts.write_between.Tie as tie
 
 returns : tie.Need-returns
 returns c =
-    let e3 = c.before.before in
-    let e2 = e3.before.before.before.before in
-    let e1 = e2.before.before.before.before in (
-      then e1.write_word.ensures.0 (then e2.write-number.ensures.0 e3.write-word2.ensures.0),
-      omega (arith, e1.write_word.ensures.1, e2.write-number.ensures.1, e3.write-word2.ensures.1),
+    let e3 = c in
+    let e2 = e3 in
+    let e1 = e2 in (
+      then e1.write_word-number.ensures.0 (then e2.write_number-word.ensures.0 e3.write_word.ensures.0),
+      omega (arith, e1.write_word-number.ensures.1, e2.write_number-word.ensures.1, e3.write_word.ensures.1),
     )
 
-pub write-between-spec : {M : Type 1} → statement M
-write-between-spec = tie.close (tie.spec (λ c κs. search rules) (λ c κs. search rules) (λ c κs. search rules) (λ c. search rules) returns)
+pub write_between_spec : {M : Type 1} → statement M
+write_between_spec = tie.close (tie.spec (λ c κs. search rules) (λ c κs. search rules) (λ c κs. search rules) (λ c. search rules) returns)

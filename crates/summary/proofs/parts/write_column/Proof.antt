@@ -7,27 +7,27 @@ use borrow.Author.Rules.{rules}
 use Rattle.summary.proofs.parts.write_column.Statement.{statement}
 use Rattle.summary.proofs.parts.write_column.Tie as tie
 
-returns : tie.Need-returns
+returns : tie.Need-returns-then-width-digits
 returns c =
-    let w = c.before.before.write-number.ensures in
-    let s = c.before.before.before.before.before.before.before in
-    let digits = c.before.before.before.before.before.count.ensures in (
-      named (column-full s.args.width s.args.v (omega (arith, digits, c.before.before.before.before.if1.true))) w.0,
+    let w = c.write_number.ensures in
+    let s = c in
+    let digits = c.count-digits.ensures in (
+      named (column-full s.args.width s.args.v (omega (arith, digits, c.if-width-digits.true))) w.0,
       omega (arith, w.1),
     )
 
-returns-2 : tie.Need-returns-2
+returns-2 : tie.Need-returns
 returns-2 c =
-    let e2 = c.before.before in
-    let e1 = e2.before.before.before.before in
-    let n = e1.before.before.before.before in
-    let s = n.before.before in
-    let w = e1.write-first.ensures in
-    let v = e2.write-number2.ensures in (
-      named (column-spaces s.args.width s.args.v n.count.result s.requires.0 n.count.ensures) (then w.0 v.0),
+    let e2 = c in
+    let e1 = e2 in
+    let n = e1 in
+    let s = n in
+    let w = e1.write_first-number.ensures in
+    let v = e2.write_number-2.ensures in (
+      named (column-spaces s.args.width s.args.v n.count-digits.result s.requires.0 n.count-digits.ensures) (then w.0 v.0),
       omega (arith, w.1, v.1, s.requires.0),
     )
 
-pub write-column-spec : {M : Type 1} → statement M
-write-column-spec = tie.close (tie.spec (λ c κs. search rules) (λ c κs. search rules) (λ c. search rules) returns (λ c. search rules)
+pub write_column_spec : {M : Type 1} → statement M
+write_column_spec = tie.close (tie.spec (λ c κs. search rules) (λ c κs. search rules) (λ c. search rules) returns
     (λ c. search rules) (λ c κs. search rules) (λ c κs. search rules) (λ c. search rules) returns-2)

@@ -7,19 +7,19 @@ use borrow.Author.Rules.{rules}
 use Rattle.summary.proofs.parts.write_first.Statement.{statement}
 use Rattle.summary.proofs.parts.write_first.Tie as tie
 
-slice-aggregate-put-octets : tie.Need-slice-aggregate-put-octets
+slice-aggregate-put-octets : tie.Need-slice_bounds-put_octets-end
 slice-aggregate-put-octets c =
-    let s = c.before.before.before.before in
+    let s = c in
     sym (length-take-le s.args.n s.args.word.now s.requires.0)
 
 returns : tie.Need-returns
 returns c =
-    let s = c.before.before.before.before.before.before.before in
-    rw c.before.before.put-octets.ensures (
+    let s = c in
+    rw c.put_octets.ensures (
       first-put s.args.at s.args.n s.args.word.now s.args.out.now s.requires.0
           s.requires.1,
       omega arith,
     )
 
-pub write-first-spec : {M : Type 1} → statement M
-write-first-spec = tie.close (tie.spec slice-aggregate-put-octets (λ c κs. search rules) (λ c. search rules) (λ c. search rules) returns)
+pub write_first_spec : {M : Type 1} → statement M
+write_first_spec = tie.close (tie.spec slice-aggregate-put-octets (λ c κs. search rules) (λ c. search rules) (λ c. search rules) returns)

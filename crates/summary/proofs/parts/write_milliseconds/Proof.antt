@@ -10,29 +10,29 @@ use Rattle.summary.proofs.parts.write_milliseconds.Tie as tie
 returns : tie.Need-returns
 unfolding milliseconds
 returns c =
-    let e7 = c.before.before in
-    let e6 = e7.before.before.before.before.before in
-    let e5 = e6.before.before.before.before in
-    let e4 = e5.before.before.before.before in
-    let e3 = e4.before.before.before.before in
-    let e2 = e3.before.before.before.before.before in
-    let e1 = e2.before.before.before.before in (
-      then e1.write_word.ensures.0 (then e2.write-column.ensures.0
-          (then e3.write-word2.ensures.0 (then e4.write-number.ensures.0 (then e5.write-number2.ensures.0
-          (then e6.write-number3.ensures.0 (then e7.write-word3.ensures.0 (nothing _ _))))))),
+    let e7 = c in
+    let e6 = e7 in
+    let e5 = e6 in
+    let e4 = e5 in
+    let e3 = e4 in
+    let e2 = e3 in
+    let e1 = e2 in (
+      then e1.write_word-column.ensures.0 (then e2.write_column-point.ensures.0
+          (then e3.write_word-tenths.ensures.0 (then e4.write_number-hundredths.ensures.0 (then e5.write_number-thousandths.ensures.0
+          (then e6.write_number-unit.ensures.0 (then e7.write_word.ensures.0 (nothing _ _))))))),
       omega (
         arith,
-        e1.write_word.ensures.1,
-        e2.write-column.ensures.1,
-        e3.write-word2.ensures.1,
-        e4.write-number.ensures.1,
-        e5.write-number2.ensures.1,
-        e6.write-number3.ensures.1,
-        e7.write-word3.ensures.1,
+        e1.write_word-column.ensures.1,
+        e2.write_column-point.ensures.1,
+        e3.write_word-tenths.ensures.1,
+        e4.write_number-hundredths.ensures.1,
+        e5.write_number-thousandths.ensures.1,
+        e6.write_number-unit.ensures.1,
+        e7.write_word.ensures.1,
       ),
     )
 
-pub write-milliseconds-spec : {M : Type 1} → statement M
-write-milliseconds-spec = tie.close (tie.spec (λ c. search rules) (λ c κs. search rules) (λ c κs. search rules) (λ c. search rules)
-    (λ c κs. search rules) (λ c κs. search rules) (λ c κs. search rules) (λ c κs. search rules) (λ c. search rules)
+pub write_milliseconds_spec : {M : Type 1} → statement M
+write_milliseconds_spec = tie.close (tie.spec (λ c κs. search rules) (λ c κs. search rules)
+    (λ c κs. search rules) (λ c κs. search rules) (λ c κs. search rules) (λ c κs. search rules)
     (λ c κs. search rules) (λ c. search rules) returns)

@@ -11,16 +11,16 @@ use Rattle.summary.proofs.parts.write_number.Statement.{statement}
 use Rattle.summary.proofs.parts.write_number.Tie as tie
 
 -- at most 20 digits
-few : (c : tie.After-slice-known2) → length (decimal_of c.before.before.before.before.before.args.v) ≤ 20
-few c = at-most-20 c.before.before.before.before.before.args.v (omega arith)
+few : (c : tie.After-slice_known-2-1) → length (decimal_of c.args.v) ≤ 20
+few c = at-most-20 c.args.v (omega arith)
 
-add-result : tie.Need-overflow-add-result
-add-result c = omega (arith, c.before.before.put-decimal.ensures.0, few c)
+add-result : tie.Need-overflow_add-result
+add-result c = omega (arith, c.put_decimal.ensures.0, few c)
 
 returns : tie.Need-returns
 returns c =
-    let put = c.before.before.put-decimal.ensures in
+    let put = c.put_decimal.ensures in
     number_put _ _ _ _ _ (few c) put.0 put.1 (omega arith)
 
-pub write-number-spec : {M : Type 1} → statement M
-write-number-spec = tie.close (tie.spec (λ c κs. search rules) add-result (λ c. search rules) returns)
+pub write_number_spec : {M : Type 1} → statement M
+write_number_spec = tie.close (tie.spec (λ c κs. search rules) add-result (λ c. search rules) returns)
