@@ -16,7 +16,6 @@ use lib.ListN.{length, drop, length-append}
 use lib.Seq.{drop_at}
 use borrow.Author.Tests.{ltb-true, ltb-false}
 use Rattle.rfc4737.specs.declared.Arrival.{Arrival}
-use Rattle.rfc4737.specs.declared.Answer.TheVariants as answer
 use Rattle.rfc4737.specs.Arrivals.{firsts, count}
 use Rattle.rfc4737.specs.Order.{jumps}
 use Rattle.rfc4737.specs.Runs.{counts, arrived, is_duplicate, is_in_order_answer}

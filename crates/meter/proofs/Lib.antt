@@ -6,4 +6,3 @@ pub mod Carries
 pub mod Demand3
 pub mod Independence
 pub mod Meters
-pub mod LentMeter

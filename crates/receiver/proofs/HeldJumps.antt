@@ -63,7 +63,15 @@ unfolding places_from place_at
 read_back [] xs ys zs = refl
 read_back (k ∷ ks) xs ys zs =
     ap {B = List FirstArrival} (λ l. k ∷ l)
-    (places_same _ _ 1 0 (length ks)
+    (places_same (record {
+      positions = map (λ (p : FirstArrival). p.position) (k ∷ ks) ++ xs;
+      numbers = map (λ (p : FirstArrival). p.number) (k ∷ ks) ++ ys;
+      times = map (λ (p : FirstArrival). p.time) (k ∷ ks) ++ zs;
+    }) (record {
+      positions = map (λ (p : FirstArrival). p.position) ks ++ xs;
+      numbers = map (λ (p : FirstArrival). p.number) ks ++ ys;
+      times = map (λ (p : FirstArrival). p.time) ks ++ zs;
+    }) 1 0 (length ks)
     (λ i g. let e : 1 + i ≡ suc i = omega arith in let z : 0 + i ≡ i = omega arith in rw (e, z))
     ∙ read_back ks xs ys zs)
 

@@ -18,11 +18,3 @@ pub mod Agrees
 pub mod Demand3
 pub mod WindowCases
 pub mod Moved
-pub mod FieldLent
-pub mod Returned
-pub mod PassedNumbers
-pub mod LentStruct
-pub mod Local
-pub mod Members
-pub mod LentMembers
-pub mod LentReceiver

@@ -8,15 +8,12 @@
 use Prim.Native.Nat.{ℕ, zero, suc, ◌+◌, ◌-◌, ◌≤◌, ◌<◌}
 use mathlib.Core.Bool.{Bool, true, false, cond}
 use mathlib.Core.List.{List, [], ◌∷◌, ◌++◌, map, map-append}
-use mathlib.Core.Logic.{⊎_elim}
 use mathlib.Core.Path.{◌≡◌, refl, sym, ap, ap₂, ◌∙◌}
 use native.Mathlib.Omega.{arith}
 use borrow.Author.Tests.{ne_eqb, ltb-true, ltb-false}
-use denote.Enum.Declared.{tag_of}
 use lib.Dec.{eqb, ltb}
 use lib.ListN.{length, get_or, take, drop, length-append, length-drop}
 use lib.Seq.{length-take-le, drop-cons, append_snoc, set_split}
-use types.Run.{OneOf}
 use Rattle.octets.specs.Memory.{over}
 use Rattle.rfc4737.specs.Order.{FirstArrival, next_after}
 use Rattle.rfc4737.specs.Runs.{lengthened}
@@ -34,7 +31,6 @@ use Rattle.receiver.specs.Step.{placed_at, duplicate_stream, in_order_stream, re
 use Rattle.receiver.specs.Parts.{places_of, whole}
 use Rattle.receiver.specs.Private.{Full, pushed}
 use Rattle.receiver.proofs.HeldJumps.{length-places}
-use Rattle.receiver.specs.contracts.ReceiverAnswer.{the_type}
 
 -- ---- the numbers
 
@@ -212,14 +208,15 @@ module _ (most : ℕ) (s g : Stream) (marks positions numbers times : List ℕ) 
       c = w.1.1 ∙ laid-values (λ (p : FirstArrival). p.time) times full.1.1 (λ at. refl)
 
   -- both cases of a reordered packet, exact or beyond the window, make one state
-  late-state : (w : ReceiverAnswer) → OneOf (2 ∷ 3 ∷ []) (tag_of the_type w) → noted_state room r number time w ≡ reordered_state r number time
+  late-state : (w : ReceiverAnswer) → (w ≡ Duplicate → ⊥) → ((size : ℕ) → w ≡ InOrder size → ⊥)
+      → noted_state room r number time w ≡ reordered_state r number time
   unfolding noted_state
-  late-state Duplicate k = absurd (⊎_elim (λ e. omega arith) (λ e. omega arith) k)
-  late-state (InOrder size) k = absurd (⊎_elim (λ e. omega arith) (λ e. omega arith) k)
-  late-state (Exact l) k = refl
-  late-state (Beyond l) k = refl
+  late-state Duplicate k h = absurd (k refl)
+  late-state (InOrder size) k h = absurd (h size refl)
+  late-state (Exact l) k h = refl
+  late-state (Beyond l) k h = refl
 
   -- after a reordered packet
-  pub late-written : (marks' : List ℕ) → OneOf (2 ∷ 3 ∷ []) (tag_of the_type v) → g ≡ reordered_stream s number time
+  pub late-written : (marks' : List ℕ) → (v ≡ Duplicate → ⊥) → ((size : ℕ) → v ≡ InOrder size → ⊥) → g ≡ reordered_stream s number time
       → marks' ≡ with_mark marks number → whole g marks' positions numbers times ≡ noted_state room r number time v
-  late-written marks' k e m = rw (late-state v k, e, m)
+  late-written marks' k h e m = rw (late-state v k h, e, m)

@@ -62,6 +62,7 @@ last-not-above s = snoc-ind (λ (ds : List FirstArrival). first_above s ds ≡ n
 -- a jump stands among those that it is one of
 member-stands : (p : FirstArrival) (l : List FirstArrival) → Memᴰ p l → stands_in p.position l ≡ true
 unfolding stands_in
+member-stands p [] x' = elim x' [ ]
 member-stands p (q ∷ l) (Memᴰ.head e) =
     let k : eqb q.position p.position ≡ true = eq-eqb _ _ (ap (λ (r : FirstArrival). r.position) (sym e)) in
     simp k

@@ -5,7 +5,6 @@ use mathlib.Core.Bool.{true, false}
 use mathlib.Core.Path.{◌≡◌, refl, sym, ap, ◌∙◌}
 use native.Mathlib.Omega.{arith}
 use borrow.Author.Rules.{rules}
-use borrow.Author.Tests.{not-true, not-false}
 use Rattle.rfc4737.specs.Refusals.{outside, no_stream, state_unfit}
 use Rattle.rfc4737.proofs.Due.{between}
 use Rattle.receiver.specs.Outcomes.{refused_outcome}
@@ -36,88 +35,88 @@ as-refused : (m : Meter) (k : ℕ) (a : StreamsStep) → a ≡ record {
 as-refused m k a e = ap (λ (b : StreamsStep). meter_answer_of b m.first.marks m.second.marks m.places) e
 
 -- past the first test the stream is 1 or 2
-on-stream : (c : tie.Else1) → outside 1 2 c.before.before.args.stream ≡ false
-on-stream c = sym c.before.outside.ensures ∙ c.if1.false
+on-stream : (c : tie.Else-outside) → outside 1 2 c.args.stream ≡ false
+on-stream c = sym c.outside.ensures ∙ c.if-outside.false
 
 -- past the second they keep few jumps; the entry, from there
-abbrev entry : tie.Else2 → tie.Start
+abbrev entry : tie.Else-not-few → tie.Start
 entry c = c.before.before.before.before
 
-few-known : (c : tie.Else2) → few_kept (entry c).args.first.kept (entry c).args.second.kept ≡ true
-few-known c = sym c.before.few.ensures ∙ not-false _ c.if2.false
+few-known : (c : tie.Else-not-few) → few_kept (entry c).args.first.kept (entry c).args.second.kept ≡ true
+few-known c = sym c.few.ensures ∙ c.if-not-few.false
 
 -- past the third it is 2
-is-two : (c : tie.Else3) → (entry c.before).args.stream ≡ 2
+is-two : (c : tie.Else-stream-eq1) → (entry c.before).args.stream ≡ 2
 is-two c =
     let w = between 1 2 _ (on-stream c.before.before.before) in
-    omega (arith, w.0, w.1, c.if3.false)
+    omega (arith, w.0, w.1, c.if-stream-eq1.false)
 
 -- from past the neighbour's fit test: of stream 2, where stream 1 steps, and of stream 1
-abbrev few-one : tie.Else4 → tie.Else2
-few-one c = c.before.before.before.before.before.before
+abbrev few-one : tie.Else-not-is_fit → tie.Else-not-few
+few-one c = c.before.before.before
 
-abbrev few-two : tie.Else5 → tie.Else2
-few-two c = c.before.before.before.before.before.before
+abbrev few-two : tie.Else-not-is_fit-2 → tie.Else-not-few
+few-two c = c.before.before.before
 
-returns : tie.Need-returns
+returns : tie.Need-returns-then-outside
 returns c =
-    let s = c.before.before.before in
-    as-refused (meter_at s) no_stream _ c.answered.ensures
-    ∙ step-nowhere (meter_at s) _ _ _ (side-outside _ (sym c.before.before.outside.ensures ∙ c.before.if1.true))
+    let s = c in
+    as-refused (meter_at s.before.before.before) no_stream _ c.answered.ensures
+    ∙ step-nowhere (meter_at s.before.before.before) _ _ _ (side-outside _ (sym c.outside.ensures ∙ c.if-outside.true))
 
-returns-2 : tie.Need-returns-2
+returns-2 : tie.Need-returns-then-not-few
 returns-2 c =
-    let s = c.before.before.before.before.before in
+    let s = c in
     let w = side-known _ (on-stream c.before.before.before) in
-    as-refused (meter_at s) state_unfit _ c.answered2.ensures
-    ∙ step-many (meter_at s) _ _ _ w.0 w.1 (sym c.before.before.few.ensures ∙ not-true _ c.before.if2.true)
+    as-refused (meter_at s.before.before.before.before.before) state_unfit _ c.answered-then-not-few.ensures
+    ∙ step-many (meter_at s.before.before.before.before.before) _ _ _ w.0 w.1 (sym c.few.ensures ∙ c.if-not-few.true)
 
-returns-3 : tie.Need-returns-3
+returns-3 : tie.Need-returns-then-not-is_fit
 returns-3 c =
-    let t = c.before.before.before.before.before.before in
-    let m = meter_at (entry t.before) in
-    as-refused m state_unfit _ c.answered3.ensures
-    ∙ step-beside m _ _ _ one (side-one _ t.if3.true) (few-known t.before)
-    (sym (fit-two m) ∙ sym c.before.before.is-fit.ensures ∙ not-true _ c.before.if4.true)
+    let t = c in
+    let m = meter_at (entry t.before.before.before.before) in
+    as-refused m state_unfit _ c.answered-then-not-is_fit.ensures
+    ∙ step-beside m _ _ _ one (side-one _ t.if-stream-eq1.true) (few-known t.before.before.before.before)
+    (sym (fit-two m) ∙ sym c.is_fit.ensures ∙ c.if-not-is_fit.true)
 
-most-beside-requires : tie.Need-most-beside-requires
+most-beside-requires : tie.Need-most_beside-requires
 most-beside-requires c κs = few-each (meter_at (entry (few-one c))) (few-known (few-one c)) two
 
-returns-4 : tie.Need-returns-4
+returns-4 : tie.Need-returns-then-stream-eq1
 unfolding oldest_first
 returns-4 c =
-    let b = c.before.before.before.before.before.before in
-    let e = b.before in
-    let m = meter_at (entry (few-one e)) in
-    rw c.first-stepped.ensures
-    (stepped m _ _ _ one (side-one _ e.before.before.before.before.before.if3.true) (few-known (few-one e))
-    (sym (fit-two m) ∙ sym e.before.is-fit.ensures ∙ not-false _ e.if4.false)
-    _ _ _ b.most-beside.ensures c.before.advance.ensures refl)
+    let b = c in
+    let e = b in
+    let m = meter_at (entry (few-one e.before.before.before.before.before.before.before)) in
+    rw c.first_stepped.ensures
+    (stepped m _ _ _ one (side-one _ e.if-stream-eq1.true) (few-known (few-one e.before.before.before.before.before.before.before))
+    (sym (fit-two m) ∙ sym e.is_fit.ensures ∙ e.if-not-is_fit.false)
+    _ _ _ b.most_beside.ensures c.advance-a.ensures refl)
 
-returns-5 : tie.Need-returns-5
+returns-5 : tie.Need-returns-then-not-is_fit-2
 returns-5 c =
-    let t = c.before.before.before.before.before.before in
-    let m = meter_at (entry t.before) in
-    as-refused m state_unfit _ c.answered4.ensures
-    ∙ step-beside m _ _ _ two (side-two _ (is-two t)) (few-known t.before)
-    (sym (fit-one m) ∙ sym c.before.before.is-fit2.ensures ∙ not-true _ c.before.if5.true)
+    let t = c in
+    let m = meter_at (entry t.before.before.before.before) in
+    as-refused m state_unfit _ c.answered-then-not-is_fit-2.ensures
+    ∙ step-beside m _ _ _ two (side-two _ (is-two t.before.before.before)) (few-known t.before.before.before.before)
+    (sym (fit-one m) ∙ sym c.is_fit-2.ensures ∙ c.if-not-is_fit-2.true)
 
-most-beside-requires-2 : tie.Need-most-beside-requires-2
+most-beside-requires-2 : tie.Need-most_beside-requires-2
 most-beside-requires-2 c κs = few-each (meter_at (entry (few-two c))) (few-known (few-two c)) one
 
-returns-6 : tie.Need-returns-6
+returns-6 : tie.Need-returns
 unfolding oldest_first
 returns-6 c =
-    let b = c.before.before.before.before.before.before in
-    let e = b.before in
-    let m = meter_at (entry (few-two e)) in
-    rw c.second-stepped.ensures
-    (stepped m _ _ _ two (side-two _ (is-two e.before.before.before.before.before)) (few-known (few-two e))
-    (sym (fit-one m) ∙ sym e.before.is-fit2.ensures ∙ not-false _ e.if5.false)
-    _ _ _ b.most-beside2.ensures c.before.advance2.ensures (second-put m _ _ _))
+    let b = c in
+    let e = b in
+    let m = meter_at (entry (few-two e.before.before.before.before.before.before.before)) in
+    rw c.second_stepped.ensures
+    (stepped m _ _ _ two (side-two _ (is-two e.before.before.before.before.before.before.before.before.before)) (few-known (few-two e.before.before.before.before.before.before.before))
+    (sym (fit-one m) ∙ sym e.is_fit-2.ensures ∙ e.if-not-is_fit-2.false)
+    _ _ _ b.most_beside-2.ensures c.advance-a-2.ensures (second-put m _ _ _))
 
-pub advance-spec : {M : Type 1} → statement M
-advance-spec =
+pub advance_spec : {M : Type 1} → statement M
+advance_spec =
     tie.close
     (tie.spec
     (λ c κs. search rules) (λ c κs. search rules)

@@ -4,7 +4,6 @@ use mathlib.Core.List.{List}
 use mathlib.Core.Path.{◌≡◌, sym, ◌∙◌}
 use Prim.Native.Nat.{ℕ}
 use borrow.Author.Rules.{rules}
-use borrow.Author.Tests.{not-true, not-false}
 use Rattle.receiver.specs.Parts.{places_of}
 use Rattle.meter.specs.declared.Meter.{Meter}
 use Rattle.meter.specs.Private.{few_kept}
@@ -20,32 +19,32 @@ meter_at c marks₁ marks₂ =
     (places_of c.args.positions.now c.args.numbers.now c.args.times.now)
 
 -- past the first test they keep few jumps
-few-known : (c : tie.Else1) → few_kept c.before.before.args.first.kept c.before.before.args.second.kept ≡ true
-few-known c = sym c.before.few.ensures ∙ not-false _ c.if1.false
+few-known : (c : tie.Else-not-few) → few_kept c.args.first.kept c.args.second.kept ≡ true
+few-known c = sym c.few.ensures ∙ c.if-not-few.false
 
-returns : tie.Need-returns
+returns : tie.Need-returns-then-not-few
 returns c =
-    λ marks₁ marks₂. rw (sym c.before.few.ensures ∙ not-true _ c.if1.true) at
+    λ marks₁ marks₂. rw (sym c.few.ensures ∙ c.if-not-few.true) at
     (fit_parts (meter_at c.before.before marks₁ marks₂))
 
-returns-2 : tie.Need-returns-2
+returns-2 : tie.Need-returns-then-not-is_fit
 returns-2 c = λ marks₁ marks₂.
     let m = meter_at c.before.before.before.before marks₁ marks₂ in
-    rw (few-known c.before.before, sym (fit-one m) ∙ sym c.before.is-fit.ensures ∙ not-true _ c.if2.true) at (fit_parts m)
+    rw (few-known c.before.before, sym (fit-one m) ∙ sym c.is_fit.ensures ∙ c.if-not-is_fit.true) at (fit_parts m)
 
-returns-3 : tie.Need-returns-3
+returns-3 : tie.Need-returns
 returns-3 c = λ marks₁ marks₂.
     let m = meter_at c.before.before.before.before.before marks₁ marks₂ in
-    c.is-fit2.ensures
+    c.is_fit-2.ensures
     ∙ fit-two m
     ∙ rw (
       few-known c.before.before.before,
-      sym (fit-one m) ∙ sym c.before.before.is-fit.ensures
-          ∙ not-false _ c.before.if2.false,
+      sym (fit-one m) ∙ sym c.is_fit.ensures
+          ∙ c.if-not-is_fit.false,
     ) at (fit_parts m)
 
-pub is-fit-spec : {M : Type 1} → statement M
-is-fit-spec =
+pub is_fit_spec : {M : Type 1} → statement M
+is_fit_spec =
     tie.close
     (tie.spec
     (λ c κs. search rules)

@@ -6,7 +6,6 @@ use mathlib.Core.List.{List}
 use mathlib.Core.Path.{◌≡◌, sym, ap, ◌∙◌}
 use native.Mathlib.Omega.{arith}
 use borrow.Author.Rules.{rules}
-use borrow.Author.Tests.{not-true, not-false}
 use lib.ListN.{replicate}
 use Rattle.rfc4737.specs.Refusals.{outside, no_stream, state_unfit, sent_outside}
 use Rattle.rfc4737.proofs.Due.{between}
@@ -55,61 +54,61 @@ module _ (m : Meter) (k : ℕ) (a : StreamsStep) (x : Stream) (marks : List ℕ)
   second-fresh e = rw (e, fresh, clear)
 
 -- past the first test the stream is 1 or 2
-on-stream : (c : tie.Else1) → outside 1 2 c.before.before.args.stream ≡ false
-on-stream c = sym c.before.outside.ensures ∙ c.if1.false
+on-stream : (c : tie.Else-outside) → outside 1 2 c.args.stream ≡ false
+on-stream c = sym c.outside.ensures ∙ c.if-outside.false
 
 -- past the second the meter is fit; the first test, and the entry, from there
-abbrev stream-test : tie.Else2 → tie.Else1
-stream-test c = c.before.before.before.before.before
+abbrev stream-test : tie.Else-not-is_fit → tie.Else-outside
+stream-test c = c.before.before
 
-abbrev entry : tie.Else2 → tie.Start
+abbrev entry : tie.Else-not-is_fit → tie.Start
 entry c = (stream-test c).before.before
 
-fit-known : (c : tie.Else2) → meter_fit (meter_at (entry c)) ≡ true
-fit-known c = sym (c.before.is-fit.ensures _ _) ∙ not-false _ c.if2.false
+fit-known : (c : tie.Else-not-is_fit) → meter_fit (meter_at (entry c)) ≡ true
+fit-known c = sym (c.is_fit.ensures _ _) ∙ c.if-not-is_fit.false
 
-returns : tie.Need-returns
+returns : tie.Need-returns-then-outside
 returns c =
     let m = meter_at c.before.before.before in
     as-refused m no_stream _ c.answered.ensures
-    ∙ ap start_as_step (start-nowhere m _ _ (side-outside _ (sym c.before.before.outside.ensures ∙ c.before.if1.true)))
+    ∙ ap start_as_step (start-nowhere m _ _ (side-outside _ (sym c.outside.ensures ∙ c.if-outside.true)))
 
-returns-2 : tie.Need-returns-2
+returns-2 : tie.Need-returns-then-not-is_fit
 returns-2 c =
-    let t = c.before.before.before.before.before.before in
-    let m = meter_at t.before.before in
-    let s = side-known _ (on-stream t) in
-    as-refused m state_unfit _ c.answered2.ensures
-    ∙ ap start_as_step (start-unfit m _ _ s.0 s.1 (sym (c.before.before.is-fit.ensures _ _) ∙ not-true _ c.before.if2.true))
+    let t = c in
+    let m = meter_at t.before.before.before.before.before in
+    let s = side-known _ (on-stream t.before.before.before) in
+    as-refused m state_unfit _ c.answered-then-not-is_fit.ensures
+    ∙ ap start_as_step (start-unfit m _ _ s.0 s.1 (sym (c.is_fit.ensures _ _) ∙ c.if-not-is_fit.true))
 
-returns-3 : tie.Need-returns-3
+returns-3 : tie.Need-returns-then-outside-2
 returns-3 c =
-    let e = c.before.before.before in
-    let m = meter_at (entry e) in
-    let s = side-known _ (on-stream (stream-test e)) in
-    as-refused m sent_outside _ c.answered3.ensures
-    ∙ ap start_as_step (start_outside m _ _ s.0 s.1 (fit-known e) (sym c.before.before.outside2.ensures ∙ c.before.if3.true))
+    let e = c in
+    let m = meter_at (entry e.before.before.before) in
+    let s = side-known _ (on-stream (stream-test e.before.before.before)) in
+    as-refused m sent_outside _ c.answered-then-outside-2.ensures
+    ∙ ap start_as_step (start_outside m _ _ s.0 s.1 (fit-known e.before.before.before) (sym c.outside-2.ensures ∙ c.if-outside-2.true))
 
-returns-4 : tie.Need-returns-4
+returns-4 : tie.Need-returns-then-stream-eq1
 returns-4 c =
-    let e = c.before.before.before.before.before.before.before in
-    let m = meter_at (entry e) in
-    first-fresh m _ _ _ _ c.before.fresh-stream.ensures c.before.before.clear.ensures c.answered4.ensures
-    ∙ ap start_as_step (start-done m _ _ one (side-one _ c.before.before.before.before.if4.true) (fit-known e)
-    (sym c.before.before.before.before.before.before.outside2.ensures ∙ c.before.before.before.before.before.if3.false))
+    let e = c in
+    let m = meter_at (entry e.before.before.before.before.before.before.before) in
+    first-fresh m _ _ _ _ c.fresh_stream.ensures c.clear.ensures c.answered-then-stream-eq1.ensures
+    ∙ ap start_as_step (start-done m _ _ one (side-one _ c.if-stream-eq1.true) (fit-known e.before.before.before.before.before.before.before)
+    (sym c.outside-2.ensures ∙ c.if-outside-2.false))
 
-returns-5 : tie.Need-returns-5
+returns-5 : tie.Need-returns
 returns-5 c =
-    let e = c.before.before.before.before.before.before.before in
-    let m = meter_at (entry e) in
-    let w = between 1 2 _ (on-stream (stream-test e)) in
-    let n : (entry e).args.stream ≡ 2 = omega (arith, w.0, w.1, c.before.before.before.before.if4.false) in
-    second-fresh m _ _ _ _ c.before.fresh-stream2.ensures c.before.before.clear2.ensures c.answered5.ensures
-    ∙ ap start_as_step (start-done m _ _ two (side-two _ n) (fit-known e)
-    (sym c.before.before.before.before.before.before.outside2.ensures ∙ c.before.before.before.before.before.if3.false))
+    let e = c in
+    let m = meter_at (entry e.before.before.before.before.before.before.before) in
+    let w = between 1 2 _ (on-stream (stream-test e.before.before.before.before.before.before.before)) in
+    let n : (entry e.before.before.before.before.before.before.before).args.stream ≡ 2 = omega (arith, w.0, w.1, c.if-stream-eq1.false) in
+    second-fresh m _ _ _ _ c.fresh_stream-2.ensures c.clear-2.ensures c.answered-2.ensures
+    ∙ ap start_as_step (start-done m _ _ two (side-two _ n) (fit-known e.before.before.before.before.before.before.before)
+    (sym c.outside-2.ensures ∙ c.if-outside-2.false))
 
-pub restart-spec : {M : Type 1} → statement M
-restart-spec =
+pub restart_spec : {M : Type 1} → statement M
+restart_spec =
     tie.close
     (tie.spec
     (λ c κs. search rules) (λ c κs. search rules)

@@ -85,7 +85,7 @@ fill-arrivals-requires c κs =
 to-microseconds-requires : tie.Need-to_microseconds-requires
 to-microseconds-requires c κs =
     let w = filled c in
-    let e = (long w) in
+    let e = (long w).before.before in
     let f = w.fill_arrivals in
     let k = f.auto.numbers in
     let n = many e in
@@ -93,7 +93,7 @@ to-microseconds-requires c κs =
 
 cast-t18 : tie.Need-overflow_cast-result
 cast-t18 c =
-    let e = (long (filled c.before.before.before)) in
+    let e = (long (filled c.before.before.before)).before.before in
     omega (arith, (none-refused (start e).args.k (records e) (none e)).few, many e)
 
 returns-4 : tie.Need-returns

@@ -15,74 +15,74 @@ use Rattle.shortnumbers.proofs.fill_numbers.Statement.{statement}
 use Rattle.shortnumbers.proofs.fill_numbers.Tie as tie
 
 -- numbers₀, greatest₀ and i₀ are `numbers`, `greatest` and `i` where the loop begins, numbers, greatest and i are they at its head
-abbrev invariant-loop : tie.invariant-loop
-invariant-loop range shorts numbers₀ greatest₀ i₀ numbers greatest i =
+abbrev invariant-loop-i : tie.invariant-loop-i
+invariant-loop-i range shorts numbers₀ greatest₀ i₀ numbers greatest i =
     (i ≤ length shorts) × (greatest ≤ 512 * i) × (greatest ≡ greatest_of (take i (numbers_found range shorts)))
     × (numbers ≡ take i (numbers_found range shorts) ++ drop i numbers₀)
 
-abbrev decreases-loop : tie.decreases-loop
-decreases-loop range shorts numbers₀ greatest₀ i₀ numbers greatest i = length shorts - i
+abbrev decreases-loop-i : tie.decreases-loop-i
+decreases-loop-i range shorts numbers₀ greatest₀ i₀ numbers greatest i = length shorts - i
 
 -- the list keeps its length
-kept : (c : tie.At-loop invariant-loop decreases-loop) → length c.loop.numbers ≡ length c.before.before.before.args.numbers.now
+kept : (c : tie.At-loop-i invariant-loop-i decreases-loop-i) → length c.loop-i.numbers ≡ length c.args.numbers.now
 kept c =
-    let a = c.before.before.before.args in
-    let p = c.before.before.before.requires in
+    let a = c.args in
+    let p = c.requires in
     let m = found-length a.range a.shorts.now in
-    ap length c.loop.invariant.3
-    ∙ fill-length (numbers_found a.range a.shorts.now) a.numbers.now c.loop.i (omega (arith, c.loop.invariant.0))
-    (omega (arith, c.loop.invariant.0, p.2))
+    ap length c.loop-i.invariant.3
+    ∙ fill-length (numbers_found a.range a.shorts.now) a.numbers.now c.loop-i.i (omega (arith, c.loop-i.invariant.0))
+    (omega (arith, c.loop-i.invariant.0, p.2))
 
-loop-holds : tie.Need-loop-init invariant-loop decreases-loop
+loop-holds : tie.Need-loop-i-init invariant-loop-i decreases-loop-i
 unfolding greatest_of
 loop-holds c = (search rules, search rules, refl, refl)
 
-full-number-requires : tie.Need-full-number-requires invariant-loop decreases-loop
+full-number-requires : tie.Need-full_number-number-requires invariant-loop-i decreases-loop-i
 full-number-requires c κs =
-    let l = c.before.before in
-    let p = l.before.before.before.requires in
-    (p.0, omega (arith, l.loop.invariant.0, l.loop.invariant.1, p.1))
+    let l = c in
+    let p = l.requires in
+    (p.0, omega (arith, l.loop-i.invariant.0, l.loop-i.invariant.1, p.1))
 
-slice-write-numbers : tie.Need-slice-write-numbers invariant-loop decreases-loop
+slice-write-numbers : tie.Need-bounds-numbers-i invariant-loop-i decreases-loop-i
 slice-write-numbers c =
-    let l = c.before.before.before in
-    let k = kept l in
-    omega (arith, c.before.before.loop-test.true, l.before.before.before.requires.2)
+    let l = c in
+    let k = kept l.before.before.before in
+    omega (arith, c.loop-i-test.true, l.requires.2)
 
-loop-again : tie.Need-loop-preserved invariant-loop decreases-loop
+loop-again : tie.Need-loop-i-preserved invariant-loop-i decreases-loop-i
 loop-again c =
-    let l = c.before.before.before.before in
-    let a = l.before.before.before.args in
-    let p = l.before.before.before.requires in
-    let n = c.before.full-number in
-    let lt : l.loop.i < length a.shorts.now = c.before.before.before.loop-test.true in
+    let l = c in
+    let a = l.args in
+    let p = l.requires in
+    let n = c.full_number-number in
+    let lt : l.loop-i.i < length a.shorts.now = c.loop-i-test.true in
     let m = found-length a.range a.shorts.now in (
       omega arith,
-      omega (arith, c.greater-of.ensures, n.ensures.1, l.loop.invariant.1),
-      greatest-next a.range a.shorts.now l.loop.greatest l.loop.i n.result lt l.loop.invariant.2 n.ensures.0
-          c.greater-of.result c.greater-of.ensures,
-      fill-next (numbers_found a.range a.shorts.now) a.numbers.now l.loop.i 0 (omega arith) (omega (arith, p.2))
-          l.loop.invariant.3
-          (found_here a.range a.shorts.now l.loop.greatest l.loop.i n.result lt l.loop.invariant.2 n.ensures.0),
+      omega (arith, c.greater_of-greatest.ensures, n.ensures.1, l.loop-i.invariant.1),
+      greatest-next a.range a.shorts.now l.loop-i.greatest l.loop-i.i n.result lt l.loop-i.invariant.2 n.ensures.0
+          c.greater_of-greatest.result c.greater_of-greatest.ensures,
+      fill-next (numbers_found a.range a.shorts.now) a.numbers.now l.loop-i.i 0 (omega arith) (omega (arith, p.2))
+          l.loop-i.invariant.3
+          (found_here a.range a.shorts.now l.loop-i.greatest l.loop-i.i n.result lt l.loop-i.invariant.2 n.ensures.0),
     )
 
-same_length : tie.Need-same-length invariant-loop decreases-loop
+same_length : tie.Need-shape_of-numbers invariant-loop-i decreases-loop-i
 same_length c = kept c.before
 
-returns : tie.Need-returns invariant-loop decreases-loop
+returns : tie.Need-returns invariant-loop-i decreases-loop-i
 returns c =
-    let l = c.before in
-    let a = l.before.before.before.args in
+    let l = c in
+    let a = l.args in
     let m = found-length a.range a.shorts.now in
-    fill_done (numbers_found a.range a.shorts.now) a.numbers.now l.loop.i
-    (omega (arith, l.loop.invariant.0, c.loop-test.false)) l.loop.invariant.3
+    fill_done (numbers_found a.range a.shorts.now) a.numbers.now l.loop-i.i
+    (omega (arith, l.loop-i.invariant.0, c.loop-i-test.false)) l.loop-i.invariant.3
 
-pub fill-numbers-spec : {M : Type 1} → statement M
-fill-numbers-spec =
+pub fill_numbers_spec : {M : Type 1} → statement M
+fill_numbers_spec =
     tie.close
     (tie.spec
-    invariant-loop
-    decreases-loop
+    invariant-loop-i
+    decreases-loop-i
     loop-holds
     (λ c. search rules) (λ c. search rules)
     full-number-requires

@@ -16,30 +16,30 @@ use Rattle.shortnumbers.proofs.full_number.Tie as tie
 below : (r n : ℕ) → Narrow r → n % r < r
 below r n range = mod-lt n (omega (arith, range.least))
 
-returns : tie.Need-returns
+returns : tie.Need-returns-then-range-x
 unfolding number_found
-returns c = (rw (le-ltb _ _ c.if1.true), omega arith)
+returns c = (rw (le-ltb _ _ c.if-range-x.true), omega arith)
 
-sub-up : tie.Need-overflow-sub-up
-sub-up c = let a = c.before.args in let b = below a.range a.greatest c.before.requires.0 in omega arith
+sub-up : tie.Need-overflow_sub-up
+sub-up c = let a = c.args in let b = below a.range a.greatest c.requires.0 in omega arith
 
-add-up-3 : tie.Need-overflow-add-up-3
+add-up-3 : tie.Need-overflow_add-up-3
 add-up-3 c =
-    let a = c.before.args in
-    let p = c.before.requires in
+    let a = c.args in
+    let p = c.requires in
     let u = below a.range (a.short + (a.range / 2 + (a.range - a.greatest % a.range))) p.0 in
     omega (arith, p.0.most, p.1)
 
-returns-2 : tie.Need-returns-2
+returns-2 : tie.Need-returns
 returns-2 c =
-    let a = c.before.before.args in
-    let p = c.before.before.requires in
+    let a = c.args in
+    let p = c.requires in
     let u = below a.range (a.short + (a.range / 2 + (a.range - a.greatest % a.range))) p.0 in
     let r : Even a.range = record { least = p.0.least; even = p.0.even } in
-    (c.less.ensures ∙ up-found a.range r a.greatest a.short c.before.if1.false, omega (arith, c.less.ensures, p.0.most))
+    (c.less.ensures ∙ up-found a.range r a.greatest a.short c.if-range-x.false, omega (arith, c.less.ensures, p.0.most))
 
-pub full-number-spec : {M : Type 1} → statement M
-full-number-spec =
+pub full_number_spec : {M : Type 1} → statement M
+full_number_spec =
     tie.close
     (tie.spec returns (λ c. search rules) sub-up (λ c. search rules) (λ c. search rules) (λ c. search rules) add-up-3
     (λ c κs. search rules) returns-2)

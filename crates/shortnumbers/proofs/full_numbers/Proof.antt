@@ -10,39 +10,39 @@ use Rattle.shortnumbers.proofs.full_numbers.Statement.{statement}
 use Rattle.shortnumbers.proofs.full_numbers.Tie as tie
 
 -- the entry, from past the two tests
-abbrev entry : tie.Else2 → tie.Start
+abbrev entry : tie.Else-numbers-shorts → tie.Start
 entry c = c.before.before.before.before.before.before
 
-returns : tie.Need-returns
+returns : tie.Need-returns-then-refusal-ne0
 returns c =
-    let a = c.before.before.before.before.before.args in
-    filled-refused a.range a.k a.shorts.now a.times.now a.numbers.now c.before.refusal-of-found.result
-    c.before.refusal-of-found.ensures c.if1.true
+    let a = c.args in
+    filled-refused a.range a.k a.shorts.now a.times.now a.numbers.now c.refusal_of_found-refusal.result
+    c.refusal_of_found-refusal.ensures c.if-refusal-ne0.true
 
-returns-2 : tie.Need-returns-2
+returns-2 : tie.Need-returns-then-numbers-shorts
 returns-2 c =
-    let a = c.before.before.before.before.before.before.args in
+    let a = c.args in
     filled-short a.range a.k a.shorts.now a.times.now a.numbers.now
-    (sym c.before.before.refusal-of-found.ensures ∙ c.before.if1.false) c.if2.true
+    (sym c.refusal_of_found-refusal.ensures ∙ c.if-refusal-ne0.false) c.if-numbers-shorts.true
 
-fill-numbers-requires : tie.Need-fill-numbers-requires
+fill-numbers-requires : tie.Need-fill_numbers-requires
 fill-numbers-requires c κs =
-    let t = c.before in
-    let a = (entry t).args in
+    let t = c in
+    let a = (entry t.before).args in
     let f =
     lists-fit a.k (numbers_found a.range a.shorts.now) a.times.now
-    (sym t.before.before.refusal-of-found.ensures ∙ t.before.if1.false) in
+    (sym t.refusal_of_found-refusal.ensures ∙ t.if-refusal-ne0.false) in
     let m = found-length a.range a.shorts.now in
-    ((entry t).requires, omega (arith, f.few), t.if2.false)
+    ((entry t.before).requires, omega (arith, f.few), t.if-numbers-shorts.false)
 
-returns-3 : tie.Need-returns-3
+returns-3 : tie.Need-returns
 returns-3 c =
-    let filled = c.before.before in
-    let t = filled.before.before in
-    let a = (entry t).args in
+    let filled = c in
+    let t = filled in
+    let a = (entry t.before.before.before.before).args in
     filled-whole a.range a.k a.shorts.now a.times.now a.numbers.now _
-    (sym t.before.before.refusal-of-found.ensures ∙ t.before.if1.false) t.if2.false filled.fill-numbers.ensures
+    (sym t.refusal_of_found-refusal.ensures ∙ t.if-refusal-ne0.false) t.if-numbers-shorts.false filled.fill_numbers.ensures
 
-pub full-numbers-spec : {M : Type 1} → statement M
-full-numbers-spec =
+pub full_numbers_spec : {M : Type 1} → statement M
+full_numbers_spec =
     tie.close (tie.spec (λ c κs. search rules) returns returns-2 fill-numbers-requires (λ c. search rules) returns-3)

@@ -7,7 +7,7 @@ use Rattle.shortnumbers.proofs.full_numbers_8.Statement.{statement}
 use Rattle.shortnumbers.proofs.full_numbers_8.Tie as tie
 
 returns : tie.Need-returns
-returns c = (c.before.before.full-numbers.ensures, (every-list, found-as-given))
+returns c = (c.full_numbers.ensures, (every-list, found-as-given))
 
-pub full-numbers-8-spec : {M : Type 1} → statement M
-full-numbers-8-spec = tie.close (tie.spec (λ c κs. search rules) (λ c. search rules) returns)
+pub full_numbers_8_spec : {M : Type 1} → statement M
+full_numbers_8_spec = tie.close (tie.spec (λ c κs. search rules) (λ c. search rules) returns)

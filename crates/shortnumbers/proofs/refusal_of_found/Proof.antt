@@ -11,55 +11,55 @@ use Rattle.shortnumbers.proofs.refusal_of_found.Statement.{statement}
 use Rattle.shortnumbers.proofs.refusal_of_found.Tie as tie
 
 -- the entry, from past the three tests
-abbrev entry : tie.Else3 → tie.Start
+abbrev entry : tie.Else-shorts-times → tie.Start
 entry c = c.before.before.before.before.before.before.before
 
-returns : tie.Need-returns
+returns : tie.Need-returns-then-outside
 unfolding refusal_of_lists
-returns c = simp (sym c.before.outside.ensures ∙ c.if1.true)
+returns c = simp (sym c.outside.ensures ∙ c.if-outside.true)
 
-returns-2 : tie.Need-returns-2
+returns-2 : tie.Need-returns-then-outside-2
 unfolding refusal_of_lists
 returns-2 c =
-    let a = c.before.before.before.before.before.before.args in
+    let a = c.args in
     simp (
       found-length a.range a.shorts.now,
-      sym c.before.before.before.outside.ensures ∙ c.before.before.if1.false,
-      sym c.before.outside2.ensures ∙ c.if2.true,
+      sym c.outside.ensures ∙ c.if-outside.false,
+      sym c.outside-2.ensures ∙ c.if-outside-2.true,
     )
 
-returns-3 : tie.Need-returns-3
+returns-3 : tie.Need-returns-then-shorts-times
 unfolding refusal_of_lists
 returns-3 c =
-    let a = c.before.before.before.before.before.before.before.args in
+    let a = c.args in
     simp (
       found-length a.range a.shorts.now,
-      sym c.before.before.before.before.outside.ensures
-          ∙ c.before.before.before.if1.false,
-      sym c.before.before.outside2.ensures ∙ c.before.if2.false,
-      ne_eqb _ _ c.if3.true,
+      sym c.outside.ensures
+          ∙ c.if-outside.false,
+      sym c.outside-2.ensures ∙ c.if-outside-2.false,
+      ne_eqb _ _ c.if-shorts-times.true,
     )
 
-judge-found-requires : tie.Need-judge-found-requires
+judge-found-requires : tie.Need-judge_found-requires
 judge-found-requires c κs =
     let a = (entry c).args in
-    let m = between 0 arrivals_most (length a.shorts.now) (sym c.before.before.outside2.ensures ∙ c.before.if2.false) in
-    ((entry c).requires, m.1, sym c.if3.false)
+    let m = between 0 arrivals_most (length a.shorts.now) (sym c.outside-2.ensures ∙ c.if-outside-2.false) in
+    ((entry c).requires, m.1, sym c.if-shorts-times.false)
 
-returns-4 : tie.Need-returns-4
+returns-4 : tie.Need-returns
 unfolding refusal_of_lists
 returns-4 c =
-    let t = c.before in
-    let a = (entry t).args in
+    let t = c in
+    let a = (entry t.before).args in
     simp (
       found-length a.range a.shorts.now,
-      sym t.before.before.before.before.outside.ensures ∙ t.before.before.before.if1.false,
-      sym t.before.before.outside2.ensures ∙ t.before.if2.false,
-      eq-eqb _ _ t.if3.false,
-      sym c.judge-found.ensures,
+      sym t.outside.ensures ∙ t.if-outside.false,
+      sym t.outside-2.ensures ∙ t.if-outside-2.false,
+      eq-eqb _ _ t.if-shorts-times.false,
+      sym c.judge_found.ensures,
     )
-    (sym (first_one c.judge-found.result))
+    (sym (first_one c.judge_found.result))
 
-pub refusal-of-found-spec : {M : Type 1} → statement M
-refusal-of-found-spec =
+pub refusal_of_found_spec : {M : Type 1} → statement M
+refusal_of_found_spec =
     tie.close (tie.spec (λ c κs. search rules) returns (λ c κs. search rules) returns-2 returns-3 judge-found-requires returns-4)

@@ -10,11 +10,11 @@ use Rattle.shortnumbers.proofs.short_advance.Tie as tie
 returns : tie.Need-returns
 unfolding oldest_first
 returns c =
-    let a = c.before.before.before.before.before.before.before.args in
+    let a = c.args in
     c.advance.ensures
     ∙ step-found a.range (whole a.s a.marks.now a.positions.now a.numbers.now a.times.now) a.short a.time _ _
-    c.before.before.before.before.before.before.greatest-by.ensures.1
-    c.before.before.before.before.before.full-number.ensures.0
+    c.greatest_by-greatest.ensures.1
+    c.full_number-number.ensures.0
 
-pub short-advance-spec : {M : Type 1} → statement M
-short-advance-spec = tie.close (tie.spec (λ c κs. search rules) (λ c κs. search rules) (λ c κs. search rules) returns)
+pub short_advance_spec : {M : Type 1} → statement M
+short_advance_spec = tie.close (tie.spec (λ c κs. search rules) (λ c κs. search rules) (λ c κs. search rules) returns)

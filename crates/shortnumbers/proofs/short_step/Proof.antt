@@ -8,10 +8,10 @@ use Rattle.shortnumbers.proofs.short_step.Tie as tie
 
 returns : tie.Need-returns
 returns c =
-    let a = c.before.before.before.args in
+    let a = c.args in
     c.step.ensures
-    ∙ step-found a.range a.state a.short a.time c.before.before.greatest-by.result c.before.full-number.result
-    c.before.before.greatest-by.ensures.1 c.before.full-number.ensures.0
+    ∙ step-found a.range a.state a.short a.time c.greatest_by-greatest.result c.full_number-number.result
+    c.greatest_by-greatest.ensures.1 c.full_number-number.ensures.0
 
-pub short-step-spec : {M : Type 1} → statement M
-short-step-spec = tie.close (tie.spec (λ c κs. search rules) (λ c κs. search rules) (λ c κs. search rules) returns)
+pub short_step_spec : {M : Type 1} → statement M
+short_step_spec = tie.close (tie.spec (λ c κs. search rules) (λ c κs. search rules) (λ c κs. search rules) returns)

@@ -5,7 +5,7 @@ use Rattle.shortnumbers.proofs.step_10.Statement.{statement}
 use Rattle.shortnumbers.proofs.step_10.Tie as tie
 
 returns : tie.Need-returns
-returns c = (c.short-step.ensures, every-step)
+returns c = (c.short_step.ensures, every-step)
 
-pub step-10-spec : {M : Type 1} → statement M
-step-10-spec = tie.close (tie.spec (λ c κs. search rules) returns)
+pub step_10_spec : {M : Type 1} → statement M
+step_10_spec = tie.close (tie.spec (λ c κs. search rules) returns)

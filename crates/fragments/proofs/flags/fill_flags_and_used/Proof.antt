@@ -116,17 +116,17 @@ array-write-seen c = omega (arith, within c.before.before.before.before, (read c
 
 slice-write-flagged : tie.Need-bounds-flagged-i-in-loop-i invariant-loop-i decreases-loop-i
 slice-write-flagged c =
-    let l = (read c.before.before) in
+    let l = (read c.before.before).before.before in
     omega (arith, kept-flagged l, (start l).requires.3, (read c.before.before).loop-i-test.true)
 
 slice-read-usable-of : tie.Need-bounds-used-i invariant-loop-i decreases-loop-i
 slice-read-usable-of c =
-    let l = (read c.before.before.before) in
+    let l = (read c.before.before.before).before.before in
     omega (arith, kept-used l, (start l).requires.4, (read c.before.before.before).loop-i-test.true)
 
 slice-write-used : tie.Need-bounds-used-i-in-loop-i invariant-loop-i decreases-loop-i
 slice-write-used c =
-    let l = (read c.before.before.before.before) in
+    let l = (read c.before.before.before.before).before.before in
     omega (arith, kept-used l, (start l).requires.4, (read c.before.before.before.before).loop-i-test.true)
 
 expected-after-requires : tie.Need-expected_after-next-requires invariant-loop-i decreases-loop-i

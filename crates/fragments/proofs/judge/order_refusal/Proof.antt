@@ -10,7 +10,7 @@ use Rattle.rfc4737.proofs.Due.{first-stop}
 use Rattle.fragments.specs.Calls.{same_lengths, order_refusal}
 use lib.ListN.{length}
 use mathlib.Core.Path.{◌≡◌, refl, sym, ◌∙◌}
-use borrow.Author.Tests.{lt-ltb, le-ltb, not-true, not-false}
+use borrow.Author.Tests.{lt-ltb, le-ltb}
 use borrow.Author.Rules.{rules}
 use Rattle.fragments.proofs.judge.order_refusal.Statement.{statement}
 use Rattle.fragments.proofs.judge.order_refusal.Tie as tie

@@ -112,7 +112,7 @@ put-in-order-requires c κs =
 
 -- the packet's places in order are a run
 run-here : (c : tie.After-put_in_order invariant-loop-p decreases-loop-p) → let l =
-    c in Run (pieces (start l)) (l.loop-p.p + 1) c.put_in_order.new.places
+    c.before.before.before.before.before.before.before in Run (pieces (start l)) (l.loop-p.p + 1) c.put_in_order.new.places
 run-here c =
     let i = c in
     let l = c in
@@ -130,8 +130,8 @@ run-here c =
 note-run-requires : tie.Need-note_run-requires invariant-loop-p decreases-loop-p
 note-run-requires c κs =
     let p =
-    c in let l =
-    (ended p) in ((start l).requires.0, run-here p, l.loop-p.invariant.3)
+    c.before.before.before.before.before in let l =
+    (ended p).before.before.before in ((start l).requires.0, run-here p, l.loop-p.invariant.3)
 
 loop-again : tie.Need-loop-p-preserved invariant-loop-p decreases-loop-p
 loop-again c =
@@ -174,7 +174,7 @@ note_packets_spec =
     (λ c. sym c.loop-p.invariant.4)
     put-in-order-requires
     (λ c. search rules)
-    (λ c. let b = (ended c.before.before.before) in omega (arith, b.loop-p-test.true, (start b).requires.2))
+    (λ c. let b = ended c.before.before.before in omega (arith, b.loop-p-test.true, (start b.before.before.before).requires.2))
     note-run-requires
     (λ c. omega (arith, (ended (sorted (noted c))).loop-p-test.true))
     loop-again

@@ -24,7 +24,7 @@ made f t u e a b =
 
 returns : tie.Need-returns
 returns c = (
-  made _ _ _ c.before.before.before.before.fresh.ensures.0 c.before.stream-in.ensures c.stream-in2.ensures,
+  made _ _ _ c.fresh-fresh.ensures.0 c.stream_in.ensures c.stream_in-2.ensures,
   (demand3, independence),
 )
 

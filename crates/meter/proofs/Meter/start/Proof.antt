@@ -19,9 +19,9 @@ carries m n k r e =
 
 returns : tie.Need-returns
 returns c =
-    let call = c.before in
-    carries call.before.args.self _ _ _
-    (ap (λ (d : MeterStepAnswer). record { refusal = d.outcome.refusal; state = d.state }) call.turned.ensures)
+    let call = c in
+    carries call.args.self _ _ _
+    (ap (λ (d : MeterStepAnswer). record { refusal = d.outcome.refusal; state = d.state }) call.turned-a.ensures)
 
 pub start_spec : {M : Type 1} → statement M
 start_spec = tie.close (tie.spec (λ c κs. search rules) returns)

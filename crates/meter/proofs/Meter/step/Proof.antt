@@ -21,7 +21,7 @@ carries m n number time r e = (
 
 returns : tie.Need-returns
 returns c =
-    carries c.before.args.self _ _ _ _ c.turned.ensures
+    carries c.args.self _ _ _ _ c.turned.ensures
 
 pub step_spec : {M : Type 1} → statement M
 step_spec = tie.close (tie.spec (λ c κs. search rules) returns)

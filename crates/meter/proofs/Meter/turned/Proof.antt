@@ -5,7 +5,7 @@ use Rattle.meter.proofs.Meter.turned.Statement.{statement}
 use Rattle.meter.proofs.Meter.turned.Tie as tie
 
 returns : tie.Need-returns
-returns c = c.before.before.before.turn.ensures
+returns c = c.turn-a.ensures
 
-pub turned-spec : {M : Type 1} → statement M
-turned-spec = tie.close (tie.spec (λ c κs. search rules) returns)
+pub turned_spec : {M : Type 1} → statement M
+turned_spec = tie.close (tie.spec (λ c κs. search rules) returns)

@@ -4,7 +4,6 @@ use borrow.Author.Rules.{rules}
 use native.Mathlib.Omega.{arith}
 use Prim.Native.Nat.{◌≤◌, ◌<◌}
 use borrow.Author.Tests.{lt-ltb, le-ltb}
-use Rattle.octets.proofs.Memory.{taken}
 use Rattle.owamp.specs.Clock.{written_seconds}
 use Rattle.owamp.specs.Judge.{seconds_most, judge_time}
 use Rattle.owamp.proofs.judge.judge_time.Statement.{statement}

@@ -2,7 +2,6 @@
 -- be asked once the numbers are fit. Assumes nothing.
 use mathlib.Core.Path.{sym, ◌∙◌}
 use native.Mathlib.Omega.{arith}
-use borrow.Author.Tests.{not-true, not-false}
 use borrow.Author.Rules.{rules}
 use Rattle.receiver.specs.Parts.{oldest_first}
 use Rattle.receiver.specs.Fit.{fit}

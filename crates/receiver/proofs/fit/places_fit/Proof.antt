@@ -3,7 +3,6 @@
 use mathlib.Core.Path.{sym, ◌∙◌}
 use native.Mathlib.Omega.{arith}
 use borrow.Author.Rules.{rules}
-use borrow.Author.Tests.{not-true, not-false}
 use Rattle.receiver.proofs.Fits.{places-false}
 use Rattle.receiver.proofs.FitTests.{positions-unfit, numbers-unfit, times-decide}
 use Rattle.receiver.proofs.fit.places_fit.Statement.{statement}

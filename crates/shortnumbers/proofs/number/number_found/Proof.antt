@@ -13,15 +13,15 @@ down : (r g x t : ℕ) → x < r → t ≡ g + r / 2 - 1 → t - (t + (r - x)) %
 unfolding number_found
 down r g x t h e = ap (λ (s : ℕ). s - (s + (r - x)) % r) e ∙ sym (rw (lt-ltb x r h))
 
-returns : tie.Need-returns
+returns : tie.Need-returns-then-r-short
 unfolding number_found
-returns c = sym (rw (le-ltb _ _ c.if1.true))
+returns c = sym (rw (le-ltb _ _ c.if-r-short.true))
 
-returns-2 : tie.Need-returns-2
-returns-2 c = c.less2.ensures ∙ down _ _ _ _ c.before.before.if1.false c.before.less.ensures
+returns-2 : tie.Need-returns
+returns-2 c = c.less.ensures ∙ down _ _ _ _ c.if-r-short.false c.less-top.ensures
 
-pub number-found-spec : {M : Type 1} → statement M
-number-found-spec =
+pub number_found_spec : {M : Type 1} → statement M
+number_found_spec =
     tie.close
     (tie.spec
     returns

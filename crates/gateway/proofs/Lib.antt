@@ -1,2 +1,0 @@
--- The walk that the crate's functions share. Assumes `Given`.
-mod LentCall
