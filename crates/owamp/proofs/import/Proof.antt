@@ -72,10 +72,11 @@ returns-3 c = (
 
 fill-arrivals-requires : tie.Need-fill_arrivals-requires
 fill-arrivals-requires c κs =
-    let f = none-refused (start c.before.before.before.before).args.k (records c.before.before.before.before) (none c.before.before.before.before) in (
-      omega (arith, c.if-numbers-count.false, many c.before.before.before.before),
-      omega (arith, c.if-times-count.false, many c.before.before.before.before),
-      numbers_fit (start c.before.before.before.before).args.k (records_arrivals (records c.before.before.before.before)) f.most f.numbers,
+    let l = c.before.before.before.before in
+    let f = none-refused (start l).args.k (records l) (none l) in (
+      omega (arith, c.if-numbers-count.false, many l),
+      omega (arith, c.if-times-count.false, many l),
+      numbers_fit (start l).args.k (records_arrivals (records l)) f.most f.numbers,
       f.few,
     )
 

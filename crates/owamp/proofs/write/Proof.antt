@@ -74,8 +74,9 @@ returns-2 c = (
 
 returns-3 : tie.Need-returns-then-out-end
 returns-3 c =
-    let due = times-refusal (file c.before.before.before.before) 0 (none c.before.before.before.before) (sym c.if-refusal-ne0.false ∙ c.judge_seconds-refusal.ensures) in
-    (output-short _ _ (start c.before.before.before.before).args.out.now (sym due) (omega (arith, c.if-out-end.true, many c.before.before.before.before)), carried (file c.before.before.before.before) (octets c.before.before.before.before))
+    let l = c.before.before.before.before in
+    let due = times-refusal (file l) 0 (none l) (sym c.if-refusal-ne0.false ∙ c.judge_seconds-refusal.ensures) in
+    (output-short _ _ (start l).args.out.now (sym due) (omega (arith, c.if-out-end.true, many l)), carried (file l) (octets l))
 
 write-records-requires : tie.Need-write_records-requires
 write-records-requires c κs = (found c.before.before.before.before.before, omega (arith, c.if-out-end.false))

@@ -46,14 +46,15 @@ loop-holds c = (omega arith, unended-start _ _ _ c.requires.1 c.reach_of-reach.r
 
 piece-at-requires : tie.Need-piece_at-piece-requires invariant-loop-m decreases-loop-m
 piece-at-requires c κs =
-    let a = (start c.before.before.before).args in (
+    let l = c.before.before.before in
+    let a = (start l).args in (
       omega (
         arith,
         c.index_of.ensures,
-        (start c.before.before.before).requires.1.inside (c.loop-m.m - 1) (inside c.before.before),
+        (start l).requires.1.inside (c.loop-m.m - 1) (inside c.before.before),
         pieces-length a.numbers.now a.times.now a.lengths.now a.mores.now a.offsets.now,
       ),
-      (start c.before.before.before).requires.0,
+      (start l).requires.0,
     )
 
 returns : tie.Need-returns-then-ends_by invariant-loop-m decreases-loop-m

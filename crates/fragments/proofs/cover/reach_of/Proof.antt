@@ -34,14 +34,15 @@ loop-holds c = pass-start _ _ _ c.requires.1
 
 piece-at-requires : tie.Need-piece_at-piece-requires invariant-loop-m decreases-loop-m
 piece-at-requires c κs =
-    let a = (start c.before.before.before).args in (
+    let l = c.before.before.before in
+    let a = (start l).args in (
       omega (
         arith,
         c.index_of.ensures,
-        (start c.before.before.before).requires.1.inside c.loop-m.m c.loop-m-test.true,
+        (start l).requires.1.inside c.loop-m.m c.loop-m-test.true,
         pieces-length a.numbers.now a.times.now a.lengths.now a.mores.now a.offsets.now,
       ),
-      (start c.before.before.before).requires.0,
+      (start l).requires.0,
     )
 
 loop-again : tie.Need-loop-m-preserved invariant-loop-m decreases-loop-m

@@ -141,13 +141,14 @@ loop-less c = omega (arith, (read c.before.before.before.before.before).loop-i-t
 
 loop-again : tie.Need-loop-i-preserved invariant-loop-i decreases-loop-i
 loop-again c =
+    let l = c.before.before.before.before.before.before.before.before.before.before in
     let b = c.piece_at-piece in
     let found = c.is_copy-copy in
-    let a = (start c.before.before.before.before.before.before.before.before.before.before).args in
-    let q = (start c.before.before.before.before.before.before.before.before.before.before).requires in
-    let xs = pieces c.before.before.before.before.before.before.before.before.before.before in
+    let a = (start l).args in
+    let q = (start l).requires in
+    let xs = pieces l in
     let i = c.loop-i.i in
-    let m = many c.before.before.before.before.before.before.before.before.before.before in
+    let m = many l in
     let v = within c.before.before.before.before.before.before.before.before in
     let h : i < length xs = omega (arith, c.loop-i-test.true) in
     let copy =
